@@ -1,0 +1,4 @@
+pub mod boxed
+pub mod items
+pub mod shared
+pub mod table

@@ -1,0 +1,51 @@
+//! A value with several owners.
+
+ghost use Rattle.std.specs.Prelude.{◌≡◌, IfOk};
+
+use std::alloc::{AllocError, Global};
+use std::marker::Model;
+use std::rc::Rc;
+
+/// An `Rc` that contracts see as its value.
+#[derive(Drop)]
+pub struct Shared<T> {
+    inner: Rc<T>,
+}
+
+impl<T> Model for Shared<T> {
+    ghost Value = { T };
+
+    ghost coded = { T.code };
+
+    ghost view = { λ b. b.inner.value };
+}
+
+impl<T> Shared<T> {
+    /// The value.
+    pub fn get(&self) -> &T
+        ensures { result.now ≡ self.now }
+    {
+        self.inner.as_ref()
+    }
+}
+
+impl<T: Drop> Shared<T> {
+    /// Moves the value behind a counted pointer.
+    pub fn new(alloc: Global, value: T) -> Result<Shared<T>, AllocError>
+        ensures { IfOk result (λ b. b ≡ value) }
+    {
+        Ok(Shared {
+            inner: Rc::new(alloc, value)?,
+        })
+    }
+
+    /// Another owner of the same value. It copies nothing, and fails only where there are too
+    /// many owners to count.
+    pub fn share(&self) -> Result<Shared<T>, AllocError>
+        ensures { IfOk result (λ b. b ≡ self.now) }
+    {
+        Ok(Shared {
+            inner: self.inner.clone()?,
+        })
+    }
+}

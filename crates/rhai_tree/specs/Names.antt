@@ -1,0 +1,26 @@
+-- Names in the order in which they were declared, oldest first, and where the newest of a name stands.
+use Rattle.std.specs.Prelude.{◌≡◌, ℕ, zero, suc, Bool, true, false, List, [], ◌∷◌, ◌++◌, length, nat_eq}
+use Rattle.std.specs.Str.{bytes_eq}
+
+abbrev pub Name : Type 0
+Name = List ℕ
+
+-- the place found further on, or else this one, where the name stands here
+abbrev pub further : ℕ → Bool → ℕ → ℕ
+further (suc k) test at = suc k
+further zero true at = at
+further zero false at = zero
+
+-- where the newest of a name stands, counted from the end; zero where there is none
+abbrev pub offset_of : Name → List Name → ℕ
+offset_of name [] = zero
+offset_of name (n ∷ ns) = further (offset_of name ns) (bytes_eq n name) (suc (length ns))
+
+-- the name at an offset from the end is this name, and no later one is
+abbrev pub stands : Name → ℕ → List Name → Bool
+stands name zero names = false
+stands name (suc k) names = nat_eq (offset_of name names) (suc k)
+
+-- the new names begin with the old ones
+abbrev pub Begins : List Name → List Name → Type 0
+Begins old new = (added : List Name) × (new ≡ old ++ added)

@@ -1,0 +1,15 @@
+-- Places in a script's text.
+use Rattle.std.specs.Prelude.{ℕ, ◌==◌, if◌then◌else◌, Option, Some, None}
+use Rattle.rhai_tree.specs.declared.position.Position.{Position}
+
+-- the place at a line and a position in it
+abbrev pub at : ℕ → ℕ → Position
+at line pos = record { line = line; pos = pos }
+
+-- no place
+abbrev pub none : Position
+none = record { line = 0; pos = 0 }
+
+-- a line or a position, where there is one
+abbrev pub number_of : ℕ → Option ℕ
+number_of n = if n == 0 then None else Some n

@@ -1,0 +1,166 @@
+//! Expressions and statements.
+
+use crate::flags::ASTFlags;
+use crate::literal::Literal;
+use crate::position::Position;
+use crate::token::Token;
+use rhai_items::{Boxed, Items, Shared, Table, Text};
+use std::num::NonZeroUsize;
+
+/// A name with its position.
+#[derive(Drop)]
+pub struct Ident {
+    pub name: Shared<Text>,
+    pub pos: Position,
+}
+
+/// The path in front of a qualified name. Ports upstream's `Namespace`.
+#[derive(Drop)]
+pub struct Namespace {
+    /// The names, root first. Empty for an unqualified name.
+    pub path: Items<Shared<Text>>,
+    /// Where the root stands among the imports, counted from the newest.
+    pub index: Option<NonZeroUsize>,
+    pub position: Position,
+}
+
+/// How a value is assigned: as it is, or by an operator.
+#[derive(Clone, Copy, Debug, PartialEq, Eq)]
+pub struct OpAssignment {
+    /// The operator without its `=`, None for a plain assignment.
+    pub op: Option<Token>,
+    /// Where the operator stands.
+    pub position: Position,
+}
+
+/// An expression. Ports upstream's `Expr`.
+#[cycle(tree)]
+#[derive(Drop)]
+pub enum Expr {
+    DynamicConstant(Literal, Position),
+    BoolConstant(bool, Position),
+    IntegerConstant(i64, Position),
+    CharConstant(char, Position),
+    StringConstant(Shared<Text>, Position),
+    Unit(Position),
+    InterpolatedString(Items<Expr>, Position),
+    Array(Items<Expr>, Position),
+    /// The entries, and a template of the map that holds their keys.
+    Map(Items<MapEntry>, Table<Literal>, Position),
+    ThisPtr(Position),
+    Variable {
+        /// Where the variable stands, counted from the scope's end.
+        offset: Option<NonZeroUsize>,
+        name: Shared<Text>,
+        namespace: Namespace,
+        pos: Position,
+    },
+    Property(Shared<Text>, Position),
+    MethodCall(FnCallExpr, Position),
+    FnCall(FnCallExpr, Position),
+    Stmt(StmtBlock),
+    /// `lhs.rhs`, at the dot.
+    Dot(Boxed<Expr>, Boxed<Expr>, ASTFlags, Position),
+    /// `lhs[rhs]`, at the bracket.
+    Index(Boxed<Expr>, Boxed<Expr>, ASTFlags, Position),
+    And(Items<Expr>, Position),
+    Or(Items<Expr>, Position),
+    Coalesce(Items<Expr>, Position),
+}
+
+/// An entry of a map expression.
+#[cycle(tree)]
+#[derive(Drop)]
+pub struct MapEntry {
+    pub key: Shared<Text>,
+    pub value: Expr,
+}
+
+/// A call. Ports upstream's `FnCallExpr`.
+#[cycle(tree)]
+#[derive(Drop)]
+pub struct FnCallExpr {
+    pub namespace: Namespace,
+    pub name: Shared<Text>,
+    pub args: Items<Expr>,
+    /// The operator, where the call was written as one.
+    pub op_token: Option<Token>,
+    /// Whether the function runs on the caller's scope.
+    pub capture_parent_scope: bool,
+}
+
+/// Statements in braces. Ports upstream's `StmtBlock`.
+#[cycle(tree)]
+#[derive(Drop)]
+pub struct StmtBlock {
+    pub statements: Items<Stmt>,
+    /// The opening brace.
+    pub position: Position,
+    /// The closing brace.
+    pub end_position: Position,
+}
+
+/// A result of a `switch` under its condition. Ports upstream's `ConditionalExpr`.
+#[cycle(tree)]
+#[derive(Drop)]
+pub struct ConditionalExpr {
+    pub condition: Expr,
+    pub expr: Expr,
+}
+
+/// A case of a `switch`: a value, and the results that it may have, in order.
+#[derive(Drop)]
+pub struct SwitchCase {
+    pub value: Literal,
+    pub blocks: Items<usize>,
+}
+
+/// A case of a `switch` over integers, with its result. Ports upstream's `RangeCase`.
+#[derive(Clone, Copy, Debug, PartialEq, Eq)]
+pub enum RangeCase {
+    ExclusiveInt(i64, i64, usize),
+    InclusiveInt(i64, i64, usize),
+}
+
+/// A variable that closures share, by its name and offset.
+#[derive(Drop)]
+pub struct SharedVariable {
+    pub ident: Ident,
+    pub offset: Option<NonZeroUsize>,
+}
+
+/// A statement. Ports upstream's `Stmt`.
+#[cycle(tree)]
+#[derive(Drop)]
+pub enum Stmt {
+    Noop(Position),
+    Expr(Expr),
+    FnCall(FnCallExpr, Position),
+    Block(StmtBlock),
+    Assignment(OpAssignment, Expr, Expr),
+    Var(Ident, Expr, Option<NonZeroUsize>, ASTFlags, Position),
+    If(Expr, StmtBlock, StmtBlock, Position),
+    Switch {
+        expr: Expr,
+        expressions: Items<ConditionalExpr>,
+        cases: Items<SwitchCase>,
+        ranges: Items<RangeCase>,
+        def_case: Option<usize>,
+        pos: Position,
+    },
+    While(Expr, StmtBlock, Position),
+    Do(Expr, StmtBlock, ASTFlags, Position),
+    For {
+        name: Ident,
+        counter: Option<Ident>,
+        expr: Expr,
+        body: StmtBlock,
+        pos: Position,
+    },
+    BreakLoop(Option<Expr>, ASTFlags, Position),
+    TryCatch(StmtBlock, Expr, StmtBlock, Position),
+    Return(Option<Expr>, ASTFlags, Position),
+    Import(Expr, Option<Ident>, Position),
+    Export(Ident, Option<Ident>, Position),
+    Share(Items<SharedVariable>),
+}

@@ -1,0 +1,5 @@
+//! Values, errors and scopes.
+
+pub mod error;
+pub mod scope;
+pub mod value;

@@ -1,0 +1,130 @@
+//! Values, and the modules and environments that they may hold.
+
+ghost use Rattle.std.specs.Prelude.{◌≡◌, List, ℕ, IfOk};
+
+use rhai_items::{Boxed, Items, Shared, Table, Text};
+use rhai_tree::checked::CheckedFn;
+use rhai_tree::literal::NativeId;
+use std::alloc::{AllocError, Global};
+
+/// Whether a value may be written.
+#[derive(Clone, Copy, Debug, PartialEq, Eq)]
+pub enum AccessMode {
+    ReadWrite,
+    ReadOnly,
+}
+
+/// The number of a shared cell in the store.
+#[derive(Clone, Copy, Debug, PartialEq, Eq)]
+pub struct CellId {
+    pub number: usize,
+}
+
+/// The host's own type of values.
+pub trait Host: Sized + Drop {
+    /// The name of a value's type.
+    ghost name_of: { Self → List ℕ };
+
+    /// A copy that equals the original, or there is no memory.
+    fn try_clone(&self, alloc: Global) -> Result<Self, AllocError>
+        ensures { IfOk result (λ c. c ≡ self.now) };
+
+    /// The name of the value's type.
+    fn type_name(&self) -> &str
+        ensures { result.now ≡ name_of self.now };
+}
+
+/// A value with its access mode. Ports upstream's `Dynamic`.
+#[cycle(value)]
+#[derive(Drop)]
+pub struct Dynamic<H> {
+    pub value: Union<H>,
+    pub mode: AccessMode,
+}
+
+/// What a value is. Ports upstream's `Union`.
+#[cycle(value)]
+#[derive(Drop)]
+pub enum Union<H> {
+    Unit,
+    Bool(bool),
+    Int(i64),
+    Char(char),
+    Str(Shared<Text>),
+    ExclusiveRange(i64, i64),
+    InclusiveRange(i64, i64),
+    Array(Boxed<Items<Dynamic<H>>>),
+    Blob(Boxed<Items<u8>>),
+    Map(Boxed<Table<Dynamic<H>>>),
+    FnPtr(Boxed<FnPtr<H>>),
+    Host(H),
+    Cell(CellId),
+}
+
+/// A pointer to a function, with the arguments that it has already. Ports upstream's `FnPtr`.
+#[cycle(value)]
+#[derive(Drop)]
+pub struct FnPtr<H> {
+    pub name: Shared<Text>,
+    pub curry: Items<Dynamic<H>>,
+    pub kind: FnPtrKind<H>,
+}
+
+/// What a pointer leads to.
+#[cycle(value)]
+#[derive(Drop)]
+pub enum FnPtrKind<H> {
+    /// Whatever the name finds at the call.
+    Name,
+    /// The library function of the name with so many parameters.
+    Arity(usize),
+    /// A checked function, with its environment.
+    Script(Shared<CheckedFn>, Option<Shared<EncapsulatedEnviron<H>>>),
+    /// A native of the caller's table.
+    Native(NativeId),
+}
+
+/// What a function finds around it. Ports upstream's `EncapsulatedEnviron`.
+#[cycle(value)]
+#[derive(Drop)]
+pub struct EncapsulatedEnviron<H> {
+    pub lib: Items<Shared<Module<H>>>,
+    pub imports: Items<Import<H>>,
+    /// The number of its table of constants.
+    pub constants: usize,
+}
+
+/// A module under the name that it was imported by.
+#[cycle(value)]
+#[derive(Drop)]
+pub struct Import<H> {
+    pub name: Shared<Text>,
+    pub module: Shared<Module<H>>,
+}
+
+/// A function of a module.
+#[cycle(value)]
+#[derive(Drop)]
+pub struct ModuleFn<H> {
+    pub def: Shared<CheckedFn>,
+    pub environ: Option<Shared<EncapsulatedEnviron<H>>>,
+    /// Whether the function is found without the module's name.
+    pub is_global: bool,
+}
+
+/// Constants, functions and modules under names. Ports upstream's `Module`.
+#[cycle(value)]
+#[derive(Drop)]
+pub struct Module<H> {
+    pub id: Option<Shared<Text>>,
+    pub constants: Table<Dynamic<H>>,
+    /// Of two functions of one key the later stands.
+    pub functions: Items<ModuleFn<H>>,
+    pub sub_modules: Table<Shared<Module<H>>>,
+}
+
+/// The modules that an `import` may find, by their paths.
+#[derive(Drop)]
+pub struct ModuleTable<H> {
+    pub modules: Table<Shared<Module<H>>>,
+}
