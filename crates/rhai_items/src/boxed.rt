@@ -20,6 +20,9 @@ impl<T> Model for Boxed<T> {
 }
 
 impl<T> Boxed<T> {
+    ghost use Rattle.std.specs.Borrow.{Lends, sem};
+    ghost use Rattle.rhai_items.specs.contracts.boxed.Boxed.{the_row};
+
     /// Moves the value behind a pointer. Where there is no memory the value comes back.
     pub fn try_new(alloc: Global, value: T) -> Result<Boxed<T>, AllocFailed<T>>
         ensures made { IfOk result (λ b. b ≡ value) }
@@ -34,6 +37,14 @@ impl<T> Boxed<T> {
         ensures { result.now ≡ self.now }
     {
         &self.inner
+    }
+
+    /// The value, to be changed in place.
+    pub fn get_mut(&mut self) -> &mut T
+        ensures* writes_back { sem 𝓛 (Lends (the_row T.row) T.row self.entry result (λ w. w)) }
+        ensures value { result.now ≡ self.old }
+    {
+        &mut self.inner
     }
 
     /// Moves the value out.

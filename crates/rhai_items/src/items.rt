@@ -1,6 +1,6 @@
 //! Lists.
 
-ghost use Rattle.std.specs.Prelude.{◌≡◌, take, drop, [], ◌∷◌, ◌++◌, ◌<◌, length, slice_get, slice_set, remove, ◌↔◌, IsTrue, IfOk, IfErr, MatchOption, OnOk, OnErr, OnSome};
+ghost use Rattle.std.specs.Prelude.{◌≡◌, take, drop, [], ◌∷◌, ◌++◌, ◌<◌, ◌≤◌, length, slice_get, slice_set, insert, remove, ◌↔◌, IsTrue, IfOk, IfErr, MatchOption, OnOk, OnErr, OnSome};
 ghost use Rattle.std.specs.Option.{option_copied};
 ghost use Rattle.std.specs.Borrow.{Lends, Array, sem};
 ghost use Rattle.rhai_items.specs.contracts.items.Items.{the_row};
@@ -134,6 +134,17 @@ impl<T: Drop> Items<T> {
         ensures err { OnErr result (self.new ≡ self.old) }
     {
         self.items.push(item)?;
+        Ok(())
+    }
+
+    /// Puts an item before the one at an index, or at the end. Where there is no memory the list
+    /// stays and the item is let go.
+    pub fn insert(&mut self, at: usize, item: T) -> Result<(), AllocError>
+        requires { at ≤ length self.old }
+        ensures ok { OnOk result (self.new ≡ insert self.old at item) }
+        ensures err { OnErr result (self.new ≡ self.old) }
+    {
+        self.items.insert(at, item)?;
         Ok(())
     }
 

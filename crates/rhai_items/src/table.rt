@@ -1,10 +1,15 @@
 //! Maps from texts.
 
-ghost use Rattle.std.specs.Prelude.{◌≡◌, [], length, slice_get};
+ghost use Rattle.std.specs.Prelude.{◌≡◌, [], take, drop, ◌++◌, length, slice_get, IfOk, IsTrue};
 ghost use Rattle.std.specs.Option.{option_copied};
+ghost use Rattle.std.specs.Borrow.{Lends, Array, sem};
+ghost use Rattle.rhai_items.specs.Ascending.{is_ascending};
+ghost use Rattle.rhai_items.specs.contracts.table.Table.{the_row};
+
+mod lookup;
 
 use crate::{Items, Shared, Text};
-use std::alloc::Global;
+use std::alloc::{AllocError, Global};
 use std::marker::Model;
 
 /// A map from texts, in the order of their bytes. Contracts see it as its keys, in order, and
@@ -46,6 +51,46 @@ impl<T> Table<T> {
         ensures values { result ≡ length self.now.1 }
     {
         self.keys.len()
+    }
+
+    /// The keys, in order.
+    pub fn keys(&self) -> &[Shared<Text>]
+        ensures value { result.now ≡ self.now.0 }
+        ensures ascending { IsTrue (is_ascending self.now.0) }
+    {
+        self.keys.as_slice()
+    }
+
+    /// The values, in the order of their keys.
+    pub fn values(&self) -> &[T]
+        ensures value { result.now ≡ self.now.1 }
+        ensures as_many { length result.now ≡ length self.now.0 }
+    {
+        self.values.as_slice()
+    }
+
+    /// The values, in the order of their keys, to be changed in place.
+    pub fn values_mut(&mut self) -> &mut [T]
+        ensures* writes_back { sem 𝓛 (Lends (the_row T.row) (Array T.row 0) self.entry result (λ w. (self.old.0, take (length self.old.1) (w ++ drop (length w) self.old.1)))) }
+        ensures value { result.now ≡ self.old.1 }
+    {
+        self.values.as_mut_slice()
+    }
+
+    /// Other values under the same keys.
+    pub fn with_values<U: Drop>(
+        &self,
+        alloc: Global,
+        values: Items<U>,
+    ) -> Result<Table<U>, AllocError>
+        requires { length values ≡ length self.now.0 }
+        ensures { IfOk result (λ t. t ≡ (self.now.0, values)) }
+    {
+        let mut keys = Items::new(alloc);
+        for key in self.keys.as_slice() {
+            keys.push(key.share()?)?;
+        }
+        Ok(Table { keys, values })
     }
 
     /// The value at a place in the order of the keys.

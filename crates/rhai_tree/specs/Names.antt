@@ -1,6 +1,8 @@
 -- Names in the order in which they were declared, oldest first, and where the newest of a name stands.
-use Rattle.std.specs.Prelude.{◌≡◌, ℕ, zero, suc, Bool, true, false, List, [], ◌∷◌, ◌++◌, length, nat_eq}
+use Rattle.std.specs.Prelude.{◌≡◌, ℕ, zero, suc, Bool, true, false, List, [], ◌∷◌, ◌++◌, length, nat_eq, Option, Some, None}
 use Rattle.std.specs.Str.{bytes_eq}
+use Rattle.std.specs.Int.NonZero.{non_zero_usize_get}
+use Rattle.std.specs.declared.num.NonZeroUsize.{NonZeroUsize}
 
 abbrev pub Name : Type 0
 Name = List ℕ
@@ -20,6 +22,11 @@ offset_of name (n ∷ ns) = further (offset_of name ns) (bytes_eq n name) (suc (
 abbrev pub stands : Name → ℕ → List Name → Bool
 stands name zero names = false
 stands name (suc k) names = nat_eq (offset_of name names) (suc k)
+
+-- an offset that is not given, or that is good
+abbrev pub is_good : Option NonZeroUsize → Name → List Name → Bool
+is_good None name names = true
+is_good (Some offset) name names = stands name (non_zero_usize_get offset) names
 
 -- the new names begin with the old ones
 abbrev pub Begins : List Name → List Name → Type 0

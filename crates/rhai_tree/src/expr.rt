@@ -1,5 +1,9 @@
 //! Expressions and statements.
 
+ghost use Rattle.std.specs.Prelude.{◌≡◌};
+ghost use Rattle.rhai_tree.specs.Positions.{position_of, start_of, stmt_position_of};
+ghost use Rattle.rhai_tree.specs.WellFormed.{seen_expr};
+
 use crate::flags::ASTFlags;
 use crate::literal::Literal;
 use crate::position::Position;
@@ -66,6 +70,74 @@ pub enum Expr {
     And(Items<Expr>, Position),
     Or(Items<Expr>, Position),
     Coalesce(Items<Expr>, Position),
+}
+
+impl Expr {
+    /// Where the expression stands: of a chain or an operator call its operator, of another call
+    /// its name, of a block its opening brace. Ports upstream's `Expr::position`.
+    pub fn position(&self) -> Position
+        ensures { result ≡ position_of self.now }
+    {
+        match self {
+            Expr::DynamicConstant(_, pos)
+            | Expr::BoolConstant(_, pos)
+            | Expr::IntegerConstant(_, pos)
+            | Expr::CharConstant(_, pos)
+            | Expr::StringConstant(_, pos)
+            | Expr::Unit(pos)
+            | Expr::InterpolatedString(_, pos)
+            | Expr::Array(_, pos)
+            | Expr::Map(_, _, pos)
+            | Expr::ThisPtr(pos)
+            | Expr::Variable { pos, .. }
+            | Expr::Property(_, pos)
+            | Expr::MethodCall(_, pos)
+            | Expr::FnCall(_, pos)
+            | Expr::Dot(_, _, _, pos)
+            | Expr::Index(_, _, _, pos)
+            | Expr::And(_, pos)
+            | Expr::Or(_, pos)
+            | Expr::Coalesce(_, pos) => *pos,
+            Expr::Stmt(block) => block.position,
+        }
+    }
+
+    /// Where the expression's text starts: a chain, an operator between two operands and the
+    /// operators over lists start at their first operand, a qualified variable at its path.
+    /// Ports upstream's `Expr::start_position`.
+    pub fn start_position(&self) -> Position
+        ensures { result ≡ start_of self.now }
+    {
+        self.first_token()
+    }
+
+    /// Where the expression's text starts, which is also where the checker sees it start.
+    pub(crate) fn first_token(&self) -> Position
+        ensures start { result ≡ start_of self.now }
+        ensures seen { result ≡ (seen_expr self.now).start }
+    {
+        match self {
+            Expr::Variable { namespace, pos, .. } => {
+                if namespace.path.is_empty() {
+                    *pos
+                } else {
+                    namespace.position
+                }
+            }
+            Expr::FnCall(call, pos) => match (call.op_token, call.args.as_slice()) {
+                (Some(_), [left, _]) => left.first_token(),
+                _ => *pos,
+            },
+            Expr::Dot(lhs, _, _, _) | Expr::Index(lhs, _, _, _) => lhs.get().first_token(),
+            Expr::And(parts, pos) | Expr::Or(parts, pos) | Expr::Coalesce(parts, pos) => {
+                match parts.as_slice() {
+                    [] => *pos,
+                    [first, ..] => first.first_token(),
+                }
+            }
+            _ => self.position(),
+        }
+    }
 }
 
 /// An entry of a map expression.
@@ -163,4 +235,35 @@ pub enum Stmt {
     Import(Expr, Option<Ident>, Position),
     Export(Ident, Option<Ident>, Position),
     Share(Items<SharedVariable>),
+}
+
+impl Stmt {
+    /// Where the statement starts: of an expression or an assignment the start of its text, of
+    /// `Share` its first name, none where it has no names. Ports upstream's `Stmt::position`.
+    pub fn position(&self) -> Position
+        ensures { result ≡ stmt_position_of self.now }
+    {
+        match self {
+            Stmt::Noop(pos)
+            | Stmt::FnCall(_, pos)
+            | Stmt::Var(_, _, _, _, pos)
+            | Stmt::If(_, _, _, pos)
+            | Stmt::Switch { pos, .. }
+            | Stmt::While(_, _, pos)
+            | Stmt::Do(_, _, _, pos)
+            | Stmt::For { pos, .. }
+            | Stmt::BreakLoop(_, _, pos)
+            | Stmt::TryCatch(_, _, _, pos)
+            | Stmt::Return(_, _, pos)
+            | Stmt::Import(_, _, pos)
+            | Stmt::Export(_, _, pos) => *pos,
+            Stmt::Expr(expr) => expr.start_position(),
+            Stmt::Assignment(_, lhs, _) => lhs.start_position(),
+            Stmt::Block(block) => block.position,
+            Stmt::Share(variables) => match variables.as_slice() {
+                [] => Position::NONE,
+                [first, ..] => first.ident.pos,
+            },
+        }
+    }
 }

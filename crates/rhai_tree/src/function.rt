@@ -1,6 +1,10 @@
 //! Script functions as they are written.
 
+ghost use Rattle.std.specs.Prelude.{◌≡◌};
+ghost use Rattle.rhai_tree.specs.Positions.{start_of_payload, end_of_payload};
+
 use crate::expr::StmtBlock;
+use crate::position::Position;
 use rhai_items::{Items, Shared, Text};
 
 /// Who may call a function. Private comes before public.
@@ -14,6 +18,26 @@ pub enum FnAccess {
 #[derive(Drop)]
 pub enum ScriptFuncPayload {
     Statements(StmtBlock),
+}
+
+impl ScriptFuncPayload {
+    /// Where it starts: of statements their opening brace.
+    pub fn start_position(&self) -> Position
+        ensures { result ≡ start_of_payload self.now }
+    {
+        match self {
+            ScriptFuncPayload::Statements(block) => block.position,
+        }
+    }
+
+    /// Where it ends: of statements their closing brace.
+    pub fn end_position(&self) -> Position
+        ensures { result ≡ end_of_payload self.now }
+    {
+        match self {
+            ScriptFuncPayload::Statements(block) => block.end_position,
+        }
+    }
 }
 
 /// A script function. Ports upstream's `ScriptFuncDef`.

@@ -38,7 +38,11 @@ impl Position {
     pub fn line(self) -> Option<u16>
         ensures { result ≡ number_of self.line }
     {
-        if self.line == 0 { None } else { Some(self.line) }
+        if self.line == 0 {
+            None
+        } else {
+            Some(self.line)
+        }
     }
 
     /// The position in the line, counted from 1, or `None` for no place.

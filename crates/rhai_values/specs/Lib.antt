@@ -1,3 +1,15 @@
+pub mod Caches
 pub mod Cells
+pub mod DataSize
+pub mod Hashable
+pub mod Layers
+pub mod LiteralEquals
+pub mod Copy
+pub mod Errors
+pub mod Literals
+pub mod Modes
 pub mod Native
+pub mod Newest
 pub mod Scope
+pub mod State
+pub mod TypeNames

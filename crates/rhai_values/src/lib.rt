@@ -3,6 +3,9 @@
 #![tactic(auto)]
 
 pub mod base;
+pub mod caches;
 pub mod cells;
 pub mod state;
 pub mod table;
+#[cfg(test)]
+mod tests;

@@ -1,6 +1,8 @@
 //! Values, and the modules and environments that they may hold.
 
-ghost use Rattle.std.specs.Prelude.{◌≡◌, List, ℕ, IfOk};
+ghost use Rattle.std.specs.Prelude.{◌≡◌, List, [], ℕ, IfOk};
+ghost use Rattle.rhai_values.specs.Copy.{plain};
+ghost use Rattle.rhai_values.specs.State.{empty_module};
 
 use rhai_items::{Boxed, Items, Shared, Table, Text};
 use rhai_tree::checked::CheckedFn;
@@ -40,6 +42,26 @@ pub trait Host: Sized + Drop {
 pub struct Dynamic<H> {
     pub value: Union<H>,
     pub mode: AccessMode,
+}
+
+impl<H> Dynamic<H> {
+    /// A value that may be written.
+    pub fn new(value: Union<H>) -> Dynamic<H>
+        ensures { result ≡ plain value }
+    {
+        Dynamic {
+            value,
+            mode: AccessMode::ReadWrite,
+        }
+    }
+
+    /// The value's own mode. That of a handle says nothing of the mode of the cell's value. Ports
+    /// upstream's `Dynamic::access_mode`.
+    pub fn access_mode(&self) -> AccessMode
+        ensures { result ≡ self.now.mode }
+    {
+        self.mode
+    }
 }
 
 /// What a value is. Ports upstream's `Union`.
@@ -123,8 +145,33 @@ pub struct Module<H> {
     pub sub_modules: Table<Shared<Module<H>>>,
 }
 
+impl<H> Module<H> {
+    /// A module with nothing in it. It takes no memory. Ports upstream's `Module::new`.
+    pub fn new(alloc: Global) -> Module<H>
+        ensures { result ≡ empty_module }
+    {
+        Module {
+            id: None,
+            constants: Table::new(alloc),
+            functions: Items::new(alloc),
+            sub_modules: Table::new(alloc),
+        }
+    }
+}
+
 /// The modules that an `import` may find, by their paths.
 #[derive(Drop)]
 pub struct ModuleTable<H> {
     pub modules: Table<Shared<Module<H>>>,
+}
+
+impl<H> ModuleTable<H> {
+    /// A table with no module. It takes no memory.
+    pub fn new(alloc: Global) -> ModuleTable<H>
+        ensures { result.modules ≡ ([], []) }
+    {
+        ModuleTable {
+            modules: Table::new(alloc),
+        }
+    }
 }

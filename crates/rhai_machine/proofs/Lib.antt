@@ -1,0 +1,7 @@
+pub mod Points
+pub mod Runs
+pub mod Limits
+pub mod Ends
+pub mod Toys
+pub mod LanguageLaws
+pub mod SampleRuns

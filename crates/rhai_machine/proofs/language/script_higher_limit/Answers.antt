@@ -1,0 +1,5 @@
+use Rattle.rhai_machine.proofs.LanguageLaws.{higher_limit}
+use Rattle.rhai_machine.proofs.language.script_higher_limit.Goals as goal
+
+pub returns : goal.returns
+returns g c = λ s. higher_limit s _ _

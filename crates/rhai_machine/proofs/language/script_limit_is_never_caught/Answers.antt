@@ -1,0 +1,5 @@
+use Rattle.rhai_machine.proofs.LanguageLaws.{never_caught}
+use Rattle.rhai_machine.proofs.language.script_limit_is_never_caught.Goals as goal
+
+pub returns : goal.returns
+returns g c = λ s. never_caught s _ _

@@ -1,0 +1,14 @@
+pub mod Setting
+pub mod State
+pub mod Values
+pub mod Names
+pub mod Frames
+pub mod Expressions
+pub mod Calls
+pub mod Statements
+pub mod Unwinding
+pub mod Language
+pub mod Runs
+pub mod Script
+pub mod Limits
+pub mod Laws

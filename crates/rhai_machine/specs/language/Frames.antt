@@ -1,0 +1,84 @@
+-- The machine's controls and frames: what it does next, and what waits for the value or the error that comes of it.
+use Rattle.std.specs.Prelude.{ℕ, Bool, List, Option, Result, Ok, Err}
+use Rattle.rhai_tree.specs.declared.position.Position.{Position}
+use Rattle.rhai_tree.specs.declared.token.Token.{Token}
+use Rattle.rhai_tree.specs.declared.flags.ASTFlags.{ASTFlags}
+use Rattle.rhai_tree.specs.declared.expr.Ident.{Ident}
+use Rattle.rhai_tree.specs.declared.expr.Expr.{Expr}
+use Rattle.rhai_tree.specs.declared.expr.Stmt.{Stmt}
+use Rattle.rhai_tree.specs.declared.expr.StmtBlock.{StmtBlock}
+use Rattle.rhai_tree.specs.Layers.{ExprLayer, StmtLayer}
+use Rattle.rhai_values.specs.declared.base.value.Dynamic.{Dynamic}
+use Rattle.rhai_values.specs.declared.base.error.EvalAltResult.{EvalAltResult}
+use Rattle.rhai_machine.specs.language.State.{Local}
+
+-- a call that was written as an operator: its name, its operator, and where it stands
+pub record Operation : Type 0 where
+  pub name : List ℕ
+  pub token : Option Token
+  pub at : Position
+
+-- a call with its arguments
+pub record Call (H : Type 0) : Type 0 where
+  pub operation : Operation
+  pub args : List (Dynamic H)
+
+-- what a restoring list takes back: the scope's length, the number of imports, and how deep the restoring lists were
+pub record Saved : Type 0 where
+  pub scope_length : ℕ
+  pub imports_length : ℕ
+  pub scope_level : ℕ
+
+-- what is done next
+pub data Control (H : Type 0) : Type 0 where
+  -- these charge: an expression, a statement of a list that restores or not, the native of a call
+  Eval : Expr → Control H
+  Exec : Stmt → (restoring : Bool) → Control H
+  Ask : Call H → Control H
+  -- an argument of a call charges where it is a literal, and else is an expression
+  Argument : Expr → Control H
+  -- these ask the table: whether the native is pure, and for its answer
+  Question : Call H → Control H
+  Fire : Call H → Control H
+  -- these go on: the form of a charged expression or statement, a list that is entered, the rest of a list after a value
+  OpenExpr : ExprLayer → Control H
+  OpenStmt : StmtLayer → (restoring : Bool) → Control H
+  Enter : List Stmt → (restoring : Bool) → Control H
+  Run : List Stmt → (restoring : Bool) → (last : Dynamic H) → Control H
+  -- a value comes up, or an error comes down
+  Back : Dynamic H → Control H
+  Fail : EvalAltResult H → Control H
+
+-- what waits below
+pub data Frame (H : Type 0) : Type 0 where
+  -- the value of an expression statement
+  StatementValue : Position → Frame H
+  -- the value of a `let`
+  DefineValue : (ident : Ident) → (options : ASTFlags) → (value_at : Position) → Frame H
+  -- the condition of an `if`
+  IfCondition : (test_at : Position) → (body branch : StmtBlock) → Frame H
+  -- a statement's value, before the rest of its list
+  RestOfList : (rest : List Stmt) → (restoring : Bool) → Frame H
+  -- the end of a restoring list
+  RestoreList : Saved → Frame H
+  -- the end of a whole script, where an exit may be asked to give its value
+  Top : (map_exit : Bool) → Frame H
+  -- the operand of a unary operator; the left one of a binary operator, before the right; the right one
+  UnaryOperand : (operation : Operation) → (operand_at : Position) → Frame H
+  LeftOperand : (operation : Operation) → (left_at : Position) → (right : Expr) → Frame H
+  RightOperand : (operation : Operation) → (left : Dynamic H) → (right_at : Position) → Frame H
+
+-- what the language adds to a configuration
+pub record Core (H : Type 0) : Type 0 where
+  pub control : Control H
+  pub stack : List (Frame H)
+  pub local : Local H
+
+module _ {H : Type 0} where
+  abbrev pub core : Control H → List (Frame H) → Local H → Core H
+  core control stack local = record { control = control; stack = stack; local = local }
+
+  -- a result comes back
+  abbrev pub ended : Result (Dynamic H) (EvalAltResult H) → Control H
+  ended (Ok v) = Back v
+  ended (Err e) = Fail e

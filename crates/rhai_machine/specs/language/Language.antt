@@ -1,0 +1,45 @@
+-- The machine of the language.
+use Rattle.std.specs.Prelude.{Bool, List, [], ◌∷◌}
+use Rattle.rhai_tree.specs.declared.position.Position.{Position}
+use Rattle.rhai_tree.specs.declared.expr.Expr.{out-Expr}
+use Rattle.rhai_tree.specs.declared.expr.Stmt.{out-Stmt}
+use Rattle.rhai_tree.specs.Positions.{position_of, stmt_position_of}
+use Rattle.rhai_values.specs.declared.base.error.EvalAltResult.TheVariants as error
+use Rattle.rhai_values.specs.Native.{Request, Effect, Purity}
+use Rattle.rhai_machine.specs.machine.Machine.{Move, Halt, Go, Charge, Machine}
+use Rattle.rhai_machine.specs.language.Setting.{Setting}
+use Rattle.rhai_machine.specs.language.State.{Local}
+use Rattle.rhai_machine.specs.language.Frames.{Control, Frame, Core, core, Eval, Exec, Ask, Argument, Question, Fire, OpenExpr, OpenStmt, Enter, Run, Back, Fail}
+use Rattle.rhai_machine.specs.language.Expressions.{literal_of, argument_move, expr_move}
+use Rattle.rhai_machine.specs.language.Calls.{question_move, fire_move}
+use Rattle.rhai_machine.specs.language.Statements.{enter_core, run_core, stmt_move}
+use Rattle.rhai_machine.specs.language.Unwinding.{up_core, down_core}
+
+module _ {H : Type 0} (s : Setting H) where
+  -- one move: a charge stands at its position before anything else of a form
+  abbrev pub move_at : Control H → List (Frame H) → Local H → Move H (Core H)
+  move_at (Eval e) k l = Charge (position_of e) (core (OpenExpr (out-Expr e)) k l)
+  move_at (Exec stmt restoring) k l = Charge (stmt_position_of stmt) (core (OpenStmt (out-Stmt stmt) restoring) k l)
+  move_at (Ask call) k l = Charge call.operation.at (core (Question call) k l)
+  move_at (Argument e) k l = argument_move (literal_of (out-Expr e)) e k l
+  move_at (Question call) k l = question_move s call k l
+  move_at (Fire call) k l = fire_move s call call.args k l
+  move_at (OpenExpr form) k l = expr_move s.fast_operators form k l
+  move_at (OpenStmt form restoring) k l = stmt_move s form restoring k l
+  move_at (Enter stmts restoring) k l = Go (enter_core stmts restoring k l)
+  move_at (Run stmts restoring last) k l = Go (run_core stmts restoring last k l)
+  move_at (Back v) [] l = Halt
+  move_at (Back v) (frame ∷ k) l = Go (up_core s frame v k l)
+  move_at (Fail e) [] l = Halt
+  move_at (Fail e) (frame ∷ k) l = Go (down_core s frame e k l)
+
+  abbrev pub move : Core H → Move H (Core H)
+  move c = move_at c.control c.stack c.local
+
+-- a refused charge is an error at its position
+abbrev pub refuse : {H : Type 0} → Position → Core H → Core H
+refuse pos c = core (Fail (error.ErrorTooManyOperations pos)) c.stack c.local
+
+-- the machine of a setting and a table
+abbrev pub machine : {S H : Type 0} → Setting H → (S → Request H → Effect S H) → (S → Purity → Bool) → Machine S H (Core H)
+machine s gives pure = record { move = move s; refuse = refuse; gives = gives; pure = pure }

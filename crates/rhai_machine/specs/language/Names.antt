@@ -1,0 +1,31 @@
+-- What a name means, by name alone: the newest variable of the name.
+use Rattle.std.specs.Prelude.{ℕ, List, Option, Some, None, Result, Ok, Err}
+use Rattle.rhai_tree.specs.declared.position.Position.{Position}
+use Rattle.rhai_values.specs.declared.base.value.Dynamic.{Dynamic}
+use Rattle.rhai_values.specs.declared.base.value.Union.{Union}
+use Rattle.rhai_values.specs.declared.base.value.Union.TheVariants as value
+use Rattle.rhai_values.specs.declared.base.scope.ScopeEntry.{ScopeEntry}
+use Rattle.rhai_values.specs.declared.base.error.EvalAltResult.{EvalAltResult}
+use Rattle.rhai_values.specs.declared.base.error.EvalAltResult.TheVariants as error
+use Rattle.rhai_values.specs.Cells.{value_of_cell}
+use Rattle.rhai_values.specs.Scope.{found}
+use Rattle.rhai_machine.specs.language.Values.{Cells, copied}
+
+module _ {H : Type 0} where
+  -- a variable that is the handle of a held cell is another's
+  abbrev pub entered : List ℕ → Position → Dynamic H → Option (Dynamic H) → Result (Dynamic H) (EvalAltResult H)
+  entered name at v (Some inner) = Ok v
+  entered name at v None = Err (error.ErrorDataRace name at)
+
+  abbrev pub looked_up : Cells H → List ℕ → Position → Union H → Dynamic H → Result (Dynamic H) (EvalAltResult H)
+  looked_up cells name at (value.Cell id) v = entered name at v (value_of_cell cells id.number)
+  looked_up cells name at _ v = Ok v
+
+  -- the variable of a name, or that there is none
+  abbrev pub variable_of : Cells H → List ℕ → Position → Option (Dynamic H) → Result (Dynamic H) (EvalAltResult H)
+  variable_of cells name at (Some v) = looked_up cells name at v.value v
+  variable_of cells name at None = Err (error.ErrorVariableNotFound name at)
+
+  -- what reading a variable gives: a copy of its value, read-write; a copied handle names the same cell
+  abbrev pub read : Cells H → List ℕ → Position → List (ScopeEntry H) → Result (Dynamic H) (EvalAltResult H)
+  read cells name at entries = copied (variable_of cells name at (found name entries))

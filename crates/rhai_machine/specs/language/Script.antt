@@ -1,0 +1,26 @@
+-- A whole script.
+use Rattle.std.specs.Prelude.{Bool, false, List, [], ◌∷◌, Result}
+use Rattle.rhai_tree.specs.declared.expr.Stmt.{Stmt}
+use Rattle.rhai_values.specs.declared.base.value.Dynamic.{Dynamic}
+use Rattle.rhai_values.specs.declared.base.error.EvalAltResult.{EvalAltResult}
+use Rattle.rhai_values.specs.Native.{Request, Effect, Purity}
+use Rattle.rhai_machine.specs.machine.Point.{Point}
+use Rattle.rhai_machine.specs.language.Setting.{Setting}
+use Rattle.rhai_machine.specs.language.State.{State, HasMemory}
+use Rattle.rhai_machine.specs.language.Frames.{Core, ended, Enter, Top}
+use Rattle.rhai_machine.specs.language.Runs.{at, Goes}
+
+module _ {S H : Type 0} where
+  -- a script starts with its statements, in a list that does not restore, over the frame of its end
+  abbrev pub start_of_script : List Stmt → (map_exit : Bool) → State S H → Point S (Core H)
+  start_of_script statements map_exit old = at (Enter statements false) (Top map_exit ∷ []) old
+
+  -- it ends with its value or error, over the empty stack
+  abbrev pub end_of_script : Result (Dynamic H) (EvalAltResult H) → State S H → Point S (Core H)
+  end_of_script result new = at (ended result) [] new
+
+  -- the script ends as the cut machine does, want of memory aside
+  abbrev pub EndsAsMachine : Setting H → (S → Request H → Effect S H) → (S → Purity → Bool) →
+      List Stmt → (map_exit : Bool) → State S H → Result (Dynamic H) (EvalAltResult H) → State S H → Type 0
+  EndsAsMachine s gives pure statements map_exit old result new =
+      HasMemory result → Goes s gives pure (start_of_script statements map_exit old) (end_of_script result new)

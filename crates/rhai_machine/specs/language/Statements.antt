@@ -1,0 +1,85 @@
+-- The rules of statements and of their lists.
+use Rattle.std.specs.Prelude.{ℕ, ◌+◌, ◌^◌, ◌-◌, Bool, true, false, not, ◌&&◌, List, [], ◌∷◌, ◌++◌, Option, Some, None, Result, Ok, Err, length, is_some, min, nat_le, nat_eq, if◌then◌else◌, bit_and, take}
+use Rattle.rhai_tree.specs.declared.position.Position.{Position}
+use Rattle.rhai_tree.specs.declared.flags.ASTFlags.{ASTFlags}
+use Rattle.rhai_tree.specs.declared.expr.Ident.{Ident}
+use Rattle.rhai_tree.specs.declared.expr.Expr.{Expr}
+use Rattle.rhai_tree.specs.declared.expr.Stmt.{Stmt}
+use Rattle.rhai_tree.specs.declared.expr.StmtBlock.{StmtBlock}
+use Rattle.rhai_tree.specs.declared.expr.Expr.TheOpen as layer
+use Rattle.rhai_tree.specs.Layers.{StmtLayer}
+use Rattle.rhai_tree.specs.Positions.{position_of}
+use Rattle.rhai_values.specs.declared.base.value.AccessMode.{AccessMode}
+use Rattle.rhai_values.specs.declared.base.value.AccessMode.TheVariants.{ReadWrite, ReadOnly}
+use Rattle.rhai_values.specs.declared.base.value.Dynamic.{Dynamic}
+use Rattle.rhai_values.specs.declared.base.error.EvalAltResult.{EvalAltResult}
+use Rattle.rhai_values.specs.declared.base.error.EvalAltResult.TheVariants as error
+use Rattle.rhai_values.specs.Scope.{index_of, new_entry}
+use Rattle.rhai_machine.specs.machine.Machine.{Move, Halt, Go}
+use Rattle.rhai_machine.specs.language.Setting.{Setting}
+use Rattle.rhai_machine.specs.language.State.{Local}
+use Rattle.rhai_machine.specs.language.Values.{unit_value}
+use Rattle.rhai_machine.specs.language.Frames.{Saved, Frame, Core, core, Eval, Exec, Enter, Run, Back, Fail, StatementValue, DefineValue, IfCondition, RestOfList, RestoreList}
+
+-- an option is among the options
+abbrev pub has_option : ℕ → ASTFlags → Bool
+has_option option options = nat_eq (bit_and options.0 option) option
+
+-- the mode that a `let` or a `const` asks for
+abbrev pub mode_of : ASTFlags → AccessMode
+mode_of options = if has_option 4 options then ReadOnly else ReadWrite
+
+-- one level deeper, up to the greatest level
+abbrev pub deeper : ℕ → ℕ
+deeper level = min (level + 1) (2 ^ 64 - 1)
+
+module _ {H : Type 0} where
+  -- a list: an empty one has no effect; a restoring one keeps what it takes back at its end
+  abbrev pub saved_by : Local H → Saved
+  saved_by l = record { scope_length = length l.scope; imports_length = length l.around.imports; scope_level = l.scope_level }
+
+  abbrev pub enter_core : List Stmt → Bool → List (Frame H) → Local H → Core H
+  enter_core [] restoring k l = core (Back unit_value) k l
+  enter_core (stmt ∷ stmts) true k l = core (Run (stmt ∷ stmts) true unit_value) (RestoreList (saved_by l) ∷ k) (record l { scope_level = deeper l.scope_level })
+  enter_core (stmt ∷ stmts) false k l = core (Run (stmt ∷ stmts) false unit_value) k l
+
+  -- the statements of a list, one after the other; the last one's value is the list's
+  abbrev pub run_core : List Stmt → Bool → Dynamic H → List (Frame H) → Local H → Core H
+  run_core [] restoring last k l = core (Back last) k l
+  run_core (stmt ∷ stmts) restoring last k l = core (Exec stmt restoring) (RestOfList stmts restoring ∷ k) l
+
+  -- what a restoring list leaves
+  abbrev pub restored_by : Saved → Local H → Local H
+  restored_by saved l = record l {
+    scope = take saved.scope_length l.scope;
+    scope_level = saved.scope_level;
+    around = record l.around { imports = take saved.imports_length l.around.imports };
+  }
+
+  -- an `if` goes on with the list that its condition chose
+  abbrev pub chosen_core : Result Bool (EvalAltResult H) → StmtBlock → StmtBlock → List (Frame H) → Local H → Core H
+  chosen_core (Ok true) body branch k l = core (Enter body.statements true) k l
+  chosen_core (Ok false) body branch k l = core (Enter branch.statements true) k l
+  chosen_core (Err e) body branch k l = core (Fail e) k l
+
+  -- a new variable with its value
+  abbrev pub defined_core : Result (Dynamic H) (EvalAltResult H) → Ident → ASTFlags → List (Frame H) → Local H → Core H
+  defined_core (Ok v) ident options k l = core (Back unit_value) k (record l { scope = l.scope ++ new_entry ident.name (mode_of options) v ∷ [] })
+  defined_core (Err e) ident options k l = core (Fail e) k l
+
+  module _ (s : Setting H) where
+    -- where shadowing is off a name is declared once; the scope holds at most so many variables; then the value
+    abbrev pub define_core : (shadows full : Bool) → Ident → Expr → ASTFlags → Position → List (Frame H) → Local H → Core H
+    define_core true full ident value options pos k l = core (Fail (error.ErrorVariableExists ident.name pos)) k l
+    define_core false true ident value options pos k l = core (Fail (error.ErrorTooManyVariables pos)) k l
+    define_core false false ident value options pos k l = core (Eval value) (DefineValue ident options (position_of value) ∷ k) l
+
+    -- a statement, after its charge; a form that is not there has no step
+    abbrev pub stmt_move : StmtLayer → Bool → List (Frame H) → Local H → Move H (Core H)
+    stmt_move (layer.Noop pos) restoring k l = Go (core (Back unit_value) k l)
+    stmt_move (layer.Expr value) restoring k l = Go (core (Eval value) (StatementValue (position_of value) ∷ k) l)
+    stmt_move (layer.Block block) restoring k l = Go (core (Enter block.statements true) k l)
+    stmt_move (layer.Var ident value None options pos) restoring k l =
+        Go (define_core (not s.allow_shadowing && is_some (index_of ident.name l.scope)) (nat_le s.max_variables (length l.scope)) ident value options pos k l)
+    stmt_move (layer.If test body branch pos) restoring k l = Go (core (Eval test) (IfCondition (position_of test) body branch ∷ k) l)
+    stmt_move _ restoring k l = Halt

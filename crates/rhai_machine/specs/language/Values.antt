@@ -1,0 +1,68 @@
+-- Values as the rules look at them.
+use Rattle.std.specs.Prelude.{ℕ, Bool, true, false, List, [], Option, Some, None, Result, Ok, Err, codes}
+use Rattle.rhai_tree.specs.declared.position.Position.{Position}
+use Rattle.rhai_values.specs.declared.base.value.Dynamic.{Dynamic}
+use Rattle.rhai_values.specs.declared.base.value.Union.{Union}
+use Rattle.rhai_values.specs.declared.base.value.Union.TheVariants as value
+use Rattle.rhai_values.specs.declared.base.error.EvalAltResult.{EvalAltResult}
+use Rattle.rhai_values.specs.declared.base.error.EvalAltResult.TheVariants as error
+use Rattle.rhai_values.specs.Cells.{value_of_cell}
+use Rattle.rhai_values.specs.Copy.{copy_of, plain}
+use Rattle.rhai_values.specs.TypeNames.{type_name_of}
+
+-- the store: the value of each cell, None where it is held
+abbrev pub Cells : Type 0 → Type 0
+Cells H = List (Option (Dynamic H))
+
+module _ {H : Type 0} where
+  abbrev pub unit_value : Dynamic H
+  unit_value = plain value.Unit
+
+  abbrev pub bool_value : Bool → Dynamic H
+  bool_value b = plain (value.Bool b)
+
+  -- a bare handle of a cell
+  abbrev pub is_handle : Union H → Bool
+  is_handle (value.Cell id) = true
+  is_handle _ = false
+
+  -- a use of what a handle leads to, or the race with whoever holds the cell
+  abbrev pub used : List ℕ → Position → Option (Dynamic H) → Result (Dynamic H) (EvalAltResult H)
+  used name at (Some v) = Ok v
+  used name at None = Err (error.ErrorDataRace name at)
+
+  abbrev pub copied : Result (Dynamic H) (EvalAltResult H) → Result (Dynamic H) (EvalAltResult H)
+  copied (Ok v) = Ok (copy_of v)
+  copied (Err e) = Err e
+
+  -- a value without its handle: of a handle, a copy of the cell's value; anything else stays
+  abbrev pub flat_union : Cells H → Union H → Dynamic H → Position → Result (Dynamic H) (EvalAltResult H)
+  flat_union cells (value.Cell id) v at = copied (used [] at (value_of_cell cells id.number))
+  flat_union cells _ v at = Ok v
+
+  abbrev pub flat : Cells H → Dynamic H → Position → Result (Dynamic H) (EvalAltResult H)
+  flat cells v at = flat_union cells v.value v at
+
+  -- the value looked at, through a handle, without a copy
+  abbrev pub through_union : Cells H → Union H → Dynamic H → Position → Result (Dynamic H) (EvalAltResult H)
+  through_union cells (value.Cell id) v at = used [] at (value_of_cell cells id.number)
+  through_union cells _ v at = Ok v
+
+  abbrev pub through : Cells H → Dynamic H → Position → Result (Dynamic H) (EvalAltResult H)
+  through cells v at = through_union cells v.value v at
+
+  abbrev pub mismatch : List ℕ → List ℕ → Position → EvalAltResult H
+  mismatch wanted found at = error.ErrorMismatchDataType (record { wanted = wanted; found = found }) at
+
+  -- a truth value, or the mismatch
+  abbrev pub truth_union : (H → List ℕ) → Cells H → Union H → Dynamic H → Position → Result Bool (EvalAltResult H)
+  truth_union host cells (value.Bool b) v at = Ok b
+  truth_union host cells _ v at = Err (mismatch (codes "bool") (type_name_of host cells v) at)
+
+  abbrev pub truth_seen : (H → List ℕ) → Cells H → Position → Result (Dynamic H) (EvalAltResult H) → Result Bool (EvalAltResult H)
+  truth_seen host cells at (Ok v) = truth_union host cells v.value v at
+  truth_seen host cells at (Err e) = Err e
+
+  -- the truth value that a condition gave, through a handle
+  abbrev pub truth : (H → List ℕ) → Cells H → Dynamic H → Position → Result Bool (EvalAltResult H)
+  truth host cells v at = truth_seen host cells at (through cells v at)

@@ -1,0 +1,6 @@
+pub mod Machine
+pub mod Point
+pub mod Unwinding
+pub mod Settling
+pub mod Laws
+pub mod Toy

@@ -1,0 +1,70 @@
+-- A machine that knows no language: what one step does to the count, the table and the list of calls, and when a run ends.
+use Rattle.std.specs.Prelude.{◌≡◌, ℕ, ◌+◌, nat_lt, Bool, true, false, List, ◌∷◌, Option, Some, None}
+use Rattle.rhai_tree.specs.declared.position.Position.{Position}
+use Rattle.rhai_values.specs.declared.base.value.Dynamic.{Dynamic}
+use Rattle.rhai_values.specs.Native.{Request, Reply, Effect, Purity}
+
+-- What a core does next. A core is all that a language works on: control, stack, scope and the rest of its state.
+pub data Move (H Core : Type 0) : Type 0 where
+  -- the end of the run
+  Halt : Move H Core
+  -- a step that charges nothing and asks nothing of the table
+  Go : Core → Move H Core
+  -- a charge of one operation at a position, and the core that goes on once it is let through
+  Charge : Position → Core → Move H Core
+  -- a call of a native, and the core that goes on from its reply and the first argument that it leaves
+  Native : Request H → (Reply H → Option (Dynamic H) → Core) → Move H Core
+  -- a question whether a native is pure, and the core that goes on from the answer
+  AskPure : Purity → (Bool → Core) → Move H Core
+
+-- A language over a table of natives. The language: its moves, and the core in which a refused charge leaves one.
+-- The table: what a call gives in a state, and which natives are pure.
+pub record Machine (S H Core : Type 0) : Type 0 where
+  pub move : Core → Move H Core
+  pub refuse : Position → Core → Core
+  pub gives : S → Request H → Effect S H
+  pub pure : S → Purity → Bool
+
+-- Where a run stands: the core, the state of the table, the count of charges, and the calls of natives, newest first.
+pub record Config (S H Core : Type 0) : Type 0 where
+  pub core : Core
+  pub table : S
+  pub count : ℕ
+  pub calls : List (Request H)
+
+module _ {S H Core : Type 0} (M : Machine S H Core) where
+  -- a charge that is let through adds one; a refused one adds nothing
+  abbrev pub charged : Bool → Position → Core → Config S H Core → Config S H Core
+  charged true at d c = record c { core = d; count = c.count + 1 }
+  charged false at d c = record c { core = M.refuse at c.core }
+
+-- a call is written down, and the table's state is the one that it leaves
+abbrev pub called : {S H Core : Type 0} → Request H → (Reply H → Option (Dynamic H) → Core) → Effect S H → Config S H Core → Config S H Core
+called q f e c = record c { core = f e.reply e.first; table = e.state; calls = q ∷ c.calls }
+
+-- A test `allows` says at which counts a charge is let through.
+module _ {S H Core : Type 0} (M : Machine S H Core) (allows : ℕ → Bool) where
+  -- what a move makes of a configuration; none at the end
+  abbrev pub act : Move H Core → Config S H Core → Option (Config S H Core)
+  act Halt c = None
+  act (Go d) c = Some (record c { core = d })
+  act (Charge at d) c = Some (charged M (allows c.count) at d c)
+  act (Native q f) c = Some (called q f (M.gives c.table q) c)
+  act (AskPure p f) c = Some (record c { core = f (M.pure c.table p) })
+
+  -- one step
+  abbrev pub step : Config S H Core → Option (Config S H Core)
+  step c = act (M.move c.core) c
+
+  -- a run goes on to a configuration from which there is no step
+  pub data Run : Config S H Core → Config S H Core → Type 0 where
+    ended : {c : Config S H Core} → step c ≡ None → Run c c
+    next : {c d e : Config S H Core} → step c ≡ Some d → Run d e → Run c e
+
+-- the run cut at a limit: a charge is let through while the count is below it
+abbrev pub below : ℕ → ℕ → Bool
+below limit count = nat_lt count limit
+
+-- the run without a limit: every charge is let through
+abbrev pub always : ℕ → Bool
+always count = true

@@ -1,0 +1,6 @@
+pub mod Trees
+pub mod Runs
+pub mod Operators
+pub mod Variables
+pub mod Limits
+pub mod Called

@@ -1,0 +1,29 @@
+-- Samples of natives: an operator that has no built-in for its operands is a call of the native of its name.
+use Rattle.std.specs.Prelude.{ℕ, true, List, [], ◌∷◌, Some, Ok, Err, codes}
+use Rattle.rhai_tree.specs.declared.expr.Stmt.{Stmt}
+use Rattle.rhai_tree.specs.declared.token.Token.TheVariants.{Plus}
+use Rattle.rhai_tree.specs.Position.{none}
+use Rattle.rhai_values.specs.declared.base.error.EvalAltResult.TheVariants.{ErrorTooManyOperations, ErrorFunctionNotFound, ErrorArithmetic}
+use Rattle.rhai_values.specs.Native.{Request, Missing, Gives, Faults, Named, request}
+use Rattle.rhai_machine.specs.samples.Trees.{column, int, bool, op, value}
+use Rattle.rhai_machine.specs.samples.Runs.{Natives, Replies, EndsFrom, Fails, usual, limited, integer, truth}
+
+-- `1 + true`
+abbrev pub mixed_sum : List Stmt
+mixed_sum = value (op 3 Plus (int 1 1 ∷ bool 5 true ∷ [])) ∷ []
+
+-- its one call
+abbrev pub plus_called : {H : Type 0} → List (Request H)
+plus_called = request [] (Named (codes "+")) (Some (integer 1)) (truth true ∷ []) (column 3) ∷ []
+
+module _ {S H : Type 0} (natives : Natives S H) (host : H → List ℕ) where
+  pub record Called : Type 0 where
+    -- where there is no such native the error names the operator and its operands' types
+    pub missing : Replies natives Missing → EndsFrom natives 0 (usual host) mixed_sum (Err (ErrorFunctionNotFound (codes "+ (i64, bool)") (column 3))) 5 [] plus_called
+    -- what a native gives is the value
+    pub gives : Replies natives (Gives (integer 7)) → EndsFrom natives 0 (usual host) mixed_sum (Ok (integer 7)) 5 [] plus_called
+    -- a fault without a position stands at the operator, and one with a position where it says
+    pub faults : Replies natives (Faults (ErrorArithmetic (codes "no") none)) → EndsFrom natives 0 (usual host) mixed_sum (Err (ErrorArithmetic (codes "no") (column 3))) 5 [] plus_called
+    pub placed : Replies natives (Faults (ErrorArithmetic (codes "no") (column 9))) → EndsFrom natives 0 (usual host) mixed_sum (Err (ErrorArithmetic (codes "no") (column 9))) 5 [] plus_called
+    -- the call is charged before the native, which is then not called
+    pub refused : Fails natives (limited host 4) mixed_sum (ErrorTooManyOperations (column 3)) 4 []

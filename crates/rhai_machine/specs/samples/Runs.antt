@@ -1,0 +1,89 @@
+-- What a sample says: how a script that starts with nothing ends, cut at the setting's limit.
+use Rattle.std.specs.Prelude.{◌≡◌, ℕ, Bool, true, false, List, [], None, Result, Ok, Err, pos}
+use Rattle.rhai_tree.specs.declared.expr.Stmt.{Stmt}
+use Rattle.rhai_values.specs.declared.base.value.AccessMode.TheVariants.{ReadWrite}
+use Rattle.rhai_values.specs.declared.base.value.Dynamic.{Dynamic}
+use Rattle.rhai_values.specs.declared.base.value.Union.TheVariants as value
+use Rattle.rhai_values.specs.declared.base.scope.ScopeEntry.{ScopeEntry}
+use Rattle.rhai_values.specs.declared.base.error.EvalAltResult.{EvalAltResult}
+use Rattle.rhai_values.specs.Native.{Request, Reply, Effect, Purity, effect}
+use Rattle.rhai_machine.specs.machine.Machine.{Config, Run, below}
+use Rattle.rhai_machine.specs.language.Setting.{Setting, limit_of}
+use Rattle.rhai_machine.specs.language.State.{Local}
+use Rattle.rhai_machine.specs.language.Frames.{Control, Core, core, ended, Enter}
+use Rattle.rhai_machine.specs.language.Language.{machine}
+
+-- a table of natives in a state
+pub record Natives (S H : Type 0) : Type 0 where
+  pub gives : S → Request H → Effect S H
+  pub pure : S → Purity → Bool
+  pub state : S
+
+-- a table whose natives all reply so, and change nothing
+abbrev pub Replies : {S H : Type 0} → Natives S H → Reply H → Type 0
+Replies {S} {H} natives reply = (s : S) (q : Request H) → natives.gives s q ≡ effect reply q.first s
+
+module _ {H : Type 0} where
+  -- the usual setting: no limit of operations or of data, a thousand variables, fast operators, and shadowing
+  abbrev pub usual : (H → List ℕ) → Setting H
+  usual host = record {
+    max_operations = 0;
+    max_variables = 1000;
+    max_modules = 100;
+    max_call_levels = 64;
+    max_array_size = 0;
+    max_map_size = 0;
+    max_string_size = 0;
+    fast_operators = true;
+    allow_shadowing = true;
+    fail_on_invalid_map_property = false;
+    global_modules = [];
+    global_sub_modules = ([], []);
+    modules = ([], []);
+    host_type = host;
+  }
+
+  -- the usual setting under a limit of operations
+  abbrev pub limited : (H → List ℕ) → ℕ → Setting H
+  limited host limit = record (usual host) { max_operations = limit }
+
+  -- an integer that is not negative, and a truth value, that may be written
+  abbrev pub integer : ℕ → Dynamic H
+  integer n = record { value = value.Int (pos n); mode = ReadWrite }
+
+  abbrev pub truth : Bool → Dynamic H
+  truth b = record { value = value.Bool b; mode = ReadWrite }
+
+  abbrev pub unit : Dynamic H
+  unit = record { value = value.Unit; mode = ReadWrite }
+
+  -- a variable of the scope
+  abbrev pub entry : List ℕ → Dynamic H → ScopeEntry H
+  entry name v = record { name = name; value = v; aliases = [] }
+
+  -- nothing but these variables
+  abbrev pub nothing_but : List (ScopeEntry H) → Local H
+  nothing_but scope = record {
+    scope = scope;
+    this = None;
+    scope_level = 0;
+    around = record { lib = []; imports = []; constants = 0; constant_tables = []; level = 0; num_modules_loaded = 0; source = None; cells = [] };
+  }
+
+module _ {S H : Type 0} (natives : Natives S H) where
+  -- a control with nothing below it, in the natives' state
+  abbrev pub alone : Control H → List (ScopeEntry H) → ℕ → List (Request H) → Config S H (Core H)
+  alone control scope count calls = record { core = core control [] (nothing_but scope); table = natives.state; count = count; calls = calls }
+
+  -- from a count the script comes to this result, and leaves this count, these variables and these calls
+  abbrev pub EndsFrom : ℕ → Setting H → List Stmt → Result (Dynamic H) (EvalAltResult H) → ℕ → List (ScopeEntry H) → List (Request H) → Type 0
+  EndsFrom start s script result count scope calls =
+      Run (machine s natives.gives natives.pure) (below (limit_of s.max_operations)) (alone (Enter script false) [] start []) (alone (ended result) scope count calls)
+
+  -- the script returns this value and calls no native
+  abbrev pub Returns : Setting H → List Stmt → Dynamic H → (count : ℕ) → List (ScopeEntry H) → Type 0
+  Returns s script v count scope = EndsFrom 0 s script (Ok v) count scope []
+
+  -- the script fails with this error and calls no native
+  abbrev pub Fails : Setting H → List Stmt → EvalAltResult H → (count : ℕ) → List (ScopeEntry H) → Type 0
+  Fails s script e count scope = EndsFrom 0 s script (Err e) count scope []

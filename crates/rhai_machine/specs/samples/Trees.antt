@@ -1,0 +1,68 @@
+-- Small words for the trees of sample scripts. A script stands on one line, so each place is a column.
+use Rattle.std.specs.Prelude.{ℕ, ◌+◌, pos, Bool, false, List, [], Some, None}
+use Rattle.rhai_tree.specs.declared.position.Position.{Position}
+use Rattle.rhai_tree.specs.declared.token.Token.{Token}
+use Rattle.rhai_tree.specs.declared.expr.Namespace.{Namespace}
+use Rattle.rhai_tree.specs.declared.expr.Expr.{Expr}
+use Rattle.rhai_tree.specs.declared.expr.Expr.TheVariants as expr
+use Rattle.rhai_tree.specs.declared.expr.Stmt.{Stmt}
+use Rattle.rhai_tree.specs.declared.expr.Stmt.TheVariants as stmt
+use Rattle.rhai_tree.specs.declared.expr.StmtBlock.{StmtBlock}
+use Rattle.rhai_tree.specs.Position.{at, none}
+use Rattle.rhai_tree.specs.Tokens.{syntax_of}
+
+-- a column of the first line
+abbrev pub column : ℕ → Position
+column c = at 1 c
+
+abbrev pub unqualified : Namespace
+unqualified = record { path = []; index = None; position = none }
+
+-- an integer that is not negative
+abbrev pub int : (at : ℕ) → ℕ → Expr
+int c n = expr.IntegerConstant (pos n) (column c)
+
+abbrev pub bool : (at : ℕ) → Bool → Expr
+bool c b = expr.BoolConstant b (column c)
+
+-- a variable
+abbrev pub var : (at : ℕ) → List ℕ → Expr
+var c name = expr.Variable None name unqualified (column c)
+
+-- an operator at its own column, with its operands
+abbrev pub op : (at : ℕ) → Token → List Expr → Expr
+op c token operands = expr.FnCall (record { namespace = unqualified; name = syntax_of token; args = operands; op_token = Some token; capture_parent_scope = false }) (column c)
+
+-- statements between braces
+abbrev pub braces : (from to : ℕ) → List Stmt → StmtBlock
+braces from to stmts = record { statements = stmts; position = column from; end_position = column to }
+
+-- a block as an expression
+abbrev pub inner : StmtBlock → Expr
+inner block = expr.Stmt block
+
+-- an expression as a statement
+abbrev pub value : Expr → Stmt
+value e = stmt.Expr e
+
+-- a block as a statement
+abbrev pub block : StmtBlock → Stmt
+block b = stmt.Block b
+
+-- `let` or `const`, whose name stands so many columns further
+abbrev pub define : (options width at : ℕ) → List ℕ → Expr → Stmt
+define options width c name e = stmt.Var (record { name = name; pos = column (c + width) }) e None (record { 0 = options }) (column c)
+
+abbrev pub let_ : (at : ℕ) → List ℕ → Expr → Stmt
+let_ c name e = define 0 4 c name e
+
+abbrev pub const_ : (at : ℕ) → List ℕ → Expr → Stmt
+const_ c name e = define 4 6 c name e
+
+-- an `if` with both its lists
+abbrev pub if_ : (at : ℕ) → Expr → StmtBlock → StmtBlock → Stmt
+if_ c test body branch = stmt.If test body branch (column c)
+
+-- no `else`
+abbrev pub no_else : StmtBlock
+no_else = record { statements = []; position = none; end_position = none }

@@ -1,0 +1,50 @@
+//! The laws of the language, under every setting and over every table of natives. Nothing here is
+//! run: each function stands for the law that is its contract.
+
+ghost use Rattle.rhai_machine.specs.machine.Laws.{OneEnd};
+ghost use Rattle.rhai_machine.specs.language.Setting.{Setting};
+ghost use Rattle.rhai_machine.specs.language.Language.{machine};
+ghost use Rattle.rhai_machine.specs.language.Laws.{IsNeverCaught, CutFollows, CutOrSame, CutEnds, HigherLimit, HigherLimitOfSteps};
+
+use rhai_values::table::NativeTable;
+use std::marker::PhantomData;
+
+/// A run of a script has one end.
+pub fn script_has_one_end<H, T: NativeTable<H>>(of: PhantomData<(H, T)>)
+    ensures { (s : Setting H) → OneEnd (machine s T.gives T.pure) }
+{}
+
+/// The error of a refused charge is caught by nothing: the script ends with it, and on its way
+/// nothing is charged and no native is called.
+pub fn script_limit_is_never_caught<H, T: NativeTable<H>>(of: PhantomData<(H, T)>)
+    ensures { (s : Setting H) → IsNeverCaught s T.gives T.pure }
+{}
+
+/// The run of a script that is cut at a limit is the run without a limit, or it follows that run
+/// step by step up to the first charge at which the count has reached the limit.
+pub fn script_cut_follows<H, T: NativeTable<H>>(of: PhantomData<(H, T)>)
+    ensures { (s : Setting H) → CutFollows s T.gives T.pure }
+{}
+
+/// Where a script ends without a limit too, its cut run ends there, or it refused a charge and its
+/// calls begin the other's.
+pub fn script_cut_or_same<H, T: NativeTable<H>>(of: PhantomData<(H, T)>)
+    ensures { (s : Setting H) → CutOrSame s T.gives T.pure }
+{}
+
+/// The cut run of a script always ends.
+pub fn script_cut_ends<H, T: NativeTable<H>>(of: PhantomData<(H, T)>)
+    ensures { (s : Setting H) → CutEnds s T.gives T.pure }
+{}
+
+/// Under each higher limit a script ends too, and at the same end, or the lower limit refused a
+/// charge and its calls begin the other's.
+pub fn script_higher_limit<H, T: NativeTable<H>>(of: PhantomData<(H, T)>)
+    ensures { (s : Setting H) → HigherLimit s T.gives T.pure }
+{}
+
+/// The same, of what an evaluator tells of a run: steps from a control with nothing below it to
+/// how it ended.
+pub fn script_higher_limit_of_steps<H, T: NativeTable<H>>(of: PhantomData<(H, T)>)
+    ensures { (s : Setting H) → HigherLimitOfSteps s T.gives T.pure }
+{}

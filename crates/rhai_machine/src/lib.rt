@@ -1,0 +1,7 @@
+//! The step machine: what it means to run a script.
+#![tactic(auto)]
+
+pub mod language;
+pub mod laws;
+pub mod samples;
+pub mod toy;

@@ -1,0 +1,41 @@
+//! Runs of small scripts, with the ends that they are to have. They are tests of the definitions of
+//! the language. Nothing here is run: that a function builds means that its scripts end so.
+
+ghost use Rattle.std.specs.Prelude.{ℕ, List};
+ghost use Rattle.rhai_machine.specs.samples.Runs.{Natives};
+ghost use Rattle.rhai_machine.specs.samples.Operators.{Sums, Operands};
+ghost use Rattle.rhai_machine.specs.samples.Variables.{Blocks, Variables};
+ghost use Rattle.rhai_machine.specs.samples.Limits.{Limits};
+ghost use Rattle.rhai_machine.specs.samples.Called.{Called};
+
+use std::marker::PhantomData;
+
+/// `40 + 2` under each limit up to four: which charge is refused.
+pub fn sample_sums<H, S>(of: PhantomData<(H, S)>)
+    ensures { (natives : Natives S H) (host : H → List ℕ) → Sums natives host }
+{}
+
+/// Operators on one operand and on two, and their errors.
+pub fn sample_operands<H, S>(of: PhantomData<(H, S)>)
+    ensures { (natives : Natives S H) (host : H → List ℕ) → Operands natives host }
+{}
+
+/// Blocks and an `if`, and what a block takes back.
+pub fn sample_blocks<H, S>(of: PhantomData<(H, S)>)
+    ensures { (natives : Natives S H) (host : H → List ℕ) → Blocks natives host }
+{}
+
+/// Variables and constants, and what refuses a new one.
+pub fn sample_variables<H, S>(of: PhantomData<(H, S)>)
+    ensures { (natives : Natives S H) (host : H → List ℕ) → Variables natives host }
+{}
+
+/// Counts and limits as a script starts.
+pub fn sample_limits<H, S>(of: PhantomData<(H, S)>)
+    ensures { (natives : Natives S H) (host : H → List ℕ) → Limits natives host }
+{}
+
+/// An operator that is a native's, over tables that reply in each way.
+pub fn sample_natives<H, S>(of: PhantomData<(H, S)>)
+    ensures { (natives : Natives S H) (host : H → List ℕ) → Called natives host }
+{}

@@ -1,0 +1,5 @@
+pub mod Answers
+pub mod Compare
+pub mod Integers
+pub mod Operators
+pub mod Texts

@@ -1,0 +1,3 @@
+pub mod Offsets
+pub mod Refused
+pub mod Walk

@@ -1,0 +1,48 @@
+-- Whether a part of a tree declares a variable: the checker needs memory for the names alone.
+use Rattle.std.specs.Prelude.{Bool, true, false, ◌||◌, List, [], ◌∷◌, map}
+use Rattle.rhai_tree.specs.declared.expr.Expr.{Expr}
+use Rattle.rhai_tree.specs.declared.expr.FnCallExpr.{FnCallExpr}
+use Rattle.rhai_tree.specs.declared.expr.StmtBlock.{StmtBlock}
+use Rattle.rhai_tree.specs.declared.expr.Stmt.{Stmt}
+use Rattle.rhai_tree.specs.declared.function.ScriptFuncDef.{ScriptFuncDef}
+use Rattle.rhai_tree.specs.declared.expr.Expr.TheOpen as layer
+use Rattle.rhai_tree.specs.declared.expr.Expr.TheFolds.{fold-Expr, fold-FnCallExpr, fold-StmtBlock, fold-Stmt}
+
+-- one of several parts
+abbrev pub any_of : List Bool → Bool
+any_of [] = false
+any_of (part ∷ parts) = part || any_of parts
+
+-- a form that is not there yet is refused without a look inside
+abbrev pub expr_step : layer.Expr-F Bool Bool (Unit {0}) Bool (Unit {0}) Bool → Bool
+expr_step (layer.Expr::FnCall call pos) = call
+expr_step (layer.Stmt block) = block
+expr_step _ = false
+
+abbrev pub stmt_step : layer.Stmt-F Bool Bool (Unit {0}) Bool (Unit {0}) Bool → Bool
+stmt_step (layer.Expr expr) = expr
+stmt_step (layer.Block block) = block
+stmt_step (layer.Var ident expr index options pos) = true
+stmt_step (layer.If expr body branch pos) = expr || (body || branch)
+stmt_step _ = false
+
+abbrev pub declares_expr : Expr → Bool
+declares_expr = fold-Expr Bool Bool (Unit {0}) Bool (Unit {0}) Bool expr_step stmt_step (λ conditional. tt) (λ call. any_of call.args) (λ entry. tt) (λ block. any_of block.statements)
+
+abbrev pub declares_call : FnCallExpr → Bool
+declares_call = fold-FnCallExpr Bool Bool (Unit {0}) Bool (Unit {0}) Bool expr_step stmt_step (λ conditional. tt) (λ call. any_of call.args) (λ entry. tt) (λ block. any_of block.statements)
+
+abbrev pub declares_block : StmtBlock → Bool
+declares_block = fold-StmtBlock Bool Bool (Unit {0}) Bool (Unit {0}) Bool expr_step stmt_step (λ conditional. tt) (λ call. any_of call.args) (λ entry. tt) (λ block. any_of block.statements)
+
+abbrev pub declares_stmt : Stmt → Bool
+declares_stmt = fold-Stmt Bool Bool (Unit {0}) Bool (Unit {0}) Bool expr_step stmt_step (λ conditional. tt) (λ call. any_of call.args) (λ entry. tt) (λ block. any_of block.statements)
+
+-- the check of functions may need memory where there are some
+abbrev pub has_functions : List ScriptFuncDef → Bool
+has_functions [] = false
+has_functions (def ∷ defs) = true
+
+-- the check of a tree needs memory only where the tree declares a variable or has functions
+abbrev pub needs_memory : List Stmt → List ScriptFuncDef → Bool
+needs_memory statements functions = any_of (map declares_stmt statements) || has_functions functions

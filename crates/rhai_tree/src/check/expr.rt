@@ -1,0 +1,118 @@
+//! The checker's walk over expressions.
+
+ghost use Rattle.std.specs.Prelude.{◌≡◌, ◌++◌, [], ◌∷◌, IsTrue, IfErr, OnOk, map, length, List};
+ghost use Rattle.rhai_tree.specs.Context.{around};
+ghost use Rattle.rhai_tree.specs.Declares.{any_of, declares_expr, declares_call};
+ghost use Rattle.rhai_tree.specs.Forms.{is_unqualified, is_operator_call};
+ghost use Rattle.rhai_tree.specs.Frame.{resolves_expr, resolves_call, all_resolve_exprs};
+ghost use Rattle.rhai_tree.specs.Names.{Name, is_good};
+ghost use Rattle.rhai_tree.specs.Refusals.{Refuses};
+ghost use Rattle.rhai_tree.specs.WellFormed.{seen_expr, seen_call, faults_in_all, variable_faults};
+
+use crate::check::CheckFault;
+use crate::check::names::is_good;
+use crate::check::place::Place;
+use crate::check::stmt::check_block;
+use crate::expr::{Expr, FnCallExpr};
+use crate::position::Position;
+use rhai_items::{Items, Shared, Text};
+use std::num::NonZeroUsize;
+
+/// Whether a call is written as an operator with one or two operands, without a path, and leaves
+/// the caller's scope alone.
+fn is_operator_call(call: &FnCallExpr) -> bool
+    ensures { result ≡ is_operator_call call.now.namespace call.now.op_token call.now.capture_parent_scope (length call.now.args) }
+{
+    let count = call.args.len();
+    call.namespace.path.len() == 0
+        && call.op_token.is_some()
+        && !call.capture_parent_scope
+        && (count == 1 || count == 2)
+}
+
+/// Passes an expression, or answers one of its faults.
+#[cycle(check)]
+pub(crate) fn check_expr(
+    names: &mut Items<Shared<Text>>,
+    place: Place,
+    expr: &Expr,
+) -> Result<(), CheckFault>
+    ensures same { OnOk result (names.new ≡ names.old) }
+    ensures exact { OnOk result ((seen_expr expr.now).value (around names.old place) ≡ []) }
+    ensures resolved { OnOk result ((base : List Name) → IsTrue (resolves_expr expr.now (base ++ names.old))) }
+    ensures refused { IfErr result (λ fault. Refuses ((seen_expr expr.now).value (around names.old place)) (declares_expr expr.now) fault) }
+{
+    match expr {
+        Expr::BoolConstant(_, _) => Ok(()),
+        Expr::IntegerConstant(_, _) => Ok(()),
+        Expr::Unit(_) => Ok(()),
+        Expr::Variable {
+            offset,
+            name,
+            namespace,
+            pos,
+        } => {
+            if namespace.path.len() > 0 {
+                Err(CheckFault::NotYet(*pos))
+            } else if is_good(names.as_slice(), *offset, name.get()) {
+                Ok(())
+            } else {
+                Err(CheckFault::BadOffset(*pos))
+            }
+        }
+        Expr::FnCall(call, pos) => check_call(names, place, call, *pos),
+        Expr::Stmt(block) => check_block(names, place, block),
+        Expr::DynamicConstant(_, pos)
+        | Expr::CharConstant(_, pos)
+        | Expr::StringConstant(_, pos)
+        | Expr::InterpolatedString(_, pos)
+        | Expr::Array(_, pos)
+        | Expr::Map(_, _, pos)
+        | Expr::ThisPtr(pos)
+        | Expr::Property(_, pos)
+        | Expr::MethodCall(_, pos)
+        | Expr::Dot(_, _, _, pos)
+        | Expr::Index(_, _, _, pos)
+        | Expr::And(_, pos)
+        | Expr::Or(_, pos)
+        | Expr::Coalesce(_, pos) => Err(CheckFault::NotYet(*pos)),
+    }
+}
+
+/// Passes a list of expressions, or answers one of their faults.
+#[cycle(check)]
+pub(crate) fn check_exprs(
+    names: &mut Items<Shared<Text>>,
+    place: Place,
+    exprs: &[Expr],
+) -> Result<(), CheckFault>
+    ensures same { OnOk result (names.new ≡ names.old) }
+    ensures exact { OnOk result (faults_in_all (map seen_expr exprs.now) (around names.old place) ≡ []) }
+    ensures resolved { OnOk result ((base : List Name) → IsTrue (all_resolve_exprs (map resolves_expr exprs.now) (base ++ names.old))) }
+    ensures refused { IfErr result (λ fault. Refuses (faults_in_all (map seen_expr exprs.now) (around names.old place)) (any_of (map declares_expr exprs.now)) fault) }
+{
+    'each: for expr in exprs {
+        check_expr(names, place, expr)?;
+    }
+    Ok(())
+}
+
+/// Passes a call whose name or operator stands at a position, or answers one of its faults.
+#[cycle(check)]
+fn check_call(
+    names: &mut Items<Shared<Text>>,
+    place: Place,
+    call: &FnCallExpr,
+    pos: Position,
+) -> Result<(), CheckFault>
+    ensures same { OnOk result (names.new ≡ names.old) }
+    ensures exact { OnOk result ((seen_call call.now).value pos (around names.old place) ≡ []) }
+    ensures resolved { OnOk result ((base : List Name) → IsTrue (resolves_call call.now (base ++ names.old))) }
+    ensures refused { IfErr result (λ fault. Refuses ((seen_call call.now).value pos (around names.old place)) (declares_call call.now) fault) }
+{
+    if is_operator_call(call) {
+        check_exprs(names, place, call.args.as_slice())
+    } else {
+        Err(CheckFault::NotYet(pos))
+    }
+}

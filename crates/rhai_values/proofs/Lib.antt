@@ -1,0 +1,5 @@
+pub mod EachLemmas
+pub mod SizeLemmas
+pub mod CopyLemmas
+pub mod ModeLemmas
+pub mod Newest
