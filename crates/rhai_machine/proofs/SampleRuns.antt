@@ -15,12 +15,18 @@ use Rattle.rhai_machine.specs.samples.Operators.{Sums, Operands}
 use Rattle.rhai_machine.specs.samples.Variables.{Blocks, Variables, scopes}
 use Rattle.rhai_machine.specs.samples.Limits.{Limits}
 use Rattle.rhai_machine.specs.samples.Called.{Called}
+use Rattle.rhai_machine.specs.samples.Handles.{Handles}
+use Rattle.rhai_values.specs.declared.base.value.FnPtrKind.TheFolds.{fold_out-Dynamic, fold_out-Union}
+use Rattle.rhai_values.specs.declared.base.value.Union.TheVariants.{outs-Str}
 
 -- what the forms of a tree open to
 ruleset opened = (stmt.outs-Expr, stmt.outs-Block, stmt.outs-Var, stmt.outs-If, expr.outs-BoolConstant, expr.outs-IntegerConstant, expr.outs-Variable, expr.outs-FnCall, expr.outs-Stmt)
 
 -- and where they start, for a charge that is refused
 ruleset placed = (opened, fold_out-Expr, fold_out-FnCallExpr)
+
+-- how much data a text is
+ruleset measured = (fold_out-Dynamic, fold_out-Union, outs-Str)
 
 module _ {S H Core : Type 0} (M : Machine S H Core) (allows : ℕ → Bool) where
   abbrev goes_on : Config S H Core → Option (Config S H Core) → (Config S H Core → Config S H Core) → Config S H Core
@@ -131,5 +137,17 @@ module _ {S H : Type 0} (natives : Natives S H) (host : H → List ℕ) where
     gives = λ replies. stretch _ _ 12 _ mixed_fires (simp opened) (by_steps _ _ 9 (simp replies) refl);
     faults = λ replies. stretch _ _ 12 _ mixed_fires (simp opened) (by_steps _ _ 9 (simp replies) refl);
     placed = λ replies. stretch _ _ 12 _ mixed_fires (simp opened) (by_steps _ _ 9 (simp replies) refl);
+    fits = λ replies. stretch _ _ 12 _ mixed_fires (simp opened) (by_steps _ _ 9 (simp (replies, measured)) refl);
+    too_long = λ replies. stretch _ _ 12 _ mixed_fires (simp opened) (by_steps _ _ 9 (simp (replies, measured)) refl);
     refused = by_steps _ _ 30 (simp opened) refl;
+  }
+
+  pub handles : Handles natives host
+  handles = record {
+    statement = by_steps _ _ 30 (simp opened) refl;
+    left = by_steps _ _ 30 (simp opened) refl;
+    right = by_steps _ _ 30 (simp opened) refl;
+    kept = by_steps _ _ 30 (simp opened) refl;
+    tested = by_steps _ _ 30 (simp opened) refl;
+    held = by_steps _ _ 30 (simp opened) refl;
   }

@@ -4,3 +4,4 @@ pub mod Operators
 pub mod Variables
 pub mod Limits
 pub mod Called
+pub mod Handles

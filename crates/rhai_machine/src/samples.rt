@@ -7,6 +7,7 @@ ghost use Rattle.rhai_machine.specs.samples.Operators.{Sums, Operands};
 ghost use Rattle.rhai_machine.specs.samples.Variables.{Blocks, Variables};
 ghost use Rattle.rhai_machine.specs.samples.Limits.{Limits};
 ghost use Rattle.rhai_machine.specs.samples.Called.{Called};
+ghost use Rattle.rhai_machine.specs.samples.Handles.{Handles};
 
 use std::marker::PhantomData;
 
@@ -38,4 +39,9 @@ pub fn sample_limits<H, S>(of: PhantomData<(H, S)>)
 /// An operator that is a native's, over tables that reply in each way.
 pub fn sample_natives<H, S>(of: PhantomData<(H, S)>)
     ensures { (natives : Natives S H) (host : H → List ℕ) → Called natives host }
+{}
+
+/// A variable that is the handle of a cell, free or held.
+pub fn sample_handles<H, S>(of: PhantomData<(H, S)>)
+    ensures { (natives : Natives S H) (host : H → List ℕ) → Handles natives host }
 {}

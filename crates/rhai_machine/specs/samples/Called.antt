@@ -3,7 +3,11 @@ use Rattle.std.specs.Prelude.{ℕ, true, List, [], ◌∷◌, Some, Ok, Err, cod
 use Rattle.rhai_tree.specs.declared.expr.Stmt.{Stmt}
 use Rattle.rhai_tree.specs.declared.token.Token.TheVariants.{Plus}
 use Rattle.rhai_tree.specs.Position.{none}
-use Rattle.rhai_values.specs.declared.base.error.EvalAltResult.TheVariants.{ErrorTooManyOperations, ErrorFunctionNotFound, ErrorArithmetic}
+use Rattle.rhai_values.specs.declared.base.error.EvalAltResult.TheVariants.{ErrorTooManyOperations, ErrorFunctionNotFound, ErrorArithmetic, ErrorDataTooLarge}
+use Rattle.rhai_values.specs.declared.base.value.AccessMode.TheVariants.{ReadWrite}
+use Rattle.rhai_values.specs.declared.base.value.Dynamic.{Dynamic}
+use Rattle.rhai_values.specs.declared.base.value.Union.TheVariants.{Str}
+use Rattle.rhai_machine.specs.language.Setting.{Setting}
 use Rattle.rhai_values.specs.Native.{Request, Missing, Gives, Faults, Named, request}
 use Rattle.rhai_machine.specs.samples.Trees.{column, int, bool, op, value}
 use Rattle.rhai_machine.specs.samples.Runs.{Natives, Replies, EndsFrom, Fails, usual, limited, integer, truth}
@@ -16,7 +20,15 @@ mixed_sum = value (op 3 Plus (int 1 1 ∷ bool 5 true ∷ [])) ∷ []
 abbrev pub plus_called : {H : Type 0} → List (Request H)
 plus_called = request [] (Named (codes "+")) (Some (integer 1)) (truth true ∷ []) (column 3) ∷ []
 
+-- a text of three bytes
+abbrev pub abc : {H : Type 0} → Dynamic H
+abc = record { value = Str (codes "abc"); mode = ReadWrite }
+
 module _ {S H : Type 0} (natives : Natives S H) (host : H → List ℕ) where
+  -- the usual setting under a limit on the bytes of texts
+  abbrev pub short_texts : ℕ → Setting H
+  short_texts limit = record (usual host) { max_string_size = limit }
+
   pub record Called : Type 0 where
     -- where there is no such native the error names the operator and its operands' types
     pub missing : Replies natives Missing → EndsFrom natives 0 (usual host) mixed_sum (Err (ErrorFunctionNotFound (codes "+ (i64, bool)") (column 3))) 5 [] plus_called
@@ -25,5 +37,8 @@ module _ {S H : Type 0} (natives : Natives S H) (host : H → List ℕ) where
     -- a fault without a position stands at the operator, and one with a position where it says
     pub faults : Replies natives (Faults (ErrorArithmetic (codes "no") none)) → EndsFrom natives 0 (usual host) mixed_sum (Err (ErrorArithmetic (codes "no") (column 3))) 5 [] plus_called
     pub placed : Replies natives (Faults (ErrorArithmetic (codes "no") (column 9))) → EndsFrom natives 0 (usual host) mixed_sum (Err (ErrorArithmetic (codes "no") (column 9))) 5 [] plus_called
+    -- a value is measured where the call stands
+    pub fits : Replies natives (Gives abc) → EndsFrom natives 0 (short_texts 3) mixed_sum (Ok abc) 5 [] plus_called
+    pub too_long : Replies natives (Gives abc) → EndsFrom natives 0 (short_texts 2) mixed_sum (Err (ErrorDataTooLarge (codes "Length of string") (column 3))) 5 [] plus_called
     -- the call is charged before the native, which is then not called
     pub refused : Fails natives (limited host 4) mixed_sum (ErrorTooManyOperations (column 3)) 4 []

@@ -72,8 +72,11 @@ module _ {H : Type 0} where
 
 module _ {S H : Type 0} (natives : Natives S H) where
   -- a control with nothing below it, in the natives' state
+  abbrev pub alone_in : Local H → Control H → ℕ → List (Request H) → Config S H (Core H)
+  alone_in local control count calls = record { core = core control [] local; table = natives.state; count = count; calls = calls }
+
   abbrev pub alone : Control H → List (ScopeEntry H) → ℕ → List (Request H) → Config S H (Core H)
-  alone control scope count calls = record { core = core control [] (nothing_but scope); table = natives.state; count = count; calls = calls }
+  alone control scope count calls = alone_in (nothing_but scope) control count calls
 
   -- from a count the script comes to this result, and leaves this count, these variables and these calls
   abbrev pub EndsFrom : ℕ → Setting H → List Stmt → Result (Dynamic H) (EvalAltResult H) → ℕ → List (ScopeEntry H) → List (Request H) → Type 0
