@@ -155,6 +155,11 @@ module _ {S H : Type 0} (s : Setting H) (gives : S → Request H → Effect S H)
   restores (Ok v) saved k old new is = next (rw is here)
   restores (Err e) saved k old new is = next (rw is here)
 
+  -- a run with `this` in a place of its own
+  pub with_this : (c : Control H) (t u : S) (g h : GlobalRuntimeState H) (old new : Scope H) (r : Result (Dynamic H) (EvalAltResult H)) (was is held left : Option (Dynamic H)) →
+      was ≡ held → is ≡ left → Runs s gives pure c (state_of t g old held) r (state_of u h new left) → Runs s gives pure c (state_of t g old was) r (state_of u h new is)
+  with_this c t u g h old new r was is held left before after runs = rw (before, after) runs
+
   -- a list that is entered: an empty one has no effect
   pub enters_empty : (stmts : List Stmt) (restoring : Bool) (k : List (Frame H)) (l : State S H) → stmts ≡ [] →
       Goes s gives pure (at (Enter stmts restoring) k l) (at (Back unit_value) k l)

@@ -2,3 +2,4 @@ pub mod Chain
 pub mod NativeCalls
 pub mod NameLemmas
 pub mod Variables
+pub mod Scripts

@@ -1,8 +1,7 @@
 -- A call of a native, and an operator whose operands are there.
-use Rattle.std.proofs.Common.{◌≡◌, ◌<◌, ◌≤◌, ◌+◌, ℕ, Bool, true, false, List, [], ◌∷◌, Option, Some, None, Result, Ok, Err, refl, sym, ap, ◌∙◌}
+use Rattle.std.proofs.Common.{◌≡◌, ◌<◌, ◌≤◌, ◌+◌, Bool, true, false, List, ◌∷◌, Option, Some, Result, Ok, Err, refl, sym, ap, ◌∙◌}
 use Rattle.std.proofs.lemmas.Bool.{lt-ltb, le-ltb}
 use Rattle.rhai_tree.specs.declared.position.Position.{Position}
-use Rattle.rhai_tree.specs.Position.{none}
 use Rattle.rhai_values.specs.declared.base.value.Dynamic.{Dynamic}
 use Rattle.rhai_values.specs.declared.base.value.Union.{Union}
 use Rattle.rhai_values.specs.declared.base.value.Union.TheVariants as value
@@ -13,14 +12,14 @@ use Rattle.rhai_values.specs.declared.base.error.EvalAltResult.TheVariants as er
 use Rattle.rhai_values.specs.Errors.{is_out_of_memory, at_position}
 use Rattle.rhai_values.specs.Native.{Request, Reply, Effect, Purity, Named, effect, request, IsNoHandle}
 use Rattle.rhai_operators.specs.Answers as operators
-use Rattle.rhai_machine.specs.machine.Machine.{Move, Go}
-use Rattle.rhai_machine.specs.machine.Point.{here, next, after, ◌⨾◌}
+use Rattle.rhai_machine.specs.machine.Machine.{Go}
+use Rattle.rhai_machine.specs.machine.Point.{here, next, after}
 use Rattle.rhai_machine.specs.language.Setting.{Setting, limit_of}
 use Rattle.rhai_machine.specs.language.State.{State, Local, HasMemory}
 use Rattle.rhai_machine.specs.language.Values.{is_handle}
-use Rattle.rhai_machine.specs.language.Frames.{Operation, Call, Frame, Core, core, ended, Ask, Fire, Fail}
+use Rattle.rhai_machine.specs.language.Frames.{Operation, Call, Frame, core, ended, Ask, Fire, Fail}
 use Rattle.rhai_machine.specs.language.Calls.{applied, call_native, fire_first, replied}
-use Rattle.rhai_machine.specs.language.Runs.{at, with_core, Goes}
+use Rattle.rhai_machine.specs.language.Runs.{at, Goes}
 use Rattle.rhai_eval.specs.States.{state_of}
 use Rattle.rhai_eval.proofs.Chain.{step_by}
 

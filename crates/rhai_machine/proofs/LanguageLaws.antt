@@ -201,7 +201,7 @@ module _ {H : Type 0} where
     down_falls (IfCondition test_at body branch) e k l = omega arith
     down_falls (RestOfList rest restoring) e k l = omega arith
     down_falls (RestoreList saved) e k l = omega arith
-    down_falls (Top map_exit) e k l = result_falls (topped s map_exit e) (2 + (1 + stack_size k)) (stack_size k) (omega arith)
+    down_falls (Top map_exit) e k l = result_falls (topped map_exit e) (2 + (1 + stack_size k)) (stack_size k) (omega arith)
     down_falls (UnaryOperand operation operand_at) e k l = omega arith
     down_falls (LeftOperand operation left_at right) e k l = omega arith
     down_falls (RightOperand operation left right_at) e k l = omega arith

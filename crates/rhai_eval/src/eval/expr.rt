@@ -1,15 +1,16 @@
 //! Expressions. Ports upstream's `eval/expr.rs`; the contracts speak of the machine's runs.
 
-ghost use Rattle.std.specs.Prelude.{◌≡◌, ◌<◌, ◌≤◌, OnOk, IsTrue, is_some, true};
+ghost use Rattle.std.specs.Prelude.{◌≡◌, ◌<◌, ◌≤◌, OnOk, IsTrue, is_some, true, Some};
 ghost use Rattle.rhai_tree.specs.Frame.{resolves_expr};
 ghost use Rattle.rhai_values.specs.Scope.{names_in};
+ghost use Rattle.rhai_values.specs.Native.{was};
 ghost use Rattle.rhai_machine.specs.language.Setting.{limit_of};
 ghost use Rattle.rhai_machine.specs.language.Frames.{Eval, Argument};
 ghost use Rattle.rhai_machine.specs.language.Runs.{Runs};
-ghost use Rattle.rhai_eval.specs.States.{setting_of, state_of, around_of};
+ghost use Rattle.rhai_eval.specs.States.{setting_of, state_of, around_of, WithThis};
 
 use crate::engine::Engine;
-use crate::eval::values::{bool_value, int_value, literal_value, unit_value};
+use crate::eval::values::{bool_value, int_value, literal_value, put_back, unit_value};
 use crate::eval::variables::read_variable;
 use rhai_tree::expr::Expr;
 use rhai_values::base::error::EvalAltResult;
@@ -19,8 +20,66 @@ use rhai_values::caches::Caches;
 use rhai_values::state::GlobalRuntimeState;
 use rhai_values::table::NativeTable;
 use std::alloc::Global;
+use std::mem::replace;
 
 impl<H: Host> Engine<H> {
+    /// The value of an expression, charged first at its position. Ports upstream's `eval_expr`.
+    ///
+    /// The expression is a part of a checked tree, above the variables that the scope has there.
+    pub fn eval_expr<T: NativeTable<H>>(
+        &self,
+        alloc: Global,
+        global: &mut GlobalRuntimeState<H>,
+        caches: &mut Caches<H>,
+        table: &mut T,
+        scope: &mut Scope<H>,
+        this: Option<&mut Dynamic<H>>,
+        expr: &Expr,
+    ) -> Result<Dynamic<H>, EvalAltResult<H>>
+        requires resolves { IsTrue (resolves_expr expr.now (names_in scope.old)) }
+        requires fast { self.now.fast_operators ≡ true }
+        ensures runs { WithThis (was this.entry) (λ left. Runs (setting_of H.name_of self.now) T.gives T.pure (Eval expr.now) (state_of (T.state table.old) global.old scope.old (was this.entry)) result (state_of (T.state table.new) global.new scope.new left)) }
+        ensures counts { global.old.num_operations ≤ global.new.num_operations }
+        ensures within { global.old.num_operations ≤ limit_of self.now.max_operations → global.new.num_operations ≤ limit_of self.now.max_operations }
+        ensures around { around_of global.new ≡ around_of global.old }
+        ensures scope_level { global.new.scope_level ≡ global.old.scope_level }
+        ensures names { names_in scope.new ≡ names_in scope.old }
+    {
+        match this {
+            Some(place) => self.eval_expr_on(alloc, global, caches, table, scope, place, expr),
+            None => {
+                let mut unbound = None;
+                self.run_expr(alloc, global, caches, table, scope, &mut unbound, expr)
+            }
+        }
+    }
+
+    /// The same with `this` in a place of the caller.
+    fn eval_expr_on<T: NativeTable<H>>(
+        &self,
+        alloc: Global,
+        global: &mut GlobalRuntimeState<H>,
+        caches: &mut Caches<H>,
+        table: &mut T,
+        scope: &mut Scope<H>,
+        place: &mut Dynamic<H>,
+        expr: &Expr,
+    ) -> Result<Dynamic<H>, EvalAltResult<H>>
+        requires resolves { IsTrue (resolves_expr expr.now (names_in scope.old)) }
+        requires fast { self.now.fast_operators ≡ true }
+        ensures runs { Runs (setting_of H.name_of self.now) T.gives T.pure (Eval expr.now) (state_of (T.state table.old) global.old scope.old (Some place.old)) result (state_of (T.state table.new) global.new scope.new (Some place.new)) }
+        ensures counts { global.old.num_operations ≤ global.new.num_operations }
+        ensures within { global.old.num_operations ≤ limit_of self.now.max_operations → global.new.num_operations ≤ limit_of self.now.max_operations }
+        ensures around { around_of global.new ≡ around_of global.old }
+        ensures scope_level { global.new.scope_level ≡ global.old.scope_level }
+        ensures names { names_in scope.new ≡ names_in scope.old }
+    {
+        let mut held = Some(replace(place, unit_value()));
+        let result = self.run_expr(alloc, global, caches, table, scope, &mut held, expr);
+        put_back(place, held);
+        result
+    }
+
     /// The value of an expression, with `this` in a place of its own.
     #[cycle(eval)]
     pub(crate) fn run_expr<T: NativeTable<H>>(

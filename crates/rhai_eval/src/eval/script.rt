@@ -1,10 +1,12 @@
 //! Whole scripts. Ports upstream's `eval_global_statements`.
 
-ghost use Rattle.std.specs.Prelude.{◌≡◌, ◌≤◌, length, true};
+ghost use Rattle.std.specs.Prelude.{◌≡◌, ◌≤◌, length, true, None, Ok, IfOk, IfErr};
 ghost use Rattle.rhai_tree.specs.Names.{Begins};
 ghost use Rattle.rhai_values.specs.Scope.{names_in};
 ghost use Rattle.rhai_machine.specs.language.Setting.{limit_of};
-ghost use Rattle.rhai_eval.specs.States.{around_of};
+ghost use Rattle.rhai_machine.specs.language.Unwinding.{topped};
+ghost use Rattle.rhai_machine.specs.language.Script.{EndsAsMachine, AgreesWithHigherLimits};
+ghost use Rattle.rhai_eval.specs.States.{setting_of, state_of, around_of};
 
 use crate::engine::Engine;
 use rhai_tree::checked::CheckedTree;
@@ -16,27 +18,47 @@ use rhai_values::state::GlobalRuntimeState;
 use rhai_values::table::NativeTable;
 use std::alloc::Global;
 
-/// What a script's end makes of its outcome: a `return` gives its value, and so does an exit where
+/// What a script's end makes of an error: a `return` gives its value, and so does an exit where
 /// that is asked.
-fn top<H: Host>(
-    outcome: Result<Dynamic<H>, EvalAltResult<H>>,
+fn top_error<H: Host>(
+    error: EvalAltResult<H>,
     map_exit_to_return_value: bool,
-) -> Result<Dynamic<H>, EvalAltResult<H>> {
-    match outcome {
-        Err(EvalAltResult::Return(value, _)) => Ok(value.into_inner()),
-        Err(EvalAltResult::Exit(value, pos)) => {
+) -> Result<Dynamic<H>, EvalAltResult<H>>
+    ensures { result ≡ topped map_exit_to_return_value error }
+{
+    match error {
+        EvalAltResult::Return(value, _) => Ok(value.into_inner()),
+        EvalAltResult::Exit(value, pos) => {
             if map_exit_to_return_value {
                 Ok(value.into_inner())
             } else {
                 Err(EvalAltResult::Exit(value, pos))
             }
         }
-        other => other,
+        error => Err(error),
+    }
+}
+
+/// What a script's end makes of its outcome.
+fn top<H: Host>(
+    outcome: Result<Dynamic<H>, EvalAltResult<H>>,
+    map_exit_to_return_value: bool,
+) -> Result<Dynamic<H>, EvalAltResult<H>>
+    ensures value { IfOk outcome (λ value. result ≡ Ok value) }
+    ensures error { IfErr outcome (λ error. result ≡ topped map_exit_to_return_value error) }
+{
+    match outcome {
+        Ok(value) => Ok(value),
+        Err(error) => top_error(error, map_exit_to_return_value),
     }
 }
 
 impl<H: Host> Engine<H> {
-    /// Runs a checked tree in a scope. Its variables stay, after an error too.
+    /// Runs a checked tree in a scope. Its variables stay, after an error too. A `return` outside a
+    /// function gives the script's value; so does an exit where `map_exit_to_return_value` is set.
+    ///
+    /// Ends exactly as the step machine does that is cut at the first charge past
+    /// `max_operations`, or with `ErrorOutOfMemory` where there was no memory.
     pub fn eval_global_statements<T: NativeTable<H>>(
         &self,
         alloc: Global,
@@ -48,6 +70,8 @@ impl<H: Host> Engine<H> {
         map_exit_to_return_value: bool,
     ) -> Result<Dynamic<H>, EvalAltResult<H>>
         requires fast { self.now.fast_operators ≡ true }
+        ensures ends { EndsAsMachine (setting_of H.name_of self.now) T.gives T.pure tree.now.0 map_exit_to_return_value (state_of (T.state table.old) global.old scope.old None) result (state_of (T.state table.new) global.new scope.new None) }
+        ensures two_limits { AgreesWithHigherLimits (setting_of H.name_of self.now) T.gives T.pure tree.now.0 map_exit_to_return_value (state_of (T.state table.old) global.old scope.old None) result (state_of (T.state table.new) global.new scope.new None) }
         ensures counts { global.old.num_operations ≤ global.new.num_operations }
         ensures within { global.old.num_operations ≤ limit_of self.now.max_operations → global.new.num_operations ≤ limit_of self.now.max_operations }
         ensures around { around_of global.new ≡ around_of global.old }
@@ -58,7 +82,14 @@ impl<H: Host> Engine<H> {
         let mut unbound = None;
         let statements = tree.statements();
         let outcome = self.run_stmt_block(
-            alloc, global, caches, table, scope, &mut unbound, statements, false,
+            alloc,
+            global,
+            caches,
+            table,
+            scope,
+            &mut unbound,
+            statements,
+            false,
         );
         top(outcome, map_exit_to_return_value)
     }

@@ -1,19 +1,20 @@
 //! Statements. Ports upstream's `eval/stmt.rs`; the contracts speak of the machine's runs.
 
-ghost use Rattle.std.specs.Prelude.{◌≡◌, ◌<◌, ◌≤◌, ◌++◌, ◌∷◌, [], OnOk, IsTrue, is_some, true, None, length, map};
+ghost use Rattle.std.specs.Prelude.{◌≡◌, ◌<◌, ◌≤◌, ◌++◌, ◌∷◌, [], OnOk, IsTrue, is_some, true, None, Some, length, map};
 ghost use Rattle.rhai_tree.specs.Frame.{resolves_expr, resolves_stmt, resolves_block, all_resolve};
 ghost use Rattle.rhai_tree.specs.Names.{Begins};
 ghost use Rattle.rhai_values.specs.Scope.{names_in};
+ghost use Rattle.rhai_values.specs.Native.{was};
 ghost use Rattle.rhai_machine.specs.language.Setting.{limit_of};
 ghost use Rattle.rhai_tree.specs.declared.expr.Expr.TheOpen as layer;
 ghost use Rattle.rhai_machine.specs.language.Values.{unit_value as unit};
 ghost use Rattle.rhai_machine.specs.language.Frames.{Exec, OpenStmt, Enter, Run};
 ghost use Rattle.rhai_machine.specs.language.Runs.{Runs};
-ghost use Rattle.rhai_eval.specs.States.{setting_of, state_of, around_of};
+ghost use Rattle.rhai_eval.specs.States.{setting_of, state_of, around_of, WithThis};
 
 use crate::engine::Engine;
 use crate::eval::errors::variable_exists;
-use crate::eval::values::{flatten, truth_value, unit_value};
+use crate::eval::values::{flatten, put_back, truth_value, unit_value};
 use crate::eval::variables::{define_variable, enter_list, leave_list, mode_of};
 use rhai_tree::expr::{Expr, Ident, Stmt, StmtBlock};
 use rhai_tree::flags::ASTFlags;
@@ -25,8 +26,192 @@ use rhai_values::caches::Caches;
 use rhai_values::state::GlobalRuntimeState;
 use rhai_values::table::NativeTable;
 use std::alloc::Global;
+use std::mem::replace;
 
 impl<H: Host> Engine<H> {
+    /// What a statement does, charged first at its position; in a list that restores, `rewind_scope`
+    /// is set. Ports upstream's `eval_stmt`.
+    ///
+    /// The statement is a part of a checked tree, above the variables that the scope has there.
+    pub fn eval_stmt<T: NativeTable<H>>(
+        &self,
+        alloc: Global,
+        global: &mut GlobalRuntimeState<H>,
+        caches: &mut Caches<H>,
+        table: &mut T,
+        scope: &mut Scope<H>,
+        this: Option<&mut Dynamic<H>>,
+        stmt: &Stmt,
+        rewind_scope: bool,
+    ) -> Result<Dynamic<H>, EvalAltResult<H>>
+        requires resolves { IsTrue (resolves_stmt stmt.now (names_in scope.old)).0 }
+        requires fast { self.now.fast_operators ≡ true }
+        ensures runs { WithThis (was this.entry) (λ left. Runs (setting_of H.name_of self.now) T.gives T.pure (Exec stmt.now rewind_scope) (state_of (T.state table.old) global.old scope.old (was this.entry)) result (state_of (T.state table.new) global.new scope.new left)) }
+        ensures counts { global.old.num_operations ≤ global.new.num_operations }
+        ensures within { global.old.num_operations ≤ limit_of self.now.max_operations → global.new.num_operations ≤ limit_of self.now.max_operations }
+        ensures around { around_of global.new ≡ around_of global.old }
+        ensures scope_level { global.new.scope_level ≡ global.old.scope_level }
+        ensures begins { Begins (names_in scope.old) (names_in scope.new) }
+        ensures names { OnOk result (names_in scope.new ≡ (resolves_stmt stmt.now (names_in scope.old)).1) }
+        ensures variables { length (names_in scope.old) ≤ self.now.max_variables → length (names_in scope.new) ≤ self.now.max_variables }
+    {
+        match this {
+            Some(place) => self.eval_stmt_on(
+                alloc,
+                global,
+                caches,
+                table,
+                scope,
+                place,
+                stmt,
+                rewind_scope,
+            ),
+            None => {
+                let mut unbound = None;
+                self.run_stmt(
+                    alloc,
+                    global,
+                    caches,
+                    table,
+                    scope,
+                    &mut unbound,
+                    stmt,
+                    rewind_scope,
+                )
+            }
+        }
+    }
+
+    /// The same with `this` in a place of the caller.
+    fn eval_stmt_on<T: NativeTable<H>>(
+        &self,
+        alloc: Global,
+        global: &mut GlobalRuntimeState<H>,
+        caches: &mut Caches<H>,
+        table: &mut T,
+        scope: &mut Scope<H>,
+        place: &mut Dynamic<H>,
+        stmt: &Stmt,
+        rewind_scope: bool,
+    ) -> Result<Dynamic<H>, EvalAltResult<H>>
+        requires resolves { IsTrue (resolves_stmt stmt.now (names_in scope.old)).0 }
+        requires fast { self.now.fast_operators ≡ true }
+        ensures runs { Runs (setting_of H.name_of self.now) T.gives T.pure (Exec stmt.now rewind_scope) (state_of (T.state table.old) global.old scope.old (Some place.old)) result (state_of (T.state table.new) global.new scope.new (Some place.new)) }
+        ensures counts { global.old.num_operations ≤ global.new.num_operations }
+        ensures within { global.old.num_operations ≤ limit_of self.now.max_operations → global.new.num_operations ≤ limit_of self.now.max_operations }
+        ensures around { around_of global.new ≡ around_of global.old }
+        ensures scope_level { global.new.scope_level ≡ global.old.scope_level }
+        ensures begins { Begins (names_in scope.old) (names_in scope.new) }
+        ensures names { OnOk result (names_in scope.new ≡ (resolves_stmt stmt.now (names_in scope.old)).1) }
+        ensures variables { length (names_in scope.old) ≤ self.now.max_variables → length (names_in scope.new) ≤ self.now.max_variables }
+    {
+        let mut held = Some(replace(place, unit_value()));
+        let result = self.run_stmt(
+            alloc,
+            global,
+            caches,
+            table,
+            scope,
+            &mut held,
+            stmt,
+            rewind_scope,
+        );
+        put_back(place, held);
+        result
+    }
+
+    /// What a list of statements does, charged statement by statement. With `restore_orig_state` the
+    /// variables that it added, the imports and the scope level are taken back on every way out, want
+    /// of memory included. Ports upstream's `eval_stmt_block`.
+    ///
+    /// The statements are a part of a checked tree, above the variables that the scope has there.
+    pub fn eval_stmt_block<T: NativeTable<H>>(
+        &self,
+        alloc: Global,
+        global: &mut GlobalRuntimeState<H>,
+        caches: &mut Caches<H>,
+        table: &mut T,
+        scope: &mut Scope<H>,
+        this: Option<&mut Dynamic<H>>,
+        statements: &[Stmt],
+        restore_orig_state: bool,
+    ) -> Result<Dynamic<H>, EvalAltResult<H>>
+        requires resolves { IsTrue (all_resolve (map resolves_stmt statements.now) (names_in scope.old)).0 }
+        requires fast { self.now.fast_operators ≡ true }
+        ensures runs { WithThis (was this.entry) (λ left. Runs (setting_of H.name_of self.now) T.gives T.pure (Enter statements.now restore_orig_state) (state_of (T.state table.old) global.old scope.old (was this.entry)) result (state_of (T.state table.new) global.new scope.new left)) }
+        ensures counts { global.old.num_operations ≤ global.new.num_operations }
+        ensures within { global.old.num_operations ≤ limit_of self.now.max_operations → global.new.num_operations ≤ limit_of self.now.max_operations }
+        ensures around { around_of global.new ≡ around_of global.old }
+        ensures scope_level { global.new.scope_level ≡ global.old.scope_level }
+        ensures begins { Begins (names_in scope.old) (names_in scope.new) }
+        ensures restores { IsTrue restore_orig_state → names_in scope.new ≡ names_in scope.old }
+        ensures variables { length (names_in scope.old) ≤ self.now.max_variables → length (names_in scope.new) ≤ self.now.max_variables }
+    {
+        match this {
+            Some(place) => self.eval_stmt_block_on(
+                alloc,
+                global,
+                caches,
+                table,
+                scope,
+                place,
+                statements,
+                restore_orig_state,
+            ),
+            None => {
+                let mut unbound = None;
+                self.run_stmt_block(
+                    alloc,
+                    global,
+                    caches,
+                    table,
+                    scope,
+                    &mut unbound,
+                    statements,
+                    restore_orig_state,
+                )
+            }
+        }
+    }
+
+    /// The same with `this` in a place of the caller.
+    fn eval_stmt_block_on<T: NativeTable<H>>(
+        &self,
+        alloc: Global,
+        global: &mut GlobalRuntimeState<H>,
+        caches: &mut Caches<H>,
+        table: &mut T,
+        scope: &mut Scope<H>,
+        place: &mut Dynamic<H>,
+        statements: &[Stmt],
+        restore_orig_state: bool,
+    ) -> Result<Dynamic<H>, EvalAltResult<H>>
+        requires resolves { IsTrue (all_resolve (map resolves_stmt statements.now) (names_in scope.old)).0 }
+        requires fast { self.now.fast_operators ≡ true }
+        ensures runs { Runs (setting_of H.name_of self.now) T.gives T.pure (Enter statements.now restore_orig_state) (state_of (T.state table.old) global.old scope.old (Some place.old)) result (state_of (T.state table.new) global.new scope.new (Some place.new)) }
+        ensures counts { global.old.num_operations ≤ global.new.num_operations }
+        ensures within { global.old.num_operations ≤ limit_of self.now.max_operations → global.new.num_operations ≤ limit_of self.now.max_operations }
+        ensures around { around_of global.new ≡ around_of global.old }
+        ensures scope_level { global.new.scope_level ≡ global.old.scope_level }
+        ensures begins { Begins (names_in scope.old) (names_in scope.new) }
+        ensures restores { IsTrue restore_orig_state → names_in scope.new ≡ names_in scope.old }
+        ensures variables { length (names_in scope.old) ≤ self.now.max_variables → length (names_in scope.new) ≤ self.now.max_variables }
+    {
+        let mut held = Some(replace(place, unit_value()));
+        let result = self.run_stmt_block(
+            alloc,
+            global,
+            caches,
+            table,
+            scope,
+            &mut held,
+            statements,
+            restore_orig_state,
+        );
+        put_back(place, held);
+        result
+    }
+
     /// What a statement does, in a list that restores or not.
     #[cycle(eval)]
     pub(crate) fn run_stmt<T: NativeTable<H>>(

@@ -14,6 +14,13 @@ use Rattle.rhai_machine.specs.language.Frames.{Operation, Call, Frame, Core, cor
 use Rattle.rhai_machine.specs.language.Calls.{builtin_of, operator_core}
 use Rattle.rhai_machine.specs.language.Statements.{chosen_core, defined_core, restored_by}
 
+module _ {H : Type 0} where
+  -- what a script's end makes of an error: a `return` gives its value, and so does an exit where that is asked
+  abbrev pub topped : (map_exit : Bool) → EvalAltResult H → Result (Dynamic H) (EvalAltResult H)
+  topped map_exit (error.Return v at) = Ok v
+  topped true (error.Exit v at) = Ok v
+  topped map_exit e = Err e
+
 module _ {H : Type 0} (s : Setting H) where
   abbrev pub call_of : Operation → List (Dynamic H) → Call H
   call_of operation args = record { operation = operation; args = args }
@@ -51,12 +58,6 @@ module _ {H : Type 0} (s : Setting H) where
   abbrev pub restored : Frame H → Local H → Local H
   restored (RestoreList saved) l = restored_by saved l
   restored _ l = l
-
-  -- what a script's end makes of an error: a `return` gives its value, and so does an exit where that is asked
-  abbrev pub topped : (map_exit : Bool) → EvalAltResult H → Result (Dynamic H) (EvalAltResult H)
-  topped map_exit (error.Return v at) = Ok v
-  topped true (error.Exit v at) = Ok v
-  topped map_exit e = Err e
 
   -- an error comes down to a frame: but for a script's end each takes back what it has to, and passes it on
   abbrev pub down_core : Frame H → EvalAltResult H → List (Frame H) → Local H → Core H

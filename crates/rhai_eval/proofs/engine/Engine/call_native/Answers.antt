@@ -1,7 +1,6 @@
-use Rattle.std.proofs.Common.{◌∷◌, refl, sym, ap, ◌∙◌, Err, Some}
-use Rattle.rhai_machine.specs.machine.Point.{here, next, after, ◌⨾◌}
+use Rattle.std.proofs.Common.{sym, ap, ◌∙◌, Err, Some}
+use Rattle.rhai_machine.specs.machine.Point.{◌⨾◌}
 use Rattle.rhai_machine.specs.language.Runs.{Steps}
-use Rattle.rhai_machine.specs.language.Calls.{call_at}
 use Rattle.rhai_values.specs.Native.{Missing, Gives, Faults}
 use Rattle.rhai_eval.specs.States.{setting_of}
 use Rattle.rhai_eval.proofs.Chain.{exits}
