@@ -1,6 +1,6 @@
 -- The names of a scope that is cut back or grows, and the operands of a checked operator call.
-use Rattle.std.proofs.Common.{◌≡◌, ℕ, Bool, true, false, ◌&&◌, IsTrue, List, [], ◌∷◌, ◌++◌, length, take, map, Result, Ok, Err, OnOk, OnErr, refl, sym, ap, ◌∙◌}
-use Rattle.std.proofs.lemmas.List.{take-map, length-map, append-nil, map-append}
+use Rattle.std.proofs.Common.{◌≡◌, ◌<◌, ◌+◌, ℕ, Bool, true, false, ◌&&◌, ◌||◌, IsTrue, subst, get_or, drop, List, [], ◌∷◌, ◌++◌, length, take, map, Result, Ok, Err, OnOk, OnErr, refl, sym, ap, ◌∙◌}
+use Rattle.std.proofs.lemmas.List.{take-append-drop, take-map, length-map, append-nil, map-append}
 use Rattle.std.proofs.Math.Seq.{take-append_seam}
 use Rattle.rhai_tree.specs.Names.{Name, Begins}
 use Rattle.rhai_tree.specs.declared.expr.Expr.{Expr}
@@ -9,6 +9,8 @@ use Rattle.rhai_tree.specs.Frame.{Test, Verdict, expr_step, stmt_step, call_step
 use Rattle.rhai_tree.specs.declared.expr.Expr.TheFolds.{fold_out-FnCallExpr}
 use Rattle.rhai_values.specs.declared.base.scope.ScopeEntry.{ScopeEntry}
 use Rattle.rhai_values.specs.Scope.{name_of}
+use Rattle.rhai_tree.specs.Declares.{any_of}
+use Rattle.rhai_eval.proofs.Chain.{drop_item}
 
 module _ {H : Type 0} where
   -- a list that is left has the names that it began with
@@ -55,3 +57,20 @@ rest_of_list false rest whole e h = cc
 
 pub rest_resolves : (part : Verdict) (parts : List Verdict) (names after : List Name) (whole : Bool × List Name) → all_resolve (part ∷ parts) names ≡ whole → IsTrue whole.0 → after ≡ (part names).1 → all_resolve parts after ≡ whole
 rest_resolves part parts names after whole e h is = rw is (rest_of_list (part names).0 (all_resolve parts (part names).1) whole e h)
+
+-- a part of a list that may ask for memory
+or_right : (a b : Bool) → IsTrue b → IsTrue (a || b)
+or_right true b h = refl
+or_right false b h = h
+
+or_left : (a b : Bool) → IsTrue a → IsTrue (a || b)
+or_left true b h = refl
+or_left false b h = cc
+
+any_later : {A : Type 0} (f : A → Bool) (before after : List A) → IsTrue (any_of (map f after)) → IsTrue (any_of (map f (before ++ after)))
+any_later f [] after h = h
+any_later f (x ∷ before) after h = or_right (f x) (any_of (map f (before ++ after))) (any_later f before after h)
+
+pub any_item : {A : Type 0} (f : A → Bool) (xs : List A) (i : ℕ) (x : A) → i < length xs → x ≡ get_or xs i x → IsTrue (f x) → IsTrue (any_of (map f xs))
+any_item f xs i x lt is h = subst (λ items. IsTrue (any_of (map f items))) (take-append-drop i xs)
+    (any_later f (take i xs) (drop i xs) (rw (drop_item xs i x lt is) (or_left (f x) (any_of (map f (drop (i + 1) xs))) h)))

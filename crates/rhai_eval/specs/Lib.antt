@@ -1,2 +1,3 @@
+pub mod Memory
 pub mod Saves
 pub mod States

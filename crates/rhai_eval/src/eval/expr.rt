@@ -1,12 +1,15 @@
 //! Expressions. Ports upstream's `eval/expr.rs`; the contracts speak of the machine's runs.
 
-ghost use Rattle.std.specs.Prelude.{◌≡◌, ◌<◌, ◌≤◌, OnOk, IsTrue, is_some, true, Some};
+ghost use Rattle.std.specs.Prelude.{◌≡◌, ◌<◌, ◌≤◌, OnOk, IfOk, IfErr, IsTrue, is_some, true, false, Some};
 ghost use Rattle.rhai_tree.specs.Frame.{resolves_expr};
 ghost use Rattle.rhai_values.specs.Scope.{names_in};
 ghost use Rattle.rhai_values.specs.Native.{was};
 ghost use Rattle.rhai_machine.specs.language.Setting.{limit_of};
 ghost use Rattle.rhai_machine.specs.language.Frames.{Eval, Argument};
 ghost use Rattle.rhai_machine.specs.language.Runs.{Runs};
+ghost use Rattle.rhai_values.specs.Errors.{is_out_of_memory};
+ghost use Rattle.rhai_machine.specs.language.Values.{is_handle, is_truth};
+ghost use Rattle.rhai_eval.specs.Memory.{asks_expr};
 ghost use Rattle.rhai_eval.specs.States.{setting_of, state_of, around_of, WithThis};
 
 use crate::engine::Engine;
@@ -102,6 +105,9 @@ impl<H: Host> Engine<H> {
         ensures bound { is_some this.new ≡ is_some this.old }
         ensures names { names_in scope.new ≡ names_in scope.old }
         ensures runs { Runs (setting_of H.name_of self.now) T.gives T.pure (Eval expr.now) (state_of (T.state table.old) global.old scope.old this.old) result (state_of (T.state table.new) global.new scope.new this.new) }
+        ensures memory { IfErr result (λ error. is_out_of_memory error ≡ true → IsTrue (asks_expr expr.now).0) }
+        ensures plain { IfOk result (λ value. is_handle value.value ≡ true → IsTrue (asks_expr expr.now).0) }
+        ensures truth { IfOk result (λ value. is_truth value.value ≡ false → IsTrue (asks_expr expr.now).1) }
     {
         self.track_operation(global, expr.position())?;
         match expr {

@@ -1,11 +1,13 @@
 //! Whole scripts. Ports upstream's `eval_global_statements`.
 
-ghost use Rattle.std.specs.Prelude.{◌≡◌, ◌≤◌, length, true, None, Ok, IfOk, IfErr};
+ghost use Rattle.std.specs.Prelude.{◌≡◌, ◌≤◌, length, true, None, Ok, IfOk, IfErr, IsTrue};
 ghost use Rattle.rhai_tree.specs.Names.{Begins};
 ghost use Rattle.rhai_values.specs.Scope.{names_in};
 ghost use Rattle.rhai_machine.specs.language.Setting.{limit_of};
 ghost use Rattle.rhai_machine.specs.language.Unwinding.{topped};
 ghost use Rattle.rhai_machine.specs.language.Script.{EndsAsMachine, AgreesWithHigherLimits};
+ghost use Rattle.rhai_values.specs.Errors.{is_out_of_memory};
+ghost use Rattle.rhai_eval.specs.Memory.{may_ask};
 ghost use Rattle.rhai_eval.specs.States.{setting_of, state_of, around_of};
 
 use crate::engine::Engine;
@@ -72,6 +74,7 @@ impl<H: Host> Engine<H> {
         requires fast { self.now.fast_operators ≡ true }
         ensures ends { EndsAsMachine (setting_of H.name_of self.now) T.gives T.pure tree.now.0 map_exit_to_return_value (state_of (T.state table.old) global.old scope.old None) result (state_of (T.state table.new) global.new scope.new None) }
         ensures two_limits { AgreesWithHigherLimits (setting_of H.name_of self.now) T.gives T.pure tree.now.0 map_exit_to_return_value (state_of (T.state table.old) global.old scope.old None) result (state_of (T.state table.new) global.new scope.new None) }
+        ensures memory { IfErr result (λ error. is_out_of_memory error ≡ true → IsTrue (may_ask tree.now.0)) }
         ensures counts { global.old.num_operations ≤ global.new.num_operations }
         ensures within { global.old.num_operations ≤ limit_of self.now.max_operations → global.new.num_operations ≤ limit_of self.now.max_operations }
         ensures around { around_of global.new ≡ around_of global.old }

@@ -1,6 +1,6 @@
 //! Statements. Ports upstream's `eval/stmt.rs`; the contracts speak of the machine's runs.
 
-ghost use Rattle.std.specs.Prelude.{◌≡◌, ◌<◌, ◌≤◌, ◌++◌, ◌∷◌, [], OnOk, IsTrue, is_some, true, None, Some, length, map};
+ghost use Rattle.std.specs.Prelude.{◌≡◌, ◌<◌, ◌≤◌, ◌++◌, ◌∷◌, [], ◌||◌, OnOk, IfErr, IsTrue, is_some, true, None, Some, length, map};
 ghost use Rattle.rhai_tree.specs.Frame.{resolves_expr, resolves_stmt, resolves_block, all_resolve};
 ghost use Rattle.rhai_tree.specs.Names.{Begins};
 ghost use Rattle.rhai_values.specs.Scope.{names_in};
@@ -10,6 +10,8 @@ ghost use Rattle.rhai_tree.specs.declared.expr.Expr.TheOpen as layer;
 ghost use Rattle.rhai_machine.specs.language.Values.{unit_value as unit};
 ghost use Rattle.rhai_machine.specs.language.Frames.{Exec, OpenStmt, Enter, Run};
 ghost use Rattle.rhai_machine.specs.language.Runs.{Runs};
+ghost use Rattle.rhai_values.specs.Errors.{is_out_of_memory};
+ghost use Rattle.rhai_eval.specs.Memory.{asks_expr, asks_block, asks_stmt, may_ask};
 ghost use Rattle.rhai_eval.specs.States.{setting_of, state_of, around_of, WithThis};
 
 use crate::engine::Engine;
@@ -237,6 +239,7 @@ impl<H: Host> Engine<H> {
         ensures names { OnOk result (names_in scope.new ≡ (resolves_stmt stmt.now (names_in scope.old)).1) }
         ensures variables { length (names_in scope.old) ≤ self.now.max_variables → length (names_in scope.new) ≤ self.now.max_variables }
         ensures runs { Runs (setting_of H.name_of self.now) T.gives T.pure (Exec stmt.now restoring) (state_of (T.state table.old) global.old scope.old this.old) result (state_of (T.state table.new) global.new scope.new this.new) }
+        ensures memory { IfErr result (λ error. is_out_of_memory error ≡ true → IsTrue (asks_stmt stmt.now)) }
     {
         self.track_operation(global, stmt.position())?;
         match stmt {
@@ -286,6 +289,7 @@ impl<H: Host> Engine<H> {
         ensures bound { is_some this.new ≡ is_some this.old }
         ensures names { names_in scope.new ≡ names_in scope.old }
         ensures runs { Runs (setting_of H.name_of self.now) T.gives T.pure (OpenStmt (layer.Expr expr.now) restoring) (state_of (T.state table.old) global.old scope.old this.old) result (state_of (T.state table.new) global.new scope.new this.new) }
+        ensures memory { IfErr result (λ error. is_out_of_memory error ≡ true → IsTrue ((asks_expr expr.now).0)) }
     {
         let value = self.run_expr(alloc, global, caches, table, scope, this, expr)?;
         flatten(alloc, &global.cells, value, expr.position())
@@ -318,6 +322,7 @@ impl<H: Host> Engine<H> {
         ensures bound { is_some this.new ≡ is_some this.old }
         ensures names { names_in scope.new ≡ names_in scope.old }
         ensures runs { Runs (setting_of H.name_of self.now) T.gives T.pure (OpenStmt (layer.If test.now body.now branch.now pos) restoring) (state_of (T.state table.old) global.old scope.old this.old) result (state_of (T.state table.new) global.new scope.new this.new) }
+        ensures memory { IfErr result (λ error. is_out_of_memory error ≡ true → IsTrue ((asks_expr test.now).1 || (asks_block body.now || asks_block branch.now))) }
     {
         let value = self.run_expr(alloc, global, caches, table, scope, this, test)?;
         let chosen = truth_value(alloc, &global.cells, value, test.position())?;
@@ -394,6 +399,7 @@ impl<H: Host> Engine<H> {
         ensures restores { IsTrue restoring → names_in scope.new ≡ names_in scope.old }
         ensures variables { length (names_in scope.old) ≤ self.now.max_variables → length (names_in scope.new) ≤ self.now.max_variables }
         ensures runs { Runs (setting_of H.name_of self.now) T.gives T.pure (Enter statements.now restoring) (state_of (T.state table.old) global.old scope.old this.old) result (state_of (T.state table.new) global.new scope.new this.new) }
+        ensures memory { IfErr result (λ error. is_out_of_memory error ≡ true → IsTrue (may_ask statements.now)) }
     {
         if statements.is_empty() {
             return Ok(unit_value());
@@ -435,6 +441,7 @@ impl<H: Host> Engine<H> {
         ensures names { OnOk result (names_in scope.new ≡ (all_resolve (map resolves_stmt statements.now) (names_in scope.old)).1) }
         ensures variables { length (names_in scope.old) ≤ self.now.max_variables → length (names_in scope.new) ≤ self.now.max_variables }
         ensures runs { Runs (setting_of H.name_of self.now) T.gives T.pure (Run statements.now restoring unit) (state_of (T.state table.old) global.old scope.old this.old) result (state_of (T.state table.new) global.new scope.new this.new) }
+        ensures memory { IfErr result (λ error. is_out_of_memory error ≡ true → IsTrue (may_ask statements.now)) }
     {
         let mut last = unit_value();
         'each_stmt: for stmt in statements {

@@ -1,12 +1,12 @@
 //! Values as the evaluator makes them and looks at them.
 
-ghost use Rattle.std.specs.Prelude.{◌≡◌, [], Ok, Some, is_some, true};
+ghost use Rattle.std.specs.Prelude.{◌≡◌, [], Ok, Some, is_some, true, false, IfErr};
 ghost use Rattle.rhai_tree.specs.declared.expr.Expr.{out-Expr};
 ghost use Rattle.rhai_values.specs.Cells.{cells_of, value_of_cell};
 ghost use Rattle.rhai_values.specs.Copy.{copy_of, plain};
 ghost use Rattle.rhai_values.specs.declared.base.value.Union.TheVariants as kind;
 ghost use Rattle.rhai_machine.specs.language.State.{Answers};
-ghost use Rattle.rhai_machine.specs.language.Values.{bool_value as truth_of, copied, flat, truth, truth_union, unit_value as unit, used};
+ghost use Rattle.rhai_machine.specs.language.Values.{bool_value as truth_of, copied, flat, is_handle, is_truth, truth, truth_union, unit_value as unit, used};
 ghost use Rattle.rhai_machine.specs.language.Expressions.{literal_of};
 
 use crate::eval::errors::{data_race, mismatch};
@@ -86,7 +86,8 @@ pub fn flatten<H: Host>(
     value: Dynamic<H>,
     pos: Position,
 ) -> Result<Dynamic<H>, EvalAltResult<H>>
-    ensures { Answers result (flat (cells_of cells.now) value pos) }
+    ensures exact { Answers result (flat (cells_of cells.now) value pos) }
+    ensures memory { IfErr result (λ _. is_handle value.value ≡ true) }
 {
     match &value.value {
         Union::Cell(id) => copy_cell(alloc, cells, *id, pos),
@@ -100,7 +101,8 @@ fn plain_truth<H: Host>(
     value: &Dynamic<H>,
     pos: Position,
 ) -> Result<bool, EvalAltResult<H>>
-    ensures { Answers result (truth_union H.name_of (cells_of cells.now) value.now.value value.now pos) }
+    ensures exact { Answers result (truth_union H.name_of (cells_of cells.now) value.now.value value.now pos) }
+    ensures memory { IfErr result (λ _. is_truth value.now.value ≡ false) }
 {
     match &value.value {
         Union::Bool(b) => Ok(*b),
@@ -115,7 +117,8 @@ pub fn truth_value<H: Host>(
     value: Dynamic<H>,
     pos: Position,
 ) -> Result<bool, EvalAltResult<H>>
-    ensures { Answers result (truth H.name_of (cells_of cells.now) value pos) }
+    ensures exact { Answers result (truth H.name_of (cells_of cells.now) value pos) }
+    ensures memory { IfErr result (λ _. is_truth value.value ≡ false) }
 {
     match &value.value {
         Union::Cell(id) => match cells.get(*id) {

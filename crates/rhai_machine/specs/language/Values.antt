@@ -26,6 +26,11 @@ module _ {H : Type 0} where
   is_handle (value.Cell id) = true
   is_handle _ = false
 
+  -- a plain truth value
+  abbrev pub is_truth : Union H → Bool
+  is_truth (value.Bool b) = true
+  is_truth _ = false
+
   -- a use of what a handle leads to, or the race with whoever holds the cell
   abbrev pub used : List ℕ → Position → Option (Dynamic H) → Result (Dynamic H) (EvalAltResult H)
   used name at (Some v) = Ok v

@@ -9,8 +9,9 @@ use Rattle.rhai_values.specs.Scope.{names_in}
 use Rattle.rhai_machine.specs.machine.Point.{here, next, after, ◌⨾◌}
 use Rattle.rhai_machine.specs.language.Frames.{StatementValue, DefineValue, IfCondition, RestOfList, RestoreList, UnaryOperand, LeftOperand, RightOperand}
 use Rattle.rhai_machine.specs.language.Runs.{Steps}
+use Rattle.rhai_eval.specs.Memory.{asks_stmt}
 use Rattle.rhai_eval.specs.States.{setting_of}
-use Rattle.rhai_eval.proofs.NameLemmas.{names_restored, begins_same, begins_defined, operands_resolve, rest_resolves}
+use Rattle.rhai_eval.proofs.NameLemmas.{names_restored, begins_same, begins_defined, operands_resolve, rest_resolves, any_item}
 use Rattle.rhai_eval.proofs.Chain.{passed, drop_item, drop_all, exits, begins, begins_stmt, literal_runs, opens, opens_stmt, opens_unary, opens_binary, refuses, refuses_stmt, restores, begins_further, enters_empty, enters_plain, enters_restoring, is_empty_list, is_not_empty, left_state, declared_twice, full_scope, begins_value, defines}
 use Rattle.rhai_eval.proofs.engine.Engine.+eval.Goals as goal
 
@@ -82,7 +83,7 @@ run_expr_stmt-returns-in_err-value-clause-runs g t c = exits (setting_of g.H.Hos
 
 pub run_expr_stmt-returns-clause-runs : goal.run_expr_stmt-returns-clause-runs
 unfolding after Steps
-run_expr_stmt-returns-clause-runs g t c m k = next (c.in_ok-value.ensures.runs tt (StatementValue _ ∷ k) ⨾ next (rw (← c.position.ensures, c.flatten.ensures m) here))
+run_expr_stmt-returns-clause-runs g t c m k = next (c.in_ok-value.ensures.runs tt (StatementValue _ ∷ k) ⨾ next (rw (← c.position.ensures, c.flatten.ensures.exact m) here))
 
 pub run_if-returns-in_err-value-clause-runs : goal.run_if-returns-in_err-value-clause-runs
 unfolding after Steps
@@ -92,15 +93,15 @@ run_if-returns-in_err-value-clause-runs g t c = exits (setting_of g.H.Host.name_
 pub run_if-returns-in_err-chosen-clause-runs : goal.run_if-returns-in_err-chosen-clause-runs
 unfolding after Steps
 run_if-returns-in_err-chosen-clause-runs g t c = exits (setting_of g.H.Host.name_of c.args.self.now) g.T.NativeTable.gives g.T.NativeTable.pure _ _ _ _ _ c.from_residual-in_err-chosen.ensures (λ m k.
-    next (c.in_ok-value.ensures.runs tt (IfCondition _ _ _ ∷ k) ⨾ next (rw (← c.position.ensures, ← (c.in_err-chosen.ensures m)) here)))
+    next (c.in_ok-value.ensures.runs tt (IfCondition _ _ _ ∷ k) ⨾ next (rw (← c.position.ensures, ← (c.in_err-chosen.ensures.exact m)) here)))
 
 pub run_if-returns-then-chosen-clause-runs : goal.run_if-returns-then-chosen-clause-runs
 unfolding after Steps
-run_if-returns-then-chosen-clause-runs g t c m k = next (c.in_ok-value.ensures.runs tt (IfCondition _ _ _ ∷ k) ⨾ next (rw (← c.position.ensures, ← (c.in_ok-chosen.ensures tt), c.if-chosen.true) ((rw c.as_slice-statements.ensures at c.run_stmt_block.ensures.runs) m k)))
+run_if-returns-then-chosen-clause-runs g t c m k = next (c.in_ok-value.ensures.runs tt (IfCondition _ _ _ ∷ k) ⨾ next (rw (← c.position.ensures, ← (c.in_ok-chosen.ensures.exact tt), c.if-chosen.true) ((rw c.as_slice-statements.ensures at c.run_stmt_block.ensures.runs) m k)))
 
 pub run_if-returns-else-chosen-clause-runs : goal.run_if-returns-else-chosen-clause-runs
 unfolding after Steps
-run_if-returns-else-chosen-clause-runs g t c m k = next (c.in_ok-value.ensures.runs tt (IfCondition _ _ _ ∷ k) ⨾ next (rw (← c.position.ensures, ← (c.in_ok-chosen.ensures tt), c.if-chosen.false) ((rw c.as_slice-statements-else-chosen.ensures at c.run_stmt_block-else-chosen.ensures.runs) m k)))
+run_if-returns-else-chosen-clause-runs g t c m k = next (c.in_ok-value.ensures.runs tt (IfCondition _ _ _ ∷ k) ⨾ next (rw (← c.position.ensures, ← (c.in_ok-chosen.ensures.exact tt), c.if-chosen.false) ((rw c.as_slice-statements-else-chosen.ensures at c.run_stmt_block-else-chosen.ensures.runs) m k)))
 
 pub run_statements-each_stmt-init : goal.run_statements-each_stmt-init
 unfolding after Steps
@@ -135,14 +136,14 @@ pub run_unary-returns-in_err-value-2-clause-runs : goal.run_unary-returns-in_err
 unfolding after Steps
 run_unary-returns-in_err-value-2-clause-runs g t c = exits (setting_of g.H.Host.name_of c.args.self.now) g.T.NativeTable.gives g.T.NativeTable.pure _ _ _ _ _ c.from_residual-in_err-value-2.ensures (λ m k.
     opens_unary (setting_of g.H.Host.name_of c.args.self.now) g.T.NativeTable.gives g.T.NativeTable.pure c.args.call.now c.args.token c.args.operand.now c.args.pos k _ c.requires.fast c.requires.token c.requires.args
-    ⨾ c.in_ok-value.ensures.runs tt (UnaryOperand _ _ ∷ k) ⨾ next (rw (← c.position.ensures, ← (c.in_err-value-2.ensures m)) here))
+    ⨾ c.in_ok-value.ensures.runs tt (UnaryOperand _ _ ∷ k) ⨾ next (rw (← c.position.ensures, ← (c.in_err-value-2.ensures.exact m)) here))
 
 pub run_unary-returns-clause-runs : goal.run_unary-returns-clause-runs
 unfolding after Steps
 run_unary-returns-clause-runs g t c m k =
     opens_unary (setting_of g.H.Host.name_of c.args.self.now) g.T.NativeTable.gives g.T.NativeTable.pure c.args.call.now c.args.token c.args.operand.now c.args.pos k _ c.requires.fast c.requires.token c.requires.args
     ⨾ c.in_ok-value.ensures.runs tt (UnaryOperand _ _ ∷ k)
-    ⨾ next (rw (← c.position.ensures, ← (c.in_ok-value-2.ensures tt)) (c.operate_one.ensures.runs c.run_arg.new.scope c.run_arg.new.this m k))
+    ⨾ next (rw (← c.position.ensures, ← (c.in_ok-value-2.ensures.exact tt)) (c.operate_one.ensures.runs c.run_arg.new.scope c.run_arg.new.this m k))
 
 pub run_binary-returns-in_err-first-clause-runs : goal.run_binary-returns-in_err-first-clause-runs
 unfolding after Steps
@@ -154,14 +155,14 @@ pub run_binary-returns-in_err-first-2-clause-runs : goal.run_binary-returns-in_e
 unfolding after Steps
 run_binary-returns-in_err-first-2-clause-runs g t c = exits (setting_of g.H.Host.name_of c.args.self.now) g.T.NativeTable.gives g.T.NativeTable.pure _ _ _ _ _ c.from_residual-in_err-first-2.ensures (λ m k.
     opens_binary (setting_of g.H.Host.name_of c.args.self.now) g.T.NativeTable.gives g.T.NativeTable.pure c.args.call.now c.args.token c.args.left.now c.args.right.now c.args.pos k _ c.requires.fast c.requires.token c.requires.args
-    ⨾ c.in_ok-first.ensures.runs tt (LeftOperand _ _ _ ∷ k) ⨾ next (rw (← c.position.ensures, ← (c.in_err-first-2.ensures m)) here))
+    ⨾ c.in_ok-first.ensures.runs tt (LeftOperand _ _ _ ∷ k) ⨾ next (rw (← c.position.ensures, ← (c.in_err-first-2.ensures.exact m)) here))
 
 pub run_binary-returns-in-Err-clause-runs : goal.run_binary-returns-in-Err-clause-runs
 unfolding after Steps
 run_binary-returns-in-Err-clause-runs g t c m k =
     opens_binary (setting_of g.H.Host.name_of c.args.self.now) g.T.NativeTable.gives g.T.NativeTable.pure c.args.call.now c.args.token c.args.left.now c.args.right.now c.args.pos k _ c.requires.fast c.requires.token c.requires.args
     ⨾ c.in_ok-first.ensures.runs tt (LeftOperand _ _ _ ∷ k)
-    ⨾ next (rw (← c.position.ensures, ← (c.in_ok-first-2.ensures tt)) ((rw c.in-Err.is at c.run_arg-2.ensures.runs) m (RightOperand _ _ _ ∷ k) ⨾ next here))
+    ⨾ next (rw (← c.position.ensures, ← (c.in_ok-first-2.ensures.exact tt)) ((rw c.in-Err.is at c.run_arg-2.ensures.runs) m (RightOperand _ _ _ ∷ k) ⨾ next here))
 
 pub run_statements-each_stmt-preserved : goal.run_statements-each_stmt-preserved
 unfolding after Steps
@@ -184,16 +185,16 @@ unfolding after Steps
 run_binary-returns-in-Err-flatten-clause-runs g t c m k =
     opens_binary (setting_of g.H.Host.name_of c.args.self.now) g.T.NativeTable.gives g.T.NativeTable.pure c.args.call.now c.args.token c.args.left.now c.args.right.now c.args.pos k _ c.requires.fast c.requires.token c.requires.args
     ⨾ c.in_ok-first.ensures.runs tt (LeftOperand _ _ _ ∷ k)
-    ⨾ next (rw (← c.position.ensures, ← (c.in_ok-first-2.ensures tt)) ((rw c.in-Ok.is at c.run_arg-2.ensures.runs) tt (RightOperand _ _ _ ∷ k)
-    ⨾ next (rw (← c.position-in-Ok.ensures, ← ((rw c.in-Err-flatten.is at c.flatten-in-Ok.ensures) m)) here)))
+    ⨾ next (rw (← c.position.ensures, ← (c.in_ok-first-2.ensures.exact tt)) ((rw c.in-Ok.is at c.run_arg-2.ensures.runs) tt (RightOperand _ _ _ ∷ k)
+    ⨾ next (rw (← c.position-in-Ok.ensures, ← ((rw c.in-Err-flatten.is at c.flatten-in-Ok.ensures.exact) m)) here)))
 
 pub run_binary-returns-in-Ok-flatten-clause-runs : goal.run_binary-returns-in-Ok-flatten-clause-runs
 unfolding after Steps
 run_binary-returns-in-Ok-flatten-clause-runs g t c m k =
     opens_binary (setting_of g.H.Host.name_of c.args.self.now) g.T.NativeTable.gives g.T.NativeTable.pure c.args.call.now c.args.token c.args.left.now c.args.right.now c.args.pos k _ c.requires.fast c.requires.token c.requires.args
     ⨾ c.in_ok-first.ensures.runs tt (LeftOperand _ _ _ ∷ k)
-    ⨾ next (rw (← c.position.ensures, ← (c.in_ok-first-2.ensures tt)) ((rw c.in-Ok.is at c.run_arg-2.ensures.runs) tt (RightOperand _ _ _ ∷ k)
-    ⨾ next (rw (← c.position-in-Ok.ensures, ← ((rw c.in-Ok-flatten.is at c.flatten-in-Ok.ensures) tt)) (c.operate_two.ensures.runs c.run_arg-2.new.scope c.run_arg-2.new.this m k))))
+    ⨾ next (rw (← c.position.ensures, ← (c.in_ok-first-2.ensures.exact tt)) ((rw c.in-Ok.is at c.run_arg-2.ensures.runs) tt (RightOperand _ _ _ ∷ k)
+    ⨾ next (rw (← c.position-in-Ok.ensures, ← ((rw c.in-Ok-flatten.is at c.flatten-in-Ok.ensures.exact) tt)) (c.operate_two.ensures.runs c.run_arg-2.new.scope c.run_arg-2.new.this m k))))
 
 pub run_stmt-returns-in-Var-default-default-None-default-default-clause-runs : goal.run_stmt-returns-in-Var-default-default-None-default-default-clause-runs
 run_stmt-returns-in-Var-default-default-None-default-default-clause-runs g t c =
@@ -242,12 +243,16 @@ pub run_var-returns-in_err-given-2-clause-runs : goal.run_var-returns-in_err-giv
 unfolding after Steps
 run_var-returns-in_err-given-2-clause-runs g t c = exits (setting_of g.H.Host.name_of c.args.self.now) g.T.NativeTable.gives g.T.NativeTable.pure _ _ _ _ _ c.from_residual-in_err-given-2.ensures (λ m k.
     begins_value (setting_of g.H.Host.name_of c.args.self.now) g.T.NativeTable.gives g.T.NativeTable.pure c.args.ident.now c.args.value.now c.args.options c.args.pos c.args.restoring k _ (sym c.refuses_name.ensures ∙ c.if-refuses_name.false) (rw c.len.ensures at c.if-len-self.false)
-    ⨾ c.in_ok-given.ensures.runs tt (DefineValue _ _ _ ∷ k) ⨾ next (rw (← c.position.ensures, ← (c.in_err-given-2.ensures m)) here))
+    ⨾ c.in_ok-given.ensures.runs tt (DefineValue _ _ _ ∷ k) ⨾ next (rw (← c.position.ensures, ← (c.in_err-given-2.ensures.exact m)) here))
 
 pub run_var-returns-clause-runs : goal.run_var-returns-clause-runs
 unfolding after Steps
 run_var-returns-clause-runs g t c m k =
     begins_value (setting_of g.H.Host.name_of c.args.self.now) g.T.NativeTable.gives g.T.NativeTable.pure c.args.ident.now c.args.value.now c.args.options c.args.pos c.args.restoring k _ (sym c.refuses_name.ensures ∙ c.if-refuses_name.false) (rw c.len.ensures at c.if-len-self.false)
     ⨾ c.in_ok-given.ensures.runs tt (DefineValue _ _ _ ∷ k)
-    ⨾ next (rw (← c.position.ensures, ← (c.in_ok-given-2.ensures tt))
+    ⨾ next (rw (← c.position.ensures, ← (c.in_ok-given-2.ensures.exact tt))
     (defines (setting_of g.H.Host.name_of c.args.self.now) g.T.NativeTable.gives g.T.NativeTable.pure _ c.run_expr.new.global c.run_expr.new.scope c.define_variable.new.scope _ c.define_variable.result c.args.ident.now c.args.options c.in_ok-given-2.given _ k m c.mode_of.ensures c.define_variable.ensures.defined c.define_variable.ensures.refused c.define_variable.ensures.pushed))
+
+pub run_statements-returns-in_err-last-clause-memory : goal.run_statements-returns-in_err-last-clause-memory
+run_statements-returns-in_err-last-clause-memory g t c = rw (passed _ c.from_residual.ensures)
+    (λ full. any_item asks_stmt c.args.statements.now c.each_stmt.stmt-index c.stmt-item.result c.each_stmt-test.true c.stmt-item.is (c.in_err-last.ensures.memory full))
