@@ -9,7 +9,28 @@ use Rattle.rhai_machine.specs.language.Setting.{Setting}
 use Rattle.rhai_machine.specs.language.State.{Surroundings, Local, State}
 use Rattle.rhai_eval.specs.declared.engine.Engine.{Engine}
 
+-- the limits of an engine
+pub record Limits : Type 0 where
+  pub operations : ℕ
+  pub variables : ℕ
+  pub modules : ℕ
+  pub call_levels : ℕ
+  pub array_size : ℕ
+  pub map_size : ℕ
+  pub string_size : ℕ
+
 module _ {H : Type 0} where
+  abbrev pub limits_of : Engine H → Limits
+  limits_of h = record {
+    operations = h.max_operations;
+    variables = h.max_variables;
+    modules = h.max_modules;
+    call_levels = h.max_call_levels;
+    array_size = h.max_array_size;
+    map_size = h.max_map_size;
+    string_size = h.max_string_size;
+  }
+
   -- the limits, switches and modules of an engine
   abbrev pub setting_of : (H → List ℕ) → Engine H → Setting H
   setting_of host h = record {

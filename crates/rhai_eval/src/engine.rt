@@ -1,8 +1,9 @@
 //! The engine: the limits and switches of a run, and the modules that it offers.
 
-ghost use Rattle.std.specs.Prelude.{◌≡◌, ◌<◌, ◌≤◌, ◌+◌, OnOk, IfErr, [], true, false, IsTrue};
+ghost use Rattle.std.specs.Prelude.{◌≡◌, ◌<◌, ◌≤◌, ◌+◌, ◌-◌, ◌^◌, OnOk, IfErr, [], true, false};
 ghost use Rattle.rhai_values.specs.declared.base.error.EvalAltResult.TheVariants as error;
 ghost use Rattle.rhai_machine.specs.language.Setting.{limit_of};
+ghost use Rattle.rhai_eval.specs.States.{limits_of};
 
 use rhai_items::{Items, Shared, Table};
 use rhai_tree::position::Position;
@@ -39,10 +40,13 @@ impl<H: Host> Engine<H> {
     /// An engine without limits on operations and data, with fast operators and shadowing, and
     /// without modules.
     pub fn new(alloc: Global) -> Engine<H>
-        ensures operations { result.max_operations ≡ 0 }
-        ensures fast_operators { IsTrue result.fast_operators }
-        ensures allow_shadowing { IsTrue result.allow_shadowing }
+        ensures limits { limits_of result ≡ record { operations = 0; variables = 2 ^ 64 - 1; modules = 2 ^ 64 - 1; call_levels = 64; array_size = 0; map_size = 0; string_size = 0 } }
+        ensures fast_operators { result.fast_operators ≡ true }
+        ensures allow_shadowing { result.allow_shadowing ≡ true }
+        ensures fail_on_invalid_map_property { result.fail_on_invalid_map_property ≡ false }
         ensures global_modules { result.global_modules ≡ [] }
+        ensures global_sub_modules { result.global_sub_modules ≡ ([], []) }
+        ensures modules { result.modules.modules ≡ ([], []) }
     {
         Engine {
             max_operations: 0,
