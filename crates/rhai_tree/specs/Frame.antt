@@ -55,7 +55,7 @@ expr_step (layer.Coalesce parts pos) names = false
 
 abbrev pub call_step : layer.FnCallExpr-F Test Verdict (Unit {0}) Test (Unit {0}) Test → Test
 call_step call names =
-    is_operator_call call.namespace call.op_token call.capture_parent_scope (length call.args)
+    is_operator_call call.namespace call.name call.op_token call.capture_parent_scope (length call.args)
     && all_resolve_exprs call.args names
 
 abbrev pub block_step : layer.StmtBlock-F Test Verdict (Unit {0}) Test (Unit {0}) Test → Test

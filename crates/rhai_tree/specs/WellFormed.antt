@@ -90,7 +90,7 @@ abbrev pub call_step : layer.FnCallExpr-F Seen SeenStmt (Unit {0}) SeenCall (Uni
 call_step call = record {
   operand = start_of_operands call.op_token (map start_in call.args);
   value = λ pos c.
-      if is_operator_call call.namespace call.op_token call.capture_parent_scope (length call.args)
+      if is_operator_call call.namespace call.name call.op_token call.capture_parent_scope (length call.args)
       then faults_in_all call.args c
       else NotYet pos ∷ [];
 }

@@ -3,7 +3,7 @@
 ghost use Rattle.std.specs.Prelude.{◌≡◌, ◌++◌, [], ◌∷◌, IsTrue, IfErr, OnOk, map, length, List};
 ghost use Rattle.rhai_tree.specs.Context.{around};
 ghost use Rattle.rhai_tree.specs.Declares.{any_of, declares_expr, declares_call};
-ghost use Rattle.rhai_tree.specs.Forms.{is_unqualified, is_operator_call};
+ghost use Rattle.rhai_tree.specs.Forms.{is_unqualified, is_text_of, is_operator_call};
 ghost use Rattle.rhai_tree.specs.Frame.{resolves_expr, resolves_call, all_resolve_exprs};
 ghost use Rattle.rhai_tree.specs.Names.{Name, is_good};
 ghost use Rattle.rhai_tree.specs.Refusals.{Refuses};
@@ -15,17 +15,28 @@ use crate::check::place::Place;
 use crate::check::stmt::check_block;
 use crate::expr::{Expr, FnCallExpr};
 use crate::position::Position;
+use crate::token::Token;
 use rhai_items::{Items, Shared, Text};
 use std::num::NonZeroUsize;
 
-/// Whether a call is written as an operator with one or two operands, without a path, and leaves
-/// the caller's scope alone.
+/// Whether a name is an operator's text.
+fn is_text_of(op: Option<Token>, name: &Text) -> bool
+    ensures { result ≡ is_text_of op name.now }
+{
+    match op {
+        None => false,
+        Some(op) => name.as_str() == op.as_str(),
+    }
+}
+
+/// Whether a call is written as an operator, under the operator's own text, with one or two
+/// operands, without a path, and leaves the caller's scope alone.
 fn is_operator_call(call: &FnCallExpr) -> bool
-    ensures { result ≡ is_operator_call call.now.namespace call.now.op_token call.now.capture_parent_scope (length call.now.args) }
+    ensures { result ≡ is_operator_call call.now.namespace call.now.name call.now.op_token call.now.capture_parent_scope (length call.now.args) }
 {
     let count = call.args.len();
     call.namespace.path.len() == 0
-        && call.op_token.is_some()
+        && is_text_of(call.op_token, call.name.get())
         && !call.capture_parent_scope
         && (count == 1 || count == 2)
 }

@@ -150,6 +150,32 @@ fn a_form_that_is_not_there(rt: HostRuntime) -> Result<(), Fail> {
     Ok(())
 }
 
+/// One operand under a name and a minus.
+fn negated(alloc: Global, text: &str) -> Result<Expr, AllocError> {
+    let call = FnCallExpr {
+        namespace: unqualified(alloc),
+        name: name(alloc, text)?,
+        args: one(alloc, Expr::IntegerConstant(1, at(6)))?,
+        op_token: Some(Token::UnaryMinus),
+        capture_parent_scope: false,
+    };
+    Ok(Expr::FnCall(call, at(1)))
+}
+
+#[test]
+fn an_operator_has_its_own_name(rt: HostRuntime) -> Result<(), Fail> {
+    let alloc = rt.alloc();
+    for (text, fault) in [
+        ("-", None),
+        ("eval", Some(CheckFault::NotYet(at(1)))),
+        ("+", Some(CheckFault::NotYet(at(1)))),
+    ] {
+        let statement = Stmt::Expr(negated(alloc, text)?);
+        assert_eq!(rt; fault_of(alloc, one(alloc, statement)?), fault);
+    }
+    Ok(())
+}
+
 /// `LEFT + 1` with the operator at column 3.
 fn sum(alloc: Global, left: Expr) -> Result<FnCallExpr, AllocError> {
     let mut args = one(alloc, left)?;
