@@ -1,6 +1,7 @@
 -- Which forms of the tree are there.
-use Rattle.std.specs.Prelude.{ℕ, Bool, true, false, ◌&&◌, ◌||◌, not, ◌==◌, is_some, List, [], ◌∷◌, Option}
+use Rattle.std.specs.Prelude.{ℕ, Bool, true, false, ◌&&◌, ◌||◌, not, ◌==◌, is_some, List, [], ◌∷◌, Option, codes}
 use Rattle.std.specs.Int.RustNames.{bit_and}
+use Rattle.std.specs.Str.{bytes_eq}
 use Rattle.rhai_tree.specs.declared.expr.Namespace.{Namespace}
 use Rattle.rhai_tree.specs.declared.flags.ASTFlags.{ASTFlags}
 use Rattle.rhai_tree.specs.declared.token.Token.{Token}
@@ -15,6 +16,10 @@ is_unqualified (root ∷ path) = false
 abbrev pub is_operator_call : Namespace → Option Token → Bool → ℕ → Bool
 is_operator_call namespace op capture count =
     is_unqualified namespace.path && is_some op && not capture && (count == 1 || count == 2)
+
+-- a call of `eval` by its name, with one argument, operator or not
+abbrev pub is_eval_call : Namespace → Name → ℕ → Bool
+is_eval_call namespace name count = is_unqualified namespace.path && bytes_eq name (codes "eval") && count == 1
 
 -- a variable that is exported
 abbrev pub is_exported : ASTFlags → Bool

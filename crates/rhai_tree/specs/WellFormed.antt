@@ -4,7 +4,7 @@ use Rattle.std.specs.List.{Contains}
 use Rattle.std.specs.declared.num.NonZeroUsize.{NonZeroUsize}
 use Rattle.rhai_tree.specs.declared.position.Position.{Position}
 use Rattle.rhai_tree.specs.declared.check.CheckFault.{CheckFault}
-use Rattle.rhai_tree.specs.declared.check.CheckFault.TheVariants.{BadOffset, NotYet}
+use Rattle.rhai_tree.specs.declared.check.CheckFault.TheVariants.{BadOffset, EvalCall, NotYet}
 use Rattle.rhai_tree.specs.declared.expr.Expr.{Expr}
 use Rattle.rhai_tree.specs.declared.expr.FnCallExpr.{FnCallExpr}
 use Rattle.rhai_tree.specs.declared.expr.StmtBlock.{StmtBlock}
@@ -15,7 +15,7 @@ use Rattle.rhai_tree.specs.declared.function.ScriptFuncDef.{ScriptFuncDef}
 use Rattle.rhai_tree.specs.declared.function.ScriptFuncPayload.{ScriptFuncPayload}
 use Rattle.rhai_tree.specs.declared.function.ScriptFuncPayload.TheVariants.{Statements}
 use Rattle.rhai_tree.specs.Context.{Context, top, body_with, inside, declaring}
-use Rattle.rhai_tree.specs.Forms.{is_unqualified, is_operator_call, is_exported}
+use Rattle.rhai_tree.specs.Forms.{is_unqualified, is_eval_call, is_operator_call, is_exported}
 use Rattle.rhai_tree.specs.Names.{Name, is_good}
 use Rattle.rhai_tree.specs.Positions.{first_or, start_of_name, start_of_operands, start_of_call, first_shared}
 
@@ -90,7 +90,8 @@ abbrev pub call_step : layer.FnCallExpr-F Seen SeenStmt (Unit {0}) SeenCall (Uni
 call_step call = record {
   operand = start_of_operands call.op_token (map start_in call.args);
   value = λ pos c.
-      if is_operator_call call.namespace call.op_token call.capture_parent_scope (length call.args)
+      if is_eval_call call.namespace call.name (length call.args) then EvalCall pos ∷ []
+      else if is_operator_call call.namespace call.op_token call.capture_parent_scope (length call.args)
       then faults_in_all call.args c
       else NotYet pos ∷ [];
 }

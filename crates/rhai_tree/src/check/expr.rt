@@ -3,7 +3,7 @@
 ghost use Rattle.std.specs.Prelude.{◌≡◌, ◌++◌, [], ◌∷◌, IsTrue, IfErr, OnOk, map, length, List};
 ghost use Rattle.rhai_tree.specs.Context.{around};
 ghost use Rattle.rhai_tree.specs.Declares.{any_of, declares_expr, declares_call};
-ghost use Rattle.rhai_tree.specs.Forms.{is_unqualified, is_operator_call};
+ghost use Rattle.rhai_tree.specs.Forms.{is_unqualified, is_eval_call, is_operator_call};
 ghost use Rattle.rhai_tree.specs.Frame.{resolves_expr, resolves_call, all_resolve_exprs};
 ghost use Rattle.rhai_tree.specs.Names.{Name, is_good};
 ghost use Rattle.rhai_tree.specs.Refusals.{Refuses};
@@ -97,6 +97,15 @@ pub(crate) fn check_exprs(
     Ok(())
 }
 
+/// Whether a call is one of `eval` by its name, with one argument, operator or not.
+fn is_eval_call(call: &FnCallExpr) -> bool
+    ensures { result ≡ is_eval_call call.now.namespace call.now.name (length call.now.args) }
+{
+    call.namespace.path.len() == 0
+        && call.name.get().as_str() == "eval"
+        && call.args.len() == 1
+}
+
 /// Passes a call whose name or operator stands at a position, or answers one of its faults.
 #[cycle(check)]
 fn check_call(
@@ -110,7 +119,9 @@ fn check_call(
     ensures resolved { OnOk result ((base : List Name) → IsTrue (resolves_call call.now (base ++ names.old))) }
     ensures refused { IfErr result (λ fault. Refuses ((seen_call call.now).value pos (around names.old place)) (declares_call call.now) fault) }
 {
-    if is_operator_call(call) {
+    if is_eval_call(call) {
+        Err(CheckFault::EvalCall(pos))
+    } else if is_operator_call(call) {
         check_exprs(names, place, call.args.as_slice())
     } else {
         Err(CheckFault::NotYet(pos))

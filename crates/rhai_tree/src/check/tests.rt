@@ -150,6 +150,34 @@ fn a_form_that_is_not_there(rt: HostRuntime) -> Result<(), Fail> {
     Ok(())
 }
 
+/// One operand under a name and perhaps a minus.
+fn called(alloc: Global, text: &str, op: Option<Token>) -> Result<Expr, AllocError> {
+    let call = FnCallExpr {
+        namespace: unqualified(alloc),
+        name: name(alloc, text)?,
+        args: one(alloc, Expr::IntegerConstant(1, at(6)))?,
+        op_token: op,
+        capture_parent_scope: false,
+    };
+    Ok(Expr::FnCall(call, at(1)))
+}
+
+#[test]
+fn a_call_of_eval(rt: HostRuntime) -> Result<(), Fail> {
+    let alloc = rt.alloc();
+    for (text, op, fault) in [
+        ("-", Some(Token::UnaryMinus), None),
+        ("foo", Some(Token::UnaryMinus), None),
+        ("eval", Some(Token::UnaryMinus), Some(CheckFault::EvalCall(at(1)))),
+        ("eval", None, Some(CheckFault::EvalCall(at(1)))),
+        ("foo", None, Some(CheckFault::NotYet(at(1)))),
+    ] {
+        let statement = Stmt::Expr(called(alloc, text, op)?);
+        assert_eq!(rt; fault_of(alloc, one(alloc, statement)?), fault);
+    }
+    Ok(())
+}
+
 /// `LEFT + 1` with the operator at column 3.
 fn sum(alloc: Global, left: Expr) -> Result<FnCallExpr, AllocError> {
     let mut args = one(alloc, left)?;
