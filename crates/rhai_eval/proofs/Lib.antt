@@ -1,0 +1,4 @@
+pub mod Chain
+pub mod NativeCalls
+pub mod NameLemmas
+pub mod Variables

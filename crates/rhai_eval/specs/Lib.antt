@@ -1,0 +1,2 @@
+pub mod Saves
+pub mod States

@@ -1,0 +1,96 @@
+//! The engine: the limits and switches of a run, and the modules that it offers.
+
+ghost use Rattle.std.specs.Prelude.{◌≡◌, ◌<◌, ◌≤◌, ◌+◌, OnOk, IfErr, [], true, false, IsTrue};
+ghost use Rattle.rhai_values.specs.declared.base.error.EvalAltResult.TheVariants as error;
+ghost use Rattle.rhai_machine.specs.language.Setting.{limit_of};
+
+use rhai_items::{Items, Shared, Table};
+use rhai_tree::position::Position;
+use rhai_values::base::error::EvalAltResult;
+use rhai_values::base::value::{Host, Module, ModuleTable};
+use rhai_values::state::GlobalRuntimeState;
+use std::alloc::Global;
+
+/// The limits and switches of a run, and the modules that it offers. Ports upstream's `Engine`, as
+/// far as its tree evaluator reads it.
+#[derive(Drop)]
+pub struct Engine<H> {
+    /// How many operations a run may charge; zero is the greatest count.
+    pub max_operations: u64,
+    pub max_variables: usize,
+    pub max_modules: usize,
+    pub max_call_levels: usize,
+    /// The elements and bytes that a value may hold; zero is no limit.
+    pub max_array_size: usize,
+    pub max_map_size: usize,
+    pub max_string_size: usize,
+    pub fast_operators: bool,
+    pub allow_shadowing: bool,
+    pub fail_on_invalid_map_property: bool,
+    /// Modules whose constants and functions are found without their names.
+    pub global_modules: Items<Shared<Module<H>>>,
+    /// Modules that are found by their names.
+    pub global_sub_modules: Table<Shared<Module<H>>>,
+    /// Modules that an `import` finds.
+    pub modules: ModuleTable<H>,
+}
+
+impl<H: Host> Engine<H> {
+    /// An engine without limits on operations and data, with fast operators and shadowing, and
+    /// without modules.
+    pub fn new(alloc: Global) -> Engine<H>
+        ensures operations { result.max_operations ≡ 0 }
+        ensures fast_operators { IsTrue result.fast_operators }
+        ensures allow_shadowing { IsTrue result.allow_shadowing }
+        ensures global_modules { result.global_modules ≡ [] }
+    {
+        Engine {
+            max_operations: 0,
+            max_variables: usize::MAX,
+            max_modules: usize::MAX,
+            max_call_levels: 64,
+            max_array_size: 0,
+            max_map_size: 0,
+            max_string_size: 0,
+            fast_operators: true,
+            allow_shadowing: true,
+            fail_on_invalid_map_property: false,
+            global_modules: Items::new(alloc),
+            global_sub_modules: Table::new(alloc),
+            modules: ModuleTable {
+                modules: Table::new(alloc),
+            },
+        }
+    }
+
+    /// How many operations a run may charge.
+    fn limit(&self) -> u64
+        ensures { result ≡ limit_of self.now.max_operations }
+    {
+        if self.max_operations == 0 {
+            u64::MAX
+        } else {
+            self.max_operations
+        }
+    }
+
+    /// Charges one operation, or refuses it where the count has reached the limit; the count then
+    /// stays. Ports upstream's `track_operation`.
+    pub fn track_operation(
+        &self,
+        global: &mut GlobalRuntimeState<H>,
+        pos: Position,
+    ) -> Result<(), EvalAltResult<H>>
+        ensures room { OnOk result (global.old.num_operations < limit_of self.now.max_operations) }
+        ensures charged { OnOk result (global.new ≡ record global.old { num_operations = global.old.num_operations + 1 }) }
+        ensures full { IfErr result (λ _. limit_of self.now.max_operations ≤ global.old.num_operations) }
+        ensures refused { IfErr result (λ e. e ≡ error.ErrorTooManyOperations pos) }
+        ensures same { IfErr result (λ _. global.new ≡ global.old) }
+    {
+        if global.num_operations >= self.limit() {
+            return Err(EvalAltResult::ErrorTooManyOperations(pos));
+        }
+        global.num_operations += 1;
+        Ok(())
+    }
+}

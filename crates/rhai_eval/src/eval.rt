@@ -1,0 +1,8 @@
+//! Expressions and statements.
+
+pub mod errors;
+pub mod expr;
+pub mod script;
+pub mod stmt;
+pub mod values;
+pub mod variables;

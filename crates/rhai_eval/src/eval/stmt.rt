@@ -1,0 +1,250 @@
+//! Statements. Ports upstream's `eval/stmt.rs`; the contracts speak of the machine's runs.
+
+ghost use Rattle.std.specs.Prelude.{◌≡◌, ◌<◌, ◌≤◌, ◌++◌, ◌∷◌, [], OnOk, IsTrue, is_some, true, None, length, map};
+ghost use Rattle.rhai_tree.specs.Frame.{resolves_expr, resolves_stmt, resolves_block, all_resolve};
+ghost use Rattle.rhai_tree.specs.Names.{Begins};
+ghost use Rattle.rhai_values.specs.Scope.{names_in};
+ghost use Rattle.rhai_machine.specs.language.Setting.{limit_of};
+ghost use Rattle.rhai_eval.specs.States.{around_of};
+
+use crate::engine::Engine;
+use crate::eval::errors::variable_exists;
+use crate::eval::values::{flatten, truth_value, unit_value};
+use crate::eval::variables::{define_variable, enter_list, leave_list, mode_of};
+use rhai_tree::expr::{Expr, Ident, Stmt, StmtBlock};
+use rhai_tree::flags::ASTFlags;
+use rhai_tree::position::Position;
+use rhai_values::base::error::EvalAltResult;
+use rhai_values::base::scope::Scope;
+use rhai_values::base::value::{Dynamic, Host};
+use rhai_values::caches::Caches;
+use rhai_values::state::GlobalRuntimeState;
+use rhai_values::table::NativeTable;
+use std::alloc::Global;
+
+impl<H: Host> Engine<H> {
+    /// What a statement does, in a list that restores or not.
+    #[cycle(eval)]
+    pub(crate) fn run_stmt<T: NativeTable<H>>(
+        &self,
+        alloc: Global,
+        global: &mut GlobalRuntimeState<H>,
+        caches: &mut Caches<H>,
+        table: &mut T,
+        scope: &mut Scope<H>,
+        this: &mut Option<Dynamic<H>>,
+        stmt: &Stmt,
+        restoring: bool,
+    ) -> Result<Dynamic<H>, EvalAltResult<H>>
+        requires resolves { IsTrue (resolves_stmt stmt.now (names_in scope.old)).0 }
+        requires fast { self.now.fast_operators ≡ true }
+        ensures counts { global.old.num_operations ≤ global.new.num_operations }
+        ensures within { global.old.num_operations ≤ limit_of self.now.max_operations → global.new.num_operations ≤ limit_of self.now.max_operations }
+        ensures charges { OnOk result (global.old.num_operations < global.new.num_operations) }
+        ensures around { around_of global.new ≡ around_of global.old }
+        ensures scope_level { global.new.scope_level ≡ global.old.scope_level }
+        ensures bound { is_some this.new ≡ is_some this.old }
+        ensures begins { Begins (names_in scope.old) (names_in scope.new) }
+        ensures names { OnOk result (names_in scope.new ≡ (resolves_stmt stmt.now (names_in scope.old)).1) }
+        ensures variables { length (names_in scope.old) ≤ self.now.max_variables → length (names_in scope.new) ≤ self.now.max_variables }
+    {
+        self.track_operation(global, stmt.position())?;
+        match stmt {
+            Stmt::Noop(_) => Ok(unit_value()),
+            Stmt::Expr(expr) => {
+                self.run_expr_stmt(alloc, global, caches, table, scope, this, expr, restoring)
+            }
+            Stmt::Block(block) => self.run_stmt_block(
+                alloc,
+                global,
+                caches,
+                table,
+                scope,
+                this,
+                block.statements.as_slice(),
+                true,
+            ),
+            Stmt::If(test, body, branch, pos) => self.run_if(
+                alloc, global, caches, table, scope, this, test, body, branch, *pos, restoring,
+            ),
+            Stmt::Var(ident, value, None, options, pos) => self.run_var(
+                alloc, global, caches, table, scope, this, ident, value, *options, *pos, restoring,
+            ),
+            _ => unreachable!(),
+        }
+    }
+
+    /// The value of an expression statement.
+    #[cycle(eval)]
+    fn run_expr_stmt<T: NativeTable<H>>(
+        &self,
+        alloc: Global,
+        global: &mut GlobalRuntimeState<H>,
+        caches: &mut Caches<H>,
+        table: &mut T,
+        scope: &mut Scope<H>,
+        this: &mut Option<Dynamic<H>>,
+        expr: &Expr,
+        restoring: bool,
+    ) -> Result<Dynamic<H>, EvalAltResult<H>>
+        requires resolves { IsTrue (resolves_expr expr.now (names_in scope.old)) }
+        requires fast { self.now.fast_operators ≡ true }
+        ensures counts { global.old.num_operations ≤ global.new.num_operations }
+        ensures within { global.old.num_operations ≤ limit_of self.now.max_operations → global.new.num_operations ≤ limit_of self.now.max_operations }
+        ensures around { around_of global.new ≡ around_of global.old }
+        ensures scope_level { global.new.scope_level ≡ global.old.scope_level }
+        ensures bound { is_some this.new ≡ is_some this.old }
+        ensures names { names_in scope.new ≡ names_in scope.old }
+    {
+        let value = self.run_expr(alloc, global, caches, table, scope, this, expr)?;
+        flatten(alloc, &global.cells, value, expr.position())
+    }
+
+    /// The list that a condition chose.
+    #[cycle(eval)]
+    fn run_if<T: NativeTable<H>>(
+        &self,
+        alloc: Global,
+        global: &mut GlobalRuntimeState<H>,
+        caches: &mut Caches<H>,
+        table: &mut T,
+        scope: &mut Scope<H>,
+        this: &mut Option<Dynamic<H>>,
+        test: &Expr,
+        body: &StmtBlock,
+        branch: &StmtBlock,
+        pos: Position,
+        restoring: bool,
+    ) -> Result<Dynamic<H>, EvalAltResult<H>>
+        requires resolves_test { IsTrue (resolves_expr test.now (names_in scope.old)) }
+        requires resolves_body { IsTrue (resolves_block body.now (names_in scope.old)) }
+        requires resolves_branch { IsTrue (resolves_block branch.now (names_in scope.old)) }
+        requires fast { self.now.fast_operators ≡ true }
+        ensures counts { global.old.num_operations ≤ global.new.num_operations }
+        ensures within { global.old.num_operations ≤ limit_of self.now.max_operations → global.new.num_operations ≤ limit_of self.now.max_operations }
+        ensures around { around_of global.new ≡ around_of global.old }
+        ensures scope_level { global.new.scope_level ≡ global.old.scope_level }
+        ensures bound { is_some this.new ≡ is_some this.old }
+        ensures names { names_in scope.new ≡ names_in scope.old }
+    {
+        let value = self.run_expr(alloc, global, caches, table, scope, this, test)?;
+        let chosen = truth_value(alloc, &global.cells, value, test.position())?;
+        if chosen {
+            let statements = body.statements.as_slice();
+            self.run_stmt_block(alloc, global, caches, table, scope, this, statements, true)
+        } else {
+            let statements = branch.statements.as_slice();
+            self.run_stmt_block(alloc, global, caches, table, scope, this, statements, true)
+        }
+    }
+
+    /// A new variable.
+    #[cycle(eval)]
+    fn run_var<T: NativeTable<H>>(
+        &self,
+        alloc: Global,
+        global: &mut GlobalRuntimeState<H>,
+        caches: &mut Caches<H>,
+        table: &mut T,
+        scope: &mut Scope<H>,
+        this: &mut Option<Dynamic<H>>,
+        ident: &Ident,
+        value: &Expr,
+        options: ASTFlags,
+        pos: Position,
+        restoring: bool,
+    ) -> Result<Dynamic<H>, EvalAltResult<H>>
+        requires resolves { IsTrue (resolves_expr value.now (names_in scope.old)) }
+        requires fast { self.now.fast_operators ≡ true }
+        ensures counts { global.old.num_operations ≤ global.new.num_operations }
+        ensures within { global.old.num_operations ≤ limit_of self.now.max_operations → global.new.num_operations ≤ limit_of self.now.max_operations }
+        ensures around { around_of global.new ≡ around_of global.old }
+        ensures scope_level { global.new.scope_level ≡ global.old.scope_level }
+        ensures bound { is_some this.new ≡ is_some this.old }
+        ensures begins { Begins (names_in scope.old) (names_in scope.new) }
+        ensures names { OnOk result (names_in scope.new ≡ names_in scope.old ++ ident.now.name ∷ []) }
+        ensures variables { length (names_in scope.old) ≤ self.now.max_variables → length (names_in scope.new) ≤ self.now.max_variables }
+    {
+        if !self.allow_shadowing && scope.contains(ident.name.get().as_str()) {
+            return Err(variable_exists(&ident.name, pos));
+        }
+        if scope.len() >= self.max_variables {
+            return Err(EvalAltResult::ErrorTooManyVariables(pos));
+        }
+        let given = self.run_expr(alloc, global, caches, table, scope, this, value)?;
+        let given = flatten(alloc, &global.cells, given, value.position())?;
+        define_variable(scope, ident, mode_of(options), given, pos)
+    }
+
+    /// What a list of statements does. A restoring list takes back on every way out the variables that it
+    /// added, the imports and the scope level; an empty one has no effect.
+    #[cycle(eval)]
+    pub(crate) fn run_stmt_block<T: NativeTable<H>>(
+        &self,
+        alloc: Global,
+        global: &mut GlobalRuntimeState<H>,
+        caches: &mut Caches<H>,
+        table: &mut T,
+        scope: &mut Scope<H>,
+        this: &mut Option<Dynamic<H>>,
+        statements: &[Stmt],
+        restoring: bool,
+    ) -> Result<Dynamic<H>, EvalAltResult<H>>
+        requires resolves { IsTrue (all_resolve (map resolves_stmt statements.now) (names_in scope.old)).0 }
+        requires fast { self.now.fast_operators ≡ true }
+        ensures counts { global.old.num_operations ≤ global.new.num_operations }
+        ensures within { global.old.num_operations ≤ limit_of self.now.max_operations → global.new.num_operations ≤ limit_of self.now.max_operations }
+        ensures around { around_of global.new ≡ around_of global.old }
+        ensures scope_level { global.new.scope_level ≡ global.old.scope_level }
+        ensures bound { is_some this.new ≡ is_some this.old }
+        ensures begins { Begins (names_in scope.old) (names_in scope.new) }
+        ensures restores { IsTrue restoring → names_in scope.new ≡ names_in scope.old }
+        ensures variables { length (names_in scope.old) ≤ self.now.max_variables → length (names_in scope.new) ≤ self.now.max_variables }
+    {
+        if statements.is_empty() {
+            return Ok(unit_value());
+        }
+        if !restoring {
+            return self.run_statements(
+                alloc, global, caches, table, scope, this, statements, restoring,
+            );
+        }
+        let saved = enter_list(global, scope);
+        let result = self.run_statements(
+            alloc, global, caches, table, scope, this, statements, restoring,
+        );
+        leave_list(global, scope, saved);
+        result
+    }
+
+    /// What statements do, one after the other.
+    #[cycle(eval)]
+    fn run_statements<T: NativeTable<H>>(
+        &self,
+        alloc: Global,
+        global: &mut GlobalRuntimeState<H>,
+        caches: &mut Caches<H>,
+        table: &mut T,
+        scope: &mut Scope<H>,
+        this: &mut Option<Dynamic<H>>,
+        statements: &[Stmt],
+        restoring: bool,
+    ) -> Result<Dynamic<H>, EvalAltResult<H>>
+        requires resolves { IsTrue (all_resolve (map resolves_stmt statements.now) (names_in scope.old)).0 }
+        requires fast { self.now.fast_operators ≡ true }
+        ensures counts { global.old.num_operations ≤ global.new.num_operations }
+        ensures within { global.old.num_operations ≤ limit_of self.now.max_operations → global.new.num_operations ≤ limit_of self.now.max_operations }
+        ensures around { around_of global.new ≡ around_of global.old }
+        ensures scope_level { global.new.scope_level ≡ global.old.scope_level }
+        ensures bound { is_some this.new ≡ is_some this.old }
+        ensures begins { Begins (names_in scope.old) (names_in scope.new) }
+        ensures names { OnOk result (names_in scope.new ≡ (all_resolve (map resolves_stmt statements.now) (names_in scope.old)).1) }
+        ensures variables { length (names_in scope.old) ≤ self.now.max_variables → length (names_in scope.new) ≤ self.now.max_variables }
+    {
+        let mut last = unit_value();
+        'each_stmt: for stmt in statements {
+            last = self.run_stmt(alloc, global, caches, table, scope, this, stmt, restoring)?;
+        }
+        Ok(last)
+    }
+}

@@ -1,0 +1,4 @@
+//! Calls.
+
+pub mod call;
+pub mod native;
