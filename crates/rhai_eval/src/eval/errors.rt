@@ -61,7 +61,11 @@ pub fn variable_exists<H>(name: &Shared<Text>, pos: Position) -> EvalAltResult<H
     }
 }
 
-fn type_mismatch(alloc: Global, wanted: &str, found: &str) -> Result<Boxed<TypeMismatch>, AllocError>
+fn type_mismatch(
+    alloc: Global,
+    wanted: &str,
+    found: &str,
+) -> Result<Boxed<TypeMismatch>, AllocError>
     ensures { IfOk result (λ m. m ≡ record { wanted = wanted.now; found = found.now }) }
 {
     let wanted = Text::from_str(alloc, wanted)?;

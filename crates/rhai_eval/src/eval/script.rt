@@ -58,7 +58,14 @@ impl<H: Host> Engine<H> {
         let mut unbound = None;
         let statements = tree.statements();
         let outcome = self.run_stmt_block(
-            alloc, global, caches, table, scope, &mut unbound, statements, false,
+            alloc,
+            global,
+            caches,
+            table,
+            scope,
+            &mut unbound,
+            statements,
+            false,
         );
         top(outcome, map_exit_to_return_value)
     }

@@ -51,7 +51,11 @@ pub fn literal_value<H>(expr: &Expr) -> Option<Dynamic<H>>
 }
 
 /// A copy of a value.
-pub fn copy<H: Host>(alloc: Global, value: &Dynamic<H>, pos: Position) -> Result<Dynamic<H>, EvalAltResult<H>>
+pub fn copy<H: Host>(
+    alloc: Global,
+    value: &Dynamic<H>,
+    pos: Position,
+) -> Result<Dynamic<H>, EvalAltResult<H>>
     ensures { Answers result (Ok (copy_of value.now)) }
 {
     match value.try_clone(alloc) {

@@ -203,7 +203,13 @@ impl<H: Host> Engine<H> {
         if is_handle(first) {
             return Err(data_race_of(name, pos));
         }
-        match table.call(&global.cells, name.get().as_str(), Some(&mut *first), rest, pos) {
+        match table.call(
+            &global.cells,
+            name.get().as_str(),
+            Some(&mut *first),
+            rest,
+            pos,
+        ) {
             Answer::Missing => self.missing(alloc, &global.cells, name, token, first, rest, pos),
             Answer::Value(value) => self.sized(alloc, value, pos),
             Answer::Fault(error) => Err(placed(error, pos)),
@@ -281,7 +287,9 @@ impl<H: Host> Engine<H> {
         match one_item(alloc, right) {
             Ok(rest) => {
                 let rest = rest.as_slice();
-                let result = self.call_native(alloc, global, table, name, token, &mut left, rest, pos);
+                let result = self.call_native(
+                    alloc, global, table, name, token, &mut left, rest, pos,
+                );
                 let_go(left);
                 result
             }
