@@ -1,0 +1,67 @@
+-- The forms of the tree that the bench builds. A place is a column of the first line.
+use Rattle.std.specs.Prelude.{◌≡◌, ℕ, List, [], Option, Some, None, false, MatchOption}
+use Rattle.std.specs.declared.num.NonZeroUsize.{NonZeroUsize}
+use Rattle.std.specs.Int.NonZero.{non_zero_usize_get}
+use Rattle.rhai_tree.specs.Position.{at, none}
+use Rattle.rhai_tree.specs.declared.flags.ASTFlags.{ASTFlags}
+use Rattle.rhai_tree.specs.declared.token.Token.{Token}
+use Rattle.rhai_tree.specs.declared.expr.Ident.{Ident}
+use Rattle.rhai_tree.specs.declared.expr.Namespace.{Namespace}
+use Rattle.rhai_tree.specs.declared.expr.OpAssignment.{OpAssignment}
+use Rattle.rhai_tree.specs.declared.expr.StmtBlock.{StmtBlock}
+use Rattle.rhai_tree.specs.declared.expr.Expr.{Expr}
+use Rattle.rhai_tree.specs.declared.expr.Expr.TheVariants as expr
+use Rattle.rhai_tree.specs.declared.expr.Stmt.{Stmt}
+
+-- a name at a column
+abbrev pub ident_at : List ℕ → ℕ → Ident
+ident_at name column = record { name = name; pos = at 1 column }
+
+-- the namespace of a name without one
+abbrev pub unqualified : Namespace
+unqualified = record { path = []; index = None; position = none }
+
+-- the offset of a number, where zero is none
+abbrev pub IsOffset : ℕ → Option NonZeroUsize → Type 0
+IsOffset n offset = MatchOption offset (n ≡ 0) (λ k. non_zero_usize_get k ≡ n)
+
+-- a variable with an offset from the end of the scope, where zero is none
+abbrev pub IsVariable : List ℕ → ℕ → ℕ → Expr → Type 0
+IsVariable name n column e =
+    (offset : Option NonZeroUsize) × IsOffset n offset × (e ≡ expr.Variable offset name unqualified (at 1 column))
+
+-- a call that was written as an operator
+abbrev pub operator_at : Token → List ℕ → ℕ → List Expr → Expr
+operator_at token name column args =
+    expr.FnCall
+    (record { namespace = unqualified; name = name; args = args; op_token = Some token; capture_parent_scope = false })
+    (at 1 column)
+
+-- statements between two braces
+abbrev pub block_at : List Stmt → ℕ → ℕ → StmtBlock
+block_at statements opening closing =
+    record { statements = statements; position = at 1 opening; end_position = at 1 closing }
+
+-- a block that the text does not have
+abbrev pub absent_block : StmtBlock
+absent_block = record { statements = []; position = none; end_position = none }
+
+-- how a value is assigned, by an operator or as it is
+abbrev pub assigned_by : Option Token → ℕ → OpAssignment
+assigned_by op column = record { op = op; position = at 1 column }
+
+-- a form without options
+abbrev pub no_options : ASTFlags
+no_options = record { 0 = 0 }
+
+-- the option of an `until` after a body
+abbrev pub negated_option : ASTFlags
+negated_option = record { 0 = 1 }
+
+-- the option of a `break`
+abbrev pub break_option : ASTFlags
+break_option = record { 0 = 2 }
+
+-- the option of a constant
+abbrev pub constant_option : ASTFlags
+constant_option = record { 0 = 4 }

@@ -1,0 +1,134 @@
+//! Statements.
+
+ghost use Rattle.std.specs.Prelude.{◌≡◌, ◌≢◌, IfOk, Option, None, Some};
+ghost use Rattle.rhai_tree.specs.Position.{at as place, none as nowhere};
+ghost use Rattle.rhai_tree.specs.declared.expr.Expr.TheVariants as expr;
+ghost use Rattle.rhai_tree.specs.declared.expr.Stmt.TheVariants as stmt;
+ghost use Rattle.rhai_bench.specs.Build.{absent_block, assigned_by, block_at, break_option, constant_option, negated_option, no_options};
+
+use crate::build::{at, list};
+use bitflags::Flags;
+use rhai_items::Items;
+use rhai_tree::expr::{Expr, Ident, OpAssignment, Stmt, StmtBlock};
+use rhai_tree::flags::ASTFlags;
+use rhai_tree::position::Position;
+use rhai_tree::token::Token;
+use std::alloc::{AllocError, Global};
+
+/// Statements between two braces.
+pub fn block<const N: usize>(
+    alloc: Global,
+    statements: [Stmt; N],
+    opening: u16,
+    closing: u16,
+) -> Result<StmtBlock, AllocError>
+    requires opening { opening ≢ 0 }
+    requires closing { closing ≢ 0 }
+    ensures { IfOk result (λ b. b ≡ block_at statements.entry opening closing) }
+{
+    Ok(StmtBlock {
+        statements: list(alloc, statements)?,
+        position: at(opening),
+        end_position: at(closing),
+    })
+}
+
+/// A block that the text does not have.
+pub fn no_block(alloc: Global) -> StmtBlock
+    ensures { result ≡ absent_block }
+{
+    StmtBlock {
+        statements: Items::new(alloc),
+        position: Position::NONE,
+        end_position: Position::NONE,
+    }
+}
+
+/// A declaration of a variable.
+pub fn let_stmt(name: Ident, value: Expr, column: u16) -> Stmt
+    requires { column ≢ 0 }
+    ensures { result ≡ stmt.Var name value None no_options (place 1 column) }
+{
+    Stmt::Var(name, value, None, ASTFlags::empty(), at(column))
+}
+
+/// A declaration of a constant.
+pub fn const_stmt(name: Ident, value: Expr, column: u16) -> Stmt
+    requires { column ≢ 0 }
+    ensures { result ≡ stmt.Var name value None constant_option (place 1 column) }
+{
+    Stmt::Var(name, value, None, ASTFlags::CONSTANT, at(column))
+}
+
+/// An assignment, by an operator where there is one.
+pub fn assign(op: Option<Token>, column: u16, left: Expr, right: Expr) -> Stmt
+    requires { column ≢ 0 }
+    ensures { result ≡ stmt.Assignment (assigned_by op column) left right }
+{
+    let position = at(column);
+    Stmt::Assignment(OpAssignment { op, position }, left, right)
+}
+
+/// An `if`. Where the text has no `else`, its branch is `no_block`.
+pub fn if_stmt(condition: Expr, body: StmtBlock, branch: StmtBlock, column: u16) -> Stmt
+    requires { column ≢ 0 }
+    ensures { result ≡ stmt.If condition body branch (place 1 column) }
+{
+    Stmt::If(condition, body, branch, at(column))
+}
+
+/// A `while`.
+pub fn while_stmt(condition: Expr, body: StmtBlock, column: u16) -> Stmt
+    requires { column ≢ 0 }
+    ensures { result ≡ stmt.While condition body (place 1 column) }
+{
+    Stmt::While(condition, body, at(column))
+}
+
+/// A `loop`, which has no condition.
+pub fn loop_stmt(body: StmtBlock, column: u16) -> Stmt
+    requires { column ≢ 0 }
+    ensures { result ≡ stmt.While (expr.Unit nowhere) body (place 1 column) }
+{
+    Stmt::While(Expr::Unit(Position::NONE), body, at(column))
+}
+
+/// A `do` with a `while` after its body.
+pub fn do_while(body: StmtBlock, condition: Expr, column: u16) -> Stmt
+    requires { column ≢ 0 }
+    ensures { result ≡ stmt.Do condition body no_options (place 1 column) }
+{
+    Stmt::Do(condition, body, ASTFlags::empty(), at(column))
+}
+
+/// A `do` with an `until` after its body.
+pub fn do_until(body: StmtBlock, condition: Expr, column: u16) -> Stmt
+    requires { column ≢ 0 }
+    ensures { result ≡ stmt.Do condition body negated_option (place 1 column) }
+{
+    Stmt::Do(condition, body, ASTFlags::NEGATED, at(column))
+}
+
+/// A `break`, with its value if it has one.
+pub fn break_stmt(value: Option<Expr>, column: u16) -> Stmt
+    requires { column ≢ 0 }
+    ensures { result ≡ stmt.BreakLoop value break_option (place 1 column) }
+{
+    Stmt::BreakLoop(value, ASTFlags::BREAK, at(column))
+}
+
+/// A `continue`.
+pub fn continue_stmt(column: u16) -> Stmt
+    requires { column ≢ 0 }
+    ensures { result ≡ stmt.BreakLoop None no_options (place 1 column) }
+{
+    Stmt::BreakLoop(None, ASTFlags::empty(), at(column))
+}
+
+/// A `return`, with its value if it has one.
+pub fn return_stmt(value: Option<Expr>, column: u16) -> Stmt
+    requires { column ≢ 0 }
+    ensures { result ≡ stmt.Return value no_options (place 1 column) }
+{
+    Stmt::Return(value, ASTFlags::empty(), at(column))
+}

@@ -1,0 +1,42 @@
+//! What a script came to.
+
+ghost use Rattle.std.specs.Prelude.{◌≡◌};
+ghost use Rattle.rhai_bench.specs.Outcome.{status_of};
+
+use crate::host::Pair;
+use rhai_tree::check::CheckFault;
+use rhai_values::base::error::EvalAltResult;
+use rhai_values::base::scope::Scope;
+use rhai_values::base::value::Dynamic;
+
+/// How a script ended.
+#[derive(Drop)]
+pub enum Ending {
+    /// The checker refused it, so it did not run.
+    Refused(CheckFault),
+    Value(Dynamic<Pair>),
+    Error(EvalAltResult<Pair>),
+}
+
+impl Ending {
+    /// The exit status that stands for the ending.
+    pub fn status(&self) -> u8
+        ensures { result ≡ status_of self.now }
+    {
+        match self {
+            Ending::Value(_) => 0,
+            Ending::Error(_) => 1,
+            Ending::Refused(_) => 2,
+        }
+    }
+}
+
+/// What a script came to.
+#[derive(Drop)]
+pub struct Outcome {
+    pub ending: Ending,
+    /// The operations that were charged.
+    pub num_operations: u64,
+    /// The variables that were left.
+    pub scope: Scope<Pair>,
+}

@@ -1,0 +1,50 @@
+//! Operators, and what they refuse.
+
+use crate::build::expressions::{int, operator, truth, variable};
+use crate::build::list;
+use crate::build::statements::{block, if_stmt, no_block};
+use crate::script::Script;
+use rhai_items::Items;
+use rhai_tree::expr::Stmt;
+use rhai_tree::token::Token;
+use std::alloc::{AllocError, Global};
+
+/// The sum of two integers: three operations are too few, four are enough.
+pub fn sum_under_limits(alloc: Global) -> Result<Items<Script>, AllocError> {
+    let refused = Script::with_max_operations(alloc, sum(alloc)?, 3);
+    let passed = Script::with_max_operations(alloc, sum(alloc)?, 4);
+    list(alloc, [refused, passed])
+}
+
+/// Operands and a condition of a wrong type, and a name that means nothing.
+pub fn refused_operands(alloc: Global) -> Result<Items<Script>, AllocError> {
+    let operands = Script::new(alloc, sum_of_two_types(alloc)?);
+    let name = Script::new(alloc, sum_with_unknown_name(alloc)?);
+    let condition = Script::new(alloc, integer_as_condition(alloc)?);
+    list(alloc, [operands, name, condition])
+}
+
+/// `40 + 2`
+fn sum(alloc: Global) -> Result<Items<Stmt>, AllocError> {
+    let sum = operator(alloc, Token::Plus, "+", 4, [int(40, 1), int(2, 6)])?;
+    list(alloc, [Stmt::Expr(sum)])
+}
+
+/// `1 + true`
+fn sum_of_two_types(alloc: Global) -> Result<Items<Stmt>, AllocError> {
+    let sum = operator(alloc, Token::Plus, "+", 3, [int(1, 1), truth(true, 5)])?;
+    list(alloc, [Stmt::Expr(sum)])
+}
+
+/// `y + 1`
+fn sum_with_unknown_name(alloc: Global) -> Result<Items<Stmt>, AllocError> {
+    let y = variable(alloc, "y", 0, 1)?;
+    let sum = operator(alloc, Token::Plus, "+", 3, [y, int(1, 5)])?;
+    list(alloc, [Stmt::Expr(sum)])
+}
+
+/// `if 1 {}`
+fn integer_as_condition(alloc: Global) -> Result<Items<Stmt>, AllocError> {
+    let body = block(alloc, [], 6, 7)?;
+    list(alloc, [if_stmt(int(1, 4), body, no_block(alloc), 1)])
+}

@@ -1,0 +1,102 @@
+//! Scripts with what is set for their runs.
+
+ghost use Rattle.std.specs.Prelude.{◌≡◌, ◌≢◌, ◌≤◌, [], IfOk, length};
+ghost use Rattle.rhai_tree.specs.WellFormed.{IsFormedTree};
+ghost use Rattle.rhai_tree.specs.declared.check.CheckFault.TheVariants.{NoMemory};
+ghost use Rattle.rhai_values.specs.Scope.{entries_of, names_in};
+ghost use Rattle.rhai_machine.specs.language.Setting.{limit_of};
+ghost use Rattle.rhai_bench.specs.Outcome.{IfRefused};
+
+use crate::host::Pair;
+use crate::outcome::{Ending, Outcome};
+use crate::settings::{Settings, Way};
+use crate::tables::NoNatives;
+use rhai_eval::engine::Engine;
+use rhai_items::Items;
+use rhai_tree::check::check_tree;
+use rhai_tree::expr::Stmt;
+use rhai_tree::function::ScriptFuncDef;
+use rhai_values::base::scope::Scope;
+use rhai_values::state::GlobalRuntimeState;
+use std::alloc::{AllocError, Global};
+
+/// The tree of a script, and what is set for its run.
+#[derive(Drop)]
+pub struct Script {
+    pub statements: Items<Stmt>,
+    pub functions: Items<ScriptFuncDef>,
+    pub settings: Settings,
+}
+
+impl Script {
+    /// A script without functions, under the usual settings.
+    pub fn new(alloc: Global, statements: Items<Stmt>) -> Script
+        ensures statements { result.statements ≡ statements }
+        ensures functions { result.functions ≡ [] }
+        ensures operations { result.settings.max_operations ≡ 0 }
+    {
+        Script::with_settings(alloc, statements, Settings::USUAL)
+    }
+
+    /// A script without functions, under a limit of operations.
+    pub fn with_max_operations(alloc: Global, statements: Items<Stmt>, count: u64) -> Script
+        ensures statements { result.statements ≡ statements }
+        ensures functions { result.functions ≡ [] }
+        ensures operations { result.settings.max_operations ≡ count }
+    {
+        let settings = Settings {
+            max_operations: count,
+            ..Settings::USUAL
+        };
+        Script::with_settings(alloc, statements, settings)
+    }
+
+    fn with_settings(alloc: Global, statements: Items<Stmt>, settings: Settings) -> Script
+        ensures statements { result.statements ≡ statements }
+        ensures functions { result.functions ≡ [] }
+        ensures settings { result.settings ≡ settings }
+    {
+        Script {
+            statements,
+            functions: Items::new(alloc),
+            settings,
+        }
+    }
+
+    /// Checks the script and runs it in one of the ways, in an empty scope and without natives.
+    pub fn run(self, alloc: Global, way: Way) -> Result<Outcome, AllocError>
+        ensures limit { IfOk result (λ o. o.num_operations ≤ limit_of self.settings.max_operations) }
+        ensures variables { IfOk result (λ o. length (names_in o.scope) ≤ self.settings.max_variables) }
+        ensures refused { IfOk result (λ o. IfRefused o.ending (λ f. f ≢ NoMemory → ¬ IsFormedTree self.statements self.functions)) }
+        ensures not_run { IfOk result (λ o. IfRefused o.ending (λ _. (o.num_operations ≡ 0) × (entries_of o.scope ≡ []))) }
+    {
+        let mut global = GlobalRuntimeState::new(alloc)?;
+        global.always_search_scope = way.always_search_scope;
+        let mut caches = way.caches(alloc);
+        let mut scope = Scope::new(alloc);
+        let ending = match check_tree(alloc, self.statements, self.functions) {
+            Err(fault) => Ending::Refused(fault),
+            Ok(tree) => {
+                let engine: Engine<Pair> = self.settings.engine(alloc);
+                let exits = self.settings.map_exit_to_return_value;
+                match engine.eval_global_statements(
+                    alloc,
+                    &mut global,
+                    &mut caches,
+                    &mut NoNatives,
+                    &mut scope,
+                    &tree,
+                    exits,
+                ) {
+                    Ok(value) => Ending::Value(value),
+                    Err(error) => Ending::Error(error),
+                }
+            }
+        };
+        Ok(Outcome {
+            ending,
+            num_operations: global.num_operations,
+            scope,
+        })
+    }
+}

@@ -1,0 +1,114 @@
+//! What is set for a run.
+
+ghost use Rattle.std.specs.Prelude.{◌≡◌, true};
+ghost use Rattle.rhai_values.specs.Caches.{depth_of, is_on};
+
+use crate::host::Pair;
+use rhai_eval::engine::Engine;
+use rhai_values::caches::Caches;
+use std::alloc::Global;
+
+/// The limits and switches of a run.
+#[derive(Clone, Copy, Debug, PartialEq, Eq)]
+pub struct Settings {
+    /// How many operations the run may charge; zero is no limit.
+    pub max_operations: u64,
+    pub max_variables: usize,
+    pub max_modules: usize,
+    pub max_call_levels: usize,
+    /// How much data a value may hold; zero is no limit.
+    pub max_array_size: usize,
+    pub max_map_size: usize,
+    pub max_string_size: usize,
+    pub allow_shadowing: bool,
+    pub fail_on_invalid_map_property: bool,
+    pub map_exit_to_return_value: bool,
+}
+
+impl Settings {
+    /// What a script runs with that sets nothing else.
+    pub const USUAL: Settings = Settings {
+        max_operations: 0,
+        max_variables: 1000,
+        max_modules: 100,
+        max_call_levels: 64,
+        max_array_size: 0,
+        max_map_size: 0,
+        max_string_size: 0,
+        allow_shadowing: true,
+        fail_on_invalid_map_property: false,
+        map_exit_to_return_value: false,
+    };
+
+    /// An engine with these limits and switches, with fast operators and without modules.
+    pub fn engine(&self, alloc: Global) -> Engine<Pair>
+        ensures fast_operators { result.fast_operators ≡ true }
+        ensures operations { result.max_operations ≡ self.now.max_operations }
+        ensures variables { result.max_variables ≡ self.now.max_variables }
+        ensures modules { result.max_modules ≡ self.now.max_modules }
+        ensures call_levels { result.max_call_levels ≡ self.now.max_call_levels }
+        ensures array_size { result.max_array_size ≡ self.now.max_array_size }
+        ensures map_size { result.max_map_size ≡ self.now.max_map_size }
+        ensures string_size { result.max_string_size ≡ self.now.max_string_size }
+        ensures shadowing { result.allow_shadowing ≡ self.now.allow_shadowing }
+        ensures map_property { result.fail_on_invalid_map_property ≡ self.now.fail_on_invalid_map_property }
+    {
+        let mut engine = Engine::new(alloc);
+        engine.max_operations = self.max_operations;
+        engine.max_variables = self.max_variables;
+        engine.max_modules = self.max_modules;
+        engine.max_call_levels = self.max_call_levels;
+        engine.max_array_size = self.max_array_size;
+        engine.max_map_size = self.max_map_size;
+        engine.max_string_size = self.max_string_size;
+        engine.allow_shadowing = self.allow_shadowing;
+        engine.fail_on_invalid_map_property = self.fail_on_invalid_map_property;
+        engine
+    }
+}
+
+/// How a run finds variables and functions. It shows in no result.
+#[derive(Clone, Copy, Debug, PartialEq, Eq)]
+pub struct Way {
+    /// Whether variables are found by their names, whatever their offsets say.
+    pub always_search_scope: bool,
+    /// Whether functions that were found are kept in a cache.
+    pub keeps_functions: bool,
+}
+
+impl Way {
+    /// By offset, with a cache.
+    pub const USUAL: Way = Way {
+        always_search_scope: false,
+        keeps_functions: true,
+    };
+
+    /// Every way there is.
+    pub const ALL: [Way; 4] = [
+        Way::USUAL,
+        Way {
+            always_search_scope: false,
+            keeps_functions: false,
+        },
+        Way {
+            always_search_scope: true,
+            keeps_functions: true,
+        },
+        Way {
+            always_search_scope: true,
+            keeps_functions: false,
+        },
+    ];
+
+    /// The caches of a run before it starts.
+    pub fn caches(self, alloc: Global) -> Caches<Pair>
+        ensures on { is_on result ≡ self.keeps_functions }
+        ensures depth { depth_of result ≡ 0 }
+    {
+        if self.keeps_functions {
+            Caches::new(alloc)
+        } else {
+            Caches::off(alloc)
+        }
+    }
+}

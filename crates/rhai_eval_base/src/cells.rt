@@ -1,0 +1,3 @@
+//! The store of shared cells.
+
+pub use rhai_values::cells::CellStore;

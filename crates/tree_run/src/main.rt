@@ -1,0 +1,33 @@
+//! Runs a row of the bench: each of its scripts by offset and with a cache of functions, and prints
+//! what each came to.
+#![tactic(auto)]
+
+mod command;
+#[cfg(test)]
+mod tests;
+
+use crate::command::{NOT_WRITTEN, print_usage, run};
+use std::process::ExitCode;
+use std::rt::Env;
+use std::{env, io};
+
+fn main(rt: HostRuntime) -> ExitCode {
+    let mut out = io::writer(&rt);
+    let status = match arguments(&rt) {
+        Ok(args) => run(rt.alloc(), args.as_slice(), &mut out),
+        Err(error) => {
+            if error.kind() == io::ErrorKind::OutOfMemory {
+                NOT_WRITTEN
+            } else {
+                print_usage(&mut out).unwrap_or(NOT_WRITTEN)
+            }
+        }
+    };
+    ExitCode::from(status)
+}
+
+/// The program's arguments without its name.
+fn arguments<R: Env + AllocGlobal>(rt: &R) -> io::Result<Vec<String>> {
+    let args = env::args(rt)?.skip(1).collect(rt.alloc())?;
+    Ok(args)
+}
