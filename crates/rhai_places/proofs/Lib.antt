@@ -1,0 +1,3 @@
+pub mod BitsLemmas
+pub mod CharLemmas
+pub mod FieldLemmas

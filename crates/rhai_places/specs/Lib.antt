@@ -1,0 +1,5 @@
+pub mod Bits
+pub mod Characters
+pub mod Indexing
+pub mod Parts
+pub mod PutBack
