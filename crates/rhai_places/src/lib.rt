@@ -4,6 +4,10 @@
 
 pub mod bits;
 mod chars;
+mod errors;
 pub mod locate;
 pub mod part;
+pub mod place;
+pub mod put;
 pub mod spot;
+pub mod target;

@@ -1,13 +1,12 @@
-//! Parts of values: bits, bytes, characters and slices, read and put back. The contracts cite
-//! specs/Parts.antt and specs/PutBack.antt.
+//! Parts of values: bits, bytes, characters and slices, as they are read. The contracts cite
+//! specs/Parts.antt.
 
-ghost use Rattle.std.specs.Prelude.{◌≡◌, ◌↔◌, IfOk, OnOk, OnErr, Some, None, true, ◌<◌, length, pos, slice_index};
+ghost use Rattle.std.specs.Prelude.{◌≡◌, ◌↔◌, ◌<◌, true, pos, length, slice_index, IsTrue, IfOk, OnErr};
 ghost use Rattle.rhai_values.specs.Layers.{layer_of};
 ghost use Rattle.rhai_places.specs.Parts.{IsPart, part_of, is_slice};
-ghost use Rattle.rhai_places.specs.PutBack.{put_in, put_back};
 
-use crate::bits::{bit, field, with_bit, with_field};
-use crate::chars::{char_at, slice, with_char, with_slice};
+use crate::bits::{bit, field};
+use crate::chars::{char_at, char_count, slice};
 use crate::spot::Spot;
 use rhai_items::{Items, Shared};
 use rhai_values::base::value::{Dynamic, Union};
@@ -45,4 +44,18 @@ fn byte_at(bytes: &Items<u8>, at: usize) -> i64
     ensures { result ≡ pos (slice_index bytes.now at) }
 {
     i64::from(bytes.as_slice()[at])
+}
+
+/// Whether a spot is a part of a value that is read and put back.
+pub fn is_part<H>(source: &Dynamic<H>, spot: Spot) -> bool
+    ensures { IsTrue result ↔ IsPart (layer_of source.now) spot }
+{
+    match (&source.value, spot) {
+        (Union::Int(_), Spot::Bit(at)) => at < 64,
+        (Union::Int(_), Spot::BitField(start, end)) => start <= end && end <= 64,
+        (Union::Str(text), Spot::Char(at)) => at < char_count(text.get().as_str()),
+        (Union::Str(_), Spot::Slice(start, end)) => start <= end,
+        (Union::Blob(bytes), Spot::Byte(at)) => at < bytes.get().len(),
+        _ => false,
+    }
 }

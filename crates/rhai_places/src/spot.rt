@@ -1,5 +1,6 @@
 //! What an index finds in a value.
 
+use rhai_tree::position::Position;
 use rhai_values::base::error::Bounds;
 
 /// Where an index leads in a value.
@@ -38,4 +39,17 @@ pub enum Refusal {
     WantsText,
     /// The value is not of a kind that is indexed here.
     NotIndexed,
+}
+
+/// How a value is indexed.
+#[derive(Clone, Copy, Debug, PartialEq, Eq)]
+pub struct Access {
+    /// The start of the index or the property.
+    pub idx_pos: Position,
+    /// The operator.
+    pub op_pos: Position,
+    /// Whether a key that a map does not have is inserted.
+    pub add_if_not_found: bool,
+    /// Whether a key that a map does not have is an error, where it is not inserted.
+    pub fail_on_invalid_map_property: bool,
 }
