@@ -1,5 +1,6 @@
 pub mod Bits
 pub mod Characters
+pub mod Found
 pub mod Indexing
 pub mod Lends
 pub mod Parts

@@ -1,5 +1,5 @@
 -- Spots in a value: the places that hold a value, and the parts that are read.
-use Rattle.std.specs.Prelude.{◌<◌, ◌≤◌, pos, ⊤, Bool, true, false, length, slice_get, slice_set, slice_index, Option, None}
+use Rattle.std.specs.Prelude.{ℕ, ◌<◌, ◌≤◌, pos, ⊤, Bool, true, false, length, slice_get, slice_set, slice_index, Option, None}
 use Rattle.std.specs.Str.{chars}
 use Rattle.rhai_values.specs.declared.base.value.Dynamic.{Dynamic}
 use Rattle.rhai_values.specs.declared.base.value.Union.{Union}
@@ -11,18 +11,39 @@ use Rattle.rhai_places.specs.declared.spot.Spot.TheVariants as spot
 use Rattle.rhai_places.specs.Bits.{bit, field}
 use Rattle.rhai_places.specs.Characters.{char_of, slice_of}
 
+-- the spots of an integer, of a text, an array, a blob and a map of so many characters, items, bytes and entries
+abbrev pub IsOfBits : Spot → Type 0
+IsOfBits (spot.Bit at) = at < 64
+IsOfBits (spot.BitField start end) = (start ≤ end) × (end ≤ 64)
+IsOfBits _ = ⊥
+
+abbrev pub IsOfText : ℕ → Spot → Type 0
+IsOfText count (spot.Char at) = at < count
+IsOfText count (spot.Slice start end) = start ≤ end
+IsOfText count _ = ⊥
+
+abbrev pub IsOfArray : ℕ → Spot → Type 0
+IsOfArray count (spot.Item at) = at < count
+IsOfArray count _ = ⊥
+
+abbrev pub IsOfBlob : ℕ → Spot → Type 0
+IsOfBlob count (spot.Byte at) = at < count
+IsOfBlob count _ = ⊥
+
+abbrev pub IsOfMap : ℕ → Spot → Type 0
+IsOfMap count (spot.Value at) = at < count
+IsOfMap count spot.Missing = ⊤
+IsOfMap count _ = ⊥
+
 module _ {H : Type 0} where
   -- a spot is one of this kind of value
   abbrev pub IsThere : UnionLayer H → Spot → Type 0
-  IsThere (layer.Int n) (spot.Bit at) = at < 64
-  IsThere (layer.Int n) (spot.BitField start end) = (start ≤ end) × (end ≤ 64)
-  IsThere (layer.Str text) (spot.Char at) = at < length (chars text)
-  IsThere (layer.Str text) (spot.Slice start end) = start ≤ end
-  IsThere (layer.Array items) (spot.Item at) = at < length items
-  IsThere (layer.Blob bytes) (spot.Byte at) = at < length bytes
-  IsThere (layer.Map entries) (spot.Value at) = at < length entries.1
-  IsThere (layer.Map entries) spot.Missing = ⊤
-  IsThere _ _ = ⊥
+  IsThere (layer.Int n) at = IsOfBits at
+  IsThere (layer.Str text) at = IsOfText (length (chars text)) at
+  IsThere (layer.Array items) at = IsOfArray (length items) at
+  IsThere (layer.Blob bytes) at = IsOfBlob (length bytes) at
+  IsThere (layer.Map entries) at = IsOfMap (length entries.1) at
+  IsThere _ at = ⊥
 
   -- a spot that holds a value
   abbrev pub IsPlace : UnionLayer H → Spot → Type 0

@@ -41,7 +41,11 @@ fn refusal_error<H: Host>(
 ) -> Result<EvalAltResult<H>, AllocError>
     ensures { IfOk result (λ e. e ≡ refused H.name_of (cells_of cells.now) how source.now index.now refusal) }
 {
-    let Access { idx_pos, op_pos, .. } = how;
+    let Access {
+        idx_pos,
+        op_pos,
+        ..
+    } = how;
     match refusal {
         Refusal::ArrayBounds(bounds) => {
             Ok(EvalAltResult::ErrorArrayBounds(Boxed::new(alloc, bounds)?, idx_pos))
@@ -87,12 +91,7 @@ fn type_mismatch<H>(
 }
 
 /// A value of another type than the one that is wanted.
-pub fn mismatch<H>(
-    alloc: Global,
-    wanted: &str,
-    found: &str,
-    position: Position,
-) -> EvalAltResult<H>
+pub fn mismatch<H>(alloc: Global, wanted: &str, found: &str, position: Position) -> EvalAltResult<H>
     ensures { IsTold (spec.mismatch wanted.now found.now position) result }
 {
     match type_mismatch(alloc, wanted, found, position) {

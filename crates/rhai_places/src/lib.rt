@@ -5,6 +5,7 @@
 pub mod bits;
 mod chars;
 mod errors;
+pub mod indexing;
 pub mod locate;
 pub mod part;
 pub mod place;

@@ -1,11 +1,12 @@
 //! Where an index leads. Ports the arithmetic of upstream's `get_indexed_mut`. The contracts cite
 //! specs/Indexing.antt.
 
-ghost use Rattle.std.specs.Prelude.{◌≡◌, ◌≤◌, length, IfSome, unsigned_abs};
+ghost use Rattle.std.specs.Prelude.{◌≡◌, ◌<◌, ◌≤◌, length, IfOk, IfSome, unsigned_abs};
 ghost use Rattle.std.specs.Str.{chars};
 ghost use Rattle.rhai_values.specs.Layers.{layer_of};
 ghost use Rattle.rhai_places.specs.Indexing.{index_in, slice_start, slice_spot, in_integer, in_text, in_array, in_blob, in_map, located};
 ghost use Rattle.rhai_places.specs.Indexing as spec;
+ghost use Rattle.rhai_places.specs.Parts.{IsThere, IsOfArray, IsOfBits, IsOfBlob, IsOfMap, IsOfText};
 ghost use Rattle.rhai_values.specs.declared.base.value.Union.{out-Union};
 
 use crate::chars::char_count;
@@ -16,7 +17,8 @@ use rhai_values::base::value::{Dynamic, Union};
 
 /// Where an index leads in a value, or why it leads nowhere. A negative index counts from the end.
 pub fn locate<H>(source: &Dynamic<H>, index: &Dynamic<H>) -> Result<Spot, Refusal>
-    ensures { result ≡ located (layer_of source.now) (layer_of index.now) }
+    ensures spot { result ≡ located (layer_of source.now) (layer_of index.now) }
+    ensures there { IfOk result (λ at. IsThere (layer_of source.now) at) }
 {
     match &source.value {
         Union::Int(_) => locate_bits(&index.value),
@@ -29,7 +31,8 @@ pub fn locate<H>(source: &Dynamic<H>, index: &Dynamic<H>) -> Result<Spot, Refusa
 }
 
 fn locate_bits<H>(index: &Union<H>) -> Result<Spot, Refusal>
-    ensures { result ≡ in_integer (out-Union H index.now) }
+    ensures spot { result ≡ in_integer (out-Union H index.now) }
+    ensures there { IfOk result (λ at. IsOfBits at) }
 {
     match index {
         Union::Int(i) => match calc_index(64, *i) {
@@ -79,7 +82,10 @@ fn bit_end(most: usize, end: i64) -> Option<usize>
 }
 
 fn bit_field(start: i64, end: i64, from: Option<usize>, to: Option<usize>) -> Result<Spot, Refusal>
-    ensures { result ≡ spec.bit_field start end from to }
+    requires start { IfSome from (λ b. b ≤ 63) }
+    requires end { IfSome to (λ b. b ≤ 64) }
+    ensures spot { result ≡ spec.bit_field start end from to }
+    ensures there { IfOk result (λ at. IsOfBits at) }
 {
     match (from, to) {
         (None, _) => Err(Refusal::BitFieldBounds(bounds(64, start))),
@@ -89,7 +95,8 @@ fn bit_field(start: i64, end: i64, from: Option<usize>, to: Option<usize>) -> Re
 }
 
 fn locate_text<H>(text: &str, index: &Union<H>) -> Result<Spot, Refusal>
-    ensures { result ≡ in_text (length (chars text.now)) (out-Union H index.now) }
+    ensures spot { result ≡ in_text (length (chars text.now)) (out-Union H index.now) }
+    ensures there { IfOk result (λ at. IsOfText (length (chars text.now)) at) }
 {
     let count = char_count(text);
     match index {
@@ -105,7 +112,8 @@ fn locate_text<H>(text: &str, index: &Union<H>) -> Result<Spot, Refusal>
 
 /// The slice from a start, which is cut to the text, up to an end.
 fn slice(count: usize, start: i64, end: usize) -> Result<Spot, Refusal>
-    ensures { result ≡ slice_spot count start (slice_start count start) end }
+    ensures spot { result ≡ slice_spot count start (slice_start count start) end }
+    ensures there { IfOk result (λ at. IsOfText count at) }
 {
     let distance = distance(start);
     let from = if start >= 0 {
@@ -143,7 +151,8 @@ fn slice_last(count: usize, last: i64) -> usize
 }
 
 fn locate_item<H>(count: usize, index: &Union<H>) -> Result<Spot, Refusal>
-    ensures { result ≡ in_array count (out-Union H index.now) }
+    ensures spot { result ≡ in_array count (out-Union H index.now) }
+    ensures there { IfOk result (λ at. IsOfArray count at) }
 {
     match index {
         Union::Int(i) => match calc_index(count, *i) {
@@ -155,7 +164,8 @@ fn locate_item<H>(count: usize, index: &Union<H>) -> Result<Spot, Refusal>
 }
 
 fn locate_byte<H>(count: usize, index: &Union<H>) -> Result<Spot, Refusal>
-    ensures { result ≡ in_blob count (out-Union H index.now) }
+    ensures spot { result ≡ in_blob count (out-Union H index.now) }
+    ensures there { IfOk result (λ at. IsOfBlob count at) }
 {
     match index {
         Union::Int(i) => match calc_index(count, *i) {
@@ -167,8 +177,10 @@ fn locate_byte<H>(count: usize, index: &Union<H>) -> Result<Spot, Refusal>
 }
 
 fn locate_key<H>(entries: &Table<Dynamic<H>>, index: &Union<H>) -> Result<Spot, Refusal>
-    ensures { result ≡ in_map entries.now.0 (out-Union H index.now) }
+    ensures spot { result ≡ in_map entries.now.0 (out-Union H index.now) }
+    ensures there { IfOk result (λ at. IsOfMap (length entries.now.1) at) }
 {
+    let _as_many = entries.len();
     match index {
         Union::Str(key) => match entries.find(key.get().as_str()) {
             Ok(at) => Ok(Spot::Value(at)),
@@ -194,7 +206,8 @@ fn distance(index: i64) -> usize
 /// The place of an index in a sequence, counted from the end where it is negative. Ports
 /// upstream's function of that name.
 fn calc_index(length: usize, index: i64) -> Option<usize>
-    ensures { result ≡ index_in length index }
+    ensures at { result ≡ index_in length index }
+    ensures within { IfSome result (λ at. at < length) }
 {
     let distance = distance(index);
     if index >= 0 {

@@ -85,7 +85,7 @@ impl<'t, H> Target<'t, H> {
 }
 
 impl<'t, H: Host> Target<'t, H> {
-    ghost use Rattle.rhai_places.specs.Targets.{taken, propagated, IsFit, IsNotPropagated};
+    ghost use Rattle.rhai_places.specs.Targets.{is_place, propagated, taken, IsFit, IsNotPropagated};
 
     /// The value of the target: a copy of a place, a temporary or a part as it is.
     ///
@@ -94,6 +94,7 @@ impl<'t, H: Host> Target<'t, H> {
     pub fn take_or_clone(self, alloc: Global) -> Result<Dynamic<H>, EvalAltResult<H>>
         ensures ok { IfOk result (λ value. value ≡ taken self.entry.part self.entry.at.now) }
         ensures err { IfErr result (λ e. is_out_of_memory e ≡ true) }
+        ensures memory { OnErr result (is_place self.entry.part ≡ true) }
     {
         let Target { at, part } = self;
         match part {
