@@ -1,0 +1,4 @@
+pub mod BitsLemmas
+pub mod CharLemmas
+pub mod FieldLemmas
+pub mod FoundLemmas

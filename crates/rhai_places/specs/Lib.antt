@@ -1,0 +1,9 @@
+pub mod Bits
+pub mod Characters
+pub mod Found
+pub mod Indexing
+pub mod Lends
+pub mod Parts
+pub mod PutBack
+pub mod Refusals
+pub mod Targets

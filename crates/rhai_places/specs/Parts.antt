@@ -1,0 +1,101 @@
+-- Spots in a value: the places that hold a value, and the parts that are read.
+use Rattle.std.specs.Prelude.{ℕ, ◌<◌, ◌≤◌, pos, ⊤, Bool, true, false, length, slice_get, slice_set, slice_index, Option, None}
+use Rattle.std.specs.Str.{chars}
+use Rattle.rhai_values.specs.declared.base.value.Dynamic.{Dynamic}
+use Rattle.rhai_values.specs.declared.base.value.Union.{Union}
+use Rattle.rhai_values.specs.declared.base.value.Union.TheVariants as value
+use Rattle.rhai_values.specs.declared.base.value.FnPtrKind.TheOpen as layer
+use Rattle.rhai_values.specs.Layers.{UnionLayer, layer_of}
+use Rattle.rhai_places.specs.declared.spot.Spot.{Spot}
+use Rattle.rhai_places.specs.declared.spot.Spot.TheVariants as spot
+use Rattle.rhai_places.specs.Bits.{bit, field}
+use Rattle.rhai_places.specs.Characters.{char_of, slice_of}
+
+-- the spots of an integer, of a text, an array, a blob and a map of so many characters, items, bytes and entries
+abbrev pub IsOfBits : Spot → Type 0
+IsOfBits (spot.Bit at) = at < 64
+IsOfBits (spot.BitField start end) = (start ≤ end) × (end ≤ 64)
+IsOfBits _ = ⊥
+
+abbrev pub IsOfText : ℕ → Spot → Type 0
+IsOfText count (spot.Char at) = at < count
+IsOfText count (spot.Slice start end) = start ≤ end
+IsOfText count _ = ⊥
+
+abbrev pub IsOfArray : ℕ → Spot → Type 0
+IsOfArray count (spot.Item at) = at < count
+IsOfArray count _ = ⊥
+
+abbrev pub IsOfBlob : ℕ → Spot → Type 0
+IsOfBlob count (spot.Byte at) = at < count
+IsOfBlob count _ = ⊥
+
+abbrev pub IsOfMap : ℕ → Spot → Type 0
+IsOfMap count (spot.Value at) = at < count
+IsOfMap count spot.Missing = ⊤
+IsOfMap count _ = ⊥
+
+module _ {H : Type 0} where
+  -- a spot is one of this kind of value
+  abbrev pub IsThere : UnionLayer H → Spot → Type 0
+  IsThere (layer.Int n) at = IsOfBits at
+  IsThere (layer.Str text) at = IsOfText (length (chars text)) at
+  IsThere (layer.Array items) at = IsOfArray (length items) at
+  IsThere (layer.Blob bytes) at = IsOfBlob (length bytes) at
+  IsThere (layer.Map entries) at = IsOfMap (length entries.1) at
+  IsThere _ at = ⊥
+
+  -- a spot that holds a value
+  abbrev pub IsPlace : UnionLayer H → Spot → Type 0
+  IsPlace source (spot.Item at) = IsThere source (spot.Item at)
+  IsPlace source (spot.Value at) = IsThere source (spot.Value at)
+  IsPlace source _ = ⊥
+
+  -- a spot that is read and put back
+  abbrev pub IsPart : UnionLayer H → Spot → Type 0
+  IsPart source (spot.Item at) = ⊥
+  IsPart source (spot.Value at) = ⊥
+  IsPart source spot.Missing = ⊥
+  IsPart source other = IsThere source other
+
+  -- ---- places
+
+  -- the value at a place
+  abbrev pub value_in : UnionLayer H → Spot → Option (Dynamic H)
+  value_in (layer.Array items) (spot.Item at) = slice_get items at
+  value_in (layer.Map entries) (spot.Value at) = slice_get entries.1 at
+  value_in _ _ = None
+
+  -- the value at a place of a value
+  abbrev pub value_at : Dynamic H → Spot → Option (Dynamic H)
+  value_at source at = value_in (layer_of source) at
+
+  -- a kind of value with another value at a place
+  abbrev pub with_value_in : Union H → UnionLayer H → Spot → Dynamic H → Union H
+  with_value_in source (layer.Array items) (spot.Item at) v = value.Array (slice_set items at v)
+  with_value_in source (layer.Map entries) (spot.Value at) v = value.Map (entries.0, slice_set entries.1 at v)
+  with_value_in source _ _ v = source
+
+  -- a value with another value at a place
+  abbrev pub with_value : Dynamic H → Spot → Dynamic H → Dynamic H
+  with_value source at v = record source { value = with_value_in source.value (layer_of source) at v }
+
+  -- ---- parts
+
+  -- what a part shows
+  abbrev pub part_in : UnionLayer H → Spot → Union H
+  part_in (layer.Int n) (spot.Bit at) = value.Bool (bit n at)
+  part_in (layer.Int n) (spot.BitField start end) = value.Int (field n start end)
+  part_in (layer.Str text) (spot.Char at) = value.Char (char_of text at)
+  part_in (layer.Str text) (spot.Slice start end) = value.Str (slice_of text start end)
+  part_in (layer.Blob bytes) (spot.Byte at) = value.Int (pos (slice_index bytes at))
+  part_in _ _ = value.Unit
+
+  -- a part of a value, with the access mode of its source
+  abbrev pub part_of : Dynamic H → Spot → Dynamic H
+  part_of source at = record { value = part_in (layer_of source) at; mode = source.mode }
+
+-- a part that is read into memory of its own
+abbrev pub is_slice : Spot → Bool
+is_slice (spot.Slice start end) = true
+is_slice _ = false

@@ -1,0 +1,34 @@
+-- The errors of what is refused, and what holds of an error where memory may have been wanting.
+use Rattle.std.specs.Prelude.{◌≡◌, ℕ, false, List, ◌++◌, Option, codes}
+use Rattle.rhai_tree.specs.declared.position.Position.{Position}
+use Rattle.rhai_values.specs.Errors.{is_out_of_memory}
+use Rattle.rhai_values.specs.TypeNames.{type_name_of}
+use Rattle.rhai_values.specs.declared.base.error.EvalAltResult.{EvalAltResult}
+use Rattle.rhai_values.specs.declared.base.error.EvalAltResult.TheVariants as error
+use Rattle.rhai_values.specs.declared.base.value.Dynamic.{Dynamic}
+use Rattle.rhai_places.specs.declared.spot.Access.{Access}
+use Rattle.rhai_places.specs.declared.spot.Refusal.{Refusal}
+use Rattle.rhai_places.specs.declared.spot.Refusal.TheVariants as refusal
+
+-- the text of an object and an index that do not go together
+abbrev pub indexing_text : (object index : List ℕ) → List ℕ
+indexing_text object index = object ++ codes " [" ++ index ++ codes "]"
+
+module _ {H : Type 0} where
+  -- an error is the one told, or no memory was left
+  abbrev pub IsTold : (told e : EvalAltResult H) → Type 0
+  IsTold told e = is_out_of_memory e ≡ false → e ≡ told
+
+  -- a value of another type than the one that is wanted
+  abbrev pub mismatch : (wanted found : List ℕ) → Position → EvalAltResult H
+  mismatch wanted found position = error.ErrorMismatchDataType (record { wanted = wanted; found = found }) position
+
+  -- the error of an index that is refused
+  module _ (host_name : H → List ℕ) (cells : List (Option (Dynamic H))) (how : Access) (source index : Dynamic H) where
+    abbrev pub refused : Refusal → EvalAltResult H
+    refused (refusal.ArrayBounds bounds) = error.ErrorArrayBounds bounds how.idx_pos
+    refused (refusal.BitFieldBounds bounds) = error.ErrorBitFieldBounds bounds how.idx_pos
+    refused (refusal.StringBounds bounds) = error.ErrorStringBounds bounds how.idx_pos
+    refused refusal.WantsInteger = mismatch (codes "i64") (type_name_of host_name cells index) how.idx_pos
+    refused refusal.WantsText = mismatch (codes "string") (type_name_of host_name cells index) how.idx_pos
+    refused refusal.NotIndexed = error.ErrorIndexingType (indexing_text (type_name_of host_name cells source) (type_name_of host_name cells index)) how.op_pos

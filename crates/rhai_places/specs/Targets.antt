@@ -1,0 +1,86 @@
+-- What a target shows, and what it puts back into its place.
+use Rattle.std.specs.Prelude.{◌≡◌, ℕ, ⊤, Bool, true, false, List, Option, Some, None}
+use Rattle.rhai_tree.specs.declared.position.Position.{Position}
+use Rattle.rhai_values.specs.Copy.{copy_of, plain}
+use Rattle.rhai_values.specs.declared.base.error.EvalAltResult.{EvalAltResult}
+use Rattle.rhai_values.specs.declared.base.value.Dynamic.{Dynamic}
+use Rattle.rhai_values.specs.declared.base.value.Union.TheVariants as value
+use Rattle.rhai_values.specs.declared.base.value.FnPtrKind.TheOpen as layer
+use Rattle.rhai_values.specs.Layers.{UnionLayer, layer_of}
+use Rattle.rhai_places.specs.declared.spot.Spot.{Spot}
+use Rattle.rhai_places.specs.declared.spot.Spot.TheVariants as spot
+use Rattle.rhai_places.specs.declared.target.Part.{Part}
+use Rattle.rhai_places.specs.declared.target.Part.TheVariants as part
+use Rattle.rhai_places.specs.Parts.{IsPart, value_at, with_value, part_of}
+use Rattle.rhai_places.specs.PutBack.{put_back, IsNotPut}
+
+module _ {H : Type 0} where
+  -- ---- the target of a spot
+
+  -- what the place holds that is lent for a spot: an item or a value of a map, else the source itself
+  abbrev pub place_at : Dynamic H → Spot → Option (Dynamic H)
+  place_at source (spot.Item at) = value_at source (spot.Item at)
+  place_at source (spot.Value at) = value_at source (spot.Value at)
+  place_at source _ = Some source
+
+  -- a source whose place for a spot was changed
+  abbrev pub with_place : Dynamic H → Spot → Dynamic H → Dynamic H
+  with_place source (spot.Item at) v = with_value source (spot.Item at) v
+  with_place source (spot.Value at) v = with_value source (spot.Value at) v
+  with_place source _ v = v
+
+  -- what is shown of the place: all of it, a temporary `()`, or the part that is read
+  abbrev pub part_at : Dynamic H → Spot → Part H
+  part_at source (spot.Item at) = part.Whole
+  part_at source (spot.Value at) = part.Whole
+  part_at source spot.Missing = part.Temporary (plain value.Unit)
+  part_at source at = part.Of at (part_of source at)
+
+  -- ---- what a target shows
+
+  abbrev pub shown : Part H → (place : Dynamic H) → Dynamic H
+  shown part.Whole place = place
+  shown (part.Temporary v) place = v
+  shown (part.Of at v) place = v
+
+  -- what is taken of it: a copy of a place, anything else as it is
+  abbrev pub taken : Part H → (place : Dynamic H) → Dynamic H
+  taken part.Whole place = copy_of place
+  taken (part.Temporary v) place = v
+  taken (part.Of at v) place = v
+
+  abbrev pub is_place : Part H → Bool
+  is_place part.Whole = true
+  is_place _ = false
+
+  abbrev pub is_temporary : Part H → Bool
+  is_temporary (part.Temporary v) = true
+  is_temporary _ = false
+
+  -- a value is a handle of a cell
+  abbrev pub is_handle : UnionLayer H → Bool
+  is_handle (layer.Cell id) = true
+  is_handle _ = false
+
+  -- a target is a handle of a cell; a part never is
+  abbrev pub is_shared : Part H → (place : Dynamic H) → Bool
+  is_shared part.Whole place = is_handle (layer_of place)
+  is_shared (part.Temporary v) place = is_handle (layer_of v)
+  is_shared (part.Of at v) place = false
+
+  -- ---- put-back
+
+  -- a part is one of what the place holds
+  abbrev pub IsFit : Part H → (place : Dynamic H) → Type 0
+  IsFit (part.Of at v) place = IsPart (layer_of place) at
+  IsFit _ place = ⊤
+
+  -- the place once a changed part is put back; none where the part is of another type than the one that was read
+  abbrev pub propagated : Part H → (place : Dynamic H) → Option (Dynamic H)
+  propagated (part.Of at v) place = put_back place at v
+  propagated _ place = Some place
+
+  -- why nothing was put back
+  abbrev pub IsNotPropagated : (host_name : H → List ℕ) → Part H → (place : Dynamic H) → Position → EvalAltResult H → Type 0
+  IsNotPropagated host_name (part.Of at v) place position e = IsNotPut host_name place at v position e
+  IsNotPropagated host_name _ place position e = ⊥

@@ -1,0 +1,139 @@
+//! Targets: what an index leads to, to be read, changed and put back. Ports upstream's `Target`.
+//! The contracts cite specs/Targets.antt.
+
+ghost use Rattle.std.specs.Prelude.{◌≡◌, Some, true, IfErr, IfOk, OnErr, OnOk};
+ghost use Rattle.rhai_values.specs.Errors.{is_out_of_memory};
+
+use crate::part::is_part;
+use crate::put::put_part;
+use crate::spot::Spot;
+use rhai_tree::position::Position;
+use rhai_values::base::error::EvalAltResult;
+use rhai_values::base::value::{Dynamic, Host, Union};
+use std::alloc::Global;
+
+/// What a target shows of its place.
+#[derive(Drop)]
+pub enum Part<H> {
+    /// The place itself.
+    Whole,
+    /// A value that stands in no place. What the target borrows is not touched.
+    Temporary(Dynamic<H>),
+    /// A bit, a bit field, a byte, a character or a slice of what the place holds, as it was read
+    /// or has been changed since.
+    Of(Spot, Dynamic<H>),
+}
+
+/// A borrowed place, a temporary, or a part of what a borrowed place holds. Ports upstream's
+/// `Target`.
+#[derive(Drop)]
+pub struct Target<'t, H> {
+    pub at: &'t mut Dynamic<H>,
+    pub part: Part<H>,
+}
+
+impl<'t, H> Target<'t, H> {
+    ghost use Rattle.rhai_places.specs.Targets.{shown, is_place, is_temporary, is_shared as shows_handle};
+
+    /// The value that the target shows.
+    pub fn as_ref(&self) -> &Dynamic<H>
+        ensures { result.now ≡ shown self.now.part self.now.at.now }
+    {
+        match &self.part {
+            Part::Whole => &*self.at,
+            Part::Temporary(value) => value,
+            Part::Of(_, value) => value,
+        }
+    }
+
+    /// The value that the target shows, to be changed. A part that was changed is put back by
+    /// `propagate_changed_value`.
+    pub fn as_mut(&mut self) -> &mut Dynamic<H>
+        ensures { result.now ≡ shown self.old.part self.old.at.now }
+    {
+        match &mut self.part {
+            Part::Whole => &mut *self.at,
+            Part::Temporary(value) => value,
+            Part::Of(_, value) => value,
+        }
+    }
+
+    /// Whether the target is a borrowed place.
+    pub fn is_ref(&self) -> bool
+        ensures { result ≡ is_place self.now.part }
+    {
+        matches!(&self.part, Part::Whole)
+    }
+
+    /// Whether the target is a temporary value.
+    pub fn is_temp_value(&self) -> bool
+        ensures { result ≡ is_temporary self.now.part }
+    {
+        matches!(&self.part, Part::Temporary(_))
+    }
+
+    /// Whether the target is a handle of a shared cell. A part never is.
+    pub fn is_shared(&self) -> bool
+        ensures { result ≡ shows_handle self.now.part self.now.at.now }
+    {
+        match &self.part {
+            Part::Whole => matches!(&self.at.value, Union::Cell(_)),
+            Part::Temporary(value) => matches!(&value.value, Union::Cell(_)),
+            Part::Of(_, _) => false,
+        }
+    }
+}
+
+impl<'t, H: Host> Target<'t, H> {
+    ghost use Rattle.rhai_places.specs.Targets.{is_place, propagated, taken, IsFit, IsNotPropagated};
+
+    /// The value of the target: a copy of a place, a temporary or a part as it is.
+    ///
+    /// # Errors
+    /// Where there is no memory for a copy it is `ErrorOutOfMemory`.
+    pub fn take_or_clone(self, alloc: Global) -> Result<Dynamic<H>, EvalAltResult<H>>
+        ensures ok { IfOk result (λ value. value ≡ taken self.entry.part self.entry.at.now) }
+        ensures err { IfErr result (λ e. is_out_of_memory e ≡ true) }
+        ensures memory { OnErr result (is_place self.entry.part ≡ true) }
+    {
+        let Target { at, part } = self;
+        match part {
+            Part::Whole => match at.try_clone(alloc) {
+                Ok(value) => Ok(value),
+                Err(_) => Err(EvalAltResult::ErrorOutOfMemory(Position::NONE)),
+            },
+            Part::Temporary(value) => Ok(value),
+            Part::Of(_, value) => Ok(value),
+        }
+    }
+
+    /// Puts a changed part back into its place: a bit takes a truth value, a bit field and a byte
+    /// an integer, a character a character, and a slice a text. Of a place and a temporary nothing
+    /// is to be put back.
+    ///
+    /// # Errors
+    /// A part that has become of another type is `ErrorMismatchDataType` at the position, and the
+    /// place stays. Where there is no memory the place stays too.
+    pub fn propagate_changed_value(
+        &mut self,
+        alloc: Global,
+        position: Position,
+    ) -> Result<(), EvalAltResult<H>>
+        ensures same_reference { self.new.at.ghost_name ≡ self.old.at.ghost_name }
+        ensures part { self.new.part ≡ self.old.part }
+        ensures ok { IsFit self.old.part self.old.at.now → OnOk result (propagated self.old.part self.old.at.now ≡ Some self.new.at.now) }
+        ensures err { OnErr result (self.new.at.now ≡ self.old.at.now) }
+        ensures refused { IfErr result (λ e. IsNotPropagated H.name_of self.old.part self.old.at.now position e) }
+    {
+        match &self.part {
+            Part::Of(spot, part) => {
+                let source = &mut *self.at;
+                if !is_part(source, *spot) {
+                    return Ok(());
+                }
+                put_part(alloc, source, *spot, part, position)
+            }
+            _ => Ok(()),
+        }
+    }
+}
