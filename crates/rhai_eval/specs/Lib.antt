@@ -1,3 +1,4 @@
 pub mod Memory
 pub mod Saves
+pub mod Search
 pub mod States

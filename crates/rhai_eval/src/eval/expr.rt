@@ -1,6 +1,6 @@
 //! Expressions. Ports upstream's `eval/expr.rs`; the contracts speak of the machine's runs.
 
-ghost use Rattle.std.specs.Prelude.{◌≡◌, ◌<◌, ◌≤◌, OnOk, IfOk, IfErr, IsTrue, is_some, true, false, Some};
+ghost use Rattle.std.specs.Prelude.{◌≡◌, ◌<◌, ◌≤◌, OnOk, IfOk, IfErr, IsTrue, is_some, true, false, Some, Ok, Err};
 ghost use Rattle.rhai_tree.specs.Frame.{resolves_expr};
 ghost use Rattle.rhai_values.specs.Scope.{names_in};
 ghost use Rattle.rhai_values.specs.Native.{was};
@@ -9,12 +9,18 @@ ghost use Rattle.rhai_machine.specs.language.Frames.{Eval, Argument};
 ghost use Rattle.rhai_machine.specs.language.Runs.{Runs};
 ghost use Rattle.rhai_values.specs.Errors.{is_out_of_memory};
 ghost use Rattle.rhai_machine.specs.language.Values.{is_handle, is_truth};
+ghost use Rattle.rhai_values.specs.Cells.{cells_of};
+ghost use Rattle.rhai_values.specs.Scope.{entries_of};
+ghost use Rattle.rhai_tree.specs.declared.expr.Expr.{out-Expr};
+ghost use Rattle.rhai_places.specs.declared.target.Part.TheVariants as part;
 ghost use Rattle.rhai_eval.specs.Memory.{asks_expr};
+ghost use Rattle.rhai_eval.specs.Search.{is_variable, searched};
 ghost use Rattle.rhai_eval.specs.States.{setting_of, state_of, around_of, WithThis};
 
 use crate::engine::Engine;
 use crate::eval::values::{bool_value, int_value, literal_value, put_back, unit_value};
-use crate::eval::variables::read_variable;
+use crate::eval::variables::{find_variable, read_variable};
+use rhai_places::target::Target;
 use rhai_tree::expr::Expr;
 use rhai_values::base::error::EvalAltResult;
 use rhai_values::base::scope::Scope;
@@ -26,6 +32,34 @@ use std::alloc::Global;
 use std::mem::replace;
 
 impl<H: Host> Engine<H> {
+    /// The place of the variable that an expression names: the newest of the name. Ports upstream's
+    /// `search_scope_only`; asked for a variable alone.
+    ///
+    /// # Errors
+    /// `ErrorVariableNotFound` where there is none, and `ErrorDataRace` where it is the handle of a
+    /// cell that is held, both at the variable.
+    pub fn search_scope_only<'s, T: NativeTable<H>>(
+        &self,
+        _alloc: Global,
+        global: &mut GlobalRuntimeState<H>,
+        _caches: &mut Caches<H>,
+        _table: &mut T,
+        scope: &'s mut Scope<H>,
+        _this: Option<&'s mut Dynamic<H>>,
+        expr: &Expr,
+    ) -> Result<Target<'s, H>, EvalAltResult<H>>
+        requires variable { is_variable (out-Expr expr.now) ≡ true }
+        ensures found { IfOk result (λ target. searched (out-Expr expr.now) (cells_of global.old.cells) (entries_of scope.old) ≡ Some (Ok target.at.now)) }
+        ensures place { IfOk result (λ target. target.part ≡ part.Whole) }
+        ensures missed { IfErr result (λ e. is_out_of_memory e ≡ false → searched (out-Expr expr.now) (cells_of global.old.cells) (entries_of scope.old) ≡ Some (Err e)) }
+        ensures same { global.new ≡ global.old }
+    {
+        match expr {
+            Expr::Variable { name, pos, .. } => find_variable(&global.cells, scope, name, *pos),
+            _ => unreachable!(),
+        }
+    }
+
     /// The value of an expression, charged first at its position. Ports upstream's `eval_expr`.
     ///
     /// The expression is a part of a checked tree, above the variables that the scope has there.

@@ -1,12 +1,14 @@
 //! Variables, and what a restoring list takes back.
 
-ghost use Rattle.std.specs.Prelude.{◌≡◌, ◌++◌, ◌∷◌, [], true, not, ◌&&◌, is_some, take, IfOk, IfErr, OnOk, OnErr};
+ghost use Rattle.std.specs.Prelude.{◌≡◌, ℕ, List, Ok, Err, false, IsTrue, ◌++◌, ◌∷◌, [], true, not, ◌&&◌, is_some, take, IfOk, IfErr, OnOk, OnErr};
 ghost use Rattle.rhai_values.specs.Cells.{cells_of};
 ghost use Rattle.rhai_values.specs.Errors.{is_out_of_memory};
-ghost use Rattle.rhai_values.specs.Scope.{entries_of, index_of, new_entry};
+ghost use Rattle.rhai_values.specs.declared.base.error.EvalAltResult.TheVariants as error;
+ghost use Rattle.rhai_places.specs.declared.target.Part.TheVariants as part;
+ghost use Rattle.rhai_values.specs.Scope.{entries_of, found, index_of, new_entry};
 ghost use Rattle.rhai_machine.specs.language.State.{Answers};
 ghost use Rattle.rhai_machine.specs.language.Values.{copied, unit_value as unit};
-ghost use Rattle.rhai_machine.specs.language.Names.{looked_up, read};
+ghost use Rattle.rhai_machine.specs.language.Names.{looked_up, read, variable_of};
 ghost use Rattle.rhai_machine.specs.language.Statements.{deeper, mode_of as mode_asked};
 ghost use Rattle.rhai_eval.specs.Saves.{saved_in, saved_now, left_global};
 
@@ -15,6 +17,7 @@ use crate::eval::errors::{data_race_of, variable_not_found};
 use crate::eval::values::{copy, unit_value};
 use bitflags::Flags;
 use rhai_items::{Shared, Text};
+use rhai_places::target::{Part, Target};
 use rhai_tree::expr::Ident;
 use rhai_tree::flags::ASTFlags;
 use rhai_tree::position::Position;
@@ -59,6 +62,17 @@ fn copy_variable<H: Host>(
     }
 }
 
+/// Whether a value is the handle of a cell that is held.
+fn is_held<H: Host>(cells: &CellStore<H>, value: &Dynamic<H>) -> bool
+    ensures held { IsTrue result → (name : List ℕ) → (pos : _) → looked_up (cells_of cells.now) name pos value.now.value value.now ≡ Err (error.ErrorDataRace name pos) }
+    ensures free { result ≡ false → (name : List ℕ) → (pos : _) → looked_up (cells_of cells.now) name pos value.now.value value.now ≡ Ok value.now }
+{
+    match &value.value {
+        Union::Cell(id) => cells.get(*id).is_none(),
+        _ => false,
+    }
+}
+
 impl<H: Host> Engine<H> {
     /// Whether a new variable of this name is refused: shadowing is off, and the scope has the name.
     pub(crate) fn refuses_name(&self, scope: &Scope<H>, name: &Shared<Text>) -> bool
@@ -66,6 +80,26 @@ impl<H: Host> Engine<H> {
     {
         !self.allow_shadowing && scope.contains(name.get().as_str())
     }
+}
+
+/// The place of the newest variable of a name.
+pub(crate) fn find_variable<'s, H: Host>(
+    cells: &CellStore<H>,
+    scope: &'s mut Scope<H>,
+    name: &Shared<Text>,
+    pos: Position,
+) -> Result<Target<'s, H>, EvalAltResult<H>>
+    ensures found { IfOk result (λ target. variable_of (cells_of cells.now) name.now pos (found name.now (entries_of scope.old)) ≡ Ok target.at.now) }
+    ensures place { IfOk result (λ target. target.part ≡ part.Whole) }
+    ensures missed { IfErr result (λ e. is_out_of_memory e ≡ false → variable_of (cells_of cells.now) name.now pos (found name.now (entries_of scope.old)) ≡ Err e) }
+{
+    let Some(index) = scope.search(name.get().as_str()) else {
+        return Err(variable_not_found(name, pos));
+    };
+    if is_held(cells, scope.value_at(index)) {
+        return Err(data_race_of(name, pos));
+    }
+    Ok(Target { at: scope.value_at_mut(index), part: Part::Whole })
 }
 
 /// The mode that a `let` or a `const` asks for.

@@ -1,7 +1,9 @@
 //! The variables of a run.
 
-ghost use Rattle.std.specs.Prelude.{◌≡◌, ◌<◌, ◌↔◌, [], ◌∷◌, ◌++◌, take, length, slice_get, is_some, string_bytes, IsTrue, OnOk, OnErr};
+ghost use Rattle.std.specs.Prelude.{◌≡◌, ◌<◌, ◌↔◌, [], ◌∷◌, ◌++◌, take, length, slice_get, is_some, Some, string_bytes, IsTrue, OnOk, OnErr};
 ghost use Rattle.std.specs.Option.{option_map};
+ghost use Rattle.std.specs.Borrow.{sem};
+ghost use Rattle.rhai_values.specs.Lends.{lends_value};
 ghost use Rattle.rhai_values.specs.Scope.{entries_of, index_of, new_entry, shown, value_of};
 
 use crate::base::value::{AccessMode, Dynamic};
@@ -87,6 +89,17 @@ impl<H> Scope<H> {
         ensures { option_map value_of (slice_get (entries_of self.now) index) ≡ Some result.now }
     {
         &self.entries.as_slice()[index].value
+    }
+
+    /// The value of the entry at a place, to be changed in place. Ports upstream's
+    /// `Scope::get_mut_by_index`.
+    pub fn value_at_mut(&mut self, index: usize) -> &mut Dynamic<H>
+        requires { index < length (entries_of self.old) }
+        ensures* writes_back { sem 𝓛 (lends_value H.row self.entry index result) }
+        ensures value { option_map value_of (slice_get (entries_of self.old) index) ≡ Some result.now }
+    {
+        let entry = self.entries.at_mut(index);
+        &mut entry.value
     }
 }
 

@@ -1,0 +1,19 @@
+-- What a variable's name finds in a scope.
+use Rattle.std.specs.Prelude.{Bool, true, false, List, Option, Some, None, Result, Ok, Err}
+use Rattle.rhai_tree.specs.declared.expr.Expr.TheOpen as layer
+use Rattle.rhai_tree.specs.Layers.{ExprLayer}
+use Rattle.rhai_values.specs.declared.base.value.Dynamic.{Dynamic}
+use Rattle.rhai_values.specs.declared.base.scope.ScopeEntry.{ScopeEntry}
+use Rattle.rhai_values.specs.declared.base.error.EvalAltResult.{EvalAltResult}
+use Rattle.rhai_values.specs.Scope.{found}
+use Rattle.rhai_machine.specs.language.Values.{Cells}
+use Rattle.rhai_machine.specs.language.Names.{variable_of}
+
+abbrev pub is_variable : ExprLayer → Bool
+is_variable (layer.Variable offset name namespace pos) = true
+is_variable _ = false
+
+-- the newest variable of the name, or that there is none, or that it is another's; nothing for other expressions
+abbrev pub searched : {H : Type 0} → ExprLayer → Cells H → List (ScopeEntry H) → Option (Result (Dynamic H) (EvalAltResult H))
+searched (layer.Variable offset name namespace pos) cells entries = Some (variable_of cells name pos (found name entries))
+searched _ cells entries = None
