@@ -7,3 +7,4 @@ pub mod Parts
 pub mod PutBack
 pub mod Refusals
 pub mod Targets
+pub mod Vectors

@@ -10,5 +10,8 @@ pub mod locate;
 pub mod part;
 pub mod place;
 pub mod put;
+pub mod samples;
 pub mod spot;
 pub mod target;
+#[cfg(test)]
+mod tests;
