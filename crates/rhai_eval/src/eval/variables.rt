@@ -99,7 +99,10 @@ pub(crate) fn find_variable<'s, H: Host>(
     if is_held(cells, scope.value_at(index)) {
         return Err(data_race_of(name, pos));
     }
-    Ok(Target { at: scope.value_at_mut(index), part: Part::Whole })
+    Ok(Target {
+        at: scope.value_at_mut(index),
+        part: Part::Whole,
+    })
 }
 
 /// The mode that a `let` or a `const` asks for.

@@ -101,9 +101,7 @@ pub(crate) fn check_exprs(
 fn is_eval_call(call: &FnCallExpr) -> bool
     ensures { result ≡ is_eval_call call.now.namespace call.now.name (length call.now.args) }
 {
-    call.namespace.path.len() == 0
-        && call.name.get().as_str() == "eval"
-        && call.args.len() == 1
+    call.namespace.path.len() == 0 && call.name.get().as_str() == "eval" && call.args.len() == 1
 }
 
 /// Passes a call whose name or operator stands at a position, or answers one of its faults.

@@ -168,7 +168,11 @@ fn a_call_of_eval(rt: HostRuntime) -> Result<(), Fail> {
     for (text, op, fault) in [
         ("-", Some(Token::UnaryMinus), None),
         ("foo", Some(Token::UnaryMinus), None),
-        ("eval", Some(Token::UnaryMinus), Some(CheckFault::EvalCall(at(1)))),
+        (
+            "eval",
+            Some(Token::UnaryMinus),
+            Some(CheckFault::EvalCall(at(1))),
+        ),
         ("eval", None, Some(CheckFault::EvalCall(at(1)))),
         ("foo", None, Some(CheckFault::NotYet(at(1)))),
     ] {
