@@ -36,6 +36,7 @@ use Rattle.rhai_tree.specs.declared.expr.Ident.{Ident}
 use Rattle.rhai_tree.specs.declared.flags.ASTFlags.{ASTFlags}
 use Rattle.rhai_values.specs.declared.base.value.AccessMode.{AccessMode}
 use Rattle.rhai_values.specs.Scope.{entries_of, index_of, new_entry}
+use Rattle.rhai_machine.proofs.ThisLaws.{steps_with}
 use Rattle.rhai_eval.specs.States.{local_of, state_of}
 use Rattle.rhai_eval.specs.Saves.{saved_in, left_global}
 use Rattle.rhai_eval.specs.declared.eval.variables.Saved as code
@@ -155,10 +156,11 @@ module _ {S H : Type 0} (s : Setting H) (gives : S → Request H → Effect S H)
   restores (Ok v) saved k old new is = next (rw is here)
   restores (Err e) saved k old new is = next (rw is here)
 
-  -- a run with `this` in a place of its own
-  pub with_this : (c : Control H) (t u : S) (g h : GlobalRuntimeState H) (old new : Scope H) (r : Result (Dynamic H) (EvalAltResult H)) (was is held left : Option (Dynamic H)) →
-      was ≡ held → is ≡ left → Runs s gives pure c (state_of t g old held) r (state_of u h new left) → Runs s gives pure c (state_of t g old was) r (state_of u h new is)
-  with_this c t u g h old new r was is held left before after runs = rw (before, after) runs
+  -- a run with nothing under `this` is the same with what the caller has there
+  pub with_this : (c : Control H) (t u : S) (g h : GlobalRuntimeState H) (old new : Scope H) (r : Result (Dynamic H) (EvalAltResult H)) (before after this : Option (Dynamic H)) →
+      before ≡ None → after ≡ None → Runs s gives pure c (state_of t g old before) r (state_of u h new after) → Runs s gives pure c (state_of t g old this) r (state_of u h new this)
+  with_this c t u g h old new r before after this is none runs memory =
+      steps_with this s gives pure c (ended r) (state_of t g old None) (state_of u h new None) ((rw (is, none) at runs) memory)
 
   -- a list that is entered: an empty one has no effect
   pub enters_empty : (stmts : List Stmt) (restoring : Bool) (k : List (Frame H)) (l : State S H) → stmts ≡ [] →

@@ -1,5 +1,5 @@
 -- The code's values as the machine reads them: the engine as a setting, and the state of a run.
-use Rattle.std.specs.Prelude.{◌≡◌, ℕ, List, Option, is_some}
+use Rattle.std.specs.Prelude.{ℕ, List, Option}
 use Rattle.rhai_values.specs.declared.base.value.Dynamic.{Dynamic}
 use Rattle.rhai_values.specs.declared.base.scope.Scope.{Scope}
 use Rattle.rhai_values.specs.declared.state.GlobalRuntimeState.{GlobalRuntimeState}
@@ -69,7 +69,3 @@ module _ {H : Type 0} where
 -- all that a run changes
 abbrev pub state_of : {S H : Type 0} → S → GlobalRuntimeState H → Scope H → Option (Dynamic H) → State S H
 state_of table global scope this = record { table = table; count = global.num_operations; local = local_of global scope this }
-
--- with what is left of `this`: something where there was something, nothing where there was nothing
-abbrev pub WithThis : {H : Type 0} → Option (Dynamic H) → (Option (Dynamic H) → Type 0) → Type 0
-WithThis {H} was P = (left : Option (Dynamic H)) × (is_some left ≡ is_some was) × P left

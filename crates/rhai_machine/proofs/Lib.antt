@@ -4,4 +4,5 @@ pub mod Limits
 pub mod Ends
 pub mod Toys
 pub mod LanguageLaws
+pub mod ThisLaws
 pub mod SampleRuns

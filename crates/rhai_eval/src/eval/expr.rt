@@ -15,10 +15,10 @@ ghost use Rattle.rhai_tree.specs.declared.expr.Expr.{out-Expr};
 ghost use Rattle.rhai_places.specs.declared.target.Part.TheVariants as part;
 ghost use Rattle.rhai_eval.specs.Memory.{asks_expr};
 ghost use Rattle.rhai_eval.specs.Search.{is_variable, searched};
-ghost use Rattle.rhai_eval.specs.States.{setting_of, state_of, around_of, WithThis};
+ghost use Rattle.rhai_eval.specs.States.{setting_of, state_of, around_of};
 
 use crate::engine::Engine;
-use crate::eval::values::{bool_value, int_value, literal_value, put_back, unit_value};
+use crate::eval::values::{bool_value, int_value, literal_value, unit_value};
 use crate::eval::variables::{find_variable, read_variable};
 use rhai_places::target::Target;
 use rhai_tree::expr::Expr;
@@ -29,7 +29,6 @@ use rhai_values::caches::Caches;
 use rhai_values::state::GlobalRuntimeState;
 use rhai_values::table::NativeTable;
 use std::alloc::Global;
-use std::mem::replace;
 
 impl<H: Host> Engine<H> {
     /// The place of the variable that an expression names: the newest of the name. Ports upstream's
@@ -62,7 +61,8 @@ impl<H: Host> Engine<H> {
 
     /// The value of an expression, charged first at its position. Ports upstream's `eval_expr`.
     ///
-    /// The expression is a part of a checked tree, above the variables that the scope has there.
+    /// The expression is a part of a checked tree, above the variables that the scope has there. No
+    /// form that is there reads or writes `this`, so it is left alone.
     pub fn eval_expr<T: NativeTable<H>>(
         &self,
         alloc: Global,
@@ -70,51 +70,20 @@ impl<H: Host> Engine<H> {
         caches: &mut Caches<H>,
         table: &mut T,
         scope: &mut Scope<H>,
-        this: Option<&mut Dynamic<H>>,
+        _this: Option<&mut Dynamic<H>>,
         expr: &Expr,
     ) -> Result<Dynamic<H>, EvalAltResult<H>>
         requires resolves { IsTrue (resolves_expr expr.now (names_in scope.old)) }
         requires fast { self.now.fast_operators ≡ true }
-        ensures runs { WithThis (was this.entry) (λ left. Runs (setting_of H.name_of self.now) T.gives T.pure (Eval expr.now) (state_of (T.state table.old) global.old scope.old (was this.entry)) result (state_of (T.state table.new) global.new scope.new left)) }
+        ensures runs { Runs (setting_of H.name_of self.now) T.gives T.pure (Eval expr.now) (state_of (T.state table.old) global.old scope.old (was _this.entry)) result (state_of (T.state table.new) global.new scope.new (was _this.entry)) }
         ensures counts { global.old.num_operations ≤ global.new.num_operations }
         ensures within { global.old.num_operations ≤ limit_of self.now.max_operations → global.new.num_operations ≤ limit_of self.now.max_operations }
         ensures around { around_of global.new ≡ around_of global.old }
         ensures scope_level { global.new.scope_level ≡ global.old.scope_level }
         ensures names { names_in scope.new ≡ names_in scope.old }
     {
-        match this {
-            Some(place) => self.eval_expr_on(alloc, global, caches, table, scope, place, expr),
-            None => {
-                let mut unbound = None;
-                self.run_expr(alloc, global, caches, table, scope, &mut unbound, expr)
-            }
-        }
-    }
-
-    /// The same with `this` in a place of the caller.
-    fn eval_expr_on<T: NativeTable<H>>(
-        &self,
-        alloc: Global,
-        global: &mut GlobalRuntimeState<H>,
-        caches: &mut Caches<H>,
-        table: &mut T,
-        scope: &mut Scope<H>,
-        place: &mut Dynamic<H>,
-        expr: &Expr,
-    ) -> Result<Dynamic<H>, EvalAltResult<H>>
-        requires resolves { IsTrue (resolves_expr expr.now (names_in scope.old)) }
-        requires fast { self.now.fast_operators ≡ true }
-        ensures runs { Runs (setting_of H.name_of self.now) T.gives T.pure (Eval expr.now) (state_of (T.state table.old) global.old scope.old (Some place.old)) result (state_of (T.state table.new) global.new scope.new (Some place.new)) }
-        ensures counts { global.old.num_operations ≤ global.new.num_operations }
-        ensures within { global.old.num_operations ≤ limit_of self.now.max_operations → global.new.num_operations ≤ limit_of self.now.max_operations }
-        ensures around { around_of global.new ≡ around_of global.old }
-        ensures scope_level { global.new.scope_level ≡ global.old.scope_level }
-        ensures names { names_in scope.new ≡ names_in scope.old }
-    {
-        let mut held = Some(replace(place, unit_value()));
-        let result = self.run_expr(alloc, global, caches, table, scope, &mut held, expr);
-        put_back(place, held);
-        result
+        let mut unbound = None;
+        self.run_expr(alloc, global, caches, table, scope, &mut unbound, expr)
     }
 
     /// The value of an expression, with `this` in a place of its own.

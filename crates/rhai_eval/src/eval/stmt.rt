@@ -12,11 +12,11 @@ ghost use Rattle.rhai_machine.specs.language.Frames.{Exec, OpenStmt, Enter, Run}
 ghost use Rattle.rhai_machine.specs.language.Runs.{Runs};
 ghost use Rattle.rhai_values.specs.Errors.{is_out_of_memory};
 ghost use Rattle.rhai_eval.specs.Memory.{asks_expr, asks_block, asks_stmt, may_ask};
-ghost use Rattle.rhai_eval.specs.States.{setting_of, state_of, around_of, WithThis};
+ghost use Rattle.rhai_eval.specs.States.{setting_of, state_of, around_of};
 
 use crate::engine::Engine;
 use crate::eval::errors::variable_exists;
-use crate::eval::values::{flatten, put_back, truth_value, unit_value};
+use crate::eval::values::{flatten, truth_value, unit_value};
 use crate::eval::variables::{define_variable, enter_list, leave_list, mode_of};
 use rhai_tree::expr::{Expr, Ident, Stmt, StmtBlock};
 use rhai_tree::flags::ASTFlags;
@@ -28,13 +28,13 @@ use rhai_values::caches::Caches;
 use rhai_values::state::GlobalRuntimeState;
 use rhai_values::table::NativeTable;
 use std::alloc::Global;
-use std::mem::replace;
 
 impl<H: Host> Engine<H> {
     /// What a statement does, charged first at its position; in a list that restores, `rewind_scope`
     /// is set. Ports upstream's `eval_stmt`.
     ///
-    /// The statement is a part of a checked tree, above the variables that the scope has there.
+    /// The statement is a part of a checked tree, above the variables that the scope has there. No
+    /// form that is there reads or writes `this`, so it is left alone.
     pub fn eval_stmt<T: NativeTable<H>>(
         &self,
         alloc: Global,
@@ -42,13 +42,13 @@ impl<H: Host> Engine<H> {
         caches: &mut Caches<H>,
         table: &mut T,
         scope: &mut Scope<H>,
-        this: Option<&mut Dynamic<H>>,
+        _this: Option<&mut Dynamic<H>>,
         stmt: &Stmt,
         rewind_scope: bool,
     ) -> Result<Dynamic<H>, EvalAltResult<H>>
         requires resolves { IsTrue (resolves_stmt stmt.now (names_in scope.old)).0 }
         requires fast { self.now.fast_operators ≡ true }
-        ensures runs { WithThis (was this.entry) (λ left. Runs (setting_of H.name_of self.now) T.gives T.pure (Exec stmt.now rewind_scope) (state_of (T.state table.old) global.old scope.old (was this.entry)) result (state_of (T.state table.new) global.new scope.new left)) }
+        ensures runs { Runs (setting_of H.name_of self.now) T.gives T.pure (Exec stmt.now rewind_scope) (state_of (T.state table.old) global.old scope.old (was _this.entry)) result (state_of (T.state table.new) global.new scope.new (was _this.entry)) }
         ensures counts { global.old.num_operations ≤ global.new.num_operations }
         ensures within { global.old.num_operations ≤ limit_of self.now.max_operations → global.new.num_operations ≤ limit_of self.now.max_operations }
         ensures around { around_of global.new ≡ around_of global.old }
@@ -57,76 +57,25 @@ impl<H: Host> Engine<H> {
         ensures names { OnOk result (names_in scope.new ≡ (resolves_stmt stmt.now (names_in scope.old)).1) }
         ensures variables { length (names_in scope.old) ≤ self.now.max_variables → length (names_in scope.new) ≤ self.now.max_variables }
     {
-        match this {
-            Some(place) => self.eval_stmt_on(
-                alloc,
-                global,
-                caches,
-                table,
-                scope,
-                place,
-                stmt,
-                rewind_scope,
-            ),
-            None => {
-                let mut unbound = None;
-                self.run_stmt(
-                    alloc,
-                    global,
-                    caches,
-                    table,
-                    scope,
-                    &mut unbound,
-                    stmt,
-                    rewind_scope,
-                )
-            }
-        }
-    }
-
-    /// The same with `this` in a place of the caller.
-    fn eval_stmt_on<T: NativeTable<H>>(
-        &self,
-        alloc: Global,
-        global: &mut GlobalRuntimeState<H>,
-        caches: &mut Caches<H>,
-        table: &mut T,
-        scope: &mut Scope<H>,
-        place: &mut Dynamic<H>,
-        stmt: &Stmt,
-        rewind_scope: bool,
-    ) -> Result<Dynamic<H>, EvalAltResult<H>>
-        requires resolves { IsTrue (resolves_stmt stmt.now (names_in scope.old)).0 }
-        requires fast { self.now.fast_operators ≡ true }
-        ensures runs { Runs (setting_of H.name_of self.now) T.gives T.pure (Exec stmt.now rewind_scope) (state_of (T.state table.old) global.old scope.old (Some place.old)) result (state_of (T.state table.new) global.new scope.new (Some place.new)) }
-        ensures counts { global.old.num_operations ≤ global.new.num_operations }
-        ensures within { global.old.num_operations ≤ limit_of self.now.max_operations → global.new.num_operations ≤ limit_of self.now.max_operations }
-        ensures around { around_of global.new ≡ around_of global.old }
-        ensures scope_level { global.new.scope_level ≡ global.old.scope_level }
-        ensures begins { Begins (names_in scope.old) (names_in scope.new) }
-        ensures names { OnOk result (names_in scope.new ≡ (resolves_stmt stmt.now (names_in scope.old)).1) }
-        ensures variables { length (names_in scope.old) ≤ self.now.max_variables → length (names_in scope.new) ≤ self.now.max_variables }
-    {
-        let mut held = Some(replace(place, unit_value()));
-        let result = self.run_stmt(
+        let mut unbound = None;
+        self.run_stmt(
             alloc,
             global,
             caches,
             table,
             scope,
-            &mut held,
+            &mut unbound,
             stmt,
             rewind_scope,
-        );
-        put_back(place, held);
-        result
+            )
     }
 
     /// What a list of statements does, charged statement by statement. With `restore_orig_state` the
     /// variables that it added, the imports and the scope level are taken back on every way out, want
     /// of memory included. Ports upstream's `eval_stmt_block`.
     ///
-    /// The statements are a part of a checked tree, above the variables that the scope has there.
+    /// The statements are a part of a checked tree, above the variables that the scope has there. No
+    /// form that is there reads or writes `this`, so it is left alone.
     pub fn eval_stmt_block<T: NativeTable<H>>(
         &self,
         alloc: Global,
@@ -134,13 +83,13 @@ impl<H: Host> Engine<H> {
         caches: &mut Caches<H>,
         table: &mut T,
         scope: &mut Scope<H>,
-        this: Option<&mut Dynamic<H>>,
+        _this: Option<&mut Dynamic<H>>,
         statements: &[Stmt],
         restore_orig_state: bool,
     ) -> Result<Dynamic<H>, EvalAltResult<H>>
         requires resolves { IsTrue (all_resolve (map resolves_stmt statements.now) (names_in scope.old)).0 }
         requires fast { self.now.fast_operators ≡ true }
-        ensures runs { WithThis (was this.entry) (λ left. Runs (setting_of H.name_of self.now) T.gives T.pure (Enter statements.now restore_orig_state) (state_of (T.state table.old) global.old scope.old (was this.entry)) result (state_of (T.state table.new) global.new scope.new left)) }
+        ensures runs { Runs (setting_of H.name_of self.now) T.gives T.pure (Enter statements.now restore_orig_state) (state_of (T.state table.old) global.old scope.old (was _this.entry)) result (state_of (T.state table.new) global.new scope.new (was _this.entry)) }
         ensures counts { global.old.num_operations ≤ global.new.num_operations }
         ensures within { global.old.num_operations ≤ limit_of self.now.max_operations → global.new.num_operations ≤ limit_of self.now.max_operations }
         ensures around { around_of global.new ≡ around_of global.old }
@@ -149,69 +98,17 @@ impl<H: Host> Engine<H> {
         ensures restores { IsTrue restore_orig_state → names_in scope.new ≡ names_in scope.old }
         ensures variables { length (names_in scope.old) ≤ self.now.max_variables → length (names_in scope.new) ≤ self.now.max_variables }
     {
-        match this {
-            Some(place) => self.eval_stmt_block_on(
-                alloc,
-                global,
-                caches,
-                table,
-                scope,
-                place,
-                statements,
-                restore_orig_state,
-            ),
-            None => {
-                let mut unbound = None;
-                self.run_stmt_block(
-                    alloc,
-                    global,
-                    caches,
-                    table,
-                    scope,
-                    &mut unbound,
-                    statements,
-                    restore_orig_state,
-                )
-            }
-        }
-    }
-
-    /// The same with `this` in a place of the caller.
-    fn eval_stmt_block_on<T: NativeTable<H>>(
-        &self,
-        alloc: Global,
-        global: &mut GlobalRuntimeState<H>,
-        caches: &mut Caches<H>,
-        table: &mut T,
-        scope: &mut Scope<H>,
-        place: &mut Dynamic<H>,
-        statements: &[Stmt],
-        restore_orig_state: bool,
-    ) -> Result<Dynamic<H>, EvalAltResult<H>>
-        requires resolves { IsTrue (all_resolve (map resolves_stmt statements.now) (names_in scope.old)).0 }
-        requires fast { self.now.fast_operators ≡ true }
-        ensures runs { Runs (setting_of H.name_of self.now) T.gives T.pure (Enter statements.now restore_orig_state) (state_of (T.state table.old) global.old scope.old (Some place.old)) result (state_of (T.state table.new) global.new scope.new (Some place.new)) }
-        ensures counts { global.old.num_operations ≤ global.new.num_operations }
-        ensures within { global.old.num_operations ≤ limit_of self.now.max_operations → global.new.num_operations ≤ limit_of self.now.max_operations }
-        ensures around { around_of global.new ≡ around_of global.old }
-        ensures scope_level { global.new.scope_level ≡ global.old.scope_level }
-        ensures begins { Begins (names_in scope.old) (names_in scope.new) }
-        ensures restores { IsTrue restore_orig_state → names_in scope.new ≡ names_in scope.old }
-        ensures variables { length (names_in scope.old) ≤ self.now.max_variables → length (names_in scope.new) ≤ self.now.max_variables }
-    {
-        let mut held = Some(replace(place, unit_value()));
-        let result = self.run_stmt_block(
+        let mut unbound = None;
+        self.run_stmt_block(
             alloc,
             global,
             caches,
             table,
             scope,
-            &mut held,
+            &mut unbound,
             statements,
             restore_orig_state,
-        );
-        put_back(place, held);
-        result
+            )
     }
 
     /// What a statement does, in a list that restores or not.

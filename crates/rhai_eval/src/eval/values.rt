@@ -1,6 +1,6 @@
 //! Values as the evaluator makes them and looks at them.
 
-ghost use Rattle.std.specs.Prelude.{◌≡◌, [], Ok, Some, is_some, true, false, IfErr};
+ghost use Rattle.std.specs.Prelude.{◌≡◌, [], Ok, true, false, IfErr};
 ghost use Rattle.rhai_tree.specs.declared.expr.Expr.{out-Expr};
 ghost use Rattle.rhai_values.specs.Cells.{cells_of, value_of_cell};
 ghost use Rattle.rhai_values.specs.Copy.{copy_of, plain};
@@ -126,17 +126,6 @@ pub fn truth_value<H: Host>(
             None => Err(data_race(alloc, pos)),
         },
         _ => plain_truth(alloc, cells, &value, pos),
-    }
-}
-
-/// Puts a value that was taken out of a place back in it.
-pub(crate) fn put_back<H: Host>(place: &mut Dynamic<H>, held: Option<Dynamic<H>>)
-    requires { is_some held ≡ true }
-    ensures { Some place.new ≡ held }
-{
-    match held {
-        Some(value) => *place = value,
-        None => unreachable!(),
     }
 }
 
