@@ -1,5 +1,5 @@
 -- What a target shows, and what it puts back into its place.
-use Rattle.std.specs.Prelude.{◌≡◌, ℕ, ⊤, Bool, true, false, List, Option, Some, None}
+use Rattle.std.specs.Prelude.{ℕ, ⊤, Bool, true, false, List, Option, Some}
 use Rattle.rhai_tree.specs.declared.position.Position.{Position}
 use Rattle.rhai_values.specs.Copy.{copy_of, plain}
 use Rattle.rhai_values.specs.declared.base.error.EvalAltResult.{EvalAltResult}
