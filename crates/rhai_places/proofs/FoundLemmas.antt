@@ -1,6 +1,5 @@
 -- Keys that a map has, and those that it does not have.
 use Rattle.std.proofs.Common.{◌≡◌, ℕ, ℤ, ◌+◌, ◌<◌, ◌≤◌, Bool, true, false, refl, List, Option, Some, None, Result, Ok, Err, sym, ap, ◌∙◌, length, arith, ok_or}
-use Rattle.std.specs.List.{insert}
 use Rattle.std.specs.Option.{option_map}
 use Rattle.std.proofs.lemmas.List.Edits.{length-insert}
 use Rattle.std.proofs.lemmas.List.Quantifiers.{position-Some}
@@ -12,7 +11,7 @@ use Rattle.rhai_places.specs.declared.spot.Refusal.{Refusal}
 use Rattle.rhai_places.specs.declared.spot.Spot.{Spot}
 use Rattle.rhai_places.specs.declared.spot.Spot.TheVariants as spot
 use Rattle.rhai_places.specs.Found.{IsKeyless, IsText}
-use Rattle.rhai_places.specs.Indexing.{located, in_integer, in_text, in_array, in_blob, in_map, key_spot, bit_field, bit_bound, bit_end, slice_spot, slice_start, index_in}
+use Rattle.rhai_places.specs.Indexing.{located, in_integer, in_text, in_array, in_blob, key_spot, bit_field, slice_spot}
 
 -- a key that is there stands among the values
 pub found_place : (key : List ℕ) (keys : List (List ℕ)) (at : ℕ) → place_of key keys ≡ Some at → at < length keys

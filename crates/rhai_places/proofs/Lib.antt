@@ -2,3 +2,4 @@ pub mod BitsLemmas
 pub mod CharLemmas
 pub mod FieldLemmas
 pub mod FoundLemmas
+pub mod PlaceLemmas

@@ -1,14 +1,12 @@
 -- What an index gives: the spot where it leads once a missing key is inserted, or the error.
 use Rattle.std.specs.Prelude.{◌≡◌, ℕ, ⊤, Bool, true, false, if◌then◌else◌, ◌||◌, List, [], Option, Some, None, Result, Ok, Err}
 use Rattle.rhai_items.specs.Lookup.{place_of, rank, with_entry}
-use Rattle.rhai_tree.specs.declared.position.Position.{Position}
 use Rattle.rhai_values.specs.Cells.{value_of_cell}
 use Rattle.rhai_values.specs.Copy.{plain}
 use Rattle.rhai_values.specs.Errors.{is_out_of_memory}
 use Rattle.rhai_values.specs.declared.base.error.EvalAltResult.{EvalAltResult}
 use Rattle.rhai_values.specs.declared.base.error.EvalAltResult.TheVariants as error
 use Rattle.rhai_values.specs.declared.base.value.Dynamic.{Dynamic}
-use Rattle.rhai_values.specs.declared.base.value.Union.{Union}
 use Rattle.rhai_values.specs.declared.base.value.Union.TheVariants as value
 use Rattle.rhai_values.specs.declared.base.value.FnPtrKind.TheOpen as layer
 use Rattle.rhai_values.specs.Layers.{UnionLayer, layer_of}

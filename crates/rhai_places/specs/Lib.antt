@@ -2,6 +2,7 @@ pub mod Bits
 pub mod Characters
 pub mod Found
 pub mod Indexing
+pub mod Laws
 pub mod Lends
 pub mod Parts
 pub mod PutBack

@@ -1,5 +1,5 @@
 -- What a target shows, and what it puts back into its place.
-use Rattle.std.specs.Prelude.{◌≡◌, ℕ, ⊤, Bool, true, false, List, Option, Some, None}
+use Rattle.std.specs.Prelude.{ℕ, ⊤, Bool, true, false, List, Option, Some}
 use Rattle.rhai_tree.specs.declared.position.Position.{Position}
 use Rattle.rhai_values.specs.Copy.{copy_of, plain}
 use Rattle.rhai_values.specs.declared.base.error.EvalAltResult.{EvalAltResult}
@@ -12,7 +12,7 @@ use Rattle.rhai_places.specs.declared.spot.Spot.TheVariants as spot
 use Rattle.rhai_places.specs.declared.target.Part.{Part}
 use Rattle.rhai_places.specs.declared.target.Part.TheVariants as part
 use Rattle.rhai_places.specs.Parts.{IsPart, value_at, with_value, part_of}
-use Rattle.rhai_places.specs.PutBack.{put_back, IsNotPut}
+use Rattle.rhai_places.specs.PutBack.{put_back, is_of_text, IsNotPut}
 
 module _ {H : Type 0} where
   -- ---- the target of a spot
@@ -79,6 +79,11 @@ module _ {H : Type 0} where
   abbrev pub propagated : Part H → (place : Dynamic H) → Option (Dynamic H)
   propagated (part.Of at v) place = put_back place at v
   propagated _ place = Some place
+
+  -- a part of a text, which takes memory to be put back
+  abbrev pub is_of_a_text : Part H → Bool
+  is_of_a_text (part.Of at v) = is_of_text at
+  is_of_a_text _ = false
 
   -- why nothing was put back
   abbrev pub IsNotPropagated : (host_name : H → List ℕ) → Part H → (place : Dynamic H) → Position → EvalAltResult H → Type 0

@@ -6,6 +6,7 @@ pub mod bits;
 mod chars;
 mod errors;
 pub mod indexing;
+pub mod laws;
 pub mod locate;
 pub mod part;
 pub mod place;

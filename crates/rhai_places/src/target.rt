@@ -1,7 +1,7 @@
 //! Targets: what an index leads to, to be read, changed and put back. Ports upstream's `Target`.
 //! The contracts cite specs/Targets.antt.
 
-ghost use Rattle.std.specs.Prelude.{◌≡◌, Some, true, IfErr, IfOk, OnErr, OnOk};
+ghost use Rattle.std.specs.Prelude.{◌≡◌, Some, true, false, IfErr, IfOk, IsOk, IsSome, OnErr, OnOk};
 ghost use Rattle.rhai_values.specs.Errors.{is_out_of_memory};
 
 use crate::part::is_part;
@@ -85,7 +85,7 @@ impl<'t, H> Target<'t, H> {
 }
 
 impl<'t, H: Host> Target<'t, H> {
-    ghost use Rattle.rhai_places.specs.Targets.{is_place, propagated, taken, IsFit, IsNotPropagated};
+    ghost use Rattle.rhai_places.specs.Targets.{is_of_a_text, is_place, propagated, taken, IsFit, IsNotPropagated};
 
     /// The value of the target: a copy of a place, a temporary or a part as it is.
     ///
@@ -113,7 +113,7 @@ impl<'t, H: Host> Target<'t, H> {
     ///
     /// # Errors
     /// A part that has become of another type is `ErrorMismatchDataType` at the position, and the
-    /// place stays. Where there is no memory the place stays too.
+    /// place stays. Where there is no memory the place stays too; only parts of texts take some.
     pub fn propagate_changed_value(
         &mut self,
         alloc: Global,
@@ -124,6 +124,7 @@ impl<'t, H: Host> Target<'t, H> {
         ensures ok { IsFit self.old.part self.old.at.now → OnOk result (propagated self.old.part self.old.at.now ≡ Some self.new.at.now) }
         ensures err { OnErr result (self.new.at.now ≡ self.old.at.now) }
         ensures refused { IfErr result (λ e. IsNotPropagated H.name_of self.old.part self.old.at.now position e) }
+        ensures memory { IsSome (propagated self.old.part self.old.at.now) → is_of_a_text self.old.part ≡ false → IsOk result }
     {
         match &self.part {
             Part::Of(spot, part) => {
