@@ -5,3 +5,5 @@ pub mod Ends
 pub mod Toys
 pub mod LanguageLaws
 pub mod SampleRuns
+mod LoopRuns
+mod AssignmentRuns

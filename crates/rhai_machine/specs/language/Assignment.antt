@@ -119,13 +119,13 @@ module _ {H : Type 0} where
     answered_core AsValue reply u k l = value_core (replied s reply (Some u.target) (u.operand ∷ []) (operation_of u) l.around.cells) u k l
 
     -- the target is lent to the native, which may change it, and is written back whatever the answer
-    abbrev pub left_core : Reply H → Dynamic H → Update H → List (Frame H) → Local H → Core H
-    left_core reply v u k l = answered_core u.attempt reply (record u { target = v }) k (put u.place v l)
+    abbrev pub lent_core : Reply H → Dynamic H → Update H → List (Frame H) → Local H → Core H
+    lent_core reply v u k l = answered_core u.attempt reply (record u { target = v }) k (put u.place v l)
 
     abbrev pub call_update : Update H → List (Frame H) → Local H → Move H (Core H)
     call_update u k l =
         Native (request (while_lent u.place l.around.cells) (Named (native_of u.attempt u.operator)) (Some u.target) (u.operand ∷ []) u.at)
-        (λ reply left. left_core reply (left_in u left) u k l)
+        (λ reply left. lent_core reply (left_in u left) u k l)
 
     -- a target that is still a bare handle is nobody's to hand in
     abbrev pub fire_update : Union H → Update H → List (Frame H) → Local H → Move H (Core H)
