@@ -3,6 +3,7 @@ pub mod Runs
 pub mod Limits
 pub mod Ends
 pub mod Toys
+mod Falls
 pub mod LanguageLaws
 pub mod SampleRuns
 mod LoopRuns
