@@ -29,6 +29,7 @@ module _ {S H : Type 0} (natives : Natives S H) (host : H → List ℕ) where
     too_great = by_steps _ _ 40 (simp placed) refl;
     too_long = by_steps _ _ 40 (simp (placed, measured)) refl;
     in_cell = by_steps _ _ 40 (simp placed) refl;
+    locked = by_steps _ _ 40 (simp placed) refl;
     held = by_steps _ _ 40 (simp placed) refl;
   }
 
@@ -54,5 +55,6 @@ module _ {S H : Type 0} (natives : Natives S H) (host : H → List ℕ) where
     by_fault = λ first second. stretch _ _ 18 _ (update_fires (truth true)) (simp opened) (by_steps _ _ 9 (simp (first, second)) refl);
     answer_long = λ replies. stretch _ _ 18 _ (update_fires (truth true)) (simp opened) (by_steps _ _ 9 (simp (replies, measured)) refl);
     target_long = λ replies. stretch _ _ 18 _ (update_fires (truth true)) (simp opened) (by_steps _ _ 9 (simp (replies, measured)) refl);
+    lent = λ replies. by_steps _ _ 30 (simp (opened, replies)) refl;
     slow = λ replies. stretch _ _ 18 _ (update_fires (integer 2)) (simp opened) (by_steps _ _ 9 (simp replies) refl);
   }

@@ -11,7 +11,7 @@ use Rattle.rhai_values.specs.declared.base.error.EvalAltResult.TheVariants.{Erro
 use Rattle.rhai_values.specs.Native.{Request, Missing, Gives, Faults, Named, request}
 use Rattle.rhai_machine.specs.language.Setting.{Setting}
 use Rattle.rhai_machine.specs.samples.Trees.{column, int, bool, var, value, braces, block, let_, const_, assign}
-use Rattle.rhai_machine.specs.samples.Runs.{Natives, Replies, Answers, EndsFrom, Returns, Fails, Ends, usual, limited, integer, truth, unit, entry, nothing_but}
+use Rattle.rhai_machine.specs.samples.Runs.{Natives, Replies, Answers, EndsFrom, Returns, Fails, Ends, EndsCalling, usual, limited, integer, truth, unit, entry, nothing_but}
 use Rattle.rhai_machine.specs.samples.Called.{abc, short_texts}
 use Rattle.rhai_machine.specs.samples.Handles.{one_cell}
 
@@ -51,6 +51,14 @@ doubled = assign 3 (Some Plus) (var 1 (codes "s")) (var 6 (codes "s")) ∷ []
 abbrev pub through_handle : List Stmt
 through_handle = assign 3 (Some Plus) (var 1 (codes "h")) (int 6 2) ∷ []
 
+-- `h += true;`
+abbrev pub lends_cell : List Stmt
+lends_cell = assign 3 (Some Plus) (var 1 (codes "h")) (bool 6 true) ∷ []
+
+-- the call of a native by it, while the cell is held
+abbrev pub lent_called : {H : Type 0} → Request H
+lent_called = request (None ∷ []) (Named (codes "+=")) (Some (integer 5)) (truth true ∷ []) (column 3)
+
 -- `let x = 1; x += true;`
 abbrev pub mixed_update : List Stmt
 mixed_update = let_ 1 (codes "x") (int 9 1) ∷ assign 14 (Some Plus) (var 12 (codes "x")) (bool 17 true) ∷ []
@@ -62,6 +70,9 @@ plain_update = let_ 1 (codes "x") (int 9 1) ∷ assign 14 (Some Plus) (var 12 (c
 -- the call of a native by such an update
 abbrev pub update_called : {H : Type 0} → List ℕ → Dynamic H → Request H
 update_called name operand = request [] (Named name) (Some (integer 1)) (operand ∷ []) (column 14)
+
+abbrev pub constant_five : {H : Type 0} → Dynamic H
+constant_five = record { value = value_of.Int (pos 5); mode = ReadOnly }
 
 module _ {S H : Type 0} (natives : Natives S H) (host : H → List ℕ) where
   -- the usual setting where built-ins are no quicker than natives
@@ -90,6 +101,7 @@ module _ {S H : Type 0} (natives : Natives S H) (host : H → List ℕ) where
     pub too_long : Ends natives (short_texts natives host 5) (nothing_but (entry (codes "s") abc ∷ [])) doubled (Err (ErrorDataTooLarge (codes "Length of string") (column 3))) 3 (nothing_but (entry (codes "s") abc ∷ []))
     -- a handle is assigned through
     pub in_cell : Changes (Some (integer 5)) through_handle (Ok unit) 3 (Some (integer 7))
+    pub locked : Changes (Some constant_five) through_handle (Err (ErrorAssignmentToConstant (codes "h") (column 1))) 3 (Some constant_five)
     pub held : Changes None through_handle (Err (ErrorDataRace (codes "h") (column 1))) 3 None
 
   pub record Updates : Type 0 where
@@ -114,5 +126,7 @@ module _ {S H : Type 0} (natives : Natives S H) (host : H → List ℕ) where
         → EndsFrom natives 0 (short_texts natives host 2) mixed_update (Err (ErrorDataTooLarge (codes "Length of string") (column 14))) 6 (entry (codes "x") (integer 9) ∷ []) (update_called (codes "+=") (truth true) ∷ [])
     pub target_long : Answers natives (update_called (codes "+=") (truth true)) (Gives unit) abc
         → EndsFrom natives 0 (short_texts natives host 2) mixed_update (Err (ErrorDataTooLarge (codes "Length of string") (column 12))) 6 (entry (codes "x") abc ∷ []) (update_called (codes "+=") (truth true) ∷ [])
+    -- a cell is held while a native has its value
+    pub lent : Answers natives lent_called (Gives unit) (integer 9) → EndsCalling natives (usual host) (one_cell natives host (Some (integer 5)) []) lends_cell (Ok unit) 4 (one_cell natives host (Some (integer 9)) []) (lent_called ∷ [])
     -- without fast operators the native comes before the built-in
     pub slow : Replies natives Missing → EndsFrom natives 0 slow_operators plain_update (Ok unit) 6 (entry (codes "x") (integer 3) ∷ []) (update_called (codes "+=") (integer 2) ∷ [])

@@ -95,9 +95,13 @@ module _ {S H : Type 0} (natives : Natives S H) where
   abbrev pub Fails : Setting H → List Stmt → EvalAltResult H → (count : ℕ) → List (ScopeEntry H) → Type 0
   Fails s script e count scope = EndsFrom 0 s script (Err e) count scope []
 
-  -- as a whole script, over the frame of its end, it comes to this result and calls no native
-  abbrev pub Ends : Setting H → Local H → List Stmt → Result (Dynamic H) (EvalAltResult H) → (count : ℕ) → Local H → Type 0
-  Ends s before script result count after =
+  -- as a whole script, over the frame of its end, it comes to this result and makes these calls
+  abbrev pub EndsCalling : Setting H → Local H → List Stmt → Result (Dynamic H) (EvalAltResult H) → (count : ℕ) → Local H → List (Request H) → Type 0
+  EndsCalling s before script result count after calls =
       Run (machine s natives.gives natives.pure) (below (limit_of s.max_operations))
       (record { core = core (Enter script false) (Top false ∷ []) before; table = natives.state; count = 0; calls = [] })
-      (alone_in after (ended result) count [])
+      (alone_in after (ended result) count calls)
+
+  -- or none
+  abbrev pub Ends : Setting H → Local H → List Stmt → Result (Dynamic H) (EvalAltResult H) → (count : ℕ) → Local H → Type 0
+  Ends s before script result count after = EndsCalling s before script result count after []
