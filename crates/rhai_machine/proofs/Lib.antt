@@ -3,6 +3,9 @@ pub mod Runs
 pub mod Limits
 pub mod Ends
 pub mod Toys
+mod Falls
 pub mod LanguageLaws
 pub mod ThisLaws
 pub mod SampleRuns
+mod LoopRuns
+mod AssignmentRuns

@@ -17,16 +17,16 @@ use Rattle.rhai_machine.specs.samples.Limits.{Limits}
 use Rattle.rhai_machine.specs.samples.Called.{Called}
 use Rattle.rhai_machine.specs.samples.Handles.{Handles}
 use Rattle.rhai_values.specs.declared.base.value.FnPtrKind.TheFolds.{fold_out-Dynamic, fold_out-Union}
-use Rattle.rhai_values.specs.declared.base.value.Union.TheVariants.{outs-Str}
+use Rattle.rhai_values.specs.declared.base.value.Union.TheVariants.{outs-Unit, outs-Str}
 
 -- what the forms of a tree open to
-ruleset opened = (stmt.outs-Expr, stmt.outs-Block, stmt.outs-Var, stmt.outs-If, expr.outs-BoolConstant, expr.outs-IntegerConstant, expr.outs-Variable, expr.outs-FnCall, expr.outs-Stmt)
+pub ruleset opened = (stmt.outs-Expr, stmt.outs-Block, stmt.outs-Assignment, stmt.outs-Var, stmt.outs-If, stmt.outs-While, stmt.outs-Do, stmt.outs-BreakLoop, stmt.outs-Return, expr.outs-BoolConstant, expr.outs-IntegerConstant, expr.outs-Unit, expr.outs-Variable, expr.outs-FnCall, expr.outs-Stmt, expr.outs-And, expr.outs-Or, expr.outs-Coalesce)
 
 -- and where they start, for a charge that is refused
-ruleset placed = (opened, fold_out-Expr, fold_out-FnCallExpr)
+pub ruleset placed = (opened, fold_out-Expr, fold_out-FnCallExpr)
 
--- how much data a text is
-ruleset measured = (fold_out-Dynamic, fold_out-Union, outs-Str)
+-- how much data `()` and a text are
+pub ruleset measured = (fold_out-Dynamic, fold_out-Union, outs-Unit, outs-Str)
 
 module _ {S H Core : Type 0} (M : Machine S H Core) (allows : ℕ → Bool) where
   abbrev goes_on : Config S H Core → Option (Config S H Core) → (Config S H Core → Config S H Core) → Config S H Core
@@ -44,7 +44,7 @@ module _ {S H Core : Type 0} (M : Machine S H Core) (allows : ℕ → Bool) wher
   step_on n c a (Some d) is rest same = next is (rest d same)
 
   -- a run, from the steps that lead to its end
-  by_steps : (n : ℕ) {c a : Config S H Core} → after n c ≡ a → step M allows a ≡ None → Run M allows c a
+  pub by_steps : (n : ℕ) {c a : Config S H Core} → after n c ≡ a → step M allows a ≡ None → Run M allows c a
   by_steps zero {c} {a} same halts = subst (λ x. Run M allows c x) same (ended (rw same halts))
   by_steps (suc n) {c} {a} same halts = step_on n c a (step M allows c) refl (λ d same. by_steps n same halts) same
 
@@ -54,7 +54,7 @@ module _ {S H Core : Type 0} (M : Machine S H Core) (allows : ℕ → Bool) wher
   stretch_on n c d a (Some b) is rest run same = next is (rest b same)
 
   -- a long run goes in stretches
-  stretch : (n : ℕ) (c d : Config S H Core) {a : Config S H Core} → after n c ≡ d → Run M allows d a → Run M allows c a
+  pub stretch : (n : ℕ) (c d : Config S H Core) {a : Config S H Core} → after n c ≡ d → Run M allows d a → Run M allows c a
   stretch zero c d {a} same run = subst (λ x. Run M allows x a) (sym same) run
   stretch (suc n) c d {a} same run = stretch_on n c d a (step M allows c) refl (λ b same. stretch n b d same run) run same
 

@@ -2,9 +2,12 @@ pub mod Setting
 pub mod State
 pub mod Values
 pub mod Names
+pub mod Places
 pub mod Frames
 pub mod Expressions
 pub mod Calls
+pub mod Assignment
+pub mod Loops
 pub mod Statements
 pub mod Unwinding
 pub mod Language

@@ -5,3 +5,6 @@ pub mod Variables
 pub mod Limits
 pub mod Called
 pub mod Handles
+pub mod Loops
+pub mod Choices
+pub mod Assignments

@@ -8,6 +8,9 @@ ghost use Rattle.rhai_machine.specs.samples.Variables.{Blocks, Variables};
 ghost use Rattle.rhai_machine.specs.samples.Limits.{Limits};
 ghost use Rattle.rhai_machine.specs.samples.Called.{Called};
 ghost use Rattle.rhai_machine.specs.samples.Handles.{Handles};
+ghost use Rattle.rhai_machine.specs.samples.Loops.{Loops, WaysOut};
+ghost use Rattle.rhai_machine.specs.samples.Choices.{Choices};
+ghost use Rattle.rhai_machine.specs.samples.Assignments.{Assignments, Updates};
 
 use std::marker::PhantomData;
 
@@ -44,4 +47,29 @@ pub fn sample_natives<H, S>(of: PhantomData<(H, S)>)
 /// A variable that is the handle of a cell, free or held.
 pub fn sample_handles<H, S>(of: PhantomData<(H, S)>)
     ensures { (natives : Natives S H) (host : H → List ℕ) → Handles natives host }
+{}
+
+/// Turns of a `while` and of a `do`, and loops that never end.
+pub fn sample_loops<H, S>(of: PhantomData<(H, S)>)
+    ensures { (natives : Natives S H) (host : H → List ℕ) → Loops natives host }
+{}
+
+/// `break` and `return`.
+pub fn sample_ways_out<H, S>(of: PhantomData<(H, S)>)
+    ensures { (natives : Natives S H) (host : H → List ℕ) → WaysOut natives host }
+{}
+
+/// The operators that stop early.
+pub fn sample_choices<H, S>(of: PhantomData<(H, S)>)
+    ensures { (natives : Natives S H) (host : H → List ℕ) → Choices natives host }
+{}
+
+/// Assignments, and what refuses one.
+pub fn sample_assignments<H, S>(of: PhantomData<(H, S)>)
+    ensures { (natives : Natives S H) (host : H → List ℕ) → Assignments natives host }
+{}
+
+/// Assignments by an operator that is a native's, over tables that reply in each way.
+pub fn sample_updates<H, S>(of: PhantomData<(H, S)>)
+    ensures { (natives : Natives S H) (host : H → List ℕ) → Updates natives host }
 {}

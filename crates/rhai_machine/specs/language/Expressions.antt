@@ -1,20 +1,22 @@
 -- The rules of expressions.
-use Rattle.std.specs.Prelude.{Bool, true, false, List, [], ◌∷◌, Option, Some, None}
+use Rattle.std.specs.Prelude.{Bool, true, false, List, [], ◌∷◌, Option, Some, None, Result, Ok, Err}
 use Rattle.rhai_tree.specs.declared.position.Position.{Position}
 use Rattle.rhai_tree.specs.declared.token.Token.{Token}
-use Rattle.rhai_tree.specs.declared.expr.Expr.{Expr, out-Expr}
+use Rattle.rhai_tree.specs.declared.expr.Expr.{Expr}
 use Rattle.rhai_tree.specs.declared.expr.FnCallExpr.{FnCallExpr}
 use Rattle.rhai_tree.specs.declared.expr.Expr.TheOpen as layer
 use Rattle.rhai_tree.specs.Layers.{ExprLayer}
 use Rattle.rhai_tree.specs.Positions.{position_of, start_of}
 use Rattle.rhai_values.specs.declared.base.value.Dynamic.{Dynamic}
+use Rattle.rhai_values.specs.declared.base.value.Union.{Union}
 use Rattle.rhai_values.specs.declared.base.value.Union.TheVariants as value
+use Rattle.rhai_values.specs.declared.base.error.EvalAltResult.{EvalAltResult}
 use Rattle.rhai_values.specs.Copy.{plain}
 use Rattle.rhai_machine.specs.machine.Machine.{Move, Halt, Go, Charge}
 use Rattle.rhai_machine.specs.language.State.{Local}
 use Rattle.rhai_machine.specs.language.Values.{unit_value, bool_value}
 use Rattle.rhai_machine.specs.language.Names.{read}
-use Rattle.rhai_machine.specs.language.Frames.{Operation, Frame, Core, core, ended, Eval, Argument, Enter, Back, UnaryOperand, LeftOperand}
+use Rattle.rhai_machine.specs.language.Frames.{Frame, Core, core, ended, Eval, Argument, Enter, Back, Fail, UnaryOperand, LeftOperand, AndPart, OrPart, CoalescePart}
 
 module _ {H : Type 0} where
   -- the value of a literal, read-write
@@ -37,6 +39,39 @@ module _ {H : Type 0} where
       Go (core (Argument left) (LeftOperand (record { name = call.name; token = Some token; at = pos }) (position_of left) right ∷ k) l)
   operands_move _ _ call args pos k l = Halt
 
+  -- the parts of an `&&` from left to right, up to the first that is false
+  abbrev pub and_core : List Expr → List (Frame H) → Local H → Core H
+  and_core [] k l = core (Back (bool_value true)) k l
+  and_core (part ∷ parts) k l = core (Eval part) (AndPart (position_of part) parts ∷ k) l
+
+  abbrev pub and_next : Result Bool (EvalAltResult H) → List Expr → List (Frame H) → Local H → Core H
+  and_next (Ok true) parts k l = and_core parts k l
+  and_next (Ok false) parts k l = core (Back (bool_value false)) k l
+  and_next (Err e) parts k l = core (Fail e) k l
+
+  -- those of an `||` up to the first that is true
+  abbrev pub or_core : List Expr → List (Frame H) → Local H → Core H
+  or_core [] k l = core (Back (bool_value false)) k l
+  or_core (part ∷ parts) k l = core (Eval part) (OrPart (position_of part) parts ∷ k) l
+
+  abbrev pub or_next : Result Bool (EvalAltResult H) → List Expr → List (Frame H) → Local H → Core H
+  or_next (Ok true) parts k l = core (Back (bool_value true)) k l
+  or_next (Ok false) parts k l = or_core parts k l
+  or_next (Err e) parts k l = core (Fail e) k l
+
+  -- those of a `??` up to the first that is not `()`, which comes up as it is, a handle too
+  abbrev pub coalesce_core : (last : Dynamic H) → List Expr → List (Frame H) → Local H → Core H
+  coalesce_core last [] k l = core (Back last) k l
+  coalesce_core last (part ∷ parts) k l = core (Eval part) (CoalescePart (position_of part) parts ∷ k) l
+
+  abbrev pub coalesce_seen : Union H → Dynamic H → List Expr → List (Frame H) → Local H → Core H
+  coalesce_seen value.Unit v parts k l = coalesce_core v parts k l
+  coalesce_seen _ v parts k l = core (Back v) k l
+
+  abbrev pub coalesce_next : (seen : Result (Dynamic H) (EvalAltResult H)) → Dynamic H → List Expr → List (Frame H) → Local H → Core H
+  coalesce_next (Ok seen) v parts k l = coalesce_seen seen.value v parts k l
+  coalesce_next (Err e) v parts k l = core (Fail e) k l
+
   -- an expression, after its charge; a form that is not there has no step
   abbrev pub expr_move : (fast_operators : Bool) → ExprLayer → List (Frame H) → Local H → Move H (Core H)
   expr_move fast (layer.BoolConstant b pos) k l = Go (core (Back (bool_value b)) k l)
@@ -45,4 +80,7 @@ module _ {H : Type 0} where
   expr_move fast (layer.Variable offset name namespace pos) k l = Go (core (ended (read l.around.cells name pos l.scope)) k l)
   expr_move fast (layer.Expr::FnCall call pos) k l = operands_move fast call.op_token call call.args pos k l
   expr_move fast (layer.Stmt block) k l = Go (core (Enter block.statements true) k l)
+  expr_move fast (layer.And parts pos) k l = Go (and_core parts k l)
+  expr_move fast (layer.Or parts pos) k l = Go (or_core parts k l)
+  expr_move fast (layer.Coalesce parts pos) k l = Go (coalesce_core unit_value parts k l)
   expr_move fast _ k l = Halt

@@ -4,6 +4,7 @@ use Rattle.rhai_tree.specs.declared.position.Position.{Position}
 use Rattle.rhai_tree.specs.declared.token.Token.{Token}
 use Rattle.rhai_tree.specs.declared.flags.ASTFlags.{ASTFlags}
 use Rattle.rhai_tree.specs.declared.expr.Ident.{Ident}
+use Rattle.rhai_tree.specs.declared.expr.OpAssignment.{OpAssignment}
 use Rattle.rhai_tree.specs.declared.expr.Expr.{Expr}
 use Rattle.rhai_tree.specs.declared.expr.Stmt.{Stmt}
 use Rattle.rhai_tree.specs.declared.expr.StmtBlock.{StmtBlock}
@@ -11,6 +12,7 @@ use Rattle.rhai_tree.specs.Layers.{ExprLayer, StmtLayer}
 use Rattle.rhai_values.specs.declared.base.value.Dynamic.{Dynamic}
 use Rattle.rhai_values.specs.declared.base.error.EvalAltResult.{EvalAltResult}
 use Rattle.rhai_machine.specs.language.State.{Local}
+use Rattle.rhai_machine.specs.language.Places.{Place}
 
 -- a call that was written as an operator: its name, its operator, and where it stands
 pub record Operation : Type 0 where
@@ -22,6 +24,27 @@ pub record Operation : Type 0 where
 pub record Call (H : Type 0) : Type 0 where
   pub operation : Operation
   pub args : List (Dynamic H)
+
+-- an assignment to a variable: its name, where it stands, and how the value is assigned
+pub record Assignment : Type 0 where
+  pub name : List ℕ
+  pub at : Position
+  pub op : OpAssignment
+
+-- which native an assignment by an operator asks for: `op=`, which changes the target, or `op`, which gives its new value
+pub data Attempt : Type 0 where
+  InPlace : Attempt
+  AsValue : Attempt
+
+-- an assignment by an operator, its target found: the operator and where it stands, the place and the value there, the value on the right, and where the target stands in the script
+pub record Update (H : Type 0) : Type 0 where
+  pub attempt : Attempt
+  pub operator : Token
+  pub at : Position
+  pub place : Place
+  pub target : Dynamic H
+  pub operand : Dynamic H
+  pub target_at : Position
 
 -- what a restoring list takes back: the scope's length, the number of imports, and how deep the restoring lists were
 pub record Saved : Type 0 where
@@ -35,16 +58,25 @@ pub data Control (H : Type 0) : Type 0 where
   Eval : Expr → Control H
   Exec : Stmt → (restoring : Bool) → Control H
   Ask : Call H → Control H
+  -- these charge too: the variable of an assignment whose value is there, the native of an update
+  Assign : Assignment → Dynamic H → Control H
+  AskUpdate : Update H → Control H
   -- an argument of a call charges where it is a literal, and else is an expression
   Argument : Expr → Control H
   -- these ask the table: whether the native is pure, and for its answer
   Question : Call H → Control H
   Fire : Call H → Control H
+  QuestionUpdate : Update H → Control H
+  FireUpdate : Update H → Control H
   -- these go on: the form of a charged expression or statement, a list that is entered, the rest of a list after a value
   OpenExpr : ExprLayer → Control H
   OpenStmt : StmtLayer → (restoring : Bool) → Control H
   Enter : List Stmt → (restoring : Bool) → Control H
   Run : List Stmt → (restoring : Bool) → (last : Dynamic H) → Control H
+  -- a charged assignment, and a turn of a loop
+  Store : Assignment → Dynamic H → Control H
+  WhileTurn : (test : Expr) → (body : StmtBlock) → Control H
+  DoTurn : (test : Expr) → (body : StmtBlock) → (options : ASTFlags) → Control H
   -- a value comes up, or an error comes down
   Back : Dynamic H → Control H
   Fail : EvalAltResult H → Control H
@@ -67,6 +99,20 @@ pub data Frame (H : Type 0) : Type 0 where
   UnaryOperand : (operation : Operation) → (operand_at : Position) → Frame H
   LeftOperand : (operation : Operation) → (left_at : Position) → (right : Expr) → Frame H
   RightOperand : (operation : Operation) → (left : Dynamic H) → (right_at : Position) → Frame H
+  -- a part of an `&&`, an `||` or a `??`, before the other parts
+  AndPart : (part_at : Position) → (rest : List Expr) → Frame H
+  OrPart : (part_at : Position) → (rest : List Expr) → Frame H
+  CoalescePart : (part_at : Position) → (rest : List Expr) → Frame H
+  -- the value of an assignment
+  AssignValue : (assignment : Assignment) → (value_at : Position) → Frame H
+  -- the condition and the body of a `while`, and of a `do`
+  WhileCondition : (test : Expr) → (body : StmtBlock) → Frame H
+  WhileBody : (test : Expr) → (body : StmtBlock) → Frame H
+  DoCondition : (test : Expr) → (body : StmtBlock) → (options : ASTFlags) → Frame H
+  DoBody : (test : Expr) → (body : StmtBlock) → (options : ASTFlags) → Frame H
+  -- the value of a `break` or a `continue`, and of a `return`
+  BreakValue : (is_break : Bool) → (at : Position) → Frame H
+  ReturnValue : (value_at at : Position) → Frame H
 
 -- what the language adds to a configuration
 pub record Core (H : Type 0) : Type 0 where

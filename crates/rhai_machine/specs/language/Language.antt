@@ -1,5 +1,5 @@
 -- The machine of the language.
-use Rattle.std.specs.Prelude.{Bool, List, [], ◌∷◌}
+use Rattle.std.specs.Prelude.{Bool, true, List, [], ◌∷◌}
 use Rattle.rhai_tree.specs.declared.position.Position.{Position}
 use Rattle.rhai_tree.specs.declared.expr.Expr.{out-Expr}
 use Rattle.rhai_tree.specs.declared.expr.Stmt.{out-Stmt}
@@ -9,9 +9,12 @@ use Rattle.rhai_values.specs.Native.{Request, Effect, Purity}
 use Rattle.rhai_machine.specs.machine.Machine.{Move, Halt, Go, Charge, Machine}
 use Rattle.rhai_machine.specs.language.Setting.{Setting}
 use Rattle.rhai_machine.specs.language.State.{Local}
-use Rattle.rhai_machine.specs.language.Frames.{Control, Frame, Core, core, Eval, Exec, Ask, Argument, Question, Fire, OpenExpr, OpenStmt, Enter, Run, Back, Fail}
+use Rattle.rhai_machine.specs.language.Frames.{Control, Frame, Core, core, Eval, Exec, Ask, Assign, AskUpdate, Argument, Question, Fire, QuestionUpdate, FireUpdate, OpenExpr, OpenStmt, Enter, Run, Store, WhileTurn, DoTurn, Back, Fail, DoBody}
 use Rattle.rhai_machine.specs.language.Expressions.{literal_of, argument_move, expr_move}
 use Rattle.rhai_machine.specs.language.Calls.{question_move, fire_move}
+use Rattle.rhai_machine.specs.language.Places.{target_of}
+use Rattle.rhai_machine.specs.language.Assignment.{store_core, question_update, fire_update}
+use Rattle.rhai_machine.specs.language.Loops.{is_endless, while_move}
 use Rattle.rhai_machine.specs.language.Statements.{enter_core, run_core, stmt_move}
 use Rattle.rhai_machine.specs.language.Unwinding.{up_core, down_core}
 
@@ -21,13 +24,20 @@ module _ {H : Type 0} (s : Setting H) where
   move_at (Eval e) k l = Charge (position_of e) (core (OpenExpr (out-Expr e)) k l)
   move_at (Exec stmt restoring) k l = Charge (stmt_position_of stmt) (core (OpenStmt (out-Stmt stmt) restoring) k l)
   move_at (Ask call) k l = Charge call.operation.at (core (Question call) k l)
+  move_at (Assign assignment v) k l = Charge assignment.at (core (Store assignment v) k l)
+  move_at (AskUpdate u) k l = Charge u.at (core (QuestionUpdate u) k l)
   move_at (Argument e) k l = argument_move (literal_of (out-Expr e)) e k l
   move_at (Question call) k l = question_move s call k l
   move_at (Fire call) k l = fire_move s call call.args k l
+  move_at (QuestionUpdate u) k l = question_update s u k l
+  move_at (FireUpdate u) k l = fire_update s u.target.value u k l
   move_at (OpenExpr form) k l = expr_move s.fast_operators form k l
   move_at (OpenStmt form restoring) k l = stmt_move s form restoring k l
   move_at (Enter stmts restoring) k l = Go (enter_core stmts restoring k l)
   move_at (Run stmts restoring last) k l = Go (run_core stmts restoring last k l)
+  move_at (Store assignment v) k l = Go (store_core s (target_of l.around.cells assignment.name assignment.at l.scope) assignment v k l)
+  move_at (WhileTurn test body) k l = while_move (is_endless (out-Expr test)) body.statements test body k l
+  move_at (DoTurn test body options) k l = Go (core (Enter body.statements true) (DoBody test body options ∷ k) l)
   move_at (Back v) [] l = Halt
   move_at (Back v) (frame ∷ k) l = Go (up_core s frame v k l)
   move_at (Fail e) [] l = Halt

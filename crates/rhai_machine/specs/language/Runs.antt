@@ -1,5 +1,5 @@
 -- What each part of an evaluator promises: over any stack, the cut machine runs from a control to how the part ended.
-use Rattle.std.specs.Prelude.{◌≡◌, ℕ, Bool, List, Result}
+use Rattle.std.specs.Prelude.{Bool, List, Result}
 use Rattle.rhai_values.specs.declared.base.value.Dynamic.{Dynamic}
 use Rattle.rhai_values.specs.declared.base.error.EvalAltResult.{EvalAltResult}
 use Rattle.rhai_values.specs.Native.{Request, Effect, Purity}

@@ -3,7 +3,7 @@ use Rattle.std.specs.Prelude.{ℕ, ◌+◌, ◌^◌, ◌-◌, Bool, true, false,
 use Rattle.rhai_tree.specs.declared.position.Position.{Position}
 use Rattle.rhai_tree.specs.declared.flags.ASTFlags.{ASTFlags}
 use Rattle.rhai_tree.specs.declared.expr.Ident.{Ident}
-use Rattle.rhai_tree.specs.declared.expr.Expr.{Expr}
+use Rattle.rhai_tree.specs.declared.expr.Expr.{Expr, out-Expr}
 use Rattle.rhai_tree.specs.declared.expr.Stmt.{Stmt}
 use Rattle.rhai_tree.specs.declared.expr.StmtBlock.{StmtBlock}
 use Rattle.rhai_tree.specs.declared.expr.Expr.TheOpen as layer
@@ -19,7 +19,8 @@ use Rattle.rhai_machine.specs.machine.Machine.{Move, Halt, Go}
 use Rattle.rhai_machine.specs.language.Setting.{Setting}
 use Rattle.rhai_machine.specs.language.State.{Local}
 use Rattle.rhai_machine.specs.language.Values.{unit_value}
-use Rattle.rhai_machine.specs.language.Frames.{Saved, Frame, Core, core, Eval, Exec, Enter, Run, Back, Fail, StatementValue, DefineValue, IfCondition, RestOfList, RestoreList}
+use Rattle.rhai_machine.specs.language.Frames.{Saved, Frame, Core, core, Eval, Exec, Enter, Run, WhileTurn, DoTurn, Back, Fail, StatementValue, DefineValue, IfCondition, RestOfList, RestoreList, BreakValue, ReturnValue}
+use Rattle.rhai_machine.specs.language.Assignment.{assignment_move}
 
 -- an option is among the options
 abbrev pub has_option : ℕ → ASTFlags → Bool
@@ -67,6 +68,21 @@ module _ {H : Type 0} where
   defined_core (Ok v) ident options k l = core (Back unit_value) k (record l { scope = l.scope ++ new_entry ident.name (mode_of options) v ∷ [] })
   defined_core (Err e) ident options k l = core (Fail e) k l
 
+  -- a `break` or a `continue` is an error on its way to its loop, with its value as it is
+  abbrev pub break_core : Option Expr → (is_break : Bool) → Position → List (Frame H) → Local H → Core H
+  break_core None is_break pos k l = core (Fail (error.LoopBreak unit_value is_break pos)) k l
+  break_core (Some value) is_break pos k l = core (Eval value) (BreakValue is_break pos ∷ k) l
+
+  -- a `return` is an error on its way to the end of its function or script; a `throw` has no step
+  abbrev pub return_move : (throws : Bool) → Option Expr → Position → List (Frame H) → Local H → Move H (Core H)
+  return_move true value pos k l = Halt
+  return_move false None pos k l = Go (core (Fail (error.Return unit_value pos)) k l)
+  return_move false (Some value) pos k l = Go (core (Eval value) (ReturnValue (position_of value) pos ∷ k) l)
+
+  abbrev pub returned_core : Result (Dynamic H) (EvalAltResult H) → Position → List (Frame H) → Local H → Core H
+  returned_core (Ok v) pos k l = core (Fail (error.Return v pos)) k l
+  returned_core (Err e) pos k l = core (Fail e) k l
+
   module _ (s : Setting H) where
     -- where shadowing is off a name is declared once; the scope holds at most so many variables; then the value
     abbrev pub define_core : (shadows full : Bool) → Ident → Expr → ASTFlags → Position → List (Frame H) → Local H → Core H
@@ -79,7 +95,12 @@ module _ {H : Type 0} where
     stmt_move (layer.Noop pos) restoring k l = Go (core (Back unit_value) k l)
     stmt_move (layer.Expr value) restoring k l = Go (core (Eval value) (StatementValue (position_of value) ∷ k) l)
     stmt_move (layer.Block block) restoring k l = Go (core (Enter block.statements true) k l)
+    stmt_move (layer.Assignment op lhs rhs) restoring k l = assignment_move (out-Expr lhs) op rhs k l
     stmt_move (layer.Var ident value None options pos) restoring k l =
         Go (define_core (not s.allow_shadowing && is_some (index_of ident.name l.scope)) (nat_le s.max_variables (length l.scope)) ident value options pos k l)
     stmt_move (layer.If test body branch pos) restoring k l = Go (core (Eval test) (IfCondition (position_of test) body branch ∷ k) l)
+    stmt_move (layer.While test body pos) restoring k l = Go (core (WhileTurn test body) k l)
+    stmt_move (layer.Do test body options pos) restoring k l = Go (core (DoTurn test body options) k l)
+    stmt_move (layer.BreakLoop value options pos) restoring k l = Go (break_core value (has_option 2 options) pos k l)
+    stmt_move (layer.Return value options pos) restoring k l = return_move (has_option 2 options) value pos k l
     stmt_move _ restoring k l = Halt

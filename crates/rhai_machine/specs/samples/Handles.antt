@@ -36,11 +36,15 @@ handle_kept = let_ 1 (codes "y") (var 9 (codes "h")) ∷ []
 abbrev pub handle_tested : List Stmt
 handle_tested = if_ 1 (var 4 (codes "h")) (braces 6 10 (value (int 8 1) ∷ [])) no_else ∷ []
 
+-- the handle of the first cell
+abbrev pub handle : {H : Type 0} → Dynamic H
+handle = record { value = Cell (record { number = 0 }); mode = ReadWrite }
+
 module _ {S H : Type 0} (natives : Natives S H) (host : H → List ℕ) where
   -- the variable `h` is the handle of the only cell, whose value is this, or which is held; then come other variables
   abbrev pub one_cell : Option (Dynamic H) → List (ScopeEntry H) → Local H
   one_cell cell others =
-      let l = nothing_but (entry (codes "h") (record { value = Cell (record { number = 0 }); mode = ReadWrite }) ∷ others) in
+      let l = nothing_but (entry (codes "h") handle ∷ others) in
       record l { around = record l.around { cells = cell ∷ [] } }
 
   -- over the cell the script comes to this result, and leaves this count and these further variables

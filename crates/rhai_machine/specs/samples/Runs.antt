@@ -1,5 +1,5 @@
 -- What a sample says: how a script that starts with nothing ends, cut at the setting's limit.
-use Rattle.std.specs.Prelude.{◌≡◌, ℕ, Bool, true, false, List, [], None, Result, Ok, Err, pos}
+use Rattle.std.specs.Prelude.{◌≡◌, ℕ, Bool, true, false, List, [], ◌∷◌, Some, None, Result, Ok, Err, pos}
 use Rattle.rhai_tree.specs.declared.expr.Stmt.{Stmt}
 use Rattle.rhai_values.specs.declared.base.value.AccessMode.TheVariants.{ReadWrite}
 use Rattle.rhai_values.specs.declared.base.value.Dynamic.{Dynamic}
@@ -10,7 +10,7 @@ use Rattle.rhai_values.specs.Native.{Request, Reply, Effect, Purity, effect}
 use Rattle.rhai_machine.specs.machine.Machine.{Config, Run, below}
 use Rattle.rhai_machine.specs.language.Setting.{Setting, limit_of}
 use Rattle.rhai_machine.specs.language.State.{Local}
-use Rattle.rhai_machine.specs.language.Frames.{Control, Core, core, ended, Enter}
+use Rattle.rhai_machine.specs.language.Frames.{Control, Core, core, ended, Enter, Top}
 use Rattle.rhai_machine.specs.language.Language.{machine}
 
 -- a table of natives in a state
@@ -22,6 +22,10 @@ pub record Natives (S H : Type 0) : Type 0 where
 -- a table whose natives all reply so, and change nothing
 abbrev pub Replies : {S H : Type 0} → Natives S H → Reply H → Type 0
 Replies {S} {H} natives reply = (s : S) (q : Request H) → natives.gives s q ≡ effect reply q.first s
+
+-- a table that replies so to this one call, and leaves this first argument
+abbrev pub Answers : {S H : Type 0} → Natives S H → Request H → Reply H → Dynamic H → Type 0
+Answers natives q reply left = natives.gives natives.state q ≡ effect reply (Some left) natives.state
 
 module _ {H : Type 0} where
   -- the usual setting: no limit of operations or of data, a thousand variables, fast operators, and shadowing
@@ -90,3 +94,14 @@ module _ {S H : Type 0} (natives : Natives S H) where
   -- the script fails with this error and calls no native
   abbrev pub Fails : Setting H → List Stmt → EvalAltResult H → (count : ℕ) → List (ScopeEntry H) → Type 0
   Fails s script e count scope = EndsFrom 0 s script (Err e) count scope []
+
+  -- as a whole script, over the frame of its end, it comes to this result and makes these calls
+  abbrev pub EndsCalling : Setting H → Local H → List Stmt → Result (Dynamic H) (EvalAltResult H) → (count : ℕ) → Local H → List (Request H) → Type 0
+  EndsCalling s before script result count after calls =
+      Run (machine s natives.gives natives.pure) (below (limit_of s.max_operations))
+      (record { core = core (Enter script false) (Top false ∷ []) before; table = natives.state; count = 0; calls = [] })
+      (alone_in after (ended result) count calls)
+
+  -- or none
+  abbrev pub Ends : Setting H → Local H → List Stmt → Result (Dynamic H) (EvalAltResult H) → (count : ℕ) → Local H → Type 0
+  Ends s before script result count after = EndsCalling s before script result count after []

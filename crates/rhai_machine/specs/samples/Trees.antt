@@ -1,5 +1,5 @@
 -- Small words for the trees of sample scripts. A script stands on one line, so each place is a column.
-use Rattle.std.specs.Prelude.{ℕ, ◌+◌, pos, Bool, false, List, [], Some, None}
+use Rattle.std.specs.Prelude.{ℕ, ◌+◌, pos, Bool, false, List, [], Option, Some, None}
 use Rattle.rhai_tree.specs.declared.position.Position.{Position}
 use Rattle.rhai_tree.specs.declared.token.Token.{Token}
 use Rattle.rhai_tree.specs.declared.expr.Namespace.{Namespace}
@@ -33,6 +33,19 @@ var c name = expr.Variable None name unqualified (column c)
 abbrev pub op : (at : ℕ) → Token → List Expr → Expr
 op c token operands = expr.FnCall (record { namespace = unqualified; name = syntax_of token; args = operands; op_token = Some token; capture_parent_scope = false }) (column c)
 
+abbrev pub unit_at : (at : ℕ) → Expr
+unit_at c = expr.Unit (column c)
+
+-- the operators that stop early, over all their parts
+abbrev pub all_of : (at : ℕ) → List Expr → Expr
+all_of c parts = expr.And parts (column c)
+
+abbrev pub any_of : (at : ℕ) → List Expr → Expr
+any_of c parts = expr.Or parts (column c)
+
+abbrev pub first_of : (at : ℕ) → List Expr → Expr
+first_of c parts = expr.Coalesce parts (column c)
+
 -- statements between braces
 abbrev pub braces : (from to : ℕ) → List Stmt → StmtBlock
 braces from to stmts = record { statements = stmts; position = column from; end_position = column to }
@@ -58,6 +71,29 @@ let_ c name e = define 0 4 c name e
 
 abbrev pub const_ : (at : ℕ) → List ℕ → Expr → Stmt
 const_ c name e = define 4 6 c name e
+
+-- an assignment, plain or by an operator, which stands at a column
+abbrev pub assign : (at : ℕ) → Option Token → Expr → Expr → Stmt
+assign c token left right = stmt.Assignment (record { op = token; position = column c }) left right
+
+-- loops, and the ways out of them
+abbrev pub while_ : (at : ℕ) → Expr → StmtBlock → Stmt
+while_ c test body = stmt.While test body (column c)
+
+abbrev pub loop_ : (at : ℕ) → StmtBlock → Stmt
+loop_ c body = while_ c (expr.Unit (column c)) body
+
+abbrev pub do_until : (at : ℕ) → StmtBlock → Expr → Stmt
+do_until c body test = stmt.Do test body (record { 0 = 1 }) (column c)
+
+abbrev pub break_ : (at : ℕ) → Option Expr → Stmt
+break_ c e = stmt.BreakLoop e (record { 0 = 2 }) (column c)
+
+abbrev pub continue_ : (at : ℕ) → Stmt
+continue_ c = stmt.BreakLoop None (record { 0 = 0 }) (column c)
+
+abbrev pub return_ : (at : ℕ) → Option Expr → Stmt
+return_ c e = stmt.Return e (record { 0 = 0 }) (column c)
 
 -- an `if` with both its lists
 abbrev pub if_ : (at : ℕ) → Expr → StmtBlock → StmtBlock → Stmt

@@ -1,0 +1,133 @@
+-- The rules of assignment to a variable.
+use Rattle.std.specs.Prelude.{ℕ, Bool, true, false, List, [], ◌∷◌, ◌++◌, Option, Some, None, Result, Ok, Err, codes, nat_eq}
+use Rattle.std.specs.List.{starts_with}
+use Rattle.rhai_tree.specs.declared.token.Token.{Token}
+use Rattle.rhai_tree.specs.declared.expr.OpAssignment.{OpAssignment}
+use Rattle.rhai_tree.specs.declared.expr.Expr.{Expr}
+use Rattle.rhai_tree.specs.declared.expr.Expr.TheOpen as layer
+use Rattle.rhai_tree.specs.Layers.{ExprLayer}
+use Rattle.rhai_tree.specs.Positions.{position_of}
+use Rattle.rhai_tree.specs.Tokens.{syntax_of}
+use Rattle.rhai_values.specs.declared.base.value.AccessMode.TheVariants.{ReadWrite}
+use Rattle.rhai_values.specs.declared.base.value.Dynamic.{Dynamic}
+use Rattle.rhai_values.specs.declared.base.value.Union.{Union}
+use Rattle.rhai_values.specs.declared.base.value.Union.TheVariants as value
+use Rattle.rhai_values.specs.declared.base.error.EvalAltResult.{EvalAltResult}
+use Rattle.rhai_values.specs.declared.base.error.EvalAltResult.TheVariants as error
+use Rattle.rhai_values.specs.Modes.{with_mode}
+use Rattle.rhai_values.specs.Native.{Reply, Missing, Gives, Faults, Named, OfName, request}
+use Rattle.rhai_values.specs.TypeNames.{type_name_of}
+use Rattle.rhai_operators.specs.Answers.{Answer, op_assign_of}
+use Rattle.rhai_machine.specs.machine.Machine.{Move, Halt, Go, Native, AskPure}
+use Rattle.rhai_machine.specs.language.Setting.{Setting}
+use Rattle.rhai_machine.specs.language.State.{Local}
+use Rattle.rhai_machine.specs.language.Values.{unit_value}
+use Rattle.rhai_machine.specs.language.Places.{Place, Target, put, while_lent}
+use Rattle.rhai_machine.specs.language.Frames.{Operation, Attempt, InPlace, AsValue, Assignment, Update, Frame, Control, Core, core, Eval, Assign, AskUpdate, FireUpdate, Back, Fail, AssignValue}
+use Rattle.rhai_machine.specs.language.Calls.{operation_at, placed_if_none, sized, applied, replied}
+
+-- the native of an attempt: in `x += y` first the one named `+=`, and then the one named `+`
+abbrev pub native_of : Attempt → Token → List ℕ
+native_of InPlace token = syntax_of token ++ codes "="
+native_of AsValue token = syntax_of token
+
+module _ {H : Type 0} where
+  -- the right side comes first; an assignment to anything but a variable has no step
+  abbrev pub assignment_move : ExprLayer → OpAssignment → Expr → List (Frame H) → Local H → Move H (Core H)
+  assignment_move (layer.Variable offset name namespace pos) op rhs k l =
+      Go (core (Eval rhs) (AssignValue (record { name = name; at = pos; op = op }) (position_of rhs) ∷ k) l)
+  assignment_move _ op rhs k l = Halt
+
+  -- its flattened value is there: the variable is charged
+  abbrev pub assigned_core : Result (Dynamic H) (EvalAltResult H) → Assignment → List (Frame H) → Local H → Core H
+  assigned_core (Ok v) assignment k l = core (Assign assignment v) k l
+  assigned_core (Err e) assignment k l = core (Fail e) k l
+
+  -- a result is written to a place; an error leaves the place as it is
+  abbrev pub written_core : Result (Dynamic H) (EvalAltResult H) → Place → List (Frame H) → Local H → Core H
+  written_core (Ok v) place k l = core (Back unit_value) k (put place v l)
+  written_core (Err e) place k l = core (Fail e) k l
+
+  -- an assignment is done, where its last measurement went well
+  abbrev pub done : Result (Dynamic H) (EvalAltResult H) → Control H
+  done (Ok v) = Back unit_value
+  done (Err e) = Fail e
+
+  -- a built-in is tried first under fast operators alone
+  abbrev pub if_fast : Bool → Answer H → Answer H
+  if_fast true answer = answer
+  if_fast false answer = None
+
+  -- the error says that no function has the name
+  abbrev pub says_missing : List ℕ → EvalAltResult H → Bool
+  says_missing name (error.ErrorFunctionNotFound text at) = starts_with nat_eq text name
+  says_missing name _ = false
+
+  -- the operator of an update, under the name of the native that is asked
+  abbrev pub operation_of : Update H → Operation
+  operation_of u = operation_at (native_of u.attempt u.operator) u.operator u.at
+
+  -- the target as a native left it
+  abbrev pub left_in : Update H → Option (Dynamic H) → Dynamic H
+  left_in u (Some v) = v
+  left_in u None = u.target
+
+  module _ (s : Setting H) where
+    -- a built-in's answer is measured at the operator and written; where there is none the native is asked
+    abbrev pub update_core : Answer H → Update H → List (Frame H) → Local H → Core H
+    update_core (Some r) u k l = written_core (applied s r u.at) u.place k l
+    update_core None u k l = core (AskUpdate u) k l
+
+    -- without an operator the value is written, and may be changed from then on
+    abbrev pub assign_core : Option Token → Assignment → Target H → Dynamic H → List (Frame H) → Local H → Core H
+    assign_core None assignment target v k l = core (Back unit_value) k (put target.place (with_mode ReadWrite v) l)
+    assign_core (Some token) assignment target v k l =
+        update_core (if_fast s.fast_operators (op_assign_of token target.value v))
+        (record { attempt = InPlace; operator = token; at = assignment.op.position; place = target.place; target = target.value; operand = v; target_at = assignment.at })
+        k l
+
+    -- the variable, once it is charged: it has to be there, free and no constant
+    abbrev pub store_core : Result (Target H) (EvalAltResult H) → Assignment → Dynamic H → List (Frame H) → Local H → Core H
+    store_core (Ok target) assignment v k l = assign_core assignment.op.op assignment target v k l
+    store_core (Err e) assignment v k l = core (Fail e) k l
+
+    -- the native of an update is asked whether it is pure, which a target that may be written has no use for, and then called
+    abbrev pub question_update : Update H → List (Frame H) → Local H → Move H (Core H)
+    question_update u k l =
+        AskPure (OfName (native_of u.attempt u.operator) (type_name_of s.host_type l.around.cells u.target) 2) (λ pure. core (FireUpdate u) k l)
+
+    -- the native `op=` changed the target, and its value is only measured
+    abbrev pub changed_core : Result (Dynamic H) (EvalAltResult H) → Update H → List (Frame H) → Local H → Core H
+    changed_core (Ok v) u k l = core (done (sized s u.target u.target_at)) k l
+    changed_core (Err e) u k l = core (Fail e) k l
+
+    -- where no function is named `op=` the one named `op` is asked
+    abbrev pub fault_core : (missing : Bool) → EvalAltResult H → Update H → List (Frame H) → Local H → Core H
+    fault_core true e u k l = core (AskUpdate (record u { attempt = AsValue })) k l
+    fault_core false e u k l = core (Fail e) k l
+
+    -- the native `op` gave the target's new value
+    abbrev pub value_core : Result (Dynamic H) (EvalAltResult H) → Update H → List (Frame H) → Local H → Core H
+    value_core (Ok v) u k l = core (done (sized s v u.target_at)) k (put u.place v l)
+    value_core (Err e) u k l = core (Fail e) k l
+
+    -- what the native answered, the target as it left it
+    abbrev pub answered_core : Attempt → Reply H → Update H → List (Frame H) → Local H → Core H
+    answered_core InPlace Missing u k l = update_core (op_assign_of u.operator u.target u.operand) (record u { attempt = AsValue }) k l
+    answered_core InPlace (Gives v) u k l = changed_core (sized s v u.at) u k l
+    answered_core InPlace (Faults e) u k l = fault_core (says_missing (native_of InPlace u.operator) e) (placed_if_none u.at e) u k l
+    answered_core AsValue reply u k l = value_core (replied s reply (Some u.target) (u.operand ∷ []) (operation_of u) l.around.cells) u k l
+
+    -- the target is lent to the native, which may change it, and is written back whatever the answer
+    abbrev pub lent_core : Reply H → Dynamic H → Update H → List (Frame H) → Local H → Core H
+    lent_core reply v u k l = answered_core u.attempt reply (record u { target = v }) k (put u.place v l)
+
+    abbrev pub call_update : Update H → List (Frame H) → Local H → Move H (Core H)
+    call_update u k l =
+        Native (request (while_lent u.place l.around.cells) (Named (native_of u.attempt u.operator)) (Some u.target) (u.operand ∷ []) u.at)
+        (λ reply left. lent_core reply (left_in u left) u k l)
+
+    -- a target that is still a bare handle is nobody's to hand in
+    abbrev pub fire_update : Union H → Update H → List (Frame H) → Local H → Move H (Core H)
+    fire_update (value.Cell id) u k l = Go (core (Fail (error.ErrorDataRace (native_of u.attempt u.operator) u.at)) k l)
+    fire_update _ u k l = call_update u k l

@@ -1,0 +1,70 @@
+-- Where a variable's value stands, as it is assigned to.
+use Rattle.std.specs.Prelude.{ℕ, Bool, true, false, ◌||◌, List, Option, Some, None, Result, Ok, Err, slice_get, slice_set}
+use Rattle.rhai_tree.specs.declared.position.Position.{Position}
+use Rattle.rhai_values.specs.declared.base.value.AccessMode.{AccessMode}
+use Rattle.rhai_values.specs.declared.base.value.AccessMode.TheVariants.{ReadWrite, ReadOnly}
+use Rattle.rhai_values.specs.declared.base.value.Dynamic.{Dynamic}
+use Rattle.rhai_values.specs.declared.base.value.Union.{Union}
+use Rattle.rhai_values.specs.declared.base.value.Union.TheVariants as value
+use Rattle.rhai_values.specs.declared.base.scope.ScopeEntry.{ScopeEntry}
+use Rattle.rhai_values.specs.declared.base.error.EvalAltResult.{EvalAltResult}
+use Rattle.rhai_values.specs.declared.base.error.EvalAltResult.TheVariants as error
+use Rattle.rhai_values.specs.Cells.{value_of_cell, with_held, with_value}
+use Rattle.rhai_values.specs.Scope.{index_of, found}
+use Rattle.rhai_machine.specs.language.State.{Local}
+use Rattle.rhai_machine.specs.language.Values.{Cells}
+
+-- in an entry of the scope, or in a cell
+pub data Place : Type 0 where
+  InEntry : (index : ℕ) → Place
+  InCell : (number : ℕ) → Place
+
+-- a place with the value that stands there
+pub record Target (H : Type 0) : Type 0 where
+  pub place : Place
+  pub value : Dynamic H
+
+abbrev pub is_constant : AccessMode → Bool
+is_constant ReadOnly = true
+is_constant ReadWrite = false
+
+module _ {H : Type 0} where
+  abbrev pub target : Place → Dynamic H → Target H
+  target place v = record { place = place; value = v }
+
+  -- a constant is not assigned to
+  abbrev pub unless_constant : Bool → List ℕ → Position → Target H → Result (Target H) (EvalAltResult H)
+  unless_constant true name at place = Err (error.ErrorAssignmentToConstant name at)
+  unless_constant false name at place = Ok place
+
+  -- a handle leads to its cell; either one may make a constant, and a held cell is another's
+  abbrev pub target_in_cell : List ℕ → Position → AccessMode → ℕ → Option (Dynamic H) → Result (Target H) (EvalAltResult H)
+  target_in_cell name at mode number (Some v) = unless_constant (is_constant mode || is_constant v.mode) name at (target (InCell number) v)
+  target_in_cell name at mode number None = Err (error.ErrorDataRace name at)
+
+  abbrev pub target_at : Cells H → List ℕ → Position → (index : ℕ) → Union H → Dynamic H → Result (Target H) (EvalAltResult H)
+  target_at cells name at index (value.Cell id) v = target_in_cell name at v.mode id.number (value_of_cell cells id.number)
+  target_at cells name at index _ v = unless_constant (is_constant v.mode) name at (target (InEntry index) v)
+
+  abbrev pub target_found : Cells H → List ℕ → Position → Option ℕ → Option (Dynamic H) → Result (Target H) (EvalAltResult H)
+  target_found cells name at (Some index) (Some v) = target_at cells name at index v.value v
+  target_found cells name at _ _ = Err (error.ErrorVariableNotFound name at)
+
+  -- the variable of a name, as it is assigned to
+  abbrev pub target_of : Cells H → List ℕ → Position → List (ScopeEntry H) → Result (Target H) (EvalAltResult H)
+  target_of cells name at entries = target_found cells name at (index_of name entries) (found name entries)
+
+  -- an entry with another value
+  abbrev pub revalued : List (ScopeEntry H) → ℕ → Option (ScopeEntry H) → Dynamic H → List (ScopeEntry H)
+  revalued entries index (Some entry) v = slice_set entries index (record entry { value = v })
+  revalued entries index None v = entries
+
+  -- a value is written to a place
+  abbrev pub put : Place → Dynamic H → Local H → Local H
+  put (InEntry index) v l = record l { scope = revalued l.scope index (slice_get l.scope index) v }
+  put (InCell number) v l = record l { around = record l.around { cells = with_value l.around.cells number v } }
+
+  -- the cells while the value of a place is lent to a native: its cell is held
+  abbrev pub while_lent : Place → Cells H → Cells H
+  while_lent (InEntry index) cells = cells
+  while_lent (InCell number) cells = with_held cells number
