@@ -1,5 +1,6 @@
 -- No form that is there reads or writes `this`, so a run with another `this` takes the same steps.
 use Rattle.std.proofs.Common.{◌≡◌, refl, sym, ap, subst, ◌∙◌}
+use mathlib.Core.Path.{fun_ext}
 use Rattle.std.specs.Prelude.{ℕ, nat_le, length, not, ◌&&◌, Bool, true, false, List, [], ◌∷◌, Option, Some, None, Result, Ok, Err, is_some}
 use Rattle.rhai_tree.specs.declared.position.Position.{Position}
 use Rattle.rhai_tree.specs.declared.token.Token.{Token}
@@ -11,6 +12,7 @@ use Rattle.rhai_tree.specs.declared.expr.FnCallExpr.{FnCallExpr}
 use Rattle.rhai_tree.specs.declared.expr.StmtBlock.{StmtBlock}
 use Rattle.rhai_tree.specs.declared.expr.Expr.TheOpen as layer
 use Rattle.rhai_tree.specs.Layers.{ExprLayer, StmtLayer}
+use Rattle.rhai_tree.specs.Positions.{position_of}
 use Rattle.rhai_values.specs.declared.base.value.Dynamic.{Dynamic}
 use Rattle.rhai_values.specs.declared.base.value.Union.{Union}
 use Rattle.rhai_values.specs.declared.base.value.Union.TheVariants as value
@@ -21,14 +23,22 @@ use Rattle.rhai_machine.specs.machine.Machine.{Move, Halt, Go, Charge, Native, A
 use Rattle.rhai_machine.specs.machine.Point.{Point, Reaches, here, next, after, moved, paid}
 use Rattle.rhai_machine.specs.language.Setting.{Setting, limit_of}
 use Rattle.rhai_machine.specs.language.State.{Local, State}
-use Rattle.rhai_machine.specs.language.Values.{flat, truth}
-use Rattle.rhai_machine.specs.language.Frames.{Operation, Call, Control, Frame, Core, core, Eval, Exec, Ask, Argument, Question, Fire, OpenExpr, OpenStmt, Enter, Run, Back, Fail, StatementValue, DefineValue, IfCondition, RestOfList, RestoreList, Top, UnaryOperand, LeftOperand, RightOperand}
-use Rattle.rhai_machine.specs.language.Expressions.{literal_of, argument_move, operands_move, expr_move}
-use Rattle.rhai_machine.specs.language.Calls.{operator_core, builtin_of, fire_first, fire_move}
-use Rattle.rhai_machine.specs.language.Statements.{enter_core, run_core, chosen_core, defined_core, define_core, stmt_move}
+use Rattle.rhai_machine.specs.language.Values.{flat, through, truth, unit_value}
+use Rattle.rhai_operators.specs.Answers.{Answer, op_assign_of}
+use Rattle.rhai_tree.specs.declared.expr.OpAssignment.{OpAssignment}
+use Rattle.rhai_values.specs.declared.base.value.AccessMode.TheVariants.{ReadWrite}
+use Rattle.rhai_values.specs.Modes.{with_mode}
+use Rattle.rhai_values.specs.Native.{Reply, Missing, Gives, Faults, Named, request}
+use Rattle.rhai_machine.specs.language.Frames.{Operation, Call, Attempt, InPlace, AsValue, Assignment, Update, Control, Frame, Core, core, Eval, Exec, Ask, Assign, AskUpdate, Argument, Question, Fire, QuestionUpdate, FireUpdate, OpenExpr, OpenStmt, Enter, Run, Store, WhileTurn, DoTurn, Back, Fail, StatementValue, DefineValue, IfCondition, RestOfList, RestoreList, Top, UnaryOperand, LeftOperand, RightOperand, AndPart, OrPart, CoalescePart, AssignValue, WhileCondition, WhileBody, DoCondition, DoBody, BreakValue, ReturnValue}
+use Rattle.rhai_machine.specs.language.Places.{Place, InEntry, InCell, Target, put, target_of, while_lent}
+use Rattle.rhai_machine.specs.language.Assignment.{assignment_move, assigned_core, written_core, done, if_fast, left_in, update_core, assign_core, store_core, changed_core, fault_core, value_core, answered_core, lent_core, call_update, fire_update, native_of, operation_of, says_missing}
+use Rattle.rhai_machine.specs.language.Loops.{is_endless, while_move, while_core}
+use Rattle.rhai_machine.specs.language.Expressions.{literal_of, argument_move, operands_move, expr_move, and_core, and_next, or_core, or_next, coalesce_core, coalesce_seen, coalesce_next}
+use Rattle.rhai_machine.specs.language.Calls.{operator_core, builtin_of, fire_first, fire_move, replied, applied, sized, placed_if_none}
+use Rattle.rhai_machine.specs.language.Statements.{has_option, enter_core, run_core, chosen_core, defined_core, define_core, stmt_move, break_core, return_move, returned_core}
 use Rattle.rhai_machine.specs.language.Unwinding.{up_core, down_core, unary_core, left_core, right_core, operated, call_of}
 use Rattle.rhai_machine.specs.language.Language.{move_at, move, machine}
-use Rattle.rhai_machine.specs.language.Runs.{at, Goes, Steps}
+use Rattle.rhai_machine.specs.language.Runs.{at, Steps}
 
 module _ {H : Type 0} (t : Option (Dynamic H)) where
   abbrev with_local : Local H → Local H
@@ -64,6 +74,120 @@ module _ {H : Type 0} (t : Option (Dynamic H)) where
     operands_same true (Some token) call (left ∷ right ∷ []) pos k l = refl
     operands_same _ _ call args pos k l = refl
 
+    and_same : (parts : List Expr) (k : List (Frame H)) (l : Local H) → and_core parts k (with_local l) ≡ in_core (and_core parts k l)
+    and_same [] k l = refl
+    and_same (part ∷ parts) k l = refl
+
+    and_next_same : (r : Result Bool (EvalAltResult H)) (parts : List Expr) (k : List (Frame H)) (l : Local H) → and_next r parts k (with_local l) ≡ in_core (and_next r parts k l)
+    and_next_same (Ok true) parts k l = and_same parts k l
+    and_next_same (Ok false) parts k l = refl
+    and_next_same (Err e) parts k l = refl
+
+    or_same : (parts : List Expr) (k : List (Frame H)) (l : Local H) → or_core parts k (with_local l) ≡ in_core (or_core parts k l)
+    or_same [] k l = refl
+    or_same (part ∷ parts) k l = refl
+
+    or_next_same : (r : Result Bool (EvalAltResult H)) (parts : List Expr) (k : List (Frame H)) (l : Local H) → or_next r parts k (with_local l) ≡ in_core (or_next r parts k l)
+    or_next_same (Ok true) parts k l = refl
+    or_next_same (Ok false) parts k l = or_same parts k l
+    or_next_same (Err e) parts k l = refl
+
+    coalesce_same : (last : Dynamic H) (parts : List Expr) (k : List (Frame H)) (l : Local H) → coalesce_core last parts k (with_local l) ≡ in_core (coalesce_core last parts k l)
+    coalesce_same last [] k l = refl
+    coalesce_same last (part ∷ parts) k l = refl
+
+    coalesce_seen_same : (u : Union H) (v : Dynamic H) (parts : List Expr) (k : List (Frame H)) (l : Local H) → coalesce_seen u v parts k (with_local l) ≡ in_core (coalesce_seen u v parts k l)
+    coalesce_seen_same value.Unit v parts k l = coalesce_same v parts k l
+    coalesce_seen_same _ v parts k l = refl
+
+    coalesce_next_same : (r : Result (Dynamic H) (EvalAltResult H)) (v : Dynamic H) (parts : List Expr) (k : List (Frame H)) (l : Local H) → coalesce_next r v parts k (with_local l) ≡ in_core (coalesce_next r v parts k l)
+    coalesce_next_same (Ok seen) v parts k l = coalesce_seen_same seen.value v parts k l
+    coalesce_next_same (Err e) v parts k l = refl
+
+    -- assignments
+    put_same : (place : Place) (v : Dynamic H) (l : Local H) → put place v (with_local l) ≡ with_local (put place v l)
+    put_same (InEntry index) v l = refl
+    put_same (InCell number) v l = refl
+
+    assignment_same : (form : ExprLayer) (op : OpAssignment) (rhs : Expr) (k : List (Frame H)) (l : Local H) → assignment_move form op rhs k (with_local l) ≡ in_move (assignment_move form op rhs k l)
+    assignment_same (layer.Variable offset name namespace pos) op rhs k l = refl
+    assignment_same _ op rhs k l = refl
+
+    assigned_same : (r : Result (Dynamic H) (EvalAltResult H)) (assignment : Assignment) (k : List (Frame H)) (l : Local H) → assigned_core r assignment k (with_local l) ≡ in_core (assigned_core r assignment k l)
+    assigned_same (Ok v) assignment k l = refl
+    assigned_same (Err e) assignment k l = refl
+
+    written_same : (r : Result (Dynamic H) (EvalAltResult H)) (place : Place) (k : List (Frame H)) (l : Local H) → written_core r place k (with_local l) ≡ in_core (written_core r place k l)
+    written_same (Ok v) place k l = ap (core (Back unit_value) k) (put_same place v l)
+    written_same (Err e) place k l = refl
+
+    update_same : (builtin : Answer H) (u : Update H) (k : List (Frame H)) (l : Local H) → update_core s builtin u k (with_local l) ≡ in_core (update_core s builtin u k l)
+    update_same (Some r) u k l = written_same (applied s r u.at) u.place k l
+    update_same None u k l = refl
+
+    assign_same : (op : Option Token) (assignment : Assignment) (target : Target H) (v : Dynamic H) (k : List (Frame H)) (l : Local H) → assign_core s op assignment target v k (with_local l) ≡ in_core (assign_core s op assignment target v k l)
+    assign_same None assignment target v k l = ap (core (Back unit_value) k) (put_same target.place (with_mode ReadWrite v) l)
+    assign_same (Some token) assignment target v k l =
+        update_same (if_fast s.fast_operators (op_assign_of token target.value v))
+        (record { attempt = InPlace; operator = token; at = assignment.op.position; place = target.place; target = target.value; operand = v; target_at = assignment.at }) k l
+
+    store_same : (r : Result (Target H) (EvalAltResult H)) (assignment : Assignment) (v : Dynamic H) (k : List (Frame H)) (l : Local H) → store_core s r assignment v k (with_local l) ≡ in_core (store_core s r assignment v k l)
+    store_same (Ok target) assignment v k l = assign_same assignment.op.op assignment target v k l
+    store_same (Err e) assignment v k l = refl
+
+    changed_same : (r : Result (Dynamic H) (EvalAltResult H)) (u : Update H) (k : List (Frame H)) (l : Local H) → changed_core s r u k (with_local l) ≡ in_core (changed_core s r u k l)
+    changed_same (Ok v) u k l = refl
+    changed_same (Err e) u k l = refl
+
+    fault_same : (missing : Bool) (e : EvalAltResult H) (u : Update H) (k : List (Frame H)) (l : Local H) → fault_core s missing e u k (with_local l) ≡ in_core (fault_core s missing e u k l)
+    fault_same true e u k l = refl
+    fault_same false e u k l = refl
+
+    value_same : (r : Result (Dynamic H) (EvalAltResult H)) (u : Update H) (k : List (Frame H)) (l : Local H) → value_core s r u k (with_local l) ≡ in_core (value_core s r u k l)
+    value_same (Ok v) u k l = ap (core (done (sized s v u.target_at)) k) (put_same u.place v l)
+    value_same (Err e) u k l = refl
+
+    answered_same : (attempt : Attempt) (reply : Reply H) (u : Update H) (k : List (Frame H)) (l : Local H) → answered_core s attempt reply u k (with_local l) ≡ in_core (answered_core s attempt reply u k l)
+    answered_same InPlace Missing u k l = update_same (op_assign_of u.operator u.target u.operand) (record u { attempt = AsValue }) k l
+    answered_same InPlace (Gives v) u k l = changed_same (sized s v u.at) u k l
+    answered_same InPlace (Faults e) u k l = fault_same (says_missing (native_of InPlace u.operator) e) (placed_if_none u.at e) u k l
+    answered_same AsValue reply u k l = value_same (replied s reply (Some u.target) (u.operand ∷ []) (operation_of u) l.around.cells) u k l
+
+    lent_same : (reply : Reply H) (v : Dynamic H) (u : Update H) (k : List (Frame H)) (l : Local H) → lent_core s reply v u k (with_local l) ≡ in_core (lent_core s reply v u k l)
+    lent_same reply v u k l =
+        ap (answered_core s u.attempt reply (record u { target = v }) k) (put_same u.place v l) ∙ answered_same u.attempt reply (record u { target = v }) k (put u.place v l)
+
+    call_update_same : (u : Update H) (k : List (Frame H)) (l : Local H) → call_update s u k (with_local l) ≡ in_move (call_update s u k l)
+    call_update_same u k l = ap (Native (request (while_lent u.place l.around.cells) (Named (native_of u.attempt u.operator)) (Some u.target) (u.operand ∷ []) u.at)) (fun_ext (λ reply. fun_ext (λ left. lent_same reply (left_in u left) u k l)))
+
+    fire_update_same : (value : Union H) (u : Update H) (k : List (Frame H)) (l : Local H) → fire_update s value u k (with_local l) ≡ in_move (fire_update s value u k l)
+    fire_update_same (value.Cell id) u k l = refl
+    fire_update_same _ u k l = call_update_same u k l
+
+    -- loops, and the ways out of them
+    while_same : (endless : Bool) (stmts : List Stmt) (test : Expr) (body : StmtBlock) (k : List (Frame H)) (l : Local H) → while_move endless stmts test body k (with_local l) ≡ in_move (while_move endless stmts test body k l)
+    while_same false stmts test body k l = refl
+    while_same true [] test body k l = refl
+    while_same true (stmt ∷ stmts) test body k l = refl
+
+    while_core_same : (r : Result Bool (EvalAltResult H)) (test : Expr) (body : StmtBlock) (k : List (Frame H)) (l : Local H) → while_core r test body k (with_local l) ≡ in_core (while_core r test body k l)
+    while_core_same (Ok true) test body k l = refl
+    while_core_same (Ok false) test body k l = refl
+    while_core_same (Err e) test body k l = refl
+
+    break_same : (value : Option Expr) (is_break : Bool) (pos : Position) (k : List (Frame H)) (l : Local H) → break_core value is_break pos k (with_local l) ≡ in_core (break_core value is_break pos k l)
+    break_same None is_break pos k l = refl
+    break_same (Some value) is_break pos k l = refl
+
+    return_same : (throws : Bool) (value : Option Expr) (pos : Position) (k : List (Frame H)) (l : Local H) → return_move throws value pos k (with_local l) ≡ in_move (return_move throws value pos k l)
+    return_same true value pos k l = refl
+    return_same false None pos k l = refl
+    return_same false (Some value) pos k l = refl
+
+    returned_same : (r : Result (Dynamic H) (EvalAltResult H)) (pos : Position) (k : List (Frame H)) (l : Local H) → returned_core r pos k (with_local l) ≡ in_core (returned_core r pos k l)
+    returned_same (Ok v) pos k l = refl
+    returned_same (Err e) pos k l = refl
+
     expr_same : (fast : Bool) (form : ExprLayer) (k : List (Frame H)) (l : Local H) → expr_move fast form k (with_local l) ≡ in_move (expr_move fast form k l)
     expr_same fast (layer.BoolConstant b pos) k l = refl
     expr_same fast (layer.IntegerConstant n pos) k l = refl
@@ -71,6 +195,9 @@ module _ {H : Type 0} (t : Option (Dynamic H)) where
     expr_same fast (layer.Variable offset name namespace pos) k l = refl
     expr_same fast (layer.Expr::FnCall call pos) k l = operands_same fast call.op_token call call.args pos k l
     expr_same fast (layer.Stmt block) k l = refl
+    expr_same fast (layer.And parts pos) k l = ap Go (and_same parts k l)
+    expr_same fast (layer.Or parts pos) k l = ap Go (or_same parts k l)
+    expr_same fast (layer.Coalesce parts pos) k l = ap Go (coalesce_same unit_value parts k l)
     expr_same fast _ k l = refl
 
     define_same : (shadows full : Bool) (ident : Ident) (value : Expr) (options : ASTFlags) (pos : Position) (k : List (Frame H)) (l : Local H) →
@@ -83,9 +210,14 @@ module _ {H : Type 0} (t : Option (Dynamic H)) where
     stmt_same (layer.Noop pos) restoring k l = refl
     stmt_same (layer.Expr value) restoring k l = refl
     stmt_same (layer.Block block) restoring k l = refl
+    stmt_same (layer.Assignment op lhs rhs) restoring k l = assignment_same (out-Expr lhs) op rhs k l
     stmt_same (layer.Var ident value None options pos) restoring k l =
         ap Go (define_same (not s.allow_shadowing && is_some (index_of ident.name l.scope)) (nat_le s.max_variables (length l.scope)) ident value options pos k l)
     stmt_same (layer.If test body branch pos) restoring k l = refl
+    stmt_same (layer.While test body pos) restoring k l = refl
+    stmt_same (layer.Do test body options pos) restoring k l = refl
+    stmt_same (layer.BreakLoop value options pos) restoring k l = ap Go (break_same value (has_option 2 options) pos k l)
+    stmt_same (layer.Return value options pos) restoring k l = return_same (has_option 2 options) value pos k l
     stmt_same _ restoring k l = refl
 
     fire_first_same : (u : Union H) (x : Dynamic H) (call : Call H) (rest : List (Dynamic H)) (k : List (Frame H)) (l : Local H) →
@@ -136,19 +268,38 @@ module _ {H : Type 0} (t : Option (Dynamic H)) where
     up_same (UnaryOperand operation operand_at) v k l = unary_same (flat l.around.cells v operand_at) operation k l
     up_same (LeftOperand operation left_at right) v k l = left_same (flat l.around.cells v left_at) operation right k l
     up_same (RightOperand operation left right_at) v k l = right_same left (flat l.around.cells v right_at) operation k l
+    up_same (AndPart part_at rest) v k l = and_next_same (truth s.host_type l.around.cells v part_at) rest k l
+    up_same (OrPart part_at rest) v k l = or_next_same (truth s.host_type l.around.cells v part_at) rest k l
+    up_same (CoalescePart part_at rest) v k l = coalesce_next_same (through l.around.cells v part_at) v rest k l
+    up_same (AssignValue assignment value_at) v k l = assigned_same (flat l.around.cells v value_at) assignment k l
+    up_same (WhileCondition test body) v k l = while_core_same (truth s.host_type l.around.cells v (position_of test)) test body k l
+    up_same (WhileBody test body) v k l = refl
+    up_same (DoCondition test body options) v k l = refl
+    up_same (DoBody test body options) v k l = refl
+    up_same (BreakValue is_break pos) v k l = refl
+    up_same (ReturnValue value_at pos) v k l = returned_same (flat l.around.cells v value_at) pos k l
 
     down_same : (frame : Frame H) (e : EvalAltResult H) (k : List (Frame H)) (l : Local H) → down_core s frame e k (with_local l) ≡ in_core (down_core s frame e k l)
     down_same (Top map_exit) e k l = refl
     down_same (RestoreList saved) e k l = refl
+    down_same (WhileBody test body) e k l = refl
+    down_same (DoBody test body options) e k l = refl
     down_same _ e k l = refl
 
     move_same : (c : Control H) (k : List (Frame H)) (l : Local H) → move_at s c k (with_local l) ≡ in_move (move_at s c k l)
     move_same (Eval e) k l = refl
     move_same (Exec stmt restoring) k l = refl
     move_same (Ask call) k l = refl
+    move_same (Assign assignment v) k l = refl
+    move_same (AskUpdate u) k l = refl
     move_same (Argument e) k l = argument_same (literal_of (out-Expr e)) e k l
     move_same (Question call) k l = refl
     move_same (Fire call) k l = fire_same call call.args k l
+    move_same (QuestionUpdate u) k l = refl
+    move_same (FireUpdate u) k l = fire_update_same u.target.value u k l
+    move_same (Store assignment v) k l = ap Go (store_same (target_of l.around.cells assignment.name assignment.at l.scope) assignment v k l)
+    move_same (WhileTurn test body) k l = while_same (is_endless (out-Expr test)) body.statements test body k l
+    move_same (DoTurn test body options) k l = refl
     move_same (OpenExpr form) k l = expr_same s.fast_operators form k l
     move_same (OpenStmt form restoring) k l = stmt_same form restoring k l
     move_same (Enter stmts restoring) k l = ap Go (enter_same stmts restoring k l)
