@@ -3,6 +3,7 @@ pub mod Runs
 pub mod Limits
 pub mod Ends
 pub mod Toys
+pub mod Places
 mod Falls
 pub mod LanguageLaws
 pub mod ThisLaws

@@ -94,6 +94,7 @@ module _ {S H : Type 0} (natives : Natives S H) (host : H → List ℕ) where
         (stretch _ _ 11 _ (chooses_at 5 38) (simp opened)
         (stretch _ _ 17 _ (loop_at (Eval continued_test) (DoCondition continued_test continued_body until ∷ []) (drop 2 continued) 5 42) (simp opened)
         (by_steps _ _ 30 (simp opened) refl))))))))))));
+    goes_once = by_steps _ _ 30 (simp opened) refl;
     empty = stretch _ _ 4 _ (endless_at 1) (simp opened)
         (stretch _ _ 4 _ (endless_at 5) (simp opened)
         (stretch _ _ 4 _ (endless_at 9) (simp opened)
@@ -107,6 +108,7 @@ module _ {S H : Type 0} (natives : Natives S H) (host : H → List ℕ) where
   pub ways_out : WaysOut natives host
   ways_out = record {
     breaks = stretch _ _ 26 _ (rest_at (drop 1 broken) (codes "x") 7 5) (simp opened) (by_steps _ _ 30 (simp opened) refl);
+    takes_back = by_steps _ _ 40 (simp opened) refl;
     inner_loop = by_steps _ _ 60 (simp opened) refl;
     as_it_is = by_steps _ _ 40 (simp opened) refl;
     returns = by_steps _ _ 40 (simp opened) refl;

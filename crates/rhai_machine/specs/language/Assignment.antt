@@ -49,7 +49,7 @@ module _ {H : Type 0} where
   written_core (Err e) place k l = core (Fail e) k l
 
   -- an assignment is done, where its last measurement went well
-  abbrev pub done : Result (Dynamic H) (EvalAltResult H) → Control H
+  abbrev pub done : {A : Type 0} → Result A (EvalAltResult H) → Control H
   done (Ok v) = Back unit_value
   done (Err e) = Fail e
 

@@ -5,8 +5,8 @@ use Rattle.rhai_tree.specs.declared.expr.Stmt.{Stmt}
 use Rattle.rhai_tree.specs.declared.expr.StmtBlock.{StmtBlock}
 use Rattle.rhai_tree.specs.declared.token.Token.TheVariants.{Plus, Bang, LessThan, GreaterThanEqualsTo}
 use Rattle.rhai_values.specs.declared.base.error.EvalAltResult.TheVariants.{ErrorTooManyOperations}
-use Rattle.rhai_machine.specs.samples.Trees.{column, int, bool, var, op, value, braces, inner, let_, if_, no_else, assign, while_, loop_, do_until, break_, continue_, return_}
-use Rattle.rhai_machine.specs.samples.Runs.{Natives, Returns, Fails, Ends, usual, limited, integer, entry, nothing_but}
+use Rattle.rhai_machine.specs.samples.Trees.{column, int, bool, var, op, value, braces, inner, let_, if_, no_else, assign, while_, loop_, do_while, do_until, break_, continue_, return_}
+use Rattle.rhai_machine.specs.samples.Runs.{Natives, Returns, Fails, Ends, usual, limited, integer, unit, entry, nothing_but}
 use Rattle.rhai_machine.specs.samples.Handles.{one_cell, handle}
 
 -- `let n = 0; while n < 3 { n += 1; } n`
@@ -44,6 +44,14 @@ waits_test = op 7 Bang (bool 8 false ∷ [])
 abbrev pub waits : List Stmt
 waits = while_ 1 waits_test (braces 14 15 []) ∷ []
 
+-- `do {} while false`
+abbrev pub once : List Stmt
+once = do_while 1 (braces 4 5 []) (bool 13 false) ∷ []
+
+-- `loop { let a = 1; break; }`
+abbrev pub left_early : List Stmt
+left_early = loop_ 1 (braces 6 26 (let_ 8 (codes "a") (int 16 1) ∷ break_ 19 None ∷ [])) ∷ []
+
 -- `let x = loop { break 7; }; x + 1`
 abbrev pub broken : List Stmt
 broken =
@@ -74,6 +82,8 @@ module _ {S H : Type 0} (natives : Natives S H) (host : H → List ℕ) where
     pub cut : Fails natives (limited host 25) counted (ErrorTooManyOperations (column 36)) 25 (entry (codes "n") (integer 3) ∷ [])
     -- `continue` in a `do` starts the next turn without testing its condition
     pub continues : Returns natives (usual host) continued (integer 5) 47 (entry (codes "n") (integer 5) ∷ [])
+    -- a `do .. while` goes on while its condition holds
+    pub goes_once : Returns natives (usual host) once unit 2 []
     -- an endless loop with an empty body is charged at its body, each turn
     pub empty : Fails natives (limited host 10) endless (ErrorTooManyOperations (column 6)) 10 []
     -- a `while` with an empty body evaluates its condition, each turn
@@ -82,6 +92,8 @@ module _ {S H : Type 0} (natives : Natives S H) (host : H → List ℕ) where
   pub record WaysOut : Type 0 where
     -- `break` gives the loop its value
     pub breaks : Returns natives (usual host) broken (integer 8) 9 (entry (codes "x") (integer 7) ∷ [])
+    -- the variables of the body go with it
+    pub takes_back : Returns natives (usual host) left_early unit 4 []
     -- it ends the innermost loop
     pub inner_loop : Returns natives (usual host) innermost (integer 1) 5 []
     -- its value comes as it is, a handle too

@@ -83,6 +83,9 @@ while_ c test body = stmt.While test body (column c)
 abbrev pub loop_ : (at : ℕ) → StmtBlock → Stmt
 loop_ c body = while_ c (expr.Unit (column c)) body
 
+abbrev pub do_while : (at : ℕ) → StmtBlock → Expr → Stmt
+do_while c body test = stmt.Do test body (record { 0 = 0 }) (column c)
+
 abbrev pub do_until : (at : ℕ) → StmtBlock → Expr → Stmt
 do_until c body test = stmt.Do test body (record { 0 = 1 }) (column c)
 

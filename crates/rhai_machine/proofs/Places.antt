@@ -1,0 +1,103 @@
+-- What is written to a place: the last value alone stays, the value that is there changes nothing, and the scope keeps its names.
+use Rattle.std.proofs.Common.{refl, sym, ap, ◌∙◌}
+use Rattle.std.specs.Option.{option_map, option_flatten}
+use Rattle.std.specs.Prelude.{◌≡◌, ℕ, zero, suc, Bool, true, false, ◌||◌, List, [], ◌∷◌, map, Option, Some, None, Ok, slice_get, slice_set}
+use Rattle.rhai_tree.specs.declared.position.Position.{Position}
+use Rattle.rhai_values.specs.declared.base.value.AccessMode.{AccessMode}
+use Rattle.rhai_values.specs.declared.base.value.Dynamic.{Dynamic}
+use Rattle.rhai_values.specs.declared.base.value.Union.{Union}
+use Rattle.rhai_values.specs.declared.base.value.Union.TheVariants as value
+use Rattle.rhai_values.specs.declared.base.scope.ScopeEntry.{ScopeEntry}
+use Rattle.rhai_values.specs.Cells.{value_of_cell}
+use Rattle.rhai_values.specs.Scope.{name_of, value_of, value_in, index_of, found}
+use Rattle.rhai_machine.specs.language.State.{Local}
+use Rattle.rhai_machine.specs.language.Values.{Cells}
+use Rattle.rhai_machine.specs.language.Places.{Place, InEntry, InCell, Target, target, is_constant, unless_constant, target_in_cell, target_at, target_found, target_of, revalued, put}
+
+module _ {A : Type 0} where
+  -- the last of two items at an index stays
+  set_twice : (xs : List A) (i : ℕ) (a b : A) → slice_set (slice_set xs i b) i a ≡ slice_set xs i a
+  set_twice [] i a b = refl
+  set_twice (x ∷ xs) zero a b = refl
+  set_twice (x ∷ xs) (suc i) a b = ap (λ ys. x ∷ ys) (set_twice xs i a b)
+
+  -- an item that is there again
+  set_same : (xs : List A) (i : ℕ) (x : A) → slice_get xs i ≡ Some x → slice_set xs i x ≡ xs
+  set_same [] i x is = refl
+  set_same (y ∷ xs) zero x is = let same : y ≡ x = cc in ap (λ z. z ∷ xs) (sym same)
+  set_same (y ∷ xs) (suc i) x is = ap (λ ys. y ∷ ys) (set_same xs i x is)
+
+  get_set : (xs : List A) (i : ℕ) (x y : A) → slice_get xs i ≡ Some x → slice_get (slice_set xs i y) i ≡ Some y
+  get_set [] i x y is = cc
+  get_set (z ∷ xs) zero x y is = refl
+  get_set (z ∷ xs) (suc i) x y is = get_set xs i x y is
+
+  -- what an item says of itself, where the new item says the same
+  map_set : {B : Type 0} (f : A → B) (xs : List A) (i : ℕ) (x y : A) → slice_get xs i ≡ Some x → f y ≡ f x → map f (slice_set xs i y) ≡ map f xs
+  map_set f [] i x y is same = refl
+  map_set f (z ∷ xs) zero x y is same = let here : z ≡ x = cc in ap (λ w. w ∷ map f xs) (same ∙ ap f (sym here))
+  map_set f (z ∷ xs) (suc i) x y is same = ap (λ ws. f z ∷ ws) (map_set f xs i x y is same)
+
+module _ {H : Type 0} where
+  revalued_twice : (entries : List (ScopeEntry H)) (i : ℕ) (there : Option (ScopeEntry H)) (a b : Dynamic H) → slice_get entries i ≡ there →
+      revalued (revalued entries i there b) i (slice_get (revalued entries i there b) i) a ≡ revalued entries i there a
+  revalued_twice entries i None a b is = rw is refl
+  revalued_twice entries i (Some entry) a b is =
+      rw (get_set entries i entry (record entry { value = b }) is) (set_twice entries i (record entry { value = a }) (record entry { value = b }))
+
+  -- of two values that are written to a place the last one stays
+  pub put_twice : (place : Place) (a b : Dynamic H) (l : Local H) → put place a (put place b l) ≡ put place a l
+  put_twice (InEntry i) a b l = ap (λ (scope : List (ScopeEntry H)). record l { scope = scope }) (revalued_twice l.scope i (slice_get l.scope i) a b refl)
+  put_twice (InCell n) a b l = ap (λ (cells : Cells H). record l { around = record l.around { cells = cells } }) (set_twice l.around.cells n (Some a) (Some b))
+
+  revalued_names : (entries : List (ScopeEntry H)) (i : ℕ) (there : Option (ScopeEntry H)) (v : Dynamic H) → slice_get entries i ≡ there →
+      map name_of (revalued entries i there v) ≡ map name_of entries
+  revalued_names entries i None v is = refl
+  revalued_names entries i (Some entry) v is = map_set name_of entries i entry (record entry { value = v }) is refl
+
+  -- the scope keeps its names
+  pub put_names : (place : Place) (v : Dynamic H) (l : Local H) → map name_of (put place v l).scope ≡ map name_of l.scope
+  put_names (InEntry i) v l = revalued_names l.scope i (slice_get l.scope i) v refl
+  put_names (InCell n) v l = refl
+
+  revalued_same : (entries : List (ScopeEntry H)) (i : ℕ) (there : Option (ScopeEntry H)) (v : Dynamic H) → slice_get entries i ≡ there →
+      option_map value_of there ≡ Some v → revalued entries i there v ≡ entries
+  revalued_same entries i None v is same = refl
+  revalued_same entries i (Some entry) v is same = let here : entry.value ≡ v = cc in rw (← here) (set_same entries i entry is)
+
+  entry_there : (i : ℕ) (v : Dynamic H) (l : Local H) → value_in l.scope (Some i) ≡ Some v → put (InEntry i) v l ≡ l
+  entry_there i v l is = ap (λ (scope : List (ScopeEntry H)). record l { scope = scope }) (revalued_same l.scope i (slice_get l.scope i) v refl is)
+
+  cell_same : (cells : Cells H) (n : ℕ) (there : Option (Option (Dynamic H))) (v : Dynamic H) → slice_get cells n ≡ there → option_flatten there ≡ Some v → slice_set cells n (Some v) ≡ cells
+  cell_same cells n None v is same = cc
+  cell_same cells n (Some None) v is same = cc
+  cell_same cells n (Some (Some w)) v is same = let here : w ≡ v = cc in rw (← here) (set_same cells n (Some w) is)
+
+  cell_there : (n : ℕ) (v : Dynamic H) (l : Local H) → value_of_cell l.around.cells n ≡ Some v → put (InCell n) v l ≡ l
+  cell_there n v l is = ap (λ (cells : Cells H). record l { around = record l.around { cells = cells } }) (cell_same l.around.cells n (slice_get l.around.cells n) v refl is)
+
+  not_constant : (b : Bool) (name : List ℕ) (pos : Position) (p t : Target H) → unless_constant b name pos p ≡ Ok t → p ≡ t
+  not_constant true name pos p t is = cc
+  not_constant false name pos p t is = cc
+
+  module _ (name : List ℕ) (pos : Position) (l : Local H) (t : Target H) where
+    in_cell_there : (mode : AccessMode) (n : ℕ) (there : Option (Dynamic H)) → value_of_cell l.around.cells n ≡ there → target_in_cell name pos mode n there ≡ Ok t → put t.place t.value l ≡ l
+    in_cell_there mode n (Some v) is ok =
+        let same = not_constant (is_constant mode || is_constant v.mode) name pos (target (InCell n) v) t ok in
+        rw (← same) (cell_there n v l is)
+    in_cell_there mode n None is ok = cc
+
+    at_there : (i : ℕ) (u : Union H) (v : Dynamic H) → value_in l.scope (Some i) ≡ Some v → target_at l.around.cells name pos i u v ≡ Ok t → put t.place t.value l ≡ l
+    at_there i (value.Cell id) v is ok = in_cell_there v.mode id.number (value_of_cell l.around.cells id.number) refl ok
+    at_there i _ v is ok =
+        let same = not_constant (is_constant v.mode) name pos (target (InEntry i) v) t ok in
+        rw (← same) (entry_there i v l is)
+
+    found_there : (index : Option ℕ) (there : Option (Dynamic H)) → value_in l.scope index ≡ there → target_found l.around.cells name pos index there ≡ Ok t → put t.place t.value l ≡ l
+    found_there (Some i) (Some v) is ok = at_there i v.value v is ok
+    found_there (Some i) None is ok = cc
+    found_there None there is ok = cc
+
+    -- the value that is there already changes nothing
+    pub put_there : target_of l.around.cells name pos l.scope ≡ Ok t → put t.place t.value l ≡ l
+    put_there is = found_there (index_of name l.scope) (found name l.scope) refl is
