@@ -1,7 +1,9 @@
 //! The tree evaluator, proved to end exactly as a step machine with an explicit stack, cut at the
-//! limit of operations.
+//! limit of operations. What it stands on is shown here too, so that a host names one crate.
 #![tactic(auto)]
 
 pub mod engine;
 pub mod eval;
 pub mod func;
+
+pub use rhai_eval_base::{base, cells, check, script, state, table, target};

@@ -8,3 +8,4 @@ pub mod check;
 pub mod script;
 pub mod state;
 pub mod table;
+pub mod target;
