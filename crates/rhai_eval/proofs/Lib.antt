@@ -1,4 +1,5 @@
 pub mod Chain
+pub mod Indexers
 pub mod NativeCalls
 pub mod NameLemmas
 pub mod Variables

@@ -1,3 +1,4 @@
+pub mod Indexers
 pub mod Memory
 pub mod Saves
 pub mod Search

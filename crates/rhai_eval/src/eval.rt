@@ -2,6 +2,7 @@
 
 pub mod errors;
 pub mod expr;
+pub mod indexing;
 pub mod script;
 pub mod stmt;
 pub mod values;

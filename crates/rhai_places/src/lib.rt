@@ -4,7 +4,7 @@
 
 pub mod bits;
 mod chars;
-mod errors;
+pub mod errors;
 pub mod indexing;
 pub mod laws;
 pub mod locate;

@@ -92,7 +92,7 @@ fn not_found<H: Host>(
 }
 
 /// A native's fault, at the call where it has no position of its own.
-fn placed<H: Host>(error: EvalAltResult<H>, pos: Position) -> EvalAltResult<H>
+pub(crate) fn placed<H: Host>(error: EvalAltResult<H>, pos: Position) -> EvalAltResult<H>
     ensures { result ≡ placed_if_none pos error }
 {
     let mut error = error;
