@@ -67,7 +67,7 @@ impl<H: Host> Engine<H> {
             &mut unbound,
             stmt,
             rewind_scope,
-            )
+        )
     }
 
     /// What a list of statements does, charged statement by statement. With `restore_orig_state` the
@@ -108,7 +108,7 @@ impl<H: Host> Engine<H> {
             &mut unbound,
             statements,
             restore_orig_state,
-            )
+        )
     }
 
     /// What a statement does, in a list that restores or not.
