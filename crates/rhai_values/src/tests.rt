@@ -3,6 +3,7 @@
 
 use crate::base::error::EvalAltResult;
 use crate::base::scope::Scope;
+use crate::base::size::SizeFault;
 use crate::base::value::{AccessMode, Dynamic, FnPtr, FnPtrKind, Host, Module, Union};
 use crate::caches::Caches;
 use crate::cells::CellStore;
@@ -141,4 +142,18 @@ fn errors_say_what_they_are(rt: HostRuntime) {
     assert_eq!(rt; error.position(), Position::new(1, 2));
     assert_eq!(rt; error.name(), "ErrorStackOverflow");
     assert!(rt; !error.is_catchable());
+}
+
+#[test]
+fn data_is_measured(rt: HostRuntime) -> Result<(), Fail> {
+    let alloc = rt.alloc();
+    let mut items = Items::new(alloc);
+    for number in 1..4 {
+        items.push(Dynamic::new(Union::Int(number)))?;
+    }
+    let array: Dynamic<Word> = Dynamic::new(Union::Array(Boxed::new(alloc, items)?));
+    assert!(rt; matches!(array.exceeds(0, 2, 0), Some(SizeFault::Arrays)));
+    assert!(rt; array.exceeds(0, 3, 0).is_none());
+    assert!(rt; array.exceeds(2, 0, 2).is_none());
+    Ok(())
 }
