@@ -1,5 +1,5 @@
 -- Scopes as plain lists of entries, the newest last.
-use Rattle.std.specs.Prelude.{ℕ, List, [], Option, Some, None, map, slice_get}
+use Rattle.std.specs.Prelude.{ℕ, List, [], Option, Some, None, map, slice_get, slice_set}
 use Rattle.std.specs.Option.{option_map}
 use Rattle.std.specs.Borrow.{Bor}
 use Rattle.rhai_values.specs.declared.base.value.AccessMode.{AccessMode}
@@ -39,6 +39,11 @@ module _ {H : Type 0} where
   -- a new entry: its value takes the mode asked for, and it has no aliases
   abbrev pub new_entry : List ℕ → AccessMode → Dynamic H → ScopeEntry H
   new_entry name mode value = record { name = name; value = with_mode mode value; aliases = [] }
+
+  -- the entry at a place with another value
+  abbrev pub revalued : List (ScopeEntry H) → (at : ℕ) → (there : Option (ScopeEntry H)) → Dynamic H → List (ScopeEntry H)
+  revalued entries at (Some entry) value = slice_set entries at (record entry { value = value })
+  revalued entries at None value = entries
 
   -- the entry that a name, a value and aliases show
   abbrev pub shown : Bor (List ℕ) × Bor (Dynamic H) × Bor (List (List ℕ)) → ScopeEntry H

@@ -1,6 +1,7 @@
 //! Values, errors and scopes.
 
 mod copy;
+mod debug;
 pub mod error;
 pub mod hashable;
 pub mod literal;

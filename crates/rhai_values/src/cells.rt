@@ -1,6 +1,6 @@
 //! The store of shared cells.
 
-ghost use Rattle.std.specs.Prelude.{◌≡◌, [], ◌∷◌, ◌++◌, Some, length, IfOk, IfErr, OnOk, OnErr};
+ghost use Rattle.std.specs.Prelude.{◌≡◌, ◌<◌, [], ◌∷◌, ◌++◌, Some, length, IfOk, IfErr, OnOk, OnErr};
 ghost use Rattle.std.specs.Option.{option_copied};
 ghost use Rattle.rhai_values.specs.Cells.{cells_of, value_of_cell, with_held, with_value, IsHeld};
 ghost use Rattle.rhai_values.specs.Native.{IsNoHandle};
@@ -68,6 +68,14 @@ impl<H> CellStore<H> {
 }
 
 impl<H: Drop> CellStore<H> {
+    /// Gives a cell a value, and lets go of it where it is held. Asked: the cell is known.
+    pub fn set(&mut self, id: CellId, value: Dynamic<H>)
+        requires { id.number < length (cells_of self.old) }
+        ensures { cells_of self.new ≡ with_value (cells_of self.old) id.number value }
+    {
+        self.cells.set(id.number, Some(value));
+    }
+
     /// Lets go of a cell that is held and gives it a value. Asked: the cell is held, and the value
     /// is no handle.
     pub fn put(&mut self, id: CellId, value: Dynamic<H>)
@@ -75,6 +83,6 @@ impl<H: Drop> CellStore<H> {
         requires no_handle { IsNoHandle value.value }
         ensures { cells_of self.new ≡ with_value (cells_of self.old) id.number value }
     {
-        self.cells.set(id.number, Some(value));
+        self.set(id, value);
     }
 }

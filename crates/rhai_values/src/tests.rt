@@ -1,10 +1,10 @@
 //! What no clause says: the sizes of values, errors and answers, and that calls that take memory
 //! succeed where there is some.
 
-use crate::base::error::EvalAltResult;
+use crate::base::error::{EvalAltResult, FunctionCallError};
 use crate::base::scope::Scope;
 use crate::base::size::SizeFault;
-use crate::base::value::{AccessMode, Dynamic, FnPtr, FnPtrKind, Host, Module, Union};
+use crate::base::value::{AccessMode, CellId, Dynamic, FnPtr, FnPtrKind, Host, Module, Union};
 use crate::caches::Caches;
 use crate::cells::CellStore;
 use crate::state::GlobalRuntimeState;
@@ -155,5 +155,87 @@ fn data_is_measured(rt: HostRuntime) -> Result<(), Fail> {
     assert!(rt; matches!(array.exceeds(0, 2, 0), Some(SizeFault::Arrays)));
     assert!(rt; array.exceeds(0, 3, 0).is_none());
     assert!(rt; array.exceeds(2, 0, 2).is_none());
+    Ok(())
+}
+
+/// What a value is printed as.
+fn shown(alloc: Global, value: Union<Word>) -> Result<String, AllocError> {
+    let value = Dynamic::new(value);
+    format!(in alloc; "{value:?}")
+}
+
+#[test]
+fn values_are_printed(rt: HostRuntime) -> Result<(), Fail> {
+    let alloc = rt.alloc();
+    assert_eq!(rt; shown(alloc, Union::Unit)?.as_str(), "()");
+    assert_eq!(rt; shown(alloc, Union::Bool(true))?.as_str(), "true");
+    assert_eq!(rt; shown(alloc, Union::Int(-42))?.as_str(), "-42");
+    assert_eq!(rt; shown(alloc, Union::Char('\n'))?.as_str(), "'\\n'");
+    assert_eq!(rt; shown(alloc, Union::ExclusiveRange(1, 3))?.as_str(), "1..3");
+    assert_eq!(rt;
+        shown(alloc, Union::InclusiveRange(1, 3))?.as_str(),
+        "1..=3"
+    );
+    assert_eq!(rt;
+        shown(alloc, Union::Cell(CellId { number: 0 }))?.as_str(),
+        "<shared>"
+    );
+    Ok(())
+}
+
+#[test]
+fn nested_values_are_printed(rt: HostRuntime) -> Result<(), Fail> {
+    let alloc = rt.alloc();
+    let items = Boxed::new(alloc, samples(alloc)?)?;
+    assert_eq!(rt;
+        shown(alloc, Union::Array(items))?.as_str(),
+        "[\"shared\", [0102], #{}, Fn(\"called\"), word]"
+    );
+    let bytes = Items::from_slice(alloc, &[0, 1, 2, 3, 4, 5, 6, 7, 255])?;
+    assert_eq!(rt;
+        shown(alloc, Union::Blob(Boxed::new(alloc, bytes)?))?.as_str(),
+        "[0001020304050607 ff]"
+    );
+    Ok(())
+}
+
+#[test]
+fn maps_are_printed(rt: HostRuntime) -> Result<(), Fail> {
+    let alloc = rt.alloc();
+    let mut entries = Table::new(alloc);
+    entries.insert(text(alloc, "b")?, Dynamic::new(Union::Unit))?;
+    entries.insert(text(alloc, "a")?, Dynamic::new(Union::Int(1)))?;
+    assert_eq!(rt;
+        shown(alloc, Union::Map(Boxed::new(alloc, entries)?))?.as_str(),
+        "#{\"a\": 1, \"b\": ()}"
+    );
+    Ok(())
+}
+
+#[test]
+fn errors_are_printed(rt: HostRuntime) -> Result<(), Fail> {
+    let alloc = rt.alloc();
+    let value = Boxed::new(alloc, Dynamic::new(Union::Int(42)))?;
+    let error: EvalAltResult<Word> = EvalAltResult::ErrorRuntime(value, Position::new(1, 2));
+    assert_eq!(rt;
+        format!(in alloc; "{error:?}")?.as_str(),
+        "ErrorRuntime(42, Position { line: 1, pos: 2 })"
+    );
+    Ok(())
+}
+
+#[test]
+fn errors_in_calls_are_printed(rt: HostRuntime) -> Result<(), Fail> {
+    let alloc = rt.alloc();
+    let call: FunctionCallError<Word> = FunctionCallError {
+        name: text(alloc, "f")?,
+        source: text(alloc, "")?,
+        error: EvalAltResult::ErrorFor(Position::new(1, 2)),
+    };
+    let error = EvalAltResult::ErrorInFunctionCall(Boxed::new(alloc, call)?, Position::new(3, 4));
+    assert_eq!(rt;
+        format!(in alloc; "{error:?}")?.as_str(),
+        "ErrorInFunctionCall(\"f\", \"\", ErrorFor(Position { line: 1, pos: 2 }), Position { line: 3, pos: 4 })"
+    );
     Ok(())
 }

@@ -4,11 +4,12 @@ ghost use Rattle.std.specs.Prelude.{◌≡◌, ◌<◌, ◌↔◌, [], ◌∷◌
 ghost use Rattle.std.specs.Option.{option_map};
 ghost use Rattle.std.specs.Borrow.{sem};
 ghost use Rattle.rhai_values.specs.Lends.{lends_value};
-ghost use Rattle.rhai_values.specs.Scope.{entries_of, index_of, new_entry, shown, value_of};
+ghost use Rattle.rhai_values.specs.Scope.{entries_of, index_of, new_entry, revalued, shown, value_of};
 
 use crate::base::value::{AccessMode, Dynamic};
 use rhai_items::{Items, Shared, Text};
 use std::alloc::{AllocError, Global};
+use std::mem::replace;
 
 /// A variable: its name, its value, and the names under which it is exported.
 #[derive(Drop)]
@@ -100,6 +101,16 @@ impl<H> Scope<H> {
     {
         let entry = self.entries.at_mut(index);
         &mut entry.value
+    }
+
+    /// Gives the entry at a place another value, and hands out the one that it had.
+    pub fn replace_value(&mut self, index: usize, value: Dynamic<H>) -> Dynamic<H>
+        requires { index < length (entries_of self.old) }
+        ensures before { option_map value_of (slice_get (entries_of self.old) index) ≡ Some result }
+        ensures after { entries_of self.new ≡ revalued (entries_of self.old) index (slice_get (entries_of self.old) index) value }
+    {
+        let entry = self.entries.at_mut(index);
+        replace(&mut entry.value, value)
     }
 }
 
