@@ -1,6 +1,9 @@
+pub mod Assignments
 pub mod Chain
 pub mod Indexers
 pub mod NativeCalls
 pub mod NameLemmas
 pub mod Variables
 pub mod Scripts
+pub mod LoopSteps
+pub mod ChoiceSteps

@@ -5,7 +5,7 @@ use Rattle.std.proofs.Math.Seq.{take-append_seam}
 use Rattle.rhai_tree.specs.Names.{Name, Begins}
 use Rattle.rhai_tree.specs.declared.expr.Expr.{Expr}
 use Rattle.rhai_tree.specs.declared.expr.FnCallExpr.{FnCallExpr}
-use Rattle.rhai_tree.specs.Frame.{Test, Verdict, expr_step, stmt_step, call_step, block_step, resolves_expr, resolves_call, all_resolve_exprs, all_resolve}
+use Rattle.rhai_tree.specs.Frame.{Test, Tests, Verdict, tests_of, expr_step, stmt_step, call_step, block_step, resolves_expr, resolves_call, all_resolve_exprs, all_resolve}
 use Rattle.rhai_tree.specs.declared.expr.Expr.TheFolds.{fold_out-FnCallExpr}
 use Rattle.rhai_values.specs.declared.base.scope.ScopeEntry.{ScopeEntry}
 use Rattle.rhai_values.specs.Scope.{name_of}
@@ -35,20 +35,33 @@ both true true h = (refl, refl)
 both true false h = (refl, h)
 both false b h = (h, cc)
 
-two_resolve : (left right : Expr) (names : List Name) → IsTrue (all_resolve_exprs (map resolves_expr (left ∷ right ∷ [])) names) → IsTrue (resolves_expr left names) × IsTrue (resolves_expr right names)
+two_resolve : (left right : Expr) (names : List Name) → IsTrue (all_resolve_exprs (map tests_of (left ∷ right ∷ [])) names) → IsTrue (resolves_expr left names) × IsTrue (resolves_expr right names)
 two_resolve left right names h =
     let first = both (resolves_expr left names) (resolves_expr right names && true) h in
     (first.0, (both (resolves_expr right names) true first.1).0)
 
-operands_of_call : (call : FnCallExpr) (names : List Name) → IsTrue (resolves_call call names) → IsTrue (all_resolve_exprs (map resolves_expr call.args) names)
+operands_of_call : (call : FnCallExpr) (names : List Name) → IsTrue (resolves_call call names) → IsTrue (all_resolve_exprs (map tests_of call.args) names)
 operands_of_call call names h =
-    let opened = fold_out-FnCallExpr Test Verdict (Unit {0}) Test (Unit {0}) Test expr_step stmt_step (λ conditional. tt) call_step (λ entry. tt) block_step call in
+    let opened = fold_out-FnCallExpr Tests Verdict (Unit {0}) Test (Unit {0}) Test expr_step stmt_step (λ conditional. tt) call_step (λ entry. tt) block_step call in
     (both _ _ (rw opened at h)).1
 
 -- the operands of a call that resolves do
 pub operands_resolve : (call : FnCallExpr) (left right : Expr) (names : List Name) → call.args ≡ left ∷ right ∷ [] → IsTrue (resolves_call call names) →
     IsTrue (resolves_expr left names) × IsTrue (resolves_expr right names)
 operands_resolve call left right names is h = two_resolve left right names (rw is at (operands_of_call call names h))
+
+-- each of the parts that resolve does
+later_resolve : (before after : List Expr) (names : List Name) → IsTrue (all_resolve_exprs (map tests_of (before ++ after)) names) → IsTrue (all_resolve_exprs (map tests_of after) names)
+later_resolve [] after names h = h
+later_resolve (part ∷ before) after names h = later_resolve before after names (both (resolves_expr part names) (all_resolve_exprs (map tests_of (before ++ after)) names) h).1
+
+pub part_resolves : (parts : List Expr) (i : ℕ) (part : Expr) (names : List Name) → i < length parts → part ≡ get_or parts i part →
+    IsTrue (all_resolve_exprs (map tests_of parts) names) → IsTrue (resolves_expr part names)
+part_resolves parts i part names lt is h =
+    let split : IsTrue (all_resolve_exprs (map tests_of (take i parts ++ drop i parts)) names) = subst (λ (items : List Expr). IsTrue (all_resolve_exprs (map tests_of items) names)) (sym (take-append-drop i parts)) h in
+    let later : IsTrue (all_resolve_exprs (map tests_of (part ∷ drop (i + 1) parts)) names) =
+    subst (λ (items : List Expr). IsTrue (all_resolve_exprs (map tests_of items) names)) (drop_item parts i part lt is) (later_resolve (take i parts) (drop i parts) names split) in
+    (both (resolves_expr part names) (all_resolve_exprs (map tests_of (drop (i + 1) parts)) names) later).0
 
 -- the rest of a list resolves above the names after its first statement
 rest_of_list : (first : Bool) (rest whole : Bool × List Name) → (first && rest.0, rest.1) ≡ whole → IsTrue whole.0 → rest ≡ whole

@@ -1,6 +1,6 @@
 -- A call of a native, and an operator whose operands are there.
-use Rattle.std.proofs.Common.{◌≡◌, ◌<◌, ◌≤◌, ◌+◌, Bool, true, false, List, ◌∷◌, Option, Some, Result, Ok, Err, refl, sym, ap, ◌∙◌}
-use Rattle.std.proofs.lemmas.Bool.{lt-ltb, le-ltb}
+use Rattle.std.proofs.Common.{◌≡◌, ◌<◌, ◌≤◌, ◌+◌, Bool, true, false, List, ◌∷◌, Option, Some, None, is_some, IfSome, Result, Ok, Err, refl, sym, ap, ◌∙◌}
+use Rattle.std.proofs.lemmas.Bool.{lt-ltb, le-ltb, false≢true}
 use Rattle.rhai_tree.specs.declared.position.Position.{Position}
 use Rattle.rhai_values.specs.declared.base.value.Dynamic.{Dynamic}
 use Rattle.rhai_values.specs.declared.base.value.Union.{Union}
@@ -10,12 +10,12 @@ use Rattle.rhai_values.specs.declared.state.GlobalRuntimeState.{GlobalRuntimeSta
 use Rattle.rhai_values.specs.declared.base.error.EvalAltResult.{EvalAltResult}
 use Rattle.rhai_values.specs.declared.base.error.EvalAltResult.TheVariants as error
 use Rattle.rhai_values.specs.Errors.{is_out_of_memory, at_position}
-use Rattle.rhai_values.specs.Native.{Request, Reply, Effect, Purity, Named, effect, request, IsNoHandle}
+use Rattle.rhai_values.specs.Native.{Request, Reply, Effect, Purity, Named, Obeys, effect, request, IsNoHandle}
 use Rattle.rhai_operators.specs.Answers as operators
 use Rattle.rhai_machine.specs.machine.Machine.{Go}
 use Rattle.rhai_machine.specs.machine.Point.{here, next, after}
 use Rattle.rhai_machine.specs.language.Setting.{Setting, limit_of}
-use Rattle.rhai_machine.specs.language.State.{State, Local, HasMemory}
+use Rattle.rhai_machine.specs.language.State.{State, Local, HasMemory, Answers}
 use Rattle.rhai_machine.specs.language.Values.{is_handle}
 use Rattle.rhai_machine.specs.language.Frames.{Operation, Call, Frame, core, ended, Ask, Fire, Fail}
 use Rattle.rhai_machine.specs.language.Calls.{applied, call_native, fire_first, replied}
@@ -66,6 +66,14 @@ module _ {S H : Type 0} (s : Setting H) (gives : S → Request H → Effect S H)
         result ≡ replied s r left rest operation now.local.around.cells →
         Goes s gives pure (at (Fire made) k now) (at (ended result) k (record now { table = t }))
     fires plain r left t result obeys answered = step_by s gives pure _ _ _ (plain_move x.value x made rest k now.local plain) (rw (obeys, answered) here)
+
+    -- what its answer comes to, want of memory aside
+    pub fires_told : is_handle x.value ≡ false → (told : Option (Reply H)) (left : Option (Dynamic H)) (t : S) (result : Result (Dynamic H) (EvalAltResult H)) →
+        Obeys (gives now.table (request now.local.around.cells (Named operation.name) (Some x) rest operation.at)) told left t →
+        IfSome told (λ r. Answers result (replied s r left rest operation now.local.around.cells)) → (HasMemory result → is_some told ≡ true) → HasMemory result →
+        Goes s gives pure (at (Fire made) k now) (at (ended result) k (record now { table = t }))
+    fires_told plain None left t result obeys answers memory m = absurd (false≢true (memory m))
+    fires_told plain (Some r) left t result obeys answers memory m = fires plain r left t result obeys (answers m)
 
 -- a position changes nothing of that
 placed_memory : {H : Type 0} (pos : Position) (e : EvalAltResult H) → is_out_of_memory (at_position pos e) ≡ is_out_of_memory e

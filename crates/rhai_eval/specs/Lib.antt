@@ -1,5 +1,9 @@
+pub mod Assignments
 pub mod Indexers
+pub mod Lends
+pub mod Loops
 pub mod Memory
 pub mod Saves
 pub mod Search
 pub mod States
+pub mod Values

@@ -1,13 +1,26 @@
 -- The code's values as the machine reads them: the engine as a setting, and the state of a run.
-use Rattle.std.specs.Prelude.{ℕ, List, Option}
+use Rattle.std.specs.Prelude.{ℕ, Bool, List, Option, map, is_some}
 use Rattle.rhai_values.specs.declared.base.value.Dynamic.{Dynamic}
 use Rattle.rhai_values.specs.declared.base.scope.Scope.{Scope}
+use Rattle.rhai_values.specs.declared.base.value.Module.{Module}
+use Rattle.rhai_values.specs.declared.base.value.Import.{Import}
 use Rattle.rhai_values.specs.declared.state.GlobalRuntimeState.{GlobalRuntimeState}
 use Rattle.rhai_values.specs.Cells.{cells_of}
 use Rattle.rhai_values.specs.Scope.{entries_of}
 use Rattle.rhai_machine.specs.language.Setting.{Setting}
 use Rattle.rhai_machine.specs.language.State.{Surroundings, Local, State}
 use Rattle.rhai_eval.specs.declared.engine.Engine.{Engine}
+
+-- what stays as it was in a run: libraries, imports, constants and their tables, level, modules loaded, source, and which of the cells are free
+pub record Around (H : Type 0) : Type 0 where
+  pub lib : List (Module H)
+  pub imports : List (Import H)
+  pub constants : ℕ
+  pub constant_tables : List (List (List ℕ) × List (Dynamic H))
+  pub level : ℕ
+  pub num_modules_loaded : ℕ
+  pub source : Option (List ℕ)
+  pub free : List Bool
 
 -- the limits of an engine
 pub record Limits : Type 0 where
@@ -51,8 +64,8 @@ module _ {H : Type 0} where
   }
 
   -- libraries, imports, constants and their tables, level, modules loaded, source and cells
-  abbrev pub around_of : GlobalRuntimeState H → Surroundings H
-  around_of global = record {
+  abbrev pub surroundings_of : GlobalRuntimeState H → Surroundings H
+  surroundings_of global = record {
     lib = global.lib;
     imports = global.imports;
     constants = global.constants;
@@ -63,8 +76,20 @@ module _ {H : Type 0} where
     cells = cells_of global.cells;
   }
 
+  abbrev pub around_of : GlobalRuntimeState H → Around H
+  around_of global = record {
+    lib = global.lib;
+    imports = global.imports;
+    constants = global.constants;
+    constant_tables = global.constant_tables;
+    level = global.level;
+    num_modules_loaded = global.num_modules_loaded;
+    source = global.source;
+    free = map is_some (cells_of global.cells);
+  }
+
   abbrev pub local_of : GlobalRuntimeState H → Scope H → Option (Dynamic H) → Local H
-  local_of global scope this = record { scope = entries_of scope; this = this; scope_level = global.scope_level; around = around_of global }
+  local_of global scope this = record { scope = entries_of scope; this = this; scope_level = global.scope_level; around = surroundings_of global }
 
 -- all that a run changes
 abbrev pub state_of : {S H : Type 0} → S → GlobalRuntimeState H → Scope H → Option (Dynamic H) → State S H

@@ -9,10 +9,10 @@ use Rattle.rhai_values.specs.declared.base.value.Union.{Union}
 use Rattle.rhai_values.specs.declared.base.value.Union.TheVariants as value
 use Rattle.rhai_values.specs.declared.base.scope.ScopeEntry.{ScopeEntry}
 use Rattle.rhai_values.specs.Cells.{value_of_cell}
-use Rattle.rhai_values.specs.Scope.{name_of, value_of, value_in, index_of, found}
+use Rattle.rhai_values.specs.Scope.{name_of, value_of, value_in, index_of, found, revalued}
 use Rattle.rhai_machine.specs.language.State.{Local}
 use Rattle.rhai_machine.specs.language.Values.{Cells}
-use Rattle.rhai_machine.specs.language.Places.{Place, InEntry, InCell, Target, target, is_constant, unless_constant, target_in_cell, target_at, target_found, target_of, revalued, put}
+use Rattle.rhai_machine.specs.language.Places.{Place, InEntry, InCell, Target, target, is_constant, unless_constant, target_in_cell, target_at, target_found, target_of, put}
 
 module _ {A : Type 0} where
   -- the last of two items at an index stays

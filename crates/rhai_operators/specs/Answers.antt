@@ -8,7 +8,7 @@ use Rattle.rhai_values.specs.declared.base.value.Union.TheVariants as value
 use Rattle.rhai_values.specs.declared.base.error.EvalAltResult.{EvalAltResult}
 use Rattle.rhai_values.specs.declared.base.error.EvalAltResult.TheVariants as error
 use Rattle.rhai_values.specs.Copy.{plain}
-use Rattle.rhai_values.specs.Errors.{position_of}
+use Rattle.rhai_values.specs.Errors.{is_out_of_memory, position_of}
 use Rattle.rhai_operators.specs.declared.integers.ArithmeticFault.{ArithmeticFault}
 use Rattle.rhai_operators.specs.declared.integers.ArithmeticFault.TheVariants as fault
 use Rattle.rhai_operators.specs.Operators.{Outcome, unary_at, binary_at, op_assign_at}
@@ -44,11 +44,6 @@ module _ {H : Type 0} where
   -- before an `=`
   abbrev pub op_assign_of : Token → Dynamic H → Dynamic H → Answer H
   op_assign_of op x y = answer (op_assign_at op x.value y.value)
-
-  -- the error is want of memory
-  abbrev pub is_out_of_memory : EvalAltResult H → Bool
-  is_out_of_memory (error.ErrorOutOfMemory at) = true
-  is_out_of_memory _ = false
 
   -- no answer for want of memory
   abbrev pub HasMemory : Answer H → Type 0

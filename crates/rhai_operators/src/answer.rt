@@ -3,9 +3,9 @@
 
 ghost use Rattle.std.specs.Prelude.{◌≡◌, false, IfOk};
 ghost use Rattle.rhai_tree.specs.Position.{none};
-ghost use Rattle.rhai_values.specs.Errors.{position_of};
+ghost use Rattle.rhai_values.specs.Errors.{is_out_of_memory, position_of};
 ghost use Rattle.rhai_operators.specs.Answers as spec;
-ghost use Rattle.rhai_operators.specs.Answers.{IsAnswer, is_out_of_memory};
+ghost use Rattle.rhai_operators.specs.Answers.{IsAnswer};
 
 use crate::integers::ArithmeticFault;
 use rhai_items::{Shared, Text};

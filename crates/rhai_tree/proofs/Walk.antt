@@ -13,7 +13,7 @@ use Rattle.rhai_tree.specs.Context.{Context}
 use Rattle.rhai_tree.specs.Declares as declares
 use Rattle.rhai_tree.specs.Declares.{any_of, declares_expr, declares_call, declares_block, declares_stmt}
 use Rattle.rhai_tree.specs.Frame as frame
-use Rattle.rhai_tree.specs.Frame.{Test, Verdict, resolves_expr, resolves_call, resolves_block, resolves_stmt}
+use Rattle.rhai_tree.specs.Frame.{Test, Tests, Verdict, tests_of, resolves_call, resolves_block, resolves_stmt}
 use Rattle.rhai_tree.specs.Layers.{ExprLayer, StmtLayer}
 use Rattle.rhai_tree.specs.Refusals.{Refuses}
 use Rattle.rhai_tree.specs.WellFormed as seen
@@ -38,13 +38,13 @@ stmt_declares = map-Stmt Expr Stmt ConditionalExpr FnCallExpr MapEntry StmtBlock
     declares_expr declares_stmt (λ conditional. tt) declares_call (λ entry. tt) declares_block
 
 -- whether the parts of one level may run
-abbrev pub expr_tests : ExprLayer → layer.Expr-F Test Verdict (Unit {0}) Test (Unit {0}) Test
-expr_tests = map-Expr Expr Stmt ConditionalExpr FnCallExpr MapEntry StmtBlock Test Verdict (Unit {0}) Test (Unit {0}) Test
-    resolves_expr resolves_stmt (λ conditional. tt) resolves_call (λ entry. tt) resolves_block
+abbrev pub expr_tests : ExprLayer → layer.Expr-F Tests Verdict (Unit {0}) Test (Unit {0}) Test
+expr_tests = map-Expr Expr Stmt ConditionalExpr FnCallExpr MapEntry StmtBlock Tests Verdict (Unit {0}) Test (Unit {0}) Test
+    tests_of resolves_stmt (λ conditional. tt) resolves_call (λ entry. tt) resolves_block
 
-abbrev pub stmt_tests : StmtLayer → layer.Stmt-F Test Verdict (Unit {0}) Test (Unit {0}) Test
-stmt_tests = map-Stmt Expr Stmt ConditionalExpr FnCallExpr MapEntry StmtBlock Test Verdict (Unit {0}) Test (Unit {0}) Test
-    resolves_expr resolves_stmt (λ conditional. tt) resolves_call (λ entry. tt) resolves_block
+abbrev pub stmt_tests : StmtLayer → layer.Stmt-F Tests Verdict (Unit {0}) Test (Unit {0}) Test
+stmt_tests = map-Stmt Expr Stmt ConditionalExpr FnCallExpr MapEntry StmtBlock Tests Verdict (Unit {0}) Test (Unit {0}) Test
+    tests_of resolves_stmt (λ conditional. tt) resolves_call (λ entry. tt) resolves_block
 
 seen-expr : (e : Expr) (l : ExprLayer) → out-Expr e ≡ l → seen_expr e ≡ seen.expr_step (expr_faults l)
 seen-expr e l is = fold_out-Expr Seen SeenStmt (Unit {0}) SeenCall (Unit {0}) Seen
@@ -66,13 +66,13 @@ declares-stmt s l is = fold_out-Stmt Bool Bool (Unit {0}) Bool (Unit {0}) Bool
     declares.expr_step declares.stmt_step (λ conditional. tt) (λ call. any_of call.args) (λ entry. tt) (λ block. any_of block.statements) s
     ∙ ap (λ (k : StmtLayer). declares.stmt_step (stmt_declares k)) is
 
-pub resolves-expr : (e : Expr) (l : ExprLayer) → out-Expr e ≡ l → resolves_expr e ≡ frame.expr_step (expr_tests l)
-resolves-expr e l is = fold_out-Expr Test Verdict (Unit {0}) Test (Unit {0}) Test
+pub resolves-expr : (e : Expr) (l : ExprLayer) → out-Expr e ≡ l → tests_of e ≡ frame.expr_step (expr_tests l)
+resolves-expr e l is = fold_out-Expr Tests Verdict (Unit {0}) Test (Unit {0}) Test
     frame.expr_step frame.stmt_step (λ conditional. tt) frame.call_step (λ entry. tt) frame.block_step e
     ∙ ap (λ (k : ExprLayer). frame.expr_step (expr_tests k)) is
 
 pub resolves-stmt : (s : Stmt) (l : StmtLayer) → out-Stmt s ≡ l → resolves_stmt s ≡ frame.stmt_step (stmt_tests l)
-resolves-stmt s l is = fold_out-Stmt Test Verdict (Unit {0}) Test (Unit {0}) Test
+resolves-stmt s l is = fold_out-Stmt Tests Verdict (Unit {0}) Test (Unit {0}) Test
     frame.expr_step frame.stmt_step (λ conditional. tt) frame.call_step (λ entry. tt) frame.block_step s
     ∙ ap (λ (k : StmtLayer). frame.stmt_step (stmt_tests k)) is
 

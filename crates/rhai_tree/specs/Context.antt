@@ -22,6 +22,10 @@ body_with params = record { names = params; imports = []; in_loop = false; in_to
 abbrev pub inside : Context → Context
 inside c = record c { in_top = false }
 
+-- inside a loop
+abbrev pub looping : Context → Context
+looping c = record c { in_loop = true }
+
 -- after a declaration
 abbrev pub declaring : Name → Context → Context
 declaring name c = record c { names = c.names ++ name ∷ [] }

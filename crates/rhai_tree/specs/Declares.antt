@@ -1,5 +1,5 @@
 -- Whether a part of a tree declares a variable: the checker needs memory for the names alone.
-use Rattle.std.specs.Prelude.{Bool, true, false, ◌||◌, List, [], ◌∷◌, map}
+use Rattle.std.specs.Prelude.{Bool, true, false, ◌||◌, List, [], ◌∷◌, map, Option, Some, None}
 use Rattle.rhai_tree.specs.declared.expr.Expr.{Expr}
 use Rattle.rhai_tree.specs.declared.expr.FnCallExpr.{FnCallExpr}
 use Rattle.rhai_tree.specs.declared.expr.StmtBlock.{StmtBlock}
@@ -13,17 +13,30 @@ abbrev pub any_of : List Bool → Bool
 any_of [] = false
 any_of (part ∷ parts) = part || any_of parts
 
+-- a part that may be left out
+abbrev pub in_option : Option Bool → Bool
+in_option None = false
+in_option (Some part) = part
+
 -- a form that is not there yet is refused without a look inside
 abbrev pub expr_step : layer.Expr-F Bool Bool (Unit {0}) Bool (Unit {0}) Bool → Bool
 expr_step (layer.Expr::FnCall call pos) = call
 expr_step (layer.Stmt block) = block
+expr_step (layer.And parts pos) = any_of parts
+expr_step (layer.Or parts pos) = any_of parts
+expr_step (layer.Coalesce parts pos) = any_of parts
 expr_step _ = false
 
 abbrev pub stmt_step : layer.Stmt-F Bool Bool (Unit {0}) Bool (Unit {0}) Bool → Bool
 stmt_step (layer.Expr expr) = expr
 stmt_step (layer.Block block) = block
+stmt_step (layer.Assignment op lhs rhs) = lhs || rhs
 stmt_step (layer.Var ident expr index options pos) = true
 stmt_step (layer.If expr body branch pos) = expr || (body || branch)
+stmt_step (layer.While expr body pos) = expr || body
+stmt_step (layer.Do expr body options pos) = expr || body
+stmt_step (layer.BreakLoop expr options pos) = in_option expr
+stmt_step (layer.Return expr options pos) = in_option expr
 stmt_step _ = false
 
 abbrev pub declares_expr : Expr → Bool

@@ -24,3 +24,7 @@ is_eval_call namespace name count = is_unqualified namespace.path && bytes_eq na
 -- a variable that is exported
 abbrev pub is_exported : ASTFlags → Bool
 is_exported options = bit_and options.0 8 == 8
+
+-- a `throw`, which is marked as a `return` with `BREAK`
+abbrev pub is_throw : ASTFlags → Bool
+is_throw options = bit_and options.0 2 == 2

@@ -1,10 +1,10 @@
 -- Well-formed trees: the faults that stand in a tree, each with its position, in the order of the tree.
-use Rattle.std.specs.Prelude.{◌≡◌, if◌then◌else◌, List, [], ◌∷◌, ◌++◌, length, map, Option, Some, None}
+use Rattle.std.specs.Prelude.{◌≡◌, Bool, true, false, if◌then◌else◌, List, [], ◌∷◌, ◌++◌, length, map, Option, Some, None}
 use Rattle.std.specs.List.{Contains}
 use Rattle.std.specs.declared.num.NonZeroUsize.{NonZeroUsize}
 use Rattle.rhai_tree.specs.declared.position.Position.{Position}
 use Rattle.rhai_tree.specs.declared.check.CheckFault.{CheckFault}
-use Rattle.rhai_tree.specs.declared.check.CheckFault.TheVariants.{BadOffset, EvalCall, NotYet}
+use Rattle.rhai_tree.specs.declared.check.CheckFault.TheVariants.{BadOffset, BadAssignment, LoopControlOutside, EvalCall, NotYet}
 use Rattle.rhai_tree.specs.declared.expr.Expr.{Expr}
 use Rattle.rhai_tree.specs.declared.expr.FnCallExpr.{FnCallExpr}
 use Rattle.rhai_tree.specs.declared.expr.StmtBlock.{StmtBlock}
@@ -14,8 +14,8 @@ use Rattle.rhai_tree.specs.declared.expr.Expr.TheFolds.{fold-Expr, fold-FnCallEx
 use Rattle.rhai_tree.specs.declared.function.ScriptFuncDef.{ScriptFuncDef}
 use Rattle.rhai_tree.specs.declared.function.ScriptFuncPayload.{ScriptFuncPayload}
 use Rattle.rhai_tree.specs.declared.function.ScriptFuncPayload.TheVariants.{Statements}
-use Rattle.rhai_tree.specs.Context.{Context, top, body_with, inside, declaring}
-use Rattle.rhai_tree.specs.Forms.{is_unqualified, is_eval_call, is_operator_call, is_exported}
+use Rattle.rhai_tree.specs.Context.{Context, top, body_with, inside, looping, declaring}
+use Rattle.rhai_tree.specs.Forms.{is_unqualified, is_eval_call, is_operator_call, is_exported, is_throw}
 use Rattle.rhai_tree.specs.Names.{Name, is_good}
 use Rattle.rhai_tree.specs.Positions.{first_or, start_of_name, start_of_operands, start_of_call, first_shared}
 
@@ -23,9 +23,10 @@ use Rattle.rhai_tree.specs.Positions.{first_or, start_of_name, start_of_operands
 abbrev pub Faults : Type 0
 Faults = Context → List CheckFault
 
--- what is seen of an expression or a block: where it starts, and its faults
+-- what is seen of an expression or a block: where it starts, whether it may be assigned to, and its faults
 pub record Seen : Type 0 where
   pub start : Position
+  pub is_place : Bool
   pub value : Faults
 
 -- what is seen of a call: its first operand's start, where it is written between two, and its faults where its name or operator stands
@@ -47,6 +48,22 @@ faultless c = []
 abbrev pub not_yet : Position → Faults
 not_yet pos c = NotYet pos ∷ []
 
+-- variables, `this` and chains are places, and nothing else is
+abbrev pub place : Position → Faults → Seen
+place start value = record { start = start; is_place = true; value = value }
+
+abbrev pub plain : Position → Faults → Seen
+plain start value = record { start = start; is_place = false; value = value }
+
+-- the left side of an assignment is a place
+abbrev pub target_faults : Seen → Faults
+target_faults lhs c = if lhs.is_place then lhs.value c else BadAssignment lhs.start ∷ lhs.value c
+
+-- the faults of an expression that may be left out
+abbrev pub faults_in_option : Option Seen → Faults
+faults_in_option None c = []
+faults_in_option (Some part) c = part.value c
+
 -- the faults of a list of expressions
 abbrev pub faults_in_all : List Seen → Faults
 faults_in_all [] c = []
@@ -63,28 +80,32 @@ abbrev pub variable_faults : Option NonZeroUsize → Name → List Name → Posi
 variable_faults offset name path pos c =
     if is_unqualified path then (if is_good offset name c.names then [] else BadOffset pos ∷ []) else NotYet pos ∷ []
 
+-- `break` and `continue` stand in a loop of their function
+abbrev pub control_faults : Position → Faults
+control_faults pos c = if c.in_loop then [] else LoopControlOutside pos ∷ []
+
 abbrev pub expr_step : layer.Expr-F Seen SeenStmt (Unit {0}) SeenCall (Unit {0}) Seen → Seen
-expr_step (layer.DynamicConstant value pos) = record { start = pos; value = not_yet pos }
-expr_step (layer.BoolConstant value pos) = record { start = pos; value = faultless }
-expr_step (layer.IntegerConstant value pos) = record { start = pos; value = faultless }
-expr_step (layer.CharConstant value pos) = record { start = pos; value = not_yet pos }
-expr_step (layer.StringConstant value pos) = record { start = pos; value = not_yet pos }
-expr_step (layer.Unit pos) = record { start = pos; value = faultless }
-expr_step (layer.InterpolatedString parts pos) = record { start = pos; value = not_yet pos }
-expr_step (layer.Array items pos) = record { start = pos; value = not_yet pos }
-expr_step (layer.Map entries template pos) = record { start = pos; value = not_yet pos }
-expr_step (layer.ThisPtr pos) = record { start = pos; value = not_yet pos }
+expr_step (layer.DynamicConstant value pos) = plain pos (not_yet pos)
+expr_step (layer.BoolConstant value pos) = plain pos faultless
+expr_step (layer.IntegerConstant value pos) = plain pos faultless
+expr_step (layer.CharConstant value pos) = plain pos (not_yet pos)
+expr_step (layer.StringConstant value pos) = plain pos (not_yet pos)
+expr_step (layer.Unit pos) = plain pos faultless
+expr_step (layer.InterpolatedString parts pos) = plain pos (not_yet pos)
+expr_step (layer.Array items pos) = plain pos (not_yet pos)
+expr_step (layer.Map entries template pos) = plain pos (not_yet pos)
+expr_step (layer.ThisPtr pos) = place pos (not_yet pos)
 expr_step (layer.Variable offset name namespace pos) =
-    record { start = start_of_name namespace.path namespace.position pos; value = variable_faults offset name namespace.path pos }
-expr_step (layer.Property name pos) = record { start = pos; value = not_yet pos }
-expr_step (layer.MethodCall call pos) = record { start = pos; value = not_yet pos }
-expr_step (layer.Expr::FnCall call pos) = record { start = start_of_call call.operand pos; value = call.value pos }
+    place (start_of_name namespace.path namespace.position pos) (variable_faults offset name namespace.path pos)
+expr_step (layer.Property name pos) = plain pos (not_yet pos)
+expr_step (layer.MethodCall call pos) = plain pos (not_yet pos)
+expr_step (layer.Expr::FnCall call pos) = plain (start_of_call call.operand pos) (call.value pos)
 expr_step (layer.Stmt block) = block
-expr_step (layer.Dot lhs rhs options pos) = record { start = lhs.start; value = not_yet pos }
-expr_step (layer.Index lhs rhs options pos) = record { start = lhs.start; value = not_yet pos }
-expr_step (layer.And parts pos) = record { start = first_or pos (map start_in parts); value = not_yet pos }
-expr_step (layer.Or parts pos) = record { start = first_or pos (map start_in parts); value = not_yet pos }
-expr_step (layer.Coalesce parts pos) = record { start = first_or pos (map start_in parts); value = not_yet pos }
+expr_step (layer.Dot lhs rhs options pos) = place lhs.start (not_yet pos)
+expr_step (layer.Index lhs rhs options pos) = place lhs.start (not_yet pos)
+expr_step (layer.And parts pos) = plain (first_or pos (map start_in parts)) (faults_in_all parts)
+expr_step (layer.Or parts pos) = plain (first_or pos (map start_in parts)) (faults_in_all parts)
+expr_step (layer.Coalesce parts pos) = plain (first_or pos (map start_in parts)) (faults_in_all parts)
 
 abbrev pub call_step : layer.FnCallExpr-F Seen SeenStmt (Unit {0}) SeenCall (Unit {0}) Seen → SeenCall
 call_step call = record {
@@ -100,6 +121,7 @@ call_step call = record {
 abbrev pub block_step : layer.StmtBlock-F Seen SeenStmt (Unit {0}) SeenCall (Unit {0}) Seen → Seen
 block_step block = record {
   start = block.position;
+  is_place = false;
   value = λ c. (faults_in_list block.statements (inside c)).0;
 }
 
@@ -108,18 +130,18 @@ stmt_step (layer.Noop pos) c = ([], c)
 stmt_step (layer.Expr expr) c = (expr.value c, c)
 stmt_step (layer.Stmt::FnCall call pos) c = (NotYet pos ∷ [], c)
 stmt_step (layer.Block block) c = (block.value c, c)
-stmt_step (layer.Assignment op lhs rhs) c = (NotYet lhs.start ∷ [], c)
+stmt_step (layer.Assignment op lhs rhs) c = (target_faults lhs c ++ rhs.value c, c)
 stmt_step (layer.Var ident expr None options pos) c =
     (if is_exported options then NotYet pos ∷ [] else expr.value c, declaring ident.name c)
 stmt_step (layer.Var ident expr (Some offset) options pos) c = (NotYet pos ∷ [], c)
 stmt_step (layer.If expr body branch pos) c = (expr.value c ++ (body.value c ++ branch.value c), c)
 stmt_step (layer.Switch expr expressions cases ranges def_case pos) c = (NotYet pos ∷ [], c)
-stmt_step (layer.While expr body pos) c = (NotYet pos ∷ [], c)
-stmt_step (layer.Do expr body options pos) c = (NotYet pos ∷ [], c)
+stmt_step (layer.While expr body pos) c = (expr.value c ++ body.value (looping c), c)
+stmt_step (layer.Do expr body options pos) c = (expr.value c ++ body.value (looping c), c)
 stmt_step (layer.For name counter expr body pos) c = (NotYet pos ∷ [], c)
-stmt_step (layer.BreakLoop expr options pos) c = (NotYet pos ∷ [], c)
+stmt_step (layer.BreakLoop expr options pos) c = (control_faults pos c ++ faults_in_option expr c, c)
 stmt_step (layer.TryCatch body variable branch pos) c = (NotYet pos ∷ [], c)
-stmt_step (layer.Return expr options pos) c = (NotYet pos ∷ [], c)
+stmt_step (layer.Return expr options pos) c = (if is_throw options then NotYet pos ∷ [] else faults_in_option expr c, c)
 stmt_step (layer.Import expr alias pos) c = (NotYet pos ∷ [], c)
 stmt_step (layer.Export name alias pos) c = (NotYet pos ∷ [], c)
 stmt_step (layer.Share variables) c = (NotYet (first_shared variables) ∷ [], c)

@@ -11,6 +11,7 @@ use rhai_items::{Boxed, Shared, Text};
 use rhai_tree::position::Position;
 use rhai_values::base::error::{EvalAltResult, TypeMismatch};
 use rhai_values::base::size::SizeFault;
+use rhai_values::base::value::{Dynamic, Host};
 use std::alloc::{AllocError, Global};
 
 /// A race for the cell that a handle leads to.
@@ -33,6 +34,18 @@ pub fn data_race_of<H>(name: &Shared<Text>, pos: Position) -> EvalAltResult<H>
 {
     match name.share() {
         Ok(name) => EvalAltResult::ErrorDataRace(name, pos),
+        Err(_) => EvalAltResult::ErrorOutOfMemory(pos),
+    }
+}
+
+/// A constant that is assigned to.
+#[cold]
+#[inline(never)]
+pub fn assignment_to_constant<H>(name: &Shared<Text>, pos: Position) -> EvalAltResult<H>
+    ensures { is_out_of_memory result ≡ false → result ≡ error.ErrorAssignmentToConstant name.now pos }
+{
+    match name.share() {
+        Ok(name) => EvalAltResult::ErrorAssignmentToConstant(name, pos),
         Err(_) => EvalAltResult::ErrorOutOfMemory(pos),
     }
 }
@@ -85,7 +98,32 @@ pub fn mismatch<H>(alloc: Global, wanted: &str, found: &str, pos: Position) -> E
     }
 }
 
-fn shared_text(alloc: Global, text: &str) -> Result<Shared<Text>, AllocError>
+/// A race for the cell of an argument of a native.
+#[cold]
+#[inline(never)]
+pub fn data_race_by<H>(alloc: Global, name: &str, pos: Position) -> EvalAltResult<H>
+    ensures { is_out_of_memory result ≡ false → result ≡ error.ErrorDataRace name.now pos }
+{
+    match shared_text(alloc, name) {
+        Ok(text) => EvalAltResult::ErrorDataRace(text, pos),
+        Err(_) => EvalAltResult::ErrorOutOfMemory(pos),
+    }
+}
+
+/// A native that is not pure, on a constant.
+#[cold]
+#[inline(never)]
+pub fn non_pure<H>(alloc: Global, name: &str, pos: Position) -> EvalAltResult<H>
+    ensures { is_out_of_memory result ≡ false → result ≡ error.ErrorNonPureMethodCallOnConstant name.now pos }
+{
+    match shared_text(alloc, name) {
+        Ok(text) => EvalAltResult::ErrorNonPureMethodCallOnConstant(text, pos),
+        Err(_) => EvalAltResult::ErrorOutOfMemory(pos),
+    }
+}
+
+/// A text that may have several owners.
+pub(crate) fn shared_text(alloc: Global, text: &str) -> Result<Shared<Text>, AllocError>
     ensures { IfOk result (λ t. t ≡ text.now) }
 {
     let text = Text::from_str(alloc, text)?;
@@ -100,6 +138,31 @@ pub fn data_too_large<H>(alloc: Global, fault: SizeFault, pos: Position) -> Eval
 {
     match shared_text(alloc, fault.text()) {
         Ok(text) => EvalAltResult::ErrorDataTooLarge(text, pos),
+        Err(_) => EvalAltResult::ErrorOutOfMemory(pos),
+    }
+}
+
+/// A `break` or a `continue` on its way to its loop.
+pub fn loop_break<H: Host>(
+    alloc: Global,
+    value: Dynamic<H>,
+    is_break: bool,
+    pos: Position,
+) -> EvalAltResult<H>
+    ensures { is_out_of_memory result ≡ false → result ≡ error.LoopBreak value is_break pos }
+{
+    match Boxed::new(alloc, value) {
+        Ok(value) => EvalAltResult::LoopBreak(value, is_break, pos),
+        Err(_) => EvalAltResult::ErrorOutOfMemory(pos),
+    }
+}
+
+/// A `return` on its way to the end of its function or script.
+pub fn returned<H: Host>(alloc: Global, value: Dynamic<H>, pos: Position) -> EvalAltResult<H>
+    ensures { is_out_of_memory result ≡ false → result ≡ error.Return value pos }
+{
+    match Boxed::new(alloc, value) {
+        Ok(value) => EvalAltResult::Return(value, pos),
         Err(_) => EvalAltResult::ErrorOutOfMemory(pos),
     }
 }

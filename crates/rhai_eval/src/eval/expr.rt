@@ -133,6 +133,33 @@ impl<H: Host> Engine<H> {
                 block.statements.as_slice(),
                 true,
             ),
+            Expr::And(parts, _) => self.run_and(
+                alloc,
+                global,
+                caches,
+                table,
+                scope,
+                this,
+                parts.as_slice(),
+            ),
+            Expr::Or(parts, _) => self.run_or(
+                alloc,
+                global,
+                caches,
+                table,
+                scope,
+                this,
+                parts.as_slice(),
+            ),
+            Expr::Coalesce(parts, _) => self.run_coalesce(
+                alloc,
+                global,
+                caches,
+                table,
+                scope,
+                this,
+                parts.as_slice(),
+            ),
             _ => unreachable!(),
         }
     }

@@ -1,7 +1,7 @@
 //! Statements. Ports upstream's `eval/stmt.rs`; the contracts speak of the machine's runs.
 
 ghost use Rattle.std.specs.Prelude.{◌≡◌, ◌<◌, ◌≤◌, ◌++◌, ◌∷◌, [], ◌||◌, OnOk, IfErr, IsTrue, is_some, true, None, Some, length, map};
-ghost use Rattle.rhai_tree.specs.Frame.{resolves_expr, resolves_stmt, resolves_block, all_resolve};
+ghost use Rattle.rhai_tree.specs.Frame.{tests_of, target_resolves, resolves_expr, resolves_stmt, resolves_block, all_resolve};
 ghost use Rattle.rhai_tree.specs.Names.{Begins};
 ghost use Rattle.rhai_values.specs.Scope.{names_in};
 ghost use Rattle.rhai_values.specs.Native.{was};
@@ -11,6 +11,7 @@ ghost use Rattle.rhai_machine.specs.language.Values.{unit_value as unit};
 ghost use Rattle.rhai_machine.specs.language.Frames.{Exec, OpenStmt, Enter, Run};
 ghost use Rattle.rhai_machine.specs.language.Runs.{Runs};
 ghost use Rattle.rhai_values.specs.Errors.{is_out_of_memory};
+ghost use Rattle.rhai_eval.specs.Loops.{leaves_turn};
 ghost use Rattle.rhai_eval.specs.Memory.{asks_expr, asks_block, asks_stmt, may_ask};
 ghost use Rattle.rhai_eval.specs.States.{setting_of, state_of, around_of};
 
@@ -18,7 +19,7 @@ use crate::engine::Engine;
 use crate::eval::errors::variable_exists;
 use crate::eval::values::{flatten, truth_value, unit_value};
 use crate::eval::variables::{define_variable, enter_list, leave_list, mode_of};
-use rhai_tree::expr::{Expr, Ident, Stmt, StmtBlock};
+use rhai_tree::expr::{Expr, Ident, OpAssignment, Stmt, StmtBlock};
 use rhai_tree::flags::ASTFlags;
 use rhai_tree::position::Position;
 use rhai_values::base::error::EvalAltResult;
@@ -129,6 +130,7 @@ impl<H: Host> Engine<H> {
         ensures counts { global.old.num_operations ≤ global.new.num_operations }
         ensures within { global.old.num_operations ≤ limit_of self.now.max_operations → global.new.num_operations ≤ limit_of self.now.max_operations }
         ensures charges { OnOk result (global.old.num_operations < global.new.num_operations) }
+        ensures turns { IfErr result (λ error. leaves_turn error ≡ true → global.old.num_operations < global.new.num_operations) }
         ensures around { around_of global.new ≡ around_of global.old }
         ensures scope_level { global.new.scope_level ≡ global.old.scope_level }
         ensures bound { is_some this.new ≡ is_some this.old }
@@ -154,12 +156,33 @@ impl<H: Host> Engine<H> {
                 block.statements.as_slice(),
                 true,
             ),
+            Stmt::Assignment(op, lhs, rhs) => self.run_assignment(
+                alloc, global, caches, table, scope, this, *op, lhs, rhs, restoring,
+            ),
             Stmt::If(test, body, branch, pos) => self.run_if(
                 alloc, global, caches, table, scope, this, test, body, branch, *pos, restoring,
             ),
             Stmt::Var(ident, value, None, options, pos) => self.run_var(
                 alloc, global, caches, table, scope, this, ident, value, *options, *pos, restoring,
             ),
+            Stmt::While(test, body, _) => {
+                self.run_while(alloc, global, caches, table, scope, this, test, body)
+            }
+            Stmt::Do(test, body, options, _) => {
+                self.run_do(
+                    alloc, global, caches, table, scope, this, test, body, *options,
+                )
+            }
+            Stmt::BreakLoop(value, options, pos) => {
+                self.run_break(
+                    alloc, global, caches, table, scope, this, value, *options, *pos,
+                )
+            }
+            Stmt::Return(value, options, pos) => {
+                self.run_return(
+                    alloc, global, caches, table, scope, this, value, *options, *pos,
+                )
+            }
             _ => unreachable!(),
         }
     }
@@ -190,6 +213,40 @@ impl<H: Host> Engine<H> {
     {
         let value = self.run_expr(alloc, global, caches, table, scope, this, expr)?;
         flatten(alloc, &global.cells, value, expr.position())
+    }
+
+    /// An assignment to a variable: its value, then the variable.
+    #[cycle(eval)]
+    fn run_assignment<T: NativeTable<H>>(
+        &self,
+        alloc: Global,
+        global: &mut GlobalRuntimeState<H>,
+        caches: &mut Caches<H>,
+        table: &mut T,
+        scope: &mut Scope<H>,
+        this: &mut Option<Dynamic<H>>,
+        op: OpAssignment,
+        lhs: &Expr,
+        rhs: &Expr,
+        restoring: bool,
+    ) -> Result<Dynamic<H>, EvalAltResult<H>>
+        requires resolves_target { IsTrue (target_resolves (tests_of lhs.now) (names_in scope.old)) }
+        requires resolves { IsTrue (resolves_expr rhs.now (names_in scope.old)) }
+        requires fast { self.now.fast_operators ≡ true }
+        ensures counts { global.old.num_operations ≤ global.new.num_operations }
+        ensures within { global.old.num_operations ≤ limit_of self.now.max_operations → global.new.num_operations ≤ limit_of self.now.max_operations }
+        ensures around { around_of global.new ≡ around_of global.old }
+        ensures scope_level { global.new.scope_level ≡ global.old.scope_level }
+        ensures bound { is_some this.new ≡ is_some this.old }
+        ensures names { names_in scope.new ≡ names_in scope.old }
+        ensures runs { Runs (setting_of H.name_of self.now) T.gives T.pure (OpenStmt (layer.Assignment op lhs.now rhs.now) restoring) (state_of (T.state table.old) global.old scope.old this.old) result (state_of (T.state table.new) global.new scope.new this.new) }
+    {
+        let Expr::Variable { name, pos, .. } = lhs else {
+            unreachable!()
+        };
+        let value = self.run_expr(alloc, global, caches, table, scope, this, rhs)?;
+        let value = flatten(alloc, &global.cells, value, rhs.position())?;
+        self.assign_variable(alloc, global, table, scope, name, *pos, op, value)
     }
 
     /// The list that a condition chose.
@@ -289,6 +346,8 @@ impl<H: Host> Engine<H> {
         requires fast { self.now.fast_operators ≡ true }
         ensures counts { global.old.num_operations ≤ global.new.num_operations }
         ensures within { global.old.num_operations ≤ limit_of self.now.max_operations → global.new.num_operations ≤ limit_of self.now.max_operations }
+        ensures charges { OnOk result (0 < length statements.now → global.old.num_operations < global.new.num_operations) }
+        ensures turns { IfErr result (λ error. leaves_turn error ≡ true → global.old.num_operations < global.new.num_operations) }
         ensures around { around_of global.new ≡ around_of global.old }
         ensures scope_level { global.new.scope_level ≡ global.old.scope_level }
         ensures bound { is_some this.new ≡ is_some this.old }
@@ -331,6 +390,8 @@ impl<H: Host> Engine<H> {
         requires fast { self.now.fast_operators ≡ true }
         ensures counts { global.old.num_operations ≤ global.new.num_operations }
         ensures within { global.old.num_operations ≤ limit_of self.now.max_operations → global.new.num_operations ≤ limit_of self.now.max_operations }
+        ensures charges { OnOk result (0 < length statements.now → global.old.num_operations < global.new.num_operations) }
+        ensures turns { IfErr result (λ error. leaves_turn error ≡ true → global.old.num_operations < global.new.num_operations) }
         ensures around { around_of global.new ≡ around_of global.old }
         ensures scope_level { global.new.scope_level ≡ global.old.scope_level }
         ensures bound { is_some this.new ≡ is_some this.old }

@@ -6,8 +6,9 @@ ghost use Rattle.rhai_values.specs.Cells.{cells_of, value_of_cell};
 ghost use Rattle.rhai_values.specs.Copy.{copy_of, plain};
 ghost use Rattle.rhai_values.specs.declared.base.value.Union.TheVariants as kind;
 ghost use Rattle.rhai_machine.specs.language.State.{Answers};
-ghost use Rattle.rhai_machine.specs.language.Values.{bool_value as truth_of, copied, flat, is_handle, is_truth, truth, truth_union, unit_value as unit, used};
+ghost use Rattle.rhai_machine.specs.language.Values.{bool_value as truth_of, copied, flat, is_handle, is_truth, through, truth, truth_union, unit_value as unit, used};
 ghost use Rattle.rhai_machine.specs.language.Expressions.{literal_of};
+ghost use Rattle.rhai_eval.specs.Values.{unit_seen};
 
 use crate::eval::errors::{data_race, mismatch};
 use rhai_tree::expr::Expr;
@@ -126,6 +127,25 @@ pub fn truth_value<H: Host>(
             None => Err(data_race(alloc, pos)),
         },
         _ => plain_truth(alloc, cells, &value, pos),
+    }
+}
+
+/// Whether a value is `()`, through a handle.
+pub fn is_unit<H: Host>(
+    alloc: Global,
+    cells: &CellStore<H>,
+    value: &Dynamic<H>,
+    pos: Position,
+) -> Result<bool, EvalAltResult<H>>
+    ensures { Answers result (unit_seen (through (cells_of cells.now) value.now pos)) }
+{
+    match &value.value {
+        Union::Unit => Ok(true),
+        Union::Cell(id) => match cells.get(*id) {
+            Some(inner) => Ok(matches!(&inner.value, Union::Unit)),
+            None => Err(data_race(alloc, pos)),
+        },
+        _ => Ok(false),
     }
 }
 

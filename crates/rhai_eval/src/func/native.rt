@@ -1,16 +1,16 @@
 //! Built-in operators and natives: what a call does without going down the tree.
 
-ghost use Rattle.std.specs.Prelude.{◌≡◌, ◌<◌, ◌≤◌, ◌+◌, ◌∷◌, ◌++◌, [], Some, IfOk, IfErr, OnOk, false, codes};
+ghost use Rattle.std.specs.Prelude.{◌≡◌, ◌<◌, ◌≤◌, ◌+◌, ◌∷◌, ◌++◌, [], Some, IfOk, IfErr, IfSome, OnOk, is_some, true, false, codes};
 ghost use Rattle.std.specs.String.{string_bytes};
 ghost use Rattle.rhai_values.specs.Errors.{is_out_of_memory};
 ghost use Rattle.rhai_values.specs.Cells.{cells_of};
 ghost use Rattle.rhai_values.specs.declared.base.error.EvalAltResult.TheVariants as error;
-ghost use Rattle.rhai_values.specs.Native.{Missing};
+ghost use Rattle.rhai_values.specs.Native.{Missing, reply_of};
 ghost use Rattle.rhai_operators.specs.Answers.{HasMemory};
 ghost use Rattle.rhai_machine.specs.language.Setting.{limit_of};
-ghost use Rattle.rhai_machine.specs.language.State.{Answers};
+ghost use Rattle.rhai_machine.specs.language.State.{Answers, HasMemory as WithMemory};
 ghost use Rattle.rhai_machine.specs.language.Values.{is_handle as handle_at};
-ghost use Rattle.rhai_machine.specs.language.Calls.{applied as applied_at, builtin_of as builtin_for, call_at, operation_at, not_found as not_found_at, placed_if_none, replied, signature as signature_of, sized as sized_at, types_of};
+ghost use Rattle.rhai_machine.specs.language.Calls.{applied as applied_at, builtin_of as builtin_for, call_at, operation_at, not_found as not_found_at, placed_if_none, replied as replied_at, signature as signature_of, sized as sized_at, types_of};
 ghost use Rattle.rhai_machine.specs.language.Frames.{Ask};
 ghost use Rattle.rhai_machine.specs.language.Runs.{Runs, Operates};
 ghost use Rattle.rhai_eval.specs.States.{setting_of, state_of, around_of};
@@ -30,7 +30,7 @@ use rhai_values::table::{Answer, NativeTable};
 use std::alloc::{AllocError, Global};
 
 /// Whether a value is a bare handle of a cell.
-fn is_handle<H: Host>(value: &Dynamic<H>) -> bool
+pub(crate) fn is_handle<H: Host>(value: &Dynamic<H>) -> bool
     ensures { result ≡ handle_at value.now.value }
 {
     matches!(&value.value, Union::Cell(_))
@@ -119,7 +119,10 @@ fn builtin<H: Host>(
 }
 
 /// A list of one value.
-fn one_item<H: Host>(alloc: Global, value: Dynamic<H>) -> Result<Items<Dynamic<H>>, AllocError>
+pub(crate) fn one_item<H: Host>(
+    alloc: Global,
+    value: Dynamic<H>,
+) -> Result<Items<Dynamic<H>>, AllocError>
     ensures { IfOk result (λ items. items ≡ value ∷ []) }
 {
     let mut items = Items::new(alloc);
@@ -144,7 +147,7 @@ impl<H: Host> Engine<H> {
     }
 
     /// What a built-in operator gave, at the operator.
-    fn applied(
+    pub(crate) fn applied(
         &self,
         alloc: Global,
         outcome: Result<Dynamic<H>, EvalAltResult<H>>,
@@ -173,11 +176,34 @@ impl<H: Host> Engine<H> {
         rest: &[Dynamic<H>],
         pos: Position,
     ) -> Result<Dynamic<H>, EvalAltResult<H>>
-        ensures { Answers result (replied (setting_of H.name_of self.now) Missing (Some first.now) rest.now (operation_at name.now token pos) (cells_of cells.now)) }
+        ensures { Answers result (replied_at (setting_of H.name_of self.now) Missing (Some first.now) rest.now (operation_at name.now token pos) (cells_of cells.now)) }
     {
         match builtin(alloc, token, first, rest) {
             Some(outcome) => self.applied(alloc, outcome, pos),
             None => Err(not_found(alloc, cells, name.get().as_str(), first, rest, pos)),
+        }
+    }
+
+    /// What a native's answer comes to, at the call.
+    pub(crate) fn replied(
+        &self,
+        alloc: Global,
+        cells: &CellStore<H>,
+        answer: Answer<H>,
+        name: &Shared<Text>,
+        token: Token,
+        first: &Dynamic<H>,
+        rest: &[Dynamic<H>],
+        pos: Position,
+    ) -> Result<Dynamic<H>, EvalAltResult<H>>
+        ensures told { IfSome (reply_of answer) (λ reply. Answers result (replied_at (setting_of H.name_of self.now) reply (Some first.now) rest.now (operation_at name.now token pos) (cells_of cells.now))) }
+        ensures memory { WithMemory result → is_some (reply_of answer) ≡ true }
+    {
+        match answer {
+            Answer::Missing => self.missing(alloc, cells, name, token, first, rest, pos),
+            Answer::Value(value) => self.sized(alloc, value, pos),
+            Answer::Fault(error) => Err(placed(error, pos)),
+            Answer::NoMemory => Err(EvalAltResult::ErrorOutOfMemory(pos)),
         }
     }
 
@@ -203,18 +229,14 @@ impl<H: Host> Engine<H> {
         if is_handle(first) {
             return Err(data_race_of(name, pos));
         }
-        match table.call(
+        let answer = table.call(
             &global.cells,
             name.get().as_str(),
             Some(&mut *first),
             rest,
             pos,
-        ) {
-            Answer::Missing => self.missing(alloc, &global.cells, name, token, first, rest, pos),
-            Answer::Value(value) => self.sized(alloc, value, pos),
-            Answer::Fault(error) => Err(placed(error, pos)),
-            Answer::NoMemory => Err(EvalAltResult::ErrorOutOfMemory(pos)),
-        }
+        );
+        self.replied(alloc, &global.cells, answer, name, token, first, rest, pos)
     }
 
     /// Charges a literal argument at its start, and hands it on.

@@ -1,5 +1,5 @@
 -- Where a variable's value stands, as it is assigned to.
-use Rattle.std.specs.Prelude.{ℕ, Bool, true, false, ◌||◌, List, Option, Some, None, Result, Ok, Err, slice_get, slice_set}
+use Rattle.std.specs.Prelude.{ℕ, Bool, true, false, ◌||◌, List, Option, Some, None, Result, Ok, Err, slice_get}
 use Rattle.rhai_tree.specs.declared.position.Position.{Position}
 use Rattle.rhai_values.specs.declared.base.value.AccessMode.{AccessMode}
 use Rattle.rhai_values.specs.declared.base.value.AccessMode.TheVariants.{ReadWrite, ReadOnly}
@@ -10,7 +10,7 @@ use Rattle.rhai_values.specs.declared.base.scope.ScopeEntry.{ScopeEntry}
 use Rattle.rhai_values.specs.declared.base.error.EvalAltResult.{EvalAltResult}
 use Rattle.rhai_values.specs.declared.base.error.EvalAltResult.TheVariants as error
 use Rattle.rhai_values.specs.Cells.{value_of_cell, with_held, with_value}
-use Rattle.rhai_values.specs.Scope.{index_of, found}
+use Rattle.rhai_values.specs.Scope.{index_of, found, revalued}
 use Rattle.rhai_machine.specs.language.State.{Local}
 use Rattle.rhai_machine.specs.language.Values.{Cells}
 
@@ -53,11 +53,6 @@ module _ {H : Type 0} where
   -- the variable of a name, as it is assigned to
   abbrev pub target_of : Cells H → List ℕ → Position → List (ScopeEntry H) → Result (Target H) (EvalAltResult H)
   target_of cells name at entries = target_found cells name at (index_of name entries) (found name entries)
-
-  -- an entry with another value
-  abbrev pub revalued : List (ScopeEntry H) → ℕ → Option (ScopeEntry H) → Dynamic H → List (ScopeEntry H)
-  revalued entries index (Some entry) v = slice_set entries index (record entry { value = v })
-  revalued entries index None v = entries
 
   -- a value is written to a place
   abbrev pub put : Place → Dynamic H → Local H → Local H

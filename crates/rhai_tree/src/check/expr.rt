@@ -1,13 +1,13 @@
 //! The checker's walk over expressions.
 
-ghost use Rattle.std.specs.Prelude.{◌≡◌, ◌++◌, [], ◌∷◌, IsTrue, IfErr, OnOk, map, length, List};
+ghost use Rattle.std.specs.Prelude.{◌≡◌, ◌++◌, [], ◌∷◌, IsTrue, IfErr, OnOk, map, length, List, option_map};
 ghost use Rattle.rhai_tree.specs.Context.{around};
-ghost use Rattle.rhai_tree.specs.Declares.{any_of, declares_expr, declares_call};
+ghost use Rattle.rhai_tree.specs.Declares.{any_of, in_option, declares_expr, declares_call};
 ghost use Rattle.rhai_tree.specs.Forms.{is_unqualified, is_eval_call, is_operator_call};
-ghost use Rattle.rhai_tree.specs.Frame.{resolves_expr, resolves_call, all_resolve_exprs};
+ghost use Rattle.rhai_tree.specs.Frame.{tests_of, resolves_expr, resolves_call, target_resolves, option_resolves, all_resolve_exprs};
 ghost use Rattle.rhai_tree.specs.Names.{Name, is_good};
 ghost use Rattle.rhai_tree.specs.Refusals.{Refuses};
-ghost use Rattle.rhai_tree.specs.WellFormed.{seen_expr, seen_call, faults_in_all, variable_faults};
+ghost use Rattle.rhai_tree.specs.WellFormed.{seen_expr, seen_call, target_faults, faults_in_option, faults_in_all, variable_faults};
 
 use crate::check::CheckFault;
 use crate::check::names::is_good;
@@ -62,6 +62,9 @@ pub(crate) fn check_expr(
         }
         Expr::FnCall(call, pos) => check_call(names, place, call, *pos),
         Expr::Stmt(block) => check_block(names, place, block),
+        Expr::And(parts, _) => check_exprs(names, place, parts.as_slice()),
+        Expr::Or(parts, _) => check_exprs(names, place, parts.as_slice()),
+        Expr::Coalesce(parts, _) => check_exprs(names, place, parts.as_slice()),
         Expr::DynamicConstant(_, pos)
         | Expr::CharConstant(_, pos)
         | Expr::StringConstant(_, pos)
@@ -72,10 +75,7 @@ pub(crate) fn check_expr(
         | Expr::Property(_, pos)
         | Expr::MethodCall(_, pos)
         | Expr::Dot(_, _, _, pos)
-        | Expr::Index(_, _, _, pos)
-        | Expr::And(_, pos)
-        | Expr::Or(_, pos)
-        | Expr::Coalesce(_, pos) => Err(CheckFault::NotYet(*pos)),
+        | Expr::Index(_, _, _, pos) => Err(CheckFault::NotYet(*pos)),
     }
 }
 
@@ -88,13 +88,61 @@ pub(crate) fn check_exprs(
 ) -> Result<(), CheckFault>
     ensures same { OnOk result (names.new ≡ names.old) }
     ensures exact { OnOk result (faults_in_all (map seen_expr exprs.now) (around names.old place) ≡ []) }
-    ensures resolved { OnOk result ((base : List Name) → IsTrue (all_resolve_exprs (map resolves_expr exprs.now) (base ++ names.old))) }
+    ensures resolved { OnOk result ((base : List Name) → IsTrue (all_resolve_exprs (map tests_of exprs.now) (base ++ names.old))) }
     ensures refused { IfErr result (λ fault. Refuses (faults_in_all (map seen_expr exprs.now) (around names.old place)) (any_of (map declares_expr exprs.now)) fault) }
 {
     'each: for expr in exprs {
         check_expr(names, place, expr)?;
     }
     Ok(())
+}
+
+/// Passes an expression that may be left out, or answers one of its faults.
+#[cycle(check)]
+pub(crate) fn check_option(
+    names: &mut Items<Shared<Text>>,
+    place: Place,
+    expr: &Option<Expr>,
+) -> Result<(), CheckFault>
+    ensures same { OnOk result (names.new ≡ names.old) }
+    ensures exact { OnOk result (faults_in_option (option_map seen_expr expr.now) (around names.old place) ≡ []) }
+    ensures resolved { OnOk result ((base : List Name) → IsTrue (option_resolves (option_map tests_of expr.now) (base ++ names.old))) }
+    ensures refused { IfErr result (λ fault. Refuses (faults_in_option (option_map seen_expr expr.now) (around names.old place)) (in_option (option_map declares_expr expr.now)) fault) }
+{
+    match expr {
+        None => Ok(()),
+        Some(expr) => check_expr(names, place, expr),
+    }
+}
+
+/// Whether an expression is a variable, `this` or a chain, which alone may be assigned to.
+fn is_place(expr: &Expr) -> bool
+    ensures seen { result ≡ (seen_expr expr.now).is_place }
+    ensures tested { result ≡ (tests_of expr.now).is_place }
+{
+    matches!(
+        expr,
+        Expr::Variable { .. } | Expr::ThisPtr(_) | Expr::Dot(..) | Expr::Index(..)
+    )
+}
+
+/// Passes the left side of an assignment, or answers one of its faults.
+#[cycle(check)]
+pub(crate) fn check_target(
+    names: &mut Items<Shared<Text>>,
+    place: Place,
+    lhs: &Expr,
+) -> Result<(), CheckFault>
+    ensures same { OnOk result (names.new ≡ names.old) }
+    ensures exact { OnOk result (target_faults (seen_expr lhs.now) (around names.old place) ≡ []) }
+    ensures resolved { OnOk result ((base : List Name) → IsTrue (target_resolves (tests_of lhs.now) (base ++ names.old))) }
+    ensures refused { IfErr result (λ fault. Refuses (target_faults (seen_expr lhs.now) (around names.old place)) (declares_expr lhs.now) fault) }
+{
+    if is_place(lhs) {
+        check_expr(names, place, lhs)
+    } else {
+        Err(CheckFault::BadAssignment(lhs.first_token()))
+    }
 }
 
 /// Whether a call is one of `eval` by its name, with one argument, operator or not.

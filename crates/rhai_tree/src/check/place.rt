@@ -1,6 +1,6 @@
 //! Where in a frame the checker stands.
 
-ghost use Rattle.std.specs.Prelude.{◌≡◌, false};
+ghost use Rattle.std.specs.Prelude.{◌≡◌, true, false};
 
 /// What surrounds a form, but for the names.
 #[derive(Clone, Copy, Debug, PartialEq, Eq)]
@@ -23,6 +23,16 @@ impl Place {
         in_loop: false,
         in_top: false,
     };
+
+    /// In a loop that stands here.
+    pub fn looping(self) -> Place
+        ensures { result ≡ record self { in_loop = true } }
+    {
+        Place {
+            in_loop: true,
+            ..self
+        }
+    }
 
     /// In a block that stands here.
     pub fn inside(self) -> Place

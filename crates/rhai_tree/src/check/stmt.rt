@@ -1,7 +1,7 @@
 //! The checker's walk over statements.
 
 ghost use Rattle.std.specs.Prelude.{◌≡◌, ◌++◌, [], ◌∷◌, true, IsTrue, IfErr, OnOk, map, List, None};
-ghost use Rattle.rhai_tree.specs.Context.{around, inside};
+ghost use Rattle.rhai_tree.specs.Context.{around};
 ghost use Rattle.rhai_tree.specs.Declares.{any_of, declares_stmt, declares_block, declares_expr};
 ghost use Rattle.rhai_tree.specs.Frame.{resolves_stmt, resolves_block, all_resolve};
 ghost use Rattle.rhai_tree.specs.Names.{Name, Begins};
@@ -9,7 +9,7 @@ ghost use Rattle.rhai_tree.specs.Refusals.{Refuses};
 ghost use Rattle.rhai_tree.specs.WellFormed.{seen_stmt, seen_block, faults_in_list};
 
 use crate::check::CheckFault;
-use crate::check::expr::check_expr;
+use crate::check::expr::{check_expr, check_option, check_target};
 use crate::check::names::declare;
 use crate::check::place::Place;
 use crate::expr::{Expr, Stmt, StmtBlock};
@@ -78,16 +78,35 @@ fn check_stmt(names: &mut Items<Shared<Text>>, place: Place, stmt: &Stmt) -> Res
             check_block(names, place, body)?;
             check_block(names, place, branch)
         }
-        Stmt::Assignment(_, lhs, _) => Err(CheckFault::NotYet(lhs.first_token())),
+        Stmt::Assignment(_, lhs, rhs) => {
+            check_target(names, place, lhs)?;
+            check_expr(names, place, rhs)
+        }
+        Stmt::While(expr, body, _) => {
+            check_expr(names, place, expr)?;
+            check_block(names, place.looping(), body)
+        }
+        Stmt::Do(expr, body, _, _) => {
+            check_expr(names, place, expr)?;
+            check_block(names, place.looping(), body)
+        }
+        Stmt::BreakLoop(expr, _, pos) => {
+            if !place.in_loop {
+                return Err(CheckFault::LoopControlOutside(*pos));
+            }
+            check_option(names, place, expr)
+        }
+        Stmt::Return(expr, options, pos) => {
+            if options.contains(ASTFlags::BREAK) {
+                return Err(CheckFault::NotYet(*pos));
+            }
+            check_option(names, place, expr)
+        }
         Stmt::FnCall(_, pos)
         | Stmt::Var(_, _, Some(_), _, pos)
         | Stmt::Switch { pos, .. }
-        | Stmt::While(_, _, pos)
-        | Stmt::Do(_, _, _, pos)
         | Stmt::For { pos, .. }
-        | Stmt::BreakLoop(_, _, pos)
         | Stmt::TryCatch(_, _, _, pos)
-        | Stmt::Return(_, _, pos)
         | Stmt::Import(_, _, pos)
         | Stmt::Export(_, _, pos) => Err(CheckFault::NotYet(*pos)),
         Stmt::Share(_) => Err(CheckFault::NotYet(stmt.position())),

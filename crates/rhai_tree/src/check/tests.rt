@@ -1,7 +1,7 @@
 //! What no clause says: which trees pass, at which position a fault is answered, and the faults' names.
 
 use crate::check::{CheckFault, check_function, check_tree};
-use crate::expr::{Expr, FnCallExpr, Ident, Namespace, Stmt, StmtBlock};
+use crate::expr::{Expr, FnCallExpr, Ident, Namespace, OpAssignment, Stmt, StmtBlock};
 use crate::flags::ASTFlags;
 use crate::function::{FnAccess, ScriptFuncDef, ScriptFuncPayload};
 use crate::position::Position;
@@ -250,4 +250,122 @@ fn faults_have_names_and_positions(rt: HostRuntime) -> Result<(), Fail> {
 fn operators_are_written(rt: HostRuntime) {
     assert_eq!(rt; Token::InclusiveRange.as_str(), "..=");
     assert_eq!(rt; Token::UnaryMinus.as_str(), "-");
+}
+
+/// The fault of a tree of one statement.
+fn fault_of_one(alloc: Global, statement: Stmt) -> Result<Option<CheckFault>, AllocError> {
+    Ok(fault_of(alloc, one(alloc, statement)?))
+}
+
+/// `{ break; }` with the statement at column 9.
+fn leaving(alloc: Global) -> Result<StmtBlock, AllocError> {
+    Ok(block(one(alloc, Stmt::BreakLoop(None, ASTFlags::BREAK, at(9)))?))
+}
+
+#[test]
+fn control_in_no_loop(rt: HostRuntime) -> Result<(), Fail> {
+    let alloc = rt.alloc();
+    let fault = fault_of_one(alloc, Stmt::Block(leaving(alloc)?))?;
+    assert_eq!(rt; fault, Some(CheckFault::LoopControlOutside(at(9))));
+    Ok(())
+}
+
+#[test]
+fn control_in_a_block_of_a_loop(rt: HostRuntime) -> Result<(), Fail> {
+    let alloc = rt.alloc();
+    let body = block(one(alloc, Stmt::Block(leaving(alloc)?))?);
+    let endless = Stmt::While(Expr::Unit(at(0)), body, at(1));
+    assert_eq!(rt; fault_of_one(alloc, endless)?, None);
+    Ok(())
+}
+
+#[test]
+fn control_in_a_condition(rt: HostRuntime) -> Result<(), Fail> {
+    let alloc = rt.alloc();
+    let condition = Expr::Stmt(leaving(alloc)?);
+    let until = Stmt::Do(
+        condition,
+        block(Items::new(alloc)),
+        ASTFlags::NEGATED,
+        at(1),
+    );
+    assert_eq!(rt;
+        fault_of_one(alloc, until)?,
+        Some(CheckFault::LoopControlOutside(at(9)))
+    );
+    Ok(())
+}
+
+#[test]
+fn returns_and_throws(rt: HostRuntime) -> Result<(), Fail> {
+    let alloc = rt.alloc();
+    for (options, fault) in [
+        (ASTFlags::empty(), CheckFault::BadOffset(at(8))),
+        (ASTFlags::BREAK, CheckFault::NotYet(at(1))),
+    ] {
+        let back = Stmt::Return(Some(variable(alloc, "x", 1, 8)?), options, at(1));
+        assert_eq!(rt; fault_of_one(alloc, back)?, Some(fault));
+    }
+    Ok(())
+}
+
+/// The fault of `let x = 1; LEFT += 1`.
+fn assigning(alloc: Global, left: Expr) -> Result<Option<CheckFault>, AllocError> {
+    let mut statements = one(alloc, let_one(alloc, "x", 1)?)?;
+    let op = OpAssignment {
+        op: Some(Token::Plus),
+        position: at(14),
+    };
+    statements.push(Stmt::Assignment(op, left, Expr::IntegerConstant(1, at(16))))?;
+    Ok(fault_of(alloc, statements))
+}
+
+#[test]
+fn variables_are_assigned_to(rt: HostRuntime) -> Result<(), Fail> {
+    let alloc = rt.alloc();
+    for (offset, fault) in [(1, None), (2, Some(CheckFault::BadOffset(at(12))))] {
+        let left = variable(alloc, "x", offset, 12)?;
+        assert_eq!(rt; assigning(alloc, left)?, fault);
+    }
+    Ok(())
+}
+
+#[test]
+fn a_sum_is_not_assigned_to(rt: HostRuntime) -> Result<(), Fail> {
+    let alloc = rt.alloc();
+    let left = Expr::FnCall(sum(alloc, variable(alloc, "x", 1, 12)?)?, at(13));
+    assert_eq!(rt;
+        assigning(alloc, left)?,
+        Some(CheckFault::BadAssignment(at(12)))
+    );
+    Ok(())
+}
+
+#[test]
+fn this_is_not_there(rt: HostRuntime) -> Result<(), Fail> {
+    let alloc = rt.alloc();
+    assert_eq!(rt;
+        assigning(alloc, Expr::ThisPtr(at(12)))?,
+        Some(CheckFault::NotYet(at(12)))
+    );
+    Ok(())
+}
+
+#[test]
+fn operators_over_lists(rt: HostRuntime) -> Result<(), Fail> {
+    let alloc = rt.alloc();
+    for operator in 0..3 {
+        let operands = one(alloc, variable(alloc, "x", 1, 5)?)?;
+        let expr = match operator {
+            0 => Expr::And(operands, at(1)),
+            1 => Expr::Or(operands, at(1)),
+            _ => Expr::Coalesce(operands, at(1)),
+        };
+        assert_eq!(rt; expr.start_position(), at(5));
+        assert_eq!(rt;
+            fault_of_one(alloc, Stmt::Expr(expr))?,
+            Some(CheckFault::BadOffset(at(5)))
+        );
+    }
+    Ok(())
 }

@@ -1,8 +1,7 @@
-use Rattle.std.proofs.Common.{◌≡◌, ap, sym, ◌∙◌, refl, ◌++◌, true, arith, length, ◌≤◌}
-use Rattle.rhai_tree.specs.declared.check.CheckFault.TheVariants.{NotYet}
+use Rattle.std.proofs.Common.{◌≡◌, ap, ◌∙◌, refl, ◌++◌, true, arith, length, ◌≤◌}
 use Rattle.rhai_tree.specs.declared.expr.Expr.TheOpen as layer
 use Rattle.rhai_tree.specs.declared.expr.Expr.TheVariants.{outs-Variable}
-use Rattle.rhai_tree.specs.declared.expr.Stmt.TheVariants.{outs-If, outs-Noop, outs-Assignment}
+use Rattle.rhai_tree.specs.declared.expr.Stmt.TheVariants.{outs-If, outs-Noop}
 use Rattle.rhai_tree.specs.Context.{around}
 use Rattle.rhai_tree.specs.Names.{is_good}
 use Rattle.rhai_tree.proofs.Offsets.{variable_above}
@@ -33,12 +32,6 @@ pub stmt::check_stmt-returns-in-Noop-clause-resolved : goal.stmt::check_stmt-ret
 stmt::check_stmt-returns-in-Noop-clause-resolved t c base =
     ap (λ v. v (base ++ c.args.names.now)) (resolves-stmt c.args.stmt.now (layer.Noop c.in-Noop.field-0) (rw (c.in-Noop.is, outs-Noop) refl))
 
-pub stmt::check_stmt-returns-in-Assignment-clause-refused : goal.stmt::check_stmt-returns-in-Assignment-clause-refused
-stmt::check_stmt-returns-in-Assignment-clause-refused t c =
-    refuses_stmt_at c.args.stmt.now (layer.Assignment c.in-Assignment.field-0 c.in-Assignment.lhs c.in-Assignment.field-2) (around c.args.names.now c.args.place) (NotYet c.first_token.result)
-    (rw (c.in-Assignment.is, outs-Assignment) refl)
-    (ap NotYet (sym c.first_token.ensures.seen))
-
 pub stmt::check_stmt-returns-in_err-check_block-in-If-clause-refused : goal.stmt::check_stmt-returns-in_err-check_block-in-If-clause-refused
 stmt::check_stmt-returns-in_err-check_block-in-If-clause-refused t c =
     refused _ _ _ _ c.from_residual-in_err-check_block-in-If.ensures
@@ -51,6 +44,6 @@ pub expr::check_expr-returns-then-is_good-clause-resolved : goal.expr::check_exp
 expr::check_expr-returns-then-is_good-clause-resolved t c base =
     let good : is_good c.in-Variable.offset c.in-Variable.name c.args.names.now ≡ true = cc in
     let none : length c.in-Variable.namespace.path ≤ 0 = omega arith in
-    ap (λ v. v (base ++ c.args.names.now))
+    ap (λ v. v.value (base ++ c.args.names.now))
     (resolves-expr c.args.expr.now (layer.Variable c.in-Variable.offset c.in-Variable.name c.in-Variable.namespace c.in-Variable.pos) (rw (c.in-Variable.is, outs-Variable) refl))
     ∙ variable_above base c.in-Variable.namespace.path c.in-Variable.offset c.in-Variable.name c.args.names.now none good

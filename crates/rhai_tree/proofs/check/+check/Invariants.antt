@@ -1,7 +1,7 @@
 use Rattle.std.specs.Prelude.{◌≡◌, ◌++◌, map, drop, List, IsTrue}
 use Rattle.rhai_tree.specs.Context.{around}
 use Rattle.rhai_tree.specs.Declares.{any_of, declares_expr, declares_stmt}
-use Rattle.rhai_tree.specs.Frame.{resolves_expr, resolves_stmt, all_resolve_exprs, all_resolve}
+use Rattle.rhai_tree.specs.Frame.{tests_of, resolves_stmt, all_resolve_exprs, all_resolve}
 use Rattle.rhai_tree.specs.Names.{Name, Begins}
 use Rattle.rhai_tree.specs.WellFormed.{seen_expr, seen_stmt, faults_in_all, faults_in_list}
 use Rattle.rhai_tree.proofs.check.+check.Given as goal
@@ -10,7 +10,7 @@ abbrev pub invariant-expr::check_exprs-each : goal.invariant-expr::check_exprs-e
 invariant-expr::check_exprs-each l = record {
   same : l.names ≡ l.fn.names;
   faults : faults_in_all (map seen_expr l.exprs) (around l.fn.names l.place) ≡ faults_in_all (map seen_expr (drop l.expr-index l.exprs)) (around l.fn.names l.place);
-  resolved : (base : List Name) → all_resolve_exprs (map resolves_expr l.exprs) (base ++ l.fn.names) ≡ all_resolve_exprs (map resolves_expr (drop l.expr-index l.exprs)) (base ++ l.fn.names);
+  resolved : (base : List Name) → all_resolve_exprs (map tests_of l.exprs) (base ++ l.fn.names) ≡ all_resolve_exprs (map tests_of (drop l.expr-index l.exprs)) (base ++ l.fn.names);
   declares : IsTrue (any_of (map declares_expr (drop l.expr-index l.exprs))) → IsTrue (any_of (map declares_expr l.exprs));
 }
 

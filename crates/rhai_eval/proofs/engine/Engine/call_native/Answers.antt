@@ -1,14 +1,13 @@
-use Rattle.std.proofs.Common.{sym, ap, ◌∙◌, Err, Some}
+use Rattle.std.proofs.Common.{sym, ◌∙◌, Some}
 use Rattle.rhai_machine.specs.machine.Point.{◌⨾◌}
 use Rattle.rhai_machine.specs.language.Runs.{Steps}
-use Rattle.rhai_values.specs.Native.{Missing, Gives, Faults}
 use Rattle.rhai_eval.specs.States.{setting_of}
 use Rattle.rhai_eval.proofs.Chain.{exits}
-use Rattle.rhai_eval.proofs.NativeCalls.{no_handle, asks, refuses_call, fires_handle, fires}
+use Rattle.rhai_eval.proofs.NativeCalls.{no_handle, asks, refuses_call, fires_handle, fires_told}
 use Rattle.rhai_eval.proofs.engine.Engine.call_native.Goals as goal
 
-pub call-requires : goal.call-requires
-call-requires g c = no_handle _ (sym c.is_handle.ensures ∙ c.if-is_handle.false)
+pub call-answer-requires : goal.call-answer-requires
+call-answer-requires g c = no_handle _ (sym c.is_handle.ensures ∙ c.if-is_handle.false)
 
 pub returns-in_err-track_operation-clause-runs : goal.returns-in_err-track_operation-clause-runs
 unfolding Steps
@@ -22,20 +21,8 @@ returns-then-is_handle-clause-runs g c scope this m k =
     asks (setting_of g.H.Host.name_of c.args.self.now) g.T.NativeTable.gives g.T.NativeTable.pure _ c.args.global.now c.track_operation.new.global scope this _ c.in_ok-track_operation.ensures.room c.in_ok-track_operation.ensures.charged k
     ⨾ fires_handle (setting_of g.H.Host.name_of c.args.self.now) g.T.NativeTable.gives g.T.NativeTable.pure _ c.args.first.now c.args.rest.now k _ (sym c.is_handle.ensures ∙ c.if-is_handle.true) _ (c.data_race_of.ensures m)
 
-pub returns-in-Missing-clause-runs : goal.returns-in-Missing-clause-runs
+pub returns-clause-runs : goal.returns-clause-runs
 unfolding Steps
-returns-in-Missing-clause-runs g c scope this m k =
+returns-clause-runs g c scope this m k =
     asks (setting_of g.H.Host.name_of c.args.self.now) g.T.NativeTable.gives g.T.NativeTable.pure _ c.args.global.now c.track_operation.new.global scope this _ c.in_ok-track_operation.ensures.room c.in_ok-track_operation.ensures.charged k
-    ⨾ fires (setting_of g.H.Host.name_of c.args.self.now) g.T.NativeTable.gives g.T.NativeTable.pure _ c.args.first.now c.args.rest.now k _ (sym c.is_handle.ensures ∙ c.if-is_handle.false) Missing (Some c.call.new.first.0) _ _ (rw (c.as_str.ensures, c.get.ensures) at c.in-Missing.ensures.obeys) (c.missing.ensures m)
-
-pub returns-in-Value-clause-runs : goal.returns-in-Value-clause-runs
-unfolding Steps
-returns-in-Value-clause-runs g c scope this m k =
-    asks (setting_of g.H.Host.name_of c.args.self.now) g.T.NativeTable.gives g.T.NativeTable.pure _ c.args.global.now c.track_operation.new.global scope this _ c.in_ok-track_operation.ensures.room c.in_ok-track_operation.ensures.charged k
-    ⨾ fires (setting_of g.H.Host.name_of c.args.self.now) g.T.NativeTable.gives g.T.NativeTable.pure _ c.args.first.now c.args.rest.now k _ (sym c.is_handle.ensures ∙ c.if-is_handle.false) (Gives c.in-Value.value) _ _ _ (rw (c.as_str.ensures, c.get.ensures) at c.in-Value.ensures.obeys) (c.sized.ensures m)
-
-pub returns-in-Fault-clause-runs : goal.returns-in-Fault-clause-runs
-unfolding Steps
-returns-in-Fault-clause-runs g c scope this m k =
-    asks (setting_of g.H.Host.name_of c.args.self.now) g.T.NativeTable.gives g.T.NativeTable.pure _ c.args.global.now c.track_operation.new.global scope this _ c.in_ok-track_operation.ensures.room c.in_ok-track_operation.ensures.charged k
-    ⨾ fires (setting_of g.H.Host.name_of c.args.self.now) g.T.NativeTable.gives g.T.NativeTable.pure _ c.args.first.now c.args.rest.now k _ (sym c.is_handle.ensures ∙ c.if-is_handle.false) (Faults c.in-Fault.error) _ _ _ (rw (c.as_str.ensures, c.get.ensures) at c.in-Fault.ensures.obeys) (ap Err c.placed.ensures)
+    ⨾ fires_told (setting_of g.H.Host.name_of c.args.self.now) g.T.NativeTable.gives g.T.NativeTable.pure _ c.args.first.now c.args.rest.now k _ (sym c.is_handle.ensures ∙ c.if-is_handle.false) _ (Some c.call-answer.new.first.0) _ _ (rw (c.as_str.ensures, c.get.ensures) at c.call-answer.ensures.obeys) c.replied.ensures.told c.replied.ensures.memory m
