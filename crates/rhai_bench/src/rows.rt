@@ -11,10 +11,15 @@ pub mod variables;
 /// The scripts of a row in their order, None where no row has the number. A number is written in
 /// decimal digits, without zeros in front.
 pub fn scripts(alloc: Global, row: &str) -> Result<Option<Items<Script>>, AllocError> {
-    match row {
-        "1" => Ok(Some(operators::sum_under_limits(alloc)?)),
-        "26" => Ok(Some(variables::blocks_under_limits(alloc)?)),
-        "27" => Ok(Some(operators::refused_operands(alloc)?)),
-        _ => Ok(None),
-    }
+    let scripts = match row {
+        "1" => operators::sum_under_limits(alloc)?,
+        "11" => loops::continued(alloc)?,
+        "20" => variables::hidden_and_constant(alloc)?,
+        "26" => variables::blocks_under_limits(alloc)?,
+        "27" => operators::refused_operands(alloc)?,
+        "28" => loops::turns_under_limits(alloc)?,
+        "29" => loops::left_early(alloc)?,
+        _ => return Ok(None),
+    };
+    Ok(Some(scripts))
 }

@@ -41,6 +41,16 @@ pub fn left_early(alloc: Global) -> Result<Items<Script>, AllocError> {
     list(alloc, [broken, returned, either, both])
 }
 
+/// A `break` that stands in no loop.
+pub fn outside_of_loops(alloc: Global) -> Result<Items<Script>, AllocError> {
+    list(alloc, [Script::new(alloc, break_at_the_top(alloc)?)])
+}
+
+/// A million decrements of a variable.
+pub fn million_decrements(alloc: Global) -> Result<Script, AllocError> {
+    Ok(Script::new(alloc, decrements(alloc)?))
+}
+
 /// `loop {}`
 fn empty_loop(alloc: Global) -> Result<Items<Stmt>, AllocError> {
     list(alloc, [loop_stmt(block(alloc, [], 6, 7)?, 1)])
@@ -108,4 +118,20 @@ fn true_or_integer(alloc: Global) -> Result<Items<Stmt>, AllocError> {
 fn integer_and_true(alloc: Global) -> Result<Items<Stmt>, AllocError> {
     let both = and(alloc, 3, [int(1, 1), truth(true, 6)])?;
     list(alloc, [Stmt::Expr(both)])
+}
+
+/// `break;`
+fn break_at_the_top(alloc: Global) -> Result<Items<Stmt>, AllocError> {
+    list(alloc, [break_stmt(None, 1)])
+}
+
+/// `let n = 1000000; while n > 0 { n -= 1; }`
+fn decrements(alloc: Global) -> Result<Items<Stmt>, AllocError> {
+    let start = let_stmt(ident(alloc, "n", 5)?, int(1000000, 9), 1);
+    let left = [variable(alloc, "n", 1, 24)?, int(0, 28)];
+    let left = operator(alloc, Token::GreaterThan, ">", 26, left)?;
+    let n = variable(alloc, "n", 1, 32)?;
+    let counted = assign(Some(Token::Minus), 34, n, int(1, 37));
+    let body = block(alloc, [counted], 30, 40)?;
+    list(alloc, [start, while_stmt(left, body, 18)])
 }

@@ -1,6 +1,6 @@
 //! Operators, and what they refuse.
 
-use crate::build::expressions::{int, operator, truth, variable};
+use crate::build::expressions::{coalesce, int, operator, truth, unit, variable};
 use crate::build::list;
 use crate::build::statements::{block, if_stmt, no_block};
 use crate::script::Script;
@@ -22,6 +22,11 @@ pub fn refused_operands(alloc: Global) -> Result<Items<Script>, AllocError> {
     let name = Script::new(alloc, sum_with_unknown_name(alloc)?);
     let condition = Script::new(alloc, integer_as_condition(alloc)?);
     list(alloc, [operands, name, condition])
+}
+
+/// The first of two values that is not `()`.
+pub fn first_that_is_there(alloc: Global) -> Result<Items<Script>, AllocError> {
+    list(alloc, [Script::new(alloc, unit_or_integer(alloc)?)])
 }
 
 /// `40 + 2`
@@ -47,4 +52,10 @@ fn sum_with_unknown_name(alloc: Global) -> Result<Items<Stmt>, AllocError> {
 fn integer_as_condition(alloc: Global) -> Result<Items<Stmt>, AllocError> {
     let body = block(alloc, [], 6, 7)?;
     list(alloc, [if_stmt(int(1, 4), body, no_block(alloc), 1)])
+}
+
+/// `() ?? 5`
+fn unit_or_integer(alloc: Global) -> Result<Items<Stmt>, AllocError> {
+    let first = coalesce(alloc, 4, [unit(1), int(5, 7)])?;
+    list(alloc, [Stmt::Expr(first)])
 }

@@ -7,12 +7,20 @@ use std::io::Write;
 use std::test::Fail;
 
 /// The rows with their lines and the status of the last.
-const ROWS: [(&str, &str, u8); 3] = [
+const ROWS: [(&str, &str, u8); 7] = [
     ("1", "error ErrorTooManyOperations 1:6\nok 42\n", 0),
+    ("11", "ok 5\n", 0),
+    ("20", "ok 1\nerror ErrorAssignmentToConstant 1:14\n", 1),
     ("26", "ok 42\nerror ErrorTooManyOperations 1:45\n", 1),
     (
         "27",
         "error ErrorFunctionNotFound 1:3\nerror ErrorVariableNotFound 1:1\nerror ErrorMismatchDataType 1:4\n",
+        1,
+    ),
+    ("28", "ok 3\nerror ErrorTooManyOperations 1:36\n", 1),
+    (
+        "29",
+        "ok 8\nok 5\nok true\nerror ErrorMismatchDataType 1:1\n",
         1,
     ),
 ];

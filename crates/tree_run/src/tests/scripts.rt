@@ -3,9 +3,9 @@
 use rhai_bench::host::Pair;
 use rhai_bench::outcome::{Ending, Outcome};
 use rhai_bench::print::{write_ending, write_value};
-use rhai_bench::rows::loops::{continued, endless, left_early, turns_under_limits};
+use rhai_bench::rows::loops::{endless, outside_of_loops};
+use rhai_bench::rows::operators::first_that_is_there;
 use rhai_bench::rows::scripts;
-use rhai_bench::rows::variables::hidden_and_constant;
 use rhai_bench::script::Script;
 use rhai_bench::settings::Way;
 use rhai_eval_base::base::{EvalAltResult, Items, Scope};
@@ -120,60 +120,72 @@ fn refused_operands(rt: HostRuntime) -> Result<(), Fail> {
     check_row(&rt, "27", &[operands, name, condition])
 }
 
+#[test]
+fn continued(rt: HostRuntime) -> Result<(), Fail> {
+    check_row(&rt, "11", &[counted("ok 5", 47, "n = 5; ")])
+}
+
+#[test]
+fn hidden_and_constant(rt: HostRuntime) -> Result<(), Fail> {
+    let hidden = counted("ok 1", 7, "x = 1; ");
+    let constant = counted("error ErrorAssignmentToConstant 1:14", 5, "C = 1; ");
+    check_row(&rt, "20", &[hidden, constant])
+}
+
+#[test]
+fn turns_under_limits(rt: HostRuntime) -> Result<(), Fail> {
+    let passed = counted("ok 3", 26, "n = 3; ");
+    let refused = counted("error ErrorTooManyOperations 1:36", 25, "n = 3; ");
+    check_row(&rt, "28", &[passed, refused])
+}
+
+#[test]
+fn left_early(rt: HostRuntime) -> Result<(), Fail> {
+    let broken = counted("ok 8", 9, "x = 7; ");
+    let returned = counted("ok 5", 2, "");
+    let either = counted("ok true", 3, "");
+    let both = counted("error ErrorMismatchDataType 1:1", 3, "");
+    check_row(&rt, "29", &[broken, returned, either, both])
+}
+
+#[test]
+fn parts_of_rows(rt: HostRuntime) -> Result<(), Fail> {
+    let refused = counted("error ErrorTooManyOperations 1:6", 10, "");
+    let there = counted("ok 5", 4, "");
+    let outside = not_run("check LoopControlOutside 1:1");
+    for way in Way::ALL {
+        check_scripts(&rt, endless(rt.alloc())?, way, &[refused])?;
+        check_scripts(&rt, first_that_is_there(rt.alloc())?, way, &[there])?;
+        check_scripts(&rt, outside_of_loops(rt.alloc())?, way, &[outside])?;
+    }
+    Ok(())
+}
+
 /// What an error of these scripts says beside its place.
 fn text_of(ending: &Ending) -> &str {
     match ending {
         Ending::Error(EvalAltResult::ErrorFunctionNotFound(text, _)) => text.get().as_str(),
         Ending::Error(EvalAltResult::ErrorVariableNotFound(text, _)) => text.get().as_str(),
+        Ending::Error(EvalAltResult::ErrorAssignmentToConstant(text, _)) => text.get().as_str(),
         Ending::Error(EvalAltResult::ErrorMismatchDataType(types, _)) => types.get().found.as_str(),
         _ => "",
     }
 }
 
 #[test]
-fn refused_operands_are_named(rt: HostRuntime) -> Result<(), Fail> {
-    let scripts = scripts(rt.alloc(), "27")?.expect(&rt, "the row is there");
-    for (script, text) in scripts
-        .into_vec()
-        .into_iter()
-        .zip(["+ (i64, bool)", "y", "i64"])
-    {
-        let outcome = script.run(rt.alloc(), Way::USUAL)?;
-        assert_eq!(rt; text_of(&outcome.ending), text);
-    }
-    Ok(())
-}
-
-#[test]
-fn hidden_variable(rt: HostRuntime) -> Result<(), Fail> {
-    let hidden = uncounted("ok 1", "x = 1; ");
-    let assigned = not_run("check NotYet 1:14");
-    let scripts = hidden_and_constant(rt.alloc())?;
-    check_scripts(&rt, scripts, Way::USUAL, &[hidden, assigned])
-}
-
-#[test]
-fn forms_that_are_not_there(rt: HostRuntime) -> Result<(), Fail> {
-    check_scripts(
-        &rt,
-        endless(rt.alloc())?,
-        Way::USUAL,
-        &[not_run("check NotYet 1:1")],
-    )?;
-    let turns = [not_run("check NotYet 1:12"), not_run("check NotYet 1:12")];
-    check_scripts(&rt, turns_under_limits(rt.alloc())?, Way::USUAL, &turns)?;
-    let continues = [not_run("check NotYet 1:12")];
-    check_scripts(&rt, continued(rt.alloc())?, Way::USUAL, &continues)?;
-    let leaves = [
-        not_run("check NotYet 1:9"),
-        not_run("check NotYet 1:1"),
-        not_run("check NotYet 1:6"),
-        not_run("check NotYet 1:3"),
+fn errors_name_what_they_mean(rt: HostRuntime) -> Result<(), Fail> {
+    let rows: [(&str, &[&str]); 3] = [
+        ("20", &["", "C"]),
+        ("27", &["+ (i64, bool)", "y", "i64"]),
+        ("29", &["", "", "", "i64"]),
     ];
-    check_scripts(&rt, left_early(rt.alloc())?, Way::USUAL, &leaves)?;
-    for script in left_early(rt.alloc())?.into_vec() {
-        let outcome = script.run(rt.alloc(), Way::USUAL)?;
-        assert_eq!(rt; outcome.ending.status(), 2);
+    for (row, texts) in rows {
+        let scripts = scripts(rt.alloc(), row)?.expect(&rt, "the row is there");
+        assert_eq!(rt; scripts.len(), texts.len());
+        for (script, &text) in scripts.into_vec().into_iter().zip(texts) {
+            let outcome = script.run(rt.alloc(), Way::USUAL)?;
+            assert_eq!(rt; text_of(&outcome.ending), text);
+        }
     }
     Ok(())
 }
