@@ -12,7 +12,7 @@ use Rattle.rhai_machine.specs.machine.Point.{here}
 use Rattle.rhai_machine.specs.language.Setting.{Setting}
 use Rattle.rhai_machine.specs.language.State.{State, Local}
 use Rattle.rhai_machine.specs.language.Values.{through}
-use Rattle.rhai_machine.specs.language.Frames.{Frame, Core, core, Back, Fail, CoalescePart}
+use Rattle.rhai_machine.specs.language.Frames.{Frame, core, Back, Fail, CoalescePart}
 use Rattle.rhai_machine.specs.language.Expressions.{coalesce_core, coalesce_seen, coalesce_next}
 use Rattle.rhai_machine.specs.language.Runs.{at, with_core, Goes}
 use Rattle.rhai_eval.specs.Values.{is_unit_union, unit_seen}

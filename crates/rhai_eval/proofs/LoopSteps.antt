@@ -10,7 +10,6 @@ use Rattle.rhai_tree.specs.declared.expr.Expr.TheOpen as layer
 use Rattle.rhai_tree.specs.declared.expr.Namespace.{Namespace}
 use Rattle.std.specs.declared.num.NonZeroUsize.{NonZeroUsize}
 use Rattle.rhai_tree.specs.Forms.{is_throw}
-use Rattle.rhai_tree.specs.Layers.{ExprLayer}
 use Rattle.rhai_tree.specs.Names.{Name}
 use Rattle.rhai_tree.specs.Positions.{position_of}
 use Rattle.rhai_tree.specs.declared.expr.StmtBlock.{StmtBlock}
@@ -28,7 +27,7 @@ use Rattle.rhai_machine.specs.language.Setting.{Setting, limit_of}
 use Rattle.rhai_machine.specs.language.State.{State, Local, HasMemory}
 use Rattle.rhai_machine.specs.language.Frames.{Control, Frame, Core, core, ended, OpenStmt, Eval, Enter, WhileTurn, DoTurn, Back, Fail, AssignValue, WhileCondition, WhileBody, DoBody, DoCondition, ReturnValue}
 use Rattle.rhai_machine.specs.language.Loops.{is_endless, while_move}
-use Rattle.rhai_machine.specs.language.Statements.{has_option, return_move}
+use Rattle.rhai_machine.specs.language.Statements.{return_move}
 use Rattle.rhai_machine.specs.language.Values.{unit_value}
 use Rattle.rhai_machine.specs.language.Runs.{at, Goes, Steps}
 use Rattle.rhai_eval.specs.declared.eval.loops.BodyEnd.{BodyEnd}

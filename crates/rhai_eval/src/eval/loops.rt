@@ -1,7 +1,7 @@
 //! Loops, and the ways out of them. Ports the loops of upstream's `eval/stmt.rs`; the contracts
 //! speak of the machine's runs.
 
-ghost use Rattle.std.specs.Prelude.{◌≡◌, ◌<◌, ◌≤◌, ◌∷◌, OnOk, IsTrue, is_some, true, false, length, not, Option, Some};
+ghost use Rattle.std.specs.Prelude.{◌≡◌, ◌<◌, ◌≤◌, ◌∷◌, OnOk, IsTrue, is_some, true, false, length, Option, Some};
 ghost use Rattle.std.specs.Option.{option_map};
 ghost use Rattle.rhai_tree.specs.Forms.{is_throw};
 ghost use Rattle.rhai_tree.specs.Frame.{tests_of, option_resolves, resolves_expr, resolves_block};
