@@ -1,9 +1,7 @@
-pub mod Assignments
-pub mod Chain
-pub mod Indexers
-pub mod NativeCalls
-pub mod NameLemmas
-pub mod Variables
-pub mod Scripts
-pub mod LoopSteps
-pub mod ChoiceSteps
+mod Chain
+mod ChoiceSteps
+mod LoopSteps
+mod NameLemmas
+mod Public
+mod Scripts
+mod Turns

@@ -20,33 +20,22 @@ use Rattle.rhai_values.specs.declared.base.error.EvalAltResult.TheVariants as er
 use Rattle.rhai_values.specs.declared.base.scope.Scope.{Scope}
 use Rattle.rhai_values.specs.declared.state.GlobalRuntimeState.{GlobalRuntimeState}
 use Rattle.rhai_values.specs.Errors.{is_out_of_memory}
-use Rattle.rhai_values.specs.Native.{Request, Effect, Purity}
 use Rattle.rhai_machine.specs.machine.Machine.{Machine, Move, Halt, Go, Charge, Native, AskPure, below}
-use Rattle.rhai_machine.specs.machine.Point.{Point, Reaches, moved, here, next, after}
-use Rattle.rhai_machine.specs.language.Setting.{Setting, limit_of}
-use Rattle.rhai_machine.specs.language.State.{State, Local, HasMemory}
+use Rattle.rhai_machine.specs.machine.Point.{Point, moved, after}
+use Rattle.rhai_machine.specs.machine.Memory.{Leads, here, next, wanting, starved}
+use Rattle.rhai_machine.specs.language.Setting.{Rules, limit_under}
+use Rattle.rhai_machine.specs.language.State.{State, Local}
 use Rattle.rhai_machine.specs.language.Frames.{Control, Frame, Core, core, ended, OpenStmt, Eval, Enter, WhileTurn, DoTurn, Back, Fail, AssignValue, WhileCondition, WhileBody, DoBody, DoCondition, ReturnValue}
-use Rattle.rhai_machine.specs.language.Loops.{is_endless, while_move}
-use Rattle.rhai_machine.specs.language.Statements.{return_move}
-use Rattle.rhai_machine.specs.language.Values.{unit_value}
+use Rattle.rhai_machine.specs.language.Loops.{goes_on, if_goes_on, is_endless, while_move}
+use Rattle.rhai_machine.specs.language.Statements.{has_option, return_move}
+use Rattle.rhai_machine.specs.language.Values.{truth, unit_value}
+use Rattle.std.specs.Prelude.{if◌then◌else◌}
 use Rattle.rhai_machine.specs.language.Runs.{at, Goes, Steps}
-use Rattle.rhai_eval.specs.declared.eval.loops.BodyEnd.{BodyEnd}
-use Rattle.rhai_eval.specs.declared.eval.loops.BodyEnd.TheVariants.{Done, Continue, Break}
-use Rattle.rhai_eval.specs.Loops.{turn_in, after_body, after_turn}
-use Rattle.rhai_eval.specs.States.{state_of}
-use Rattle.rhai_eval.proofs.Chain.{passed, step_by}
-
-module _ {H : Type 0} where
-  -- a turn had memory where its end had
-  pub turn_memory : (r : Result (Dynamic H) (EvalAltResult H)) → HasMemory (turn_in r) → HasMemory r
-  turn_memory (Ok v) m = tt
-  turn_memory (Err (error.LoopBreak v false at)) m = refl
-  turn_memory (Err (error.LoopBreak v true at)) m = refl
-  turn_memory (Err e) m = m
-
-  pub body_memory : (r : Result (BodyEnd H) (EvalAltResult H)) → HasMemory (after_body r) → HasMemory r
-  body_memory (Ok end) m = tt
-  body_memory (Err e) m = m
+use Rattle.rhai_steps.specs.declared.loops.BodyEnd.{BodyEnd}
+use Rattle.rhai_steps.specs.declared.loops.BodyEnd.TheVariants.{Done, Continue, Break}
+use Rattle.rhai_steps.specs.Loops.{turn_in, after_body, after_test, after_turn}
+use Rattle.rhai_steps.specs.States.{state_of}
+use Rattle.rhai_steps.proofs.Pieces.{or_wants, passed, step_by}
 
 module _ {S H C : Type 0} (M : Machine S H C) (limit : ℕ) where
   full_step : (v : Move H C) (p : Point S C) → limit ≤ p.count → (moved M (below limit) v p).count ≡ p.count
@@ -57,22 +46,36 @@ module _ {S H C : Type 0} (M : Machine S H C) (limit : ℕ) where
   full_step (AskPure q f) p full = refl
 
   -- where the count has reached the limit it stays
-  pub stays_full : {p q : Point S C} → Reaches M (below limit) p q → limit ≤ p.count → q.count ≡ p.count
+  pub stays_full : {p q : Point S C} → Leads M (below limit) p q → limit ≤ p.count → q.count ≡ p.count
   unfolding after
   stays_full here full = refl
   stays_full (next {p = p} steps) full =
       let same : (moved M (below limit) (M.move p.core) p).count ≡ p.count = full_step (M.move p.core) p full in
       stays_full steps (subst (λ (n : ℕ). limit ≤ n) (sym same) full) ∙ same
+  stays_full (wanting steps) full = stays_full steps full
+  stays_full (starved is e first state steps) full = stays_full steps full
 
-module _ {S H : Type 0} (s : Setting H) (gives : S → Request H → Effect S H) (pure : S → Purity → Bool) where
+module _ {S H : Type 0} (rules : Rules S H) where
   -- a body's end at its `while`
   pub while_ends : (r : Result (Dynamic H) (EvalAltResult H)) (test : Expr) (body : StmtBlock) (k : List (Frame H)) (l : State S H) →
-      Goes s gives pure (at (ended r) (WhileBody test body ∷ k) l) (at (after_turn (after_body (turn_in r)) (WhileTurn test body)) k l)
+      Goes rules (at (ended r) (WhileBody test body ∷ k) l) (at (after_turn (after_body (turn_in r)) (WhileTurn test body)) k l)
   unfolding after
   while_ends (Ok v) test body k l = next here
   while_ends (Err (error.LoopBreak v false pos)) test body k l = next here
   while_ends (Err (error.LoopBreak v true pos)) test body k l = next here
   while_ends (Err e) test body k l = next here
+
+  -- after its condition a `do` goes on, or ends
+  test_turn : (goes : Bool) (turn : Control H) → if_goes_on goes turn ≡ after_turn (Ok (if goes then None else Some unit_value)) turn
+  test_turn true turn = refl
+  test_turn false turn = refl
+
+  pub do_tested : (o : Option (Dynamic H)) (holds : Bool) (test : Expr) (body : StmtBlock) (options : ASTFlags) (v : Dynamic H) (k : List (Frame H)) (l : State S H) →
+      Ok holds ≡ truth rules.setting.host_type l.local.around.cells v (position_of test) → o ≡ after_test (has_option 1 options) holds →
+      Goes rules (at (Back v) (DoCondition test body options ∷ k) l) (at (after_turn (Ok o) (DoTurn test body options)) k l)
+  unfolding after
+  do_tested o holds test body options v k l told is =
+      next (rw (← told, is, ← test_turn (goes_on (has_option 1 options) holds) (DoTurn test body options)) here)
 
   -- where a body's end leads a `do`: on to its condition, to its next turn, or out of it
   abbrev pub do_goes : Result (BodyEnd H) (EvalAltResult H) → Expr → StmtBlock → ASTFlags → List (Frame H) → State S H → Point S (Core H)
@@ -82,7 +85,7 @@ module _ {S H : Type 0} (s : Setting H) (gives : S → Request H → Effect S H)
   do_goes (Err e) test body options k l = at (Fail e) k l
 
   do_ends : (r : Result (Dynamic H) (EvalAltResult H)) (test : Expr) (body : StmtBlock) (options : ASTFlags) (k : List (Frame H)) (l : State S H) →
-      Goes s gives pure (at (ended r) (DoBody test body options ∷ k) l) (do_goes (turn_in r) test body options k l)
+      Goes rules (at (ended r) (DoBody test body options ∷ k) l) (do_goes (turn_in r) test body options k l)
   unfolding after
   do_ends (Ok v) test body options k l = next here
   do_ends (Err (error.LoopBreak v false pos)) test body options k l = next here
@@ -90,18 +93,18 @@ module _ {S H : Type 0} (s : Setting H) (gives : S → Request H → Effect S H)
   do_ends (Err e) test body options k l = next here
 
   pub do_leads : (r : Result (Dynamic H) (EvalAltResult H)) (test : Expr) (body : StmtBlock) (options : ASTFlags) (k : List (Frame H)) (l : State S H) (x : Result (BodyEnd H) (EvalAltResult H)) →
-      turn_in r ≡ x → Goes s gives pure (at (ended r) (DoBody test body options ∷ k) l) (do_goes x test body options k l)
+      turn_in r ≡ x → Goes rules (at (ended r) (DoBody test body options ∷ k) l) (do_goes x test body options k l)
   do_leads r test body options k l x is =
-      subst (λ (y : Result (BodyEnd H) (EvalAltResult H)). Goes s gives pure (at (ended r) (DoBody test body options ∷ k) l) (do_goes y test body options k l)) is (do_ends r test body options k l)
+      subst (λ (y : Result (BodyEnd H) (EvalAltResult H)). Goes rules (at (ended r) (DoBody test body options ∷ k) l) (do_goes y test body options k l)) is (do_ends r test body options k l)
 
   -- a way out of a turn by `?`
   pub turn_exits : (c turn : Control H) (old new : State S H) (r : Result (Option (Dynamic H)) (EvalAltResult H)) (e : EvalAltResult H) →
-      IsErr r × IsErrAnd r (λ y. y ≡ e) → (is_out_of_memory e ≡ false → Steps s gives pure c old (Fail e) new) → HasMemory r → Steps s gives pure c old (after_turn r turn) new
+      IsErr r × IsErrAnd r (λ y. y ≡ e) → Steps rules c old (Fail e) new → Steps rules c old (after_turn r turn) new
   turn_exits c turn old new r e is go = rw (passed r is) go
 
   module _ (test : Expr) (body : StmtBlock) (k : List (Frame H)) where
     -- a turn with a condition begins with it
-    pub while_asks : (l : State S H) → is_endless (out-Expr test) ≡ false → Goes s gives pure (at (WhileTurn test body) k l) (at (Eval test) (WhileCondition test body ∷ k) l)
+    pub while_asks : (l : State S H) → is_endless (out-Expr test) ≡ false → Goes rules (at (WhileTurn test body) k l) (at (Eval test) (WhileCondition test body ∷ k) l)
     unfolding after
     while_asks l is = next (rw is here)
 
@@ -111,34 +114,42 @@ module _ {S H : Type 0} (s : Setting H) (gives : S → Request H → Effect S H)
 
     -- one without a condition with its body
     pub endless_enters : (l : State S H) → is_endless (out-Expr test) ≡ true → body.statements ≢ [] →
-        Goes s gives pure (at (WhileTurn test body) k l) (at (Enter body.statements true) (WhileBody test body ∷ k) l)
-    endless_enters l is some = step_by s gives pure _ _ (Go (core (Enter body.statements true) (WhileBody test body ∷ k) l.local)) (rw is (entered body.statements l.local some)) here
+        Goes rules (at (WhileTurn test body) k l) (at (Enter body.statements true) (WhileBody test body ∷ k) l)
+    endless_enters l is some = step_by rules _ _ (Go (core (Enter body.statements true) (WhileBody test body ∷ k) l.local)) (rw is (entered body.statements l.local some)) here
 
     -- an empty body is charged, or its charge is refused
     pub endless_charged : (t : S) (old mid : GlobalRuntimeState H) (scope : Scope H) (this : Option (Dynamic H)) →
-        old.num_operations < limit_of s.max_operations → mid ≡ record old { num_operations = old.num_operations + 1 } → is_endless (out-Expr test) ≡ true → body.statements ≡ [] →
-        Goes s gives pure (at (WhileTurn test body) k (state_of t old scope this)) (at (WhileTurn test body) k (state_of t mid scope this))
+        old.num_operations < limit_under rules → mid ≡ record old { num_operations = old.num_operations + 1 } → is_endless (out-Expr test) ≡ true → body.statements ≡ [] →
+        Goes rules (at (WhileTurn test body) k (state_of t old scope this)) (at (WhileTurn test body) k (state_of t mid scope this))
     unfolding after
     endless_charged t old mid scope this room charged is empty = next (rw (is, empty, lt-ltb _ _ room, charged) here)
 
     pub endless_refused : (t : S) (old new : GlobalRuntimeState H) (scope : Scope H) (this : Option (Dynamic H)) (x : EvalAltResult H) →
-        limit_of s.max_operations ≤ old.num_operations → x ≡ error.ErrorTooManyOperations body.position → new ≡ old → is_endless (out-Expr test) ≡ true → body.statements ≡ [] →
-        Goes s gives pure (at (WhileTurn test body) k (state_of t old scope this)) (at (Fail x) k (state_of t new scope this))
+        limit_under rules ≤ old.num_operations → x ≡ error.ErrorTooManyOperations body.position → new ≡ old → is_endless (out-Expr test) ≡ true → body.statements ≡ [] →
+        Goes rules (at (WhileTurn test body) k (state_of t old scope this)) (at (Fail x) k (state_of t new scope this))
     unfolding after
     endless_refused t old new scope this x full refused same is empty = next (rw (is, empty, le-ltb _ _ full, refused, same) here)
 
   -- an assignment to a variable begins with its value
   pub begins_assignment : (op : OpAssignment) (lhs rhs : Expr) (offset : Option NonZeroUsize) (name : Name) (namespace : Namespace) (pos : Position) (restoring : Bool) (k : List (Frame H)) (l : State S H) →
       out-Expr lhs ≡ layer.Variable offset name namespace pos →
-      Goes s gives pure (at (OpenStmt (layer.Assignment op lhs rhs) restoring) k l) (at (Eval rhs) (AssignValue (record { name = name; at = pos; op = op }) (position_of rhs) ∷ k) l)
+      Goes rules (at (OpenStmt (layer.Assignment op lhs rhs) restoring) k l) (at (Eval rhs) (AssignValue (record { name = name; at = pos; op = op }) (position_of rhs) ∷ k) l)
   unfolding after
   begins_assignment op lhs rhs offset name namespace pos restoring k l is = next (rw is here)
 
+  -- a `break` without a value
+  pub breaks_unit : (options : ASTFlags) (is_break : Bool) (v : Dynamic H) (e : EvalAltResult H) (pos : Position) (restoring : Bool) (k : List (Frame H)) (l : State S H) →
+      is_break ≡ has_option 2 options → v ≡ unit_value → (is_out_of_memory e ≡ false → e ≡ error.LoopBreak v is_break pos) →
+      Goes rules (at (OpenStmt (layer.BreakLoop None options pos) restoring) k l) (at (Fail e) k l)
+  unfolding after
+  breaks_unit options is_break v e pos restoring k l asked unit told =
+      or_wants rules (OpenStmt (layer.BreakLoop None options pos) restoring) k l e (λ m. next (rw (told m, unit, asked) here))
+
   -- a `return` without a value, and one with a value
   pub returns_unit : (options : _) (pos : Position) (restoring : Bool) (k : List (Frame H)) (l : State S H) → is_throw options ≡ false →
-      Goes s gives pure (at (OpenStmt (layer.Return None options pos) restoring) k l) (at (Fail (error.Return unit_value pos)) k l)
-  returns_unit options pos restoring k l plain = step_by s gives pure _ _ (return_move false None pos k l.local) (ap (λ (throws : Bool). return_move throws None pos k l.local) plain) here
+      Goes rules (at (OpenStmt (layer.Return None options pos) restoring) k l) (at (Fail (error.Return unit_value pos)) k l)
+  returns_unit options pos restoring k l plain = step_by rules _ _ (return_move false None pos k l.local) (ap (λ (throws : Bool). return_move throws None pos k l.local) plain) here
 
   pub returns_value : (value : Expr) (options : _) (pos : Position) (restoring : Bool) (k : List (Frame H)) (l : State S H) → is_throw options ≡ false →
-      Goes s gives pure (at (OpenStmt (layer.Return (Some value) options pos) restoring) k l) (at (Eval value) (ReturnValue (position_of value) pos ∷ k) l)
-  returns_value value options pos restoring k l plain = step_by s gives pure _ _ (return_move false (Some value) pos k l.local) (ap (λ (throws : Bool). return_move throws (Some value) pos k l.local) plain) here
+      Goes rules (at (OpenStmt (layer.Return (Some value) options pos) restoring) k l) (at (Eval value) (ReturnValue (position_of value) pos ∷ k) l)
+  returns_value value options pos restoring k l plain = step_by rules _ _ (return_move false (Some value) pos k l.local) (ap (λ (throws : Bool). return_move throws (Some value) pos k l.local) plain) here

@@ -1,6 +1,6 @@
 -- The names of a scope that is cut back or grows, and the operands of a checked operator call.
-use Rattle.std.proofs.Common.{◌≡◌, ◌<◌, ◌+◌, ℕ, Bool, true, false, ◌&&◌, ◌||◌, IsTrue, subst, get_or, drop, List, [], ◌∷◌, ◌++◌, length, take, map, Result, Ok, Err, OnOk, OnErr, refl, sym, ap, ◌∙◌}
-use Rattle.std.proofs.lemmas.List.{take-append-drop, take-map, length-map, append-nil, map-append}
+use Rattle.std.proofs.Common.{◌≡◌, ◌<◌, ◌+◌, ℕ, Bool, true, false, ◌&&◌, ◌||◌, IsTrue, subst, get_or, drop, List, [], ◌∷◌, ◌++◌, length, take, map, refl, sym, ap, ◌∙◌}
+use Rattle.std.proofs.lemmas.List.{take-append-drop, take-map, length-map}
 use Rattle.std.proofs.Math.Seq.{take-append_seam}
 use Rattle.rhai_tree.specs.Names.{Name, Begins}
 use Rattle.rhai_tree.specs.declared.expr.Expr.{Expr}
@@ -10,6 +10,14 @@ use Rattle.rhai_tree.specs.declared.expr.Expr.TheFolds.{fold_out-FnCallExpr}
 use Rattle.rhai_values.specs.declared.base.scope.ScopeEntry.{ScopeEntry}
 use Rattle.rhai_values.specs.Scope.{name_of}
 use Rattle.rhai_tree.specs.Declares.{any_of}
+use Rattle.rhai_tree.specs.declared.expr.Stmt.{Stmt, out-Stmt}
+use Rattle.rhai_tree.specs.declared.expr.Expr.TheOpen as layer
+use Rattle.rhai_tree.specs.declared.flags.ASTFlags.{ASTFlags}
+use Rattle.rhai_tree.specs.declared.position.Position.{Position}
+use Rattle.rhai_tree.specs.Forms.{is_throw}
+use Rattle.rhai_tree.specs.Frame.{resolves_stmt}
+use Rattle.rhai_tree.proofs.Walk.{resolves-stmt}
+use Rattle.std.proofs.Common.{not, Option}
 use Rattle.rhai_eval.proofs.Chain.{drop_item}
 
 module _ {H : Type 0} where
@@ -18,17 +26,6 @@ module _ {H : Type 0} where
   names_restored old mid new count cut is (added, e) =
       let long : count ≡ length (map name_of old) = is ∙ sym (length-map old name_of) in
       ap (map name_of) cut ∙ sym (take-map name_of count mid) ∙ ap (take count) e ∙ ap (λ n. take n (map name_of old ++ added)) long ∙ take-append_seam (map name_of old) added
-
-pub begins_same : (old new : List Name) → new ≡ old → Begins old new
-begins_same old new is = ([], is ∙ sym (append-nil old))
-
-module _ {H : Type 0} where
-  -- a variable is defined, or its scope stays
-  pub begins_defined : {A E : Type 0} (r : Result A E) (before old new : List (ScopeEntry H)) (entry : ScopeEntry H) → map name_of old ≡ map name_of before →
-      OnOk r (new ≡ old ++ entry ∷ []) → OnErr r (new ≡ old) → Begins (map name_of before) (map name_of new)
-  begins_defined (Ok v) before old new entry same pushed stays =
-      (entry.name ∷ [], ap (map name_of) pushed ∙ map-append name_of old (entry ∷ []) ∙ ap (λ (names : List Name). names ++ entry.name ∷ []) same)
-  begins_defined (Err e) before old new entry same pushed stays = begins_same (map name_of before) (map name_of new) (ap (map name_of) stays ∙ same)
 
 both : (a b : Bool) → IsTrue (a && b) → IsTrue a × IsTrue b
 both true true h = (refl, refl)
@@ -87,3 +84,12 @@ any_later f (x ∷ before) after h = or_right (f x) (any_of (map f (before ++ af
 pub any_item : {A : Type 0} (f : A → Bool) (xs : List A) (i : ℕ) (x : A) → i < length xs → x ≡ get_or xs i x → IsTrue (f x) → IsTrue (any_of (map f xs))
 any_item f xs i x lt is h = subst (λ items. IsTrue (any_of (map f items))) (take-append-drop i xs)
     (any_later f (take i xs) (drop i xs) (rw (drop_item xs i x lt is) (or_left (f x) (any_of (map f (drop (i + 1) xs))) h)))
+
+not_both : (a b : Bool) → IsTrue (not a && b) → a ≡ false
+not_both true b h = cc
+not_both false b h = refl
+
+-- a `return` that resolves does not throw
+pub plain_return : (stmt : Stmt) (value : Option Expr) (options : ASTFlags) (pos : Position) (names : List Name) → out-Stmt stmt ≡ layer.Return value options pos →
+    IsTrue (resolves_stmt stmt names).0 → is_throw options ≡ false
+plain_return stmt value options pos names is h = not_both (is_throw options) _ (rw (resolves-stmt stmt (layer.Return value options pos) is) at h)

@@ -1,9 +1,5 @@
-pub mod Assignments
-pub mod Indexers
-pub mod Lends
-pub mod Loops
+pub mod Ends
+pub mod Indexing
 pub mod Memory
-pub mod Saves
 pub mod Search
 pub mod States
-pub mod Values

@@ -1,96 +1,46 @@
--- The code's values as the machine reads them: the engine as a setting, and the state of a run.
-use Rattle.std.specs.Prelude.{ℕ, Bool, List, Option, map, is_some}
-use Rattle.rhai_values.specs.declared.base.value.Dynamic.{Dynamic}
-use Rattle.rhai_values.specs.declared.base.scope.Scope.{Scope}
-use Rattle.rhai_values.specs.declared.base.value.Module.{Module}
-use Rattle.rhai_values.specs.declared.base.value.Import.{Import}
-use Rattle.rhai_values.specs.declared.state.GlobalRuntimeState.{GlobalRuntimeState}
-use Rattle.rhai_values.specs.Cells.{cells_of}
-use Rattle.rhai_values.specs.Scope.{entries_of}
-use Rattle.rhai_machine.specs.language.Setting.{Setting}
-use Rattle.rhai_machine.specs.language.State.{Surroundings, Local, State}
+-- What a run of the code is to the machine: the engine and the table as its rules, and the context as its state.
+use Rattle.std.specs.Prelude.{ℕ, ◌-◌, ◌^◌, List}
+use Rattle.rhai_tree.specs.Names.{Name}
+use Rattle.rhai_values.specs.declared.limits.Limits.{Limits}
+use Rattle.rhai_values.specs.Native.{Natives}
+use Rattle.rhai_values.specs.Scope.{names_in}
+use Rattle.rhai_machine.specs.language.Setting.{Offer, Rules, rules_of}
+use Rattle.rhai_machine.specs.language.State.{State}
+use Rattle.rhai_steps.specs.States.{state_of}
+use Rattle.rhai_eval.specs.declared.context.Context.{Context}
 use Rattle.rhai_eval.specs.declared.engine.Engine.{Engine}
 
--- what stays as it was in a run: libraries, imports, constants and their tables, level, modules loaded, source, and which of the cells are free
-pub record Around (H : Type 0) : Type 0 where
-  pub lib : List (Module H)
-  pub imports : List (Import H)
-  pub constants : ℕ
-  pub constant_tables : List (List (List ℕ) × List (Dynamic H))
-  pub level : ℕ
-  pub num_modules_loaded : ℕ
-  pub source : Option (List ℕ)
-  pub free : List Bool
-
--- the limits of an engine
-pub record Limits : Type 0 where
-  pub operations : ℕ
-  pub variables : ℕ
-  pub modules : ℕ
-  pub call_levels : ℕ
-  pub array_size : ℕ
-  pub map_size : ℕ
-  pub string_size : ℕ
+-- no limit of operations, of variables, of modules or of data, and calls up to 64 deep
+abbrev pub unlimited : Limits
+unlimited = record {
+  max_operations = 0;
+  max_variables = 2 ^ 64 - 1;
+  max_modules = 2 ^ 64 - 1;
+  max_call_levels = 64;
+  max_array_size = 0;
+  max_map_size = 0;
+  max_string_size = 0;
+}
 
 module _ {H : Type 0} where
-  abbrev pub limits_of : Engine H → Limits
-  limits_of h = record {
-    operations = h.max_operations;
-    variables = h.max_variables;
-    modules = h.max_modules;
-    call_levels = h.max_call_levels;
-    array_size = h.max_array_size;
-    map_size = h.max_map_size;
-    string_size = h.max_string_size;
+  abbrev pub offer_of : Engine H → Offer H
+  offer_of engine = record {
+    fast_operators = engine.fast_operators;
+    allow_shadowing = engine.allow_shadowing;
+    fail_on_invalid_map_property = engine.fail_on_invalid_map_property;
+    global_modules = engine.global_modules;
+    global_sub_modules = engine.global_sub_modules;
+    modules = engine.modules.modules;
   }
 
-  -- the limits, switches and modules of an engine
-  abbrev pub setting_of : (H → List ℕ) → Engine H → Setting H
-  setting_of host h = record {
-    max_operations = h.max_operations;
-    max_variables = h.max_variables;
-    max_modules = h.max_modules;
-    max_call_levels = h.max_call_levels;
-    max_array_size = h.max_array_size;
-    max_map_size = h.max_map_size;
-    max_string_size = h.max_string_size;
-    fast_operators = h.fast_operators;
-    allow_shadowing = h.allow_shadowing;
-    fail_on_invalid_map_property = h.fail_on_invalid_map_property;
-    global_modules = h.global_modules;
-    global_sub_modules = h.global_sub_modules;
-    modules = h.modules.modules;
-    host_type = host;
-  }
+  -- under a host's type names, an engine and a table
+  abbrev pub under : {S : Type 0} → (H → List ℕ) → Engine H → Natives S H → Rules S H
+  under host engine natives = rules_of engine.limits host (offer_of engine) natives
 
-  -- libraries, imports, constants and their tables, level, modules loaded, source and cells
-  abbrev pub surroundings_of : GlobalRuntimeState H → Surroundings H
-  surroundings_of global = record {
-    lib = global.lib;
-    imports = global.imports;
-    constants = global.constants;
-    constant_tables = global.constant_tables;
-    level = global.level;
-    num_modules_loaded = global.num_modules_loaded;
-    source = global.source;
-    cells = cells_of global.cells;
-  }
+  -- all that a run changes, caches aside
+  abbrev pub state_in : {S : Type 0} → S → Context H → State S H
+  state_in table run = state_of table run.global run.scope run.this
 
-  abbrev pub around_of : GlobalRuntimeState H → Around H
-  around_of global = record {
-    lib = global.lib;
-    imports = global.imports;
-    constants = global.constants;
-    constant_tables = global.constant_tables;
-    level = global.level;
-    num_modules_loaded = global.num_modules_loaded;
-    source = global.source;
-    free = map is_some (cells_of global.cells);
-  }
-
-  abbrev pub local_of : GlobalRuntimeState H → Scope H → Option (Dynamic H) → Local H
-  local_of global scope this = record { scope = entries_of scope; this = this; scope_level = global.scope_level; around = surroundings_of global }
-
--- all that a run changes
-abbrev pub state_of : {S H : Type 0} → S → GlobalRuntimeState H → Scope H → Option (Dynamic H) → State S H
-state_of table global scope this = record { table = table; count = global.num_operations; local = local_of global scope this }
+  -- the names of the variables
+  abbrev pub names : Context H → List Name
+  names run = names_in run.scope

@@ -2,13 +2,15 @@
 
 ghost use Rattle.std.specs.Prelude.{◌≡◌, ◌<◌, ◌≤◌, ◌+◌, ◌-◌, ◌^◌, OnOk, IfErr, [], true, false};
 ghost use Rattle.rhai_values.specs.declared.base.error.EvalAltResult.TheVariants as error;
-ghost use Rattle.rhai_machine.specs.language.Setting.{limit_of};
-ghost use Rattle.rhai_eval.specs.States.{limits_of};
+ghost use Rattle.rhai_values.specs.Limits.{limit_of};
+ghost use Rattle.rhai_eval.specs.States.{unlimited};
 
 use rhai_items::{Items, Shared, Table};
+use rhai_steps::charges;
 use rhai_tree::position::Position;
 use rhai_values::base::error::EvalAltResult;
 use rhai_values::base::value::{Host, Module, ModuleTable};
+use rhai_values::limits::Limits;
 use rhai_values::state::GlobalRuntimeState;
 use std::alloc::Global;
 
@@ -16,15 +18,7 @@ use std::alloc::Global;
 /// far as its tree evaluator reads it.
 #[derive(Drop)]
 pub struct Engine<H> {
-    /// How many operations a run may charge; zero is the greatest count.
-    pub max_operations: u64,
-    pub max_variables: usize,
-    pub max_modules: usize,
-    pub max_call_levels: usize,
-    /// The elements and bytes that a value may hold; zero is no limit.
-    pub max_array_size: usize,
-    pub max_map_size: usize,
-    pub max_string_size: usize,
+    pub limits: Limits,
     pub fast_operators: bool,
     pub allow_shadowing: bool,
     pub fail_on_invalid_map_property: bool,
@@ -40,7 +34,7 @@ impl<H: Host> Engine<H> {
     /// An engine without limits on operations and data, with fast operators and shadowing, and
     /// without modules.
     pub fn new(alloc: Global) -> Engine<H>
-        ensures limits { limits_of result ≡ record { operations = 0; variables = 2 ^ 64 - 1; modules = 2 ^ 64 - 1; call_levels = 64; array_size = 0; map_size = 0; string_size = 0 } }
+        ensures limits { result.limits ≡ unlimited }
         ensures fast_operators { result.fast_operators ≡ true }
         ensures allow_shadowing { result.allow_shadowing ≡ true }
         ensures fail_on_invalid_map_property { result.fail_on_invalid_map_property ≡ false }
@@ -49,13 +43,15 @@ impl<H: Host> Engine<H> {
         ensures modules { result.modules.modules ≡ ([], []) }
     {
         Engine {
-            max_operations: 0,
-            max_variables: usize::MAX,
-            max_modules: usize::MAX,
-            max_call_levels: 64,
-            max_array_size: 0,
-            max_map_size: 0,
-            max_string_size: 0,
+            limits: Limits {
+                max_operations: 0,
+                max_variables: usize::MAX,
+                max_modules: usize::MAX,
+                max_call_levels: 64,
+                max_array_size: 0,
+                max_map_size: 0,
+                max_string_size: 0,
+            },
             fast_operators: true,
             allow_shadowing: true,
             fail_on_invalid_map_property: false,
@@ -67,17 +63,6 @@ impl<H: Host> Engine<H> {
         }
     }
 
-    /// How many operations a run may charge.
-    fn limit(&self) -> u64
-        ensures { result ≡ limit_of self.now.max_operations }
-    {
-        if self.max_operations == 0 {
-            u64::MAX
-        } else {
-            self.max_operations
-        }
-    }
-
     /// Charges one operation, or refuses it where the count has reached the limit; the count then
     /// stays. Ports upstream's `track_operation`.
     pub fn track_operation(
@@ -85,16 +70,12 @@ impl<H: Host> Engine<H> {
         global: &mut GlobalRuntimeState<H>,
         pos: Position,
     ) -> Result<(), EvalAltResult<H>>
-        ensures room { OnOk result (global.old.num_operations < limit_of self.now.max_operations) }
+        ensures room { OnOk result (global.old.num_operations < limit_of self.now.limits.max_operations) }
         ensures charged { OnOk result (global.new ≡ record global.old { num_operations = global.old.num_operations + 1 }) }
-        ensures full { IfErr result (λ _. limit_of self.now.max_operations ≤ global.old.num_operations) }
+        ensures full { IfErr result (λ _. limit_of self.now.limits.max_operations ≤ global.old.num_operations) }
         ensures refused { IfErr result (λ e. e ≡ error.ErrorTooManyOperations pos) }
         ensures same { IfErr result (λ _. global.new ≡ global.old) }
     {
-        if global.num_operations >= self.limit() {
-            return Err(EvalAltResult::ErrorTooManyOperations(pos));
-        }
-        global.num_operations += 1;
-        Ok(())
+        charges::track_operation(&self.limits, global, pos)
     }
 }

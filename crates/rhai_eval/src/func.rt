@@ -1,4 +1,3 @@
 //! Calls.
 
 pub mod call;
-pub mod native;

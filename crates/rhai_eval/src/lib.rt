@@ -2,6 +2,7 @@
 //! limit of operations. What it stands on is shown here too, so that a host names one crate.
 #![tactic(auto)]
 
+pub mod context;
 pub mod engine;
 pub mod eval;
 pub mod func;

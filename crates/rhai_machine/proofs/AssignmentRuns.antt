@@ -8,16 +8,16 @@ use Rattle.rhai_machine.specs.machine.Machine.{Config}
 use Rattle.rhai_machine.specs.language.Places.{InEntry}
 use Rattle.rhai_machine.specs.language.Frames.{InPlace, Core, core, Run as RunList, FireUpdate, RestOfList}
 use Rattle.rhai_machine.specs.samples.Trees.{column}
-use Rattle.rhai_machine.specs.samples.Runs.{Natives, alone, nothing_but, entry, integer, truth, unit}
+use Rattle.rhai_machine.specs.samples.Runs.{Table, alone, nothing_but, entry, integer, truth, unit}
 use Rattle.rhai_machine.specs.samples.Assignments.{Assignments, Updates, hidden, reached}
 use Rattle.rhai_machine.proofs.SampleRuns.{opened, placed, measured, by_steps, stretch}
 
-module _ {S H : Type 0} (natives : Natives S H) (host : H → List ℕ) where
+module _ {S H : Type 0} (table : Table S H) (host : H → List ℕ) where
   -- a script over the variable that its first statement defined
   abbrev begun : List Stmt → Config S H (Core H)
-  begun rest = alone natives (RunList rest false unit) (entry (codes "x") (integer 1) ∷ []) 2 []
+  begun rest = alone table (RunList rest false unit) (entry (codes "x") (integer 1) ∷ []) 2 []
 
-  pub assignments : Assignments natives host
+  pub assignments : Assignments table host
   assignments = record {
     plain = by_steps _ _ 40 (simp opened) refl;
     cut = by_steps _ _ 40 (simp placed) refl;
@@ -40,12 +40,12 @@ module _ {S H : Type 0} (natives : Natives S H) (host : H → List ℕ) where
         (FireUpdate (record { attempt = InPlace; operator = Plus; at = column 14; place = InEntry 0; target = integer 1; operand = operand; target_at = column 12 }))
         (RestOfList [] false ∷ [])
         (nothing_but (entry (codes "x") (integer 1) ∷ []));
-    table = natives.state;
+    table = table.state;
     count = 6;
     calls = [];
   }
 
-  pub updates : Updates natives host
+  pub updates : Updates table host
   updates = record {
     missing = λ replies. stretch _ _ 18 _ (update_fires (truth true)) (simp opened) (by_steps _ _ 9 (simp replies) refl);
     refused = λ replies. stretch _ _ 18 _ (update_fires (truth true)) (simp opened) (by_steps _ _ 9 (simp replies) refl);

@@ -55,11 +55,11 @@ module _ {S H Core : Type 0} (M : Machine S H Core) where
         let end = by_charge k (nat_lt n limit) at d c t n qs refl le fewer in
         (end.0, next (rw is refl) end.1)
     in_steps k fewer (by_call {q = q} is s) t n qs le =
-        let e = M.gives t q in
+        let e = M.natives.gives t q in
         let end = in_steps k fewer (s e.reply e.first) e.state n (q ∷ qs) le in
         (end.0, next (rw is refl) end.1)
     in_steps k fewer (by_question {p = p} is s) t n qs le =
-        let end = in_steps k fewer (s (M.pure t p)) t n qs le in
+        let end = in_steps k fewer (s (M.natives.pure t p)) t n qs le in
         (end.0, next (rw is refl) end.1)
 
     by_room : (k : ℕ) → EndsWith k

@@ -175,7 +175,7 @@ module _ {H : Type 0} where
     stmt_falls (layer.Block block) restoring k l = omega (arith, enter_size block.statements true k)
     stmt_falls (layer.Assignment op lhs rhs) restoring k l = assignment_falls (out-Expr lhs) op rhs (layer.Assignment op lhs rhs) restoring k l
     stmt_falls (layer.Var ident value None options pos) restoring k l =
-        define_falls (not s.allow_shadowing && is_some (index_of ident.name l.scope)) (nat_le s.max_variables (length l.scope)) ident value options pos k l
+        define_falls (not s.offer.allow_shadowing && is_some (index_of ident.name l.scope)) (nat_le s.limits.max_variables (length l.scope)) ident value options pos k l
     stmt_falls (layer.If test body branch pos) restoring k l = omega arith
     stmt_falls (layer.While test body pos) restoring k l = omega arith
     stmt_falls (layer.Do test body options pos) restoring k l = omega arith
@@ -185,7 +185,7 @@ module _ {H : Type 0} where
 
     -- a native's reply comes back
     native_falls : (call : Call H) (first : Option (Dynamic H)) (rest : List (Dynamic H)) (k : List (Frame H)) (l : Local H) → Falls size (core (Fire call) k l) (call_native s call first rest k l)
-    native_falls call first rest k l reply left = result_falls (replied s reply left rest call.operation l.around.cells) (11 + stack_size k) (stack_size k) (omega arith)
+    native_falls call first rest k l reply left = result_falls (replied s.limits s.host_type reply left rest call.operation l.around.cells) (11 + stack_size k) (stack_size k) (omega arith)
 
     fire_first_falls : (u : Union H) (x : Dynamic H) (call : Call H) (rest : List (Dynamic H)) (k : List (Frame H)) (l : Local H) →
         Falls size (core (Fire call) k l) (fire_first s u x call rest k l)
@@ -197,7 +197,7 @@ module _ {H : Type 0} where
     fire_falls call (x ∷ rest) k l = fire_first_falls x.value x call rest k l
 
     operator_falls : (builtin : Option (Result (Dynamic H) (EvalAltResult H))) (call : Call H) (k : List (Frame H)) (l : Local H) → size (operator_core s builtin call k l) < 11 + stack_size k
-    operator_falls (Some r) call k l = result_falls (applied s r call.operation.at) (11 + stack_size k) (stack_size k) (omega arith)
+    operator_falls (Some r) call k l = result_falls (applied s.limits r call.operation.at) (11 + stack_size k) (stack_size k) (omega arith)
     operator_falls None call k l = omega arith
 
     chosen_falls : (r : Result Bool (EvalAltResult H)) (body branch : StmtBlock) (k : List (Frame H)) (l : Local H) → size (chosen_core r body branch k l) < 11 + stack_size k
@@ -284,19 +284,19 @@ module _ {H : Type 0} where
     done_size (Err e) = omega arith
 
     update_falls : (answer : Answer H) (u : Update H) (k : List (Frame H)) (l : Local H) → size (update_core s answer u k l) < 11 + stack_size k
-    update_falls (Some r) u k l = written_falls (applied s r u.at) u.place k l
+    update_falls (Some r) u k l = written_falls (applied s.limits r u.at) u.place k l
     update_falls None u k l = omega arith
 
     assign_falls : (op : Option Token) (assignment : Assignment) (target : Target H) (v : Dynamic H) (k : List (Frame H)) (l : Local H) → size (assign_core s op assignment target v k l) < 11 + stack_size k
     assign_falls None assignment target v k l = omega arith
-    assign_falls (Some token) assignment target v k l = update_falls (if_fast s.fast_operators (op_assign_of token target.value v)) _ k l
+    assign_falls (Some token) assignment target v k l = update_falls (if_fast s.offer.fast_operators (op_assign_of token target.value v)) _ k l
 
     store_falls : (r : Result (Target H) (EvalAltResult H)) (assignment : Assignment) (v : Dynamic H) (k : List (Frame H)) (l : Local H) → size (store_core s r assignment v k l) < 11 + stack_size k
     store_falls (Ok target) assignment v k l = assign_falls assignment.op.op assignment target v k l
     store_falls (Err e) assignment v k l = omega arith
 
     changed_falls : (r : Result (Dynamic H) (EvalAltResult H)) (u : Update H) (k : List (Frame H)) (l : Local H) → size (changed_core s r u k l) < 11 + stack_size k
-    changed_falls (Ok v) u k l = omega (arith, done_size (sized s u.target u.target_at))
+    changed_falls (Ok v) u k l = omega (arith, done_size (sized s.limits u.target u.target_at))
     changed_falls (Err e) u k l = omega arith
 
     fault_falls : (missing : Bool) (e : EvalAltResult H) (u : Update H) (k : List (Frame H)) (l : Local H) → size (fault_core s missing e u k l) < 11 + stack_size k
@@ -304,14 +304,14 @@ module _ {H : Type 0} where
     fault_falls false e u k l = omega arith
 
     value_falls : (r : Result (Dynamic H) (EvalAltResult H)) (u : Update H) (k : List (Frame H)) (l : Local H) → size (value_core s r u k l) < 11 + stack_size k
-    value_falls (Ok v) u k l = omega (arith, done_size (sized s v u.target_at))
+    value_falls (Ok v) u k l = omega (arith, done_size (sized s.limits v u.target_at))
     value_falls (Err e) u k l = omega arith
 
     answered_falls : (attempt : Attempt) (reply : Reply H) (u : Update H) (k : List (Frame H)) (l : Local H) → size (answered_core s attempt reply u k l) < 11 + stack_size k
     answered_falls InPlace Missing u k l = update_falls (op_assign_of u.operator u.target u.operand) (record u { attempt = AsValue }) k l
-    answered_falls InPlace (Gives v) u k l = changed_falls (sized s v u.at) u k l
+    answered_falls InPlace (Gives v) u k l = changed_falls (sized s.limits v u.at) u k l
     answered_falls InPlace (Faults e) u k l = fault_falls (says_missing (native_of InPlace u.operator) e) (placed_if_none u.at e) u k l
-    answered_falls AsValue reply u k l = value_falls (replied s reply (Some u.target) (u.operand ∷ []) (operation_of u) l.around.cells) u k l
+    answered_falls AsValue reply u k l = value_falls (replied s.limits s.host_type reply (Some u.target) (u.operand ∷ []) (operation_of u) l.around.cells) u k l
 
     update_native_falls : (u : Update H) (k : List (Frame H)) (l : Local H) → Falls size (core (FireUpdate u) k l) (call_update s u k l)
     update_native_falls u k l reply left = answered_falls u.attempt reply (record u { target = left_in u left }) k (put u.place (left_in u left) l)
@@ -374,7 +374,7 @@ module _ {H : Type 0} where
     control_falls (Fire call) k l = fire_falls call call.args k l
     control_falls (QuestionUpdate u) k l = λ pure. omega arith
     control_falls (FireUpdate u) k l = fire_update_falls u.target.value u k l
-    control_falls (OpenExpr form) k l = expr_falls s.fast_operators form k l
+    control_falls (OpenExpr form) k l = expr_falls s.offer.fast_operators form k l
     control_falls (OpenStmt form restoring) k l = stmt_falls form restoring k l
     control_falls (Enter stmts restoring) k l = enter_falls stmts restoring k l
     control_falls (Run stmts restoring last) k l = run_falls stmts restoring last k l

@@ -5,14 +5,14 @@ use Rattle.rhai_tree.specs.declared.flags.ASTFlags.{ASTFlags}
 use Rattle.rhai_tree.specs.declared.expr.Stmt.{Stmt}
 use Rattle.rhai_machine.specs.machine.Machine.{Config}
 use Rattle.rhai_machine.specs.language.Frames.{Control, Frame, Core, core, Eval, Run as RunList, WhileTurn, DoTurn, RestOfList, RestoreList, DoCondition, DoBody}
-use Rattle.rhai_machine.specs.samples.Runs.{Natives, alone, nothing_but, entry, integer, unit}
+use Rattle.rhai_machine.specs.samples.Runs.{Table, alone, nothing_but, entry, integer, unit}
 use Rattle.rhai_machine.specs.samples.Loops.{Loops, WaysOut, counted, broken, counted_test, counted_body, continued, continued_test, continued_body, waits_test}
 use Rattle.rhai_machine.specs.samples.Trees.{braces, unit_at}
 use Rattle.rhai_machine.specs.samples.Choices.{Choices}
 use Rattle.rhai_machine.proofs.SampleRuns.{opened, placed, by_steps, stretch}
 
-module _ {S H : Type 0} (natives : Natives S H) (host : H → List ℕ) where
-  pub choices : Choices natives host
+module _ {S H : Type 0} (table : Table S H) (host : H → List ℕ) where
+  pub choices : Choices table host
   choices = record {
     or_stops = by_steps _ _ 30 (simp opened) refl;
     or_goes_on = by_steps _ _ 30 (simp opened) refl;
@@ -30,12 +30,12 @@ module _ {S H : Type 0} (natives : Natives S H) (host : H → List ℕ) where
 
   -- where the rest of a script begins, over one variable
   abbrev rest_at : List Stmt → List ℕ → ℕ → ℕ → Config S H (Core H)
-  rest_at rest name n count = alone natives (RunList rest false unit) (entry name (integer n) ∷ []) count []
+  rest_at rest name n count = alone table (RunList rest false unit) (entry name (integer n) ∷ []) count []
 
   -- where a loop does this in a script, over the variable `n`
   abbrev loop_at : Control H → List (Frame H) → List Stmt → ℕ → ℕ → Config S H (Core H)
   loop_at c k rest n count =
-      record { core = core c (k ++ RestOfList rest false ∷ []) (nothing_but (entry (codes "n") (integer n) ∷ [])); table = natives.state; count = count; calls = [] }
+      record { core = core c (k ++ RestOfList rest false ∷ []) (nothing_but (entry (codes "n") (integer n) ∷ [])); table = table.state; count = count; calls = [] }
 
   -- where a turn of the `while` begins
   abbrev counts_at : ℕ → ℕ → Config S H (Core H)
@@ -52,14 +52,14 @@ module _ {S H : Type 0} (natives : Natives S H) (host : H → List ℕ) where
         (RunList (drop 1 continued_body.statements) true unit)
         (RestoreList (record { scope_length = 1; imports_length = 0; scope_level = 0 }) ∷ DoBody continued_test continued_body until ∷ RestOfList (drop 2 continued) false ∷ [])
         (record (nothing_but (entry (codes "n") (integer n) ∷ [])) { scope_level = 1 });
-    table = natives.state;
+    table = table.state;
     count = count;
     calls = [];
   }
 
   -- where a turn of a `while` begins that is all of its script
   abbrev turn_at : Control H → ℕ → Config S H (Core H)
-  turn_at turn count = record { core = core turn (RestOfList [] false ∷ []) (nothing_but []); table = natives.state; count = count; calls = [] }
+  turn_at turn count = record { core = core turn (RestOfList [] false ∷ []) (nothing_but []); table = table.state; count = count; calls = [] }
 
   abbrev endless_at : ℕ → Config S H (Core H)
   endless_at count = turn_at (WhileTurn (unit_at 1) (braces 6 7 [])) count
@@ -67,7 +67,7 @@ module _ {S H : Type 0} (natives : Natives S H) (host : H → List ℕ) where
   abbrev waits_at : ℕ → Config S H (Core H)
   waits_at count = turn_at (WhileTurn waits_test (braces 14 15 [])) count
 
-  pub loops : Loops natives host
+  pub loops : Loops table host
   loops = record {
     counts = stretch _ _ 8 _ (rest_at (drop 1 counted) (codes "n") 0 2) (simp opened)
         (stretch _ _ 3 _ (counts_at 0 3) (simp opened)
@@ -105,7 +105,7 @@ module _ {S H : Type 0} (natives : Natives S H) (host : H → List ℕ) where
         (by_steps _ _ 10 (simp placed) refl)));
   }
 
-  pub ways_out : WaysOut natives host
+  pub ways_out : WaysOut table host
   ways_out = record {
     breaks = stretch _ _ 26 _ (rest_at (drop 1 broken) (codes "x") 7 5) (simp opened) (by_steps _ _ 30 (simp opened) refl);
     takes_back = by_steps _ _ 40 (simp opened) refl;

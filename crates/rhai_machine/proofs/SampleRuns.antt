@@ -10,7 +10,7 @@ use Rattle.rhai_tree.specs.declared.expr.Stmt.{Stmt}
 use Rattle.rhai_tree.specs.declared.token.Token.TheVariants.{Plus}
 use Rattle.rhai_machine.specs.language.Frames.{Core, core, Fire, StatementValue, Enter, RestOfList, Run as RunList}
 use Rattle.rhai_machine.specs.samples.Trees.{column, int, var, op, value}
-use Rattle.rhai_machine.specs.samples.Runs.{Natives, alone, nothing_but, entry, integer, truth, unit}
+use Rattle.rhai_machine.specs.samples.Runs.{Table, alone, nothing_but, entry, integer, truth, unit}
 use Rattle.rhai_machine.specs.samples.Operators.{Sums, Operands}
 use Rattle.rhai_machine.specs.samples.Variables.{Blocks, Variables, scopes}
 use Rattle.rhai_machine.specs.samples.Limits.{Limits}
@@ -58,8 +58,8 @@ module _ {S H Core : Type 0} (M : Machine S H Core) (allows : ℕ → Bool) wher
   stretch zero c d {a} same run = subst (λ x. Run M allows x a) (sym same) run
   stretch (suc n) c d {a} same run = stretch_on n c d a (step M allows c) refl (λ b same. stretch n b d same run) run same
 
-module _ {S H : Type 0} (natives : Natives S H) (host : H → List ℕ) where
-  pub sums : Sums natives host
+module _ {S H : Type 0} (table : Table S H) (host : H → List ℕ) where
+  pub sums : Sums table host
   sums = record {
     within = by_steps _ _ 30 (simp opened) refl;
     no_right = by_steps _ _ 30 (simp placed) refl;
@@ -68,7 +68,7 @@ module _ {S H : Type 0} (natives : Natives S H) (host : H → List ℕ) where
     unlimited = by_steps _ _ 30 (simp opened) refl;
   }
 
-  pub operands : Operands natives host
+  pub operands : Operands table host
   operands = record {
     order = by_steps _ _ 30 (simp opened) refl;
     unknown = by_steps _ _ 30 (simp opened) refl;
@@ -83,13 +83,13 @@ module _ {S H : Type 0} (natives : Natives S H) (host : H → List ℕ) where
   with_x = entry (codes "x") (integer 40) ∷ []
 
   abbrev scopes_at : List Stmt → ℕ → Config S H (Core H)
-  scopes_at stmts count = alone natives (RunList stmts false unit) with_x count []
+  scopes_at stmts count = alone table (RunList stmts false unit) with_x count []
 
   -- the condition of its `if` holds
   abbrev scopes_chosen : Config S H (Core H)
-  scopes_chosen = record { core = core (Enter (value (op 43 Plus (var 41 (codes "x") ∷ int 45 2 ∷ [])) ∷ []) true) (RestOfList [] false ∷ []) (nothing_but with_x); table = natives.state; count = 9; calls = [] }
+  scopes_chosen = record { core = core (Enter (value (op 43 Plus (var 41 (codes "x") ∷ int 45 2 ∷ [])) ∷ []) true) (RestOfList [] false ∷ []) (nothing_but with_x); table = table.state; count = 9; calls = [] }
 
-  pub blocks : Blocks natives host
+  pub blocks : Blocks table host
   blocks = record {
     restored = stretch _ _ 8 _ (scopes_at (drop 1 scopes) 2) (simp opened)
         (stretch _ _ 14 _ (scopes_at (drop 2 scopes) 5) (simp opened) (stretch _ _ 12 _ scopes_chosen (simp opened) (by_steps _ _ 30 (simp opened) refl)));
@@ -101,7 +101,7 @@ module _ {S H : Type 0} (natives : Natives S H) (host : H → List ℕ) where
     empty = by_steps _ _ 30 (simp opened) refl;
   }
 
-  pub variables : Variables natives host
+  pub variables : Variables table host
   variables = record {
     newest = by_steps _ _ 30 (simp opened) refl;
     once = by_steps _ _ 30 (simp opened) refl;
@@ -110,7 +110,7 @@ module _ {S H : Type 0} (natives : Natives S H) (host : H → List ℕ) where
     condition = by_steps _ _ 30 (simp opened) refl;
   }
 
-  pub limits : Limits natives host
+  pub limits : Limits table host
   limits = record {
     first = by_steps _ _ 30 (simp placed) refl;
     past = by_steps _ _ 30 (simp placed) refl;
@@ -126,12 +126,12 @@ module _ {S H : Type 0} (natives : Natives S H) (host : H → List ℕ) where
         (Fire (record { operation = record { name = codes "+"; token = Some Plus; at = column 3 }; args = integer 1 ∷ truth true ∷ [] }))
         (StatementValue (column 3) ∷ RestOfList [] false ∷ [])
         (nothing_but []);
-    table = natives.state;
+    table = table.state;
     count = 5;
     calls = [];
   }
 
-  pub called : Called natives host
+  pub called : Called table host
   called = record {
     missing = λ replies. stretch _ _ 12 _ mixed_fires (simp opened) (by_steps _ _ 9 (simp replies) refl);
     gives = λ replies. stretch _ _ 12 _ mixed_fires (simp opened) (by_steps _ _ 9 (simp replies) refl);
@@ -142,7 +142,7 @@ module _ {S H : Type 0} (natives : Natives S H) (host : H → List ℕ) where
     refused = by_steps _ _ 30 (simp opened) refl;
   }
 
-  pub handles : Handles natives host
+  pub handles : Handles table host
   handles = record {
     statement = by_steps _ _ 30 (simp opened) refl;
     left = by_steps _ _ 30 (simp opened) refl;

@@ -17,11 +17,11 @@ use Rattle.rhai_values.specs.declared.base.value.Dynamic.{Dynamic}
 use Rattle.rhai_values.specs.declared.base.value.Union.{Union}
 use Rattle.rhai_values.specs.declared.base.value.Union.TheVariants as value
 use Rattle.rhai_values.specs.declared.base.error.EvalAltResult.{EvalAltResult}
-use Rattle.rhai_values.specs.Native.{Request, Effect, Purity}
 use Rattle.rhai_values.specs.Scope.{index_of}
-use Rattle.rhai_machine.specs.machine.Machine.{Move, Halt, Go, Charge, Native, AskPure, below}
-use Rattle.rhai_machine.specs.machine.Point.{Point, Reaches, here, next, after, moved, paid}
-use Rattle.rhai_machine.specs.language.Setting.{Setting, limit_of}
+use Rattle.rhai_machine.specs.machine.Machine.{Move, Halt, Go, Charge, Native, AskPure}
+use Rattle.rhai_machine.specs.machine.Point.{Point, after, moved, paid}
+use Rattle.rhai_machine.specs.machine.Memory.{Leads, here, next, wanting, starved}
+use Rattle.rhai_machine.specs.language.Setting.{Setting, Rules, cut}
 use Rattle.rhai_machine.specs.language.State.{Local, State}
 use Rattle.rhai_machine.specs.language.Values.{flat, through, truth, unit_value}
 use Rattle.rhai_operators.specs.Answers.{Answer, op_assign_of}
@@ -122,13 +122,13 @@ module _ {H : Type 0} (t : Option (Dynamic H)) where
     written_same (Err e) place k l = refl
 
     update_same : (builtin : Answer H) (u : Update H) (k : List (Frame H)) (l : Local H) → update_core s builtin u k (with_local l) ≡ in_core (update_core s builtin u k l)
-    update_same (Some r) u k l = written_same (applied s r u.at) u.place k l
+    update_same (Some r) u k l = written_same (applied s.limits r u.at) u.place k l
     update_same None u k l = refl
 
     assign_same : (op : Option Token) (assignment : Assignment) (target : Target H) (v : Dynamic H) (k : List (Frame H)) (l : Local H) → assign_core s op assignment target v k (with_local l) ≡ in_core (assign_core s op assignment target v k l)
     assign_same None assignment target v k l = ap (core (Back unit_value) k) (put_same target.place (with_mode ReadWrite v) l)
     assign_same (Some token) assignment target v k l =
-        update_same (if_fast s.fast_operators (op_assign_of token target.value v))
+        update_same (if_fast s.offer.fast_operators (op_assign_of token target.value v))
         (record { attempt = InPlace; operator = token; at = assignment.op.position; place = target.place; target = target.value; operand = v; target_at = assignment.at }) k l
 
     store_same : (r : Result (Target H) (EvalAltResult H)) (assignment : Assignment) (v : Dynamic H) (k : List (Frame H)) (l : Local H) → store_core s r assignment v k (with_local l) ≡ in_core (store_core s r assignment v k l)
@@ -144,14 +144,14 @@ module _ {H : Type 0} (t : Option (Dynamic H)) where
     fault_same false e u k l = refl
 
     value_same : (r : Result (Dynamic H) (EvalAltResult H)) (u : Update H) (k : List (Frame H)) (l : Local H) → value_core s r u k (with_local l) ≡ in_core (value_core s r u k l)
-    value_same (Ok v) u k l = ap (core (done (sized s v u.target_at)) k) (put_same u.place v l)
+    value_same (Ok v) u k l = ap (core (done (sized s.limits v u.target_at)) k) (put_same u.place v l)
     value_same (Err e) u k l = refl
 
     answered_same : (attempt : Attempt) (reply : Reply H) (u : Update H) (k : List (Frame H)) (l : Local H) → answered_core s attempt reply u k (with_local l) ≡ in_core (answered_core s attempt reply u k l)
     answered_same InPlace Missing u k l = update_same (op_assign_of u.operator u.target u.operand) (record u { attempt = AsValue }) k l
-    answered_same InPlace (Gives v) u k l = changed_same (sized s v u.at) u k l
+    answered_same InPlace (Gives v) u k l = changed_same (sized s.limits v u.at) u k l
     answered_same InPlace (Faults e) u k l = fault_same (says_missing (native_of InPlace u.operator) e) (placed_if_none u.at e) u k l
-    answered_same AsValue reply u k l = value_same (replied s reply (Some u.target) (u.operand ∷ []) (operation_of u) l.around.cells) u k l
+    answered_same AsValue reply u k l = value_same (replied s.limits s.host_type reply (Some u.target) (u.operand ∷ []) (operation_of u) l.around.cells) u k l
 
     lent_same : (reply : Reply H) (v : Dynamic H) (u : Update H) (k : List (Frame H)) (l : Local H) → lent_core s reply v u k (with_local l) ≡ in_core (lent_core s reply v u k l)
     lent_same reply v u k l =
@@ -212,7 +212,7 @@ module _ {H : Type 0} (t : Option (Dynamic H)) where
     stmt_same (layer.Block block) restoring k l = refl
     stmt_same (layer.Assignment op lhs rhs) restoring k l = assignment_same (out-Expr lhs) op rhs k l
     stmt_same (layer.Var ident value None options pos) restoring k l =
-        ap Go (define_same (not s.allow_shadowing && is_some (index_of ident.name l.scope)) (nat_le s.max_variables (length l.scope)) ident value options pos k l)
+        ap Go (define_same (not s.offer.allow_shadowing && is_some (index_of ident.name l.scope)) (nat_le s.limits.max_variables (length l.scope)) ident value options pos k l)
     stmt_same (layer.If test body branch pos) restoring k l = refl
     stmt_same (layer.While test body pos) restoring k l = refl
     stmt_same (layer.Do test body options pos) restoring k l = refl
@@ -300,7 +300,7 @@ module _ {H : Type 0} (t : Option (Dynamic H)) where
     move_same (Store assignment v) k l = ap Go (store_same (target_of l.around.cells assignment.name assignment.at l.scope) assignment v k l)
     move_same (WhileTurn test body) k l = while_same (is_endless (out-Expr test)) body.statements test body k l
     move_same (DoTurn test body options) k l = refl
-    move_same (OpenExpr form) k l = expr_same s.fast_operators form k l
+    move_same (OpenExpr form) k l = expr_same s.offer.fast_operators form k l
     move_same (OpenStmt form restoring) k l = stmt_same form restoring k l
     move_same (Enter stmts restoring) k l = ap Go (enter_same stmts restoring k l)
     move_same (Run stmts restoring last) k l = ap Go (run_same stmts restoring last k l)
@@ -309,31 +309,34 @@ module _ {H : Type 0} (t : Option (Dynamic H)) where
     move_same (Fail e) [] l = refl
     move_same (Fail e) (frame ∷ k) l = ap Go (down_same frame e k l)
 
-module _ {S H : Type 0} (t : Option (Dynamic H)) (s : Setting H) (gives : S → Request H → Effect S H) (pure : S → Purity → Bool) where
+module _ {S H : Type 0} (t : Option (Dynamic H)) (rules : Rules S H) where
   abbrev in_point : Point S (Core H) → Point S (Core H)
   in_point p = record p { core = in_core t p.core }
 
-  paid_same : (lets : Bool) (pos : Position) (d : Core H) (p : Point S (Core H)) → paid (machine s gives pure) lets pos (in_core t d) (in_point p) ≡ in_point (paid (machine s gives pure) lets pos d p)
+  paid_same : (lets : Bool) (pos : Position) (d : Core H) (p : Point S (Core H)) → paid (machine rules) lets pos (in_core t d) (in_point p) ≡ in_point (paid (machine rules) lets pos d p)
   paid_same true pos d p = refl
   paid_same false pos d p = refl
 
-  moved_same : (allows : ℕ → Bool) (m : Move H (Core H)) (p : Point S (Core H)) → moved (machine s gives pure) allows (in_move t m) (in_point p) ≡ in_point (moved (machine s gives pure) allows m p)
+  moved_same : (allows : ℕ → Bool) (m : Move H (Core H)) (p : Point S (Core H)) → moved (machine rules) allows (in_move t m) (in_point p) ≡ in_point (moved (machine rules) allows m p)
   moved_same allows Halt p = refl
   moved_same allows (Go d) p = refl
   moved_same allows (Charge pos d) p = paid_same (allows p.count) pos d p
   moved_same allows (Native q f) p = refl
   moved_same allows (AskPure q f) p = refl
 
-  after_same : (allows : ℕ → Bool) (p : Point S (Core H)) → after (machine s gives pure) allows (in_point p) ≡ in_point (after (machine s gives pure) allows p)
+  after_same : (allows : ℕ → Bool) (p : Point S (Core H)) → after (machine rules) allows (in_point p) ≡ in_point (after (machine rules) allows p)
   unfolding after
-  after_same allows p = ap (λ m. moved (machine s gives pure) allows m (in_point p)) (move_same t s p.core.control p.core.stack p.core.local) ∙ moved_same allows (move s p.core) p
+  after_same allows p = ap (λ m. moved (machine rules) allows m (in_point p)) (move_same t rules.setting p.core.control p.core.stack p.core.local) ∙ moved_same allows (move rules.setting p.core) p
 
-  goes_same : (allows : ℕ → Bool) {p q : Point S (Core H)} → Reaches (machine s gives pure) allows p q → Reaches (machine s gives pure) allows (in_point p) (in_point q)
+  goes_same : (allows : ℕ → Bool) {p q : Point S (Core H)} → Leads (machine rules) allows p q → Leads (machine rules) allows (in_point p) (in_point q)
   goes_same allows here = here
-  goes_same allows {p} {q} (next r) = next (subst (λ x. Reaches (machine s gives pure) allows x (in_point q)) (sym (after_same allows p)) (goes_same allows r))
+  goes_same allows {p} {q} (next r) = next (subst (λ x. Leads (machine rules) allows x (in_point q)) (sym (after_same allows p)) (goes_same allows r))
+  goes_same allows (wanting r) = wanting (goes_same allows r)
+  goes_same allows {p} (starved is e first state r) =
+      starved (move_same t rules.setting p.core.control p.core.stack p.core.local ∙ ap (in_move t) is) e first state (goes_same allows r)
 
   -- the same steps with another `this`
-  pub steps_with : (c d : Control H) (old new : State S H) → Steps s gives pure c old d new →
-      Steps s gives pure c (record old { local = record old.local { this = t } }) d (record new { local = record new.local { this = t } })
+  pub steps_with : (c d : Control H) (old new : State S H) → Steps rules c old d new →
+      Steps rules c (record old { local = record old.local { this = t } }) d (record new { local = record new.local { this = t } })
   unfolding Steps
-  steps_with c d old new steps k = goes_same (below (limit_of s.max_operations)) (steps k)
+  steps_with c d old new steps k = goes_same (cut rules) (steps k)

@@ -12,6 +12,7 @@ pub mod Statements
 pub mod Unwinding
 pub mod Language
 pub mod Runs
+pub mod Memory
 pub mod Script
 pub mod Limits
 pub mod Laws

@@ -2,7 +2,7 @@
 //! the language. Nothing here is run: that a function builds means that its scripts end so.
 
 ghost use Rattle.std.specs.Prelude.{ℕ, List};
-ghost use Rattle.rhai_machine.specs.samples.Runs.{Natives};
+ghost use Rattle.rhai_machine.specs.samples.Runs.{Table};
 ghost use Rattle.rhai_machine.specs.samples.Operators.{Sums, Operands};
 ghost use Rattle.rhai_machine.specs.samples.Variables.{Blocks, Variables};
 ghost use Rattle.rhai_machine.specs.samples.Limits.{Limits};
@@ -16,60 +16,60 @@ use std::marker::PhantomData;
 
 /// `40 + 2` under each limit up to four: which charge is refused.
 pub fn sample_sums<H, S>(of: PhantomData<(H, S)>)
-    ensures { (natives : Natives S H) (host : H → List ℕ) → Sums natives host }
+    ensures { (table : Table S H) (host : H → List ℕ) → Sums table host }
 {}
 
 /// Operators on one operand and on two, and their errors.
 pub fn sample_operands<H, S>(of: PhantomData<(H, S)>)
-    ensures { (natives : Natives S H) (host : H → List ℕ) → Operands natives host }
+    ensures { (table : Table S H) (host : H → List ℕ) → Operands table host }
 {}
 
 /// Blocks and an `if`, and what a block takes back.
 pub fn sample_blocks<H, S>(of: PhantomData<(H, S)>)
-    ensures { (natives : Natives S H) (host : H → List ℕ) → Blocks natives host }
+    ensures { (table : Table S H) (host : H → List ℕ) → Blocks table host }
 {}
 
 /// Variables and constants, and what refuses a new one.
 pub fn sample_variables<H, S>(of: PhantomData<(H, S)>)
-    ensures { (natives : Natives S H) (host : H → List ℕ) → Variables natives host }
+    ensures { (table : Table S H) (host : H → List ℕ) → Variables table host }
 {}
 
 /// Counts and limits as a script starts.
 pub fn sample_limits<H, S>(of: PhantomData<(H, S)>)
-    ensures { (natives : Natives S H) (host : H → List ℕ) → Limits natives host }
+    ensures { (table : Table S H) (host : H → List ℕ) → Limits table host }
 {}
 
 /// An operator that is a native's, over tables that reply in each way.
 pub fn sample_natives<H, S>(of: PhantomData<(H, S)>)
-    ensures { (natives : Natives S H) (host : H → List ℕ) → Called natives host }
+    ensures { (table : Table S H) (host : H → List ℕ) → Called table host }
 {}
 
 /// A variable that is the handle of a cell, free or held.
 pub fn sample_handles<H, S>(of: PhantomData<(H, S)>)
-    ensures { (natives : Natives S H) (host : H → List ℕ) → Handles natives host }
+    ensures { (table : Table S H) (host : H → List ℕ) → Handles table host }
 {}
 
 /// Turns of a `while` and of a `do`, and loops that never end.
 pub fn sample_loops<H, S>(of: PhantomData<(H, S)>)
-    ensures { (natives : Natives S H) (host : H → List ℕ) → Loops natives host }
+    ensures { (table : Table S H) (host : H → List ℕ) → Loops table host }
 {}
 
 /// `break` and `return`.
 pub fn sample_ways_out<H, S>(of: PhantomData<(H, S)>)
-    ensures { (natives : Natives S H) (host : H → List ℕ) → WaysOut natives host }
+    ensures { (table : Table S H) (host : H → List ℕ) → WaysOut table host }
 {}
 
 /// The operators that stop early.
 pub fn sample_choices<H, S>(of: PhantomData<(H, S)>)
-    ensures { (natives : Natives S H) (host : H → List ℕ) → Choices natives host }
+    ensures { (table : Table S H) (host : H → List ℕ) → Choices table host }
 {}
 
 /// Assignments, and what refuses one.
 pub fn sample_assignments<H, S>(of: PhantomData<(H, S)>)
-    ensures { (natives : Natives S H) (host : H → List ℕ) → Assignments natives host }
+    ensures { (table : Table S H) (host : H → List ℕ) → Assignments table host }
 {}
 
 /// Assignments by an operator that is a native's, over tables that reply in each way.
 pub fn sample_updates<H, S>(of: PhantomData<(H, S)>)
-    ensures { (natives : Natives S H) (host : H → List ℕ) → Updates natives host }
+    ensures { (table : Table S H) (host : H → List ℕ) → Updates table host }
 {}

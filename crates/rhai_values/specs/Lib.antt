@@ -3,6 +3,7 @@ pub mod Cells
 pub mod DataSize
 pub mod Hashable
 pub mod Layers
+pub mod Limits
 pub mod Lends
 pub mod LiteralEquals
 pub mod Copy

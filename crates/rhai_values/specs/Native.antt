@@ -1,6 +1,6 @@
 -- What a table of natives is asked, what it answers, and its law.
 use Rattle.std.proofs.Common.{inl, inr}
-use Rattle.std.specs.Prelude.{◌≡◌, ◌⊎◌, ⊤, ℕ, List, Option, Some, None}
+use Rattle.std.specs.Prelude.{◌≡◌, ◌⊎◌, ⊤, ℕ, Bool, List, Option, Some, None}
 use Rattle.std.specs.Borrow.{MutBor}
 use Rattle.rhai_tree.specs.declared.position.Position.{Position}
 use Rattle.rhai_values.specs.declared.base.value.Dynamic.{Dynamic}
@@ -40,6 +40,11 @@ pub record Effect (S H : Type 0) : Type 0 where
 pub data Purity : Type 0 where
   OfName : (name first_type : List ℕ) → (count : ℕ) → Purity
   OfNumber : ℕ → Purity
+
+-- a table of natives as the rules read it: what a call leaves in a state, and which natives change nothing
+pub record Natives (S H : Type 0) : Type 0 where
+  pub gives : S → Request H → Effect S H
+  pub pure : S → Purity → Bool
 
 abbrev pub request : {H : Type 0} → List (Option (Dynamic H)) → Key → Option (Dynamic H) → List (Dynamic H) → Position → Request H
 request cells key first rest at = record { cells = cells; key = key; first = first; rest = rest; at = at }
@@ -103,7 +108,7 @@ KeepsFirst Missing before after = after ≡ before
 KeepsFirst _ before after = ⊤
 
 -- the law of a table, of its function alone
-pub record Lawful {S H : Type 0} (gives : S → Request H → Effect S H) : Type 0 where
-  pub allowed : (s : S) (q : Request H) → HasNoHandle q.first → IsAllowed (gives s q).reply
-  pub first_no_handle : (s : S) (q : Request H) → HasNoHandle q.first → HasNoHandle (gives s q).first
-  pub missing_keeps : (s : S) (q : Request H) → KeepsFirst (gives s q).reply q.first (gives s q).first
+pub record Lawful {S H : Type 0} (natives : Natives S H) : Type 0 where
+  pub allowed : (s : S) (q : Request H) → HasNoHandle q.first → IsAllowed (natives.gives s q).reply
+  pub first_no_handle : (s : S) (q : Request H) → HasNoHandle q.first → HasNoHandle (natives.gives s q).first
+  pub missing_keeps : (s : S) (q : Request H) → KeepsFirst (natives.gives s q).reply q.first (natives.gives s q).first

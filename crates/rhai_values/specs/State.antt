@@ -1,5 +1,5 @@
 -- The state of a run: what it is at first, and its imports as a plain list.
-use Rattle.std.specs.Prelude.{◌≡◌, ℕ, false, List, [], ◌∷◌, Option, None, take}
+use Rattle.std.specs.Prelude.{◌≡◌, ℕ, false, List, [], ◌∷◌, Option, None}
 use Rattle.rhai_values.specs.declared.base.value.Import.{Import, out-Import, roll-Import}
 use Rattle.rhai_values.specs.declared.base.value.Module.{Module, roll-Module}
 use Rattle.rhai_values.specs.declared.state.GlobalRuntimeState.{GlobalRuntimeState}

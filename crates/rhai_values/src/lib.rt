@@ -5,6 +5,7 @@
 pub mod base;
 pub mod caches;
 pub mod cells;
+pub mod limits;
 pub mod state;
 pub mod table;
 #[cfg(test)]

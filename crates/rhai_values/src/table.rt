@@ -1,6 +1,6 @@
 //! Tables of natives: the functions that a host offers to its scripts.
 
-ghost use Rattle.std.specs.Prelude.{◌≡◌, ℕ, List, Bool};
+ghost use Rattle.std.specs.Prelude.{◌≡◌};
 
 use crate::base::error::EvalAltResult;
 use crate::base::value::Dynamic;
@@ -22,18 +22,15 @@ pub enum Answer<H> {
 /// arguments and the cells, want of memory aside: the law that each implementation proves once.
 pub trait NativeTable<H> {
     ghost use Rattle.rhai_values.specs.Cells.{cells_of};
-    ghost use Rattle.rhai_values.specs.Native.{Effect, Request, Purity, OfName, OfNumber, Named, Numbered, Obeys, HasNoHandle, Lawful, reply_of, request, was, left_by};
+    ghost use Rattle.rhai_values.specs.Native.{Natives, OfName, OfNumber, Named, Numbered, Obeys, HasNoHandle, Lawful, reply_of, request, was, left_by};
 
     /// The state of the table as far as it shows.
     ghost State: { Type 0 };
 
     ghost state: { Self → State };
 
-    /// What a call does.
-    ghost gives: { State → Request H → Effect State H };
-
-    /// Whether a native changes nothing.
-    ghost pure: { State → Purity → Bool };
+    /// What a call does, and which natives change nothing.
+    ghost natives: { Natives State H };
 
     /// Calls a native by its name. Asked: the first argument is no bare handle of a cell.
     fn call(
@@ -45,7 +42,7 @@ pub trait NativeTable<H> {
         position: Position,
     ) -> Answer<H>
         requires { HasNoHandle (was first) }
-        ensures obeys { Obeys (gives (state self.old) (request (cells_of cells.now) (Named name.now) (was first.entry) rest.now position)) (reply_of result) (left_by first.exit) (state self.new) }
+        ensures obeys { Obeys (natives.gives (state self.old) (request (cells_of cells.now) (Named name.now) (was first.entry) rest.now position)) (reply_of result) (left_by first.exit) (state self.new) }
         ensures no_handle { HasNoHandle (left_by first.exit) };
 
     /// Calls a native by its number. Asked: the first argument is no bare handle of a cell.
@@ -58,17 +55,17 @@ pub trait NativeTable<H> {
         position: Position,
     ) -> Answer<H>
         requires { HasNoHandle (was first) }
-        ensures obeys { Obeys (gives (state self.old) (request (cells_of cells.now) (Numbered id.number) (was first.entry) rest.now position)) (reply_of result) (left_by first.exit) (state self.new) }
+        ensures obeys { Obeys (natives.gives (state self.old) (request (cells_of cells.now) (Numbered id.number) (was first.entry) rest.now position)) (reply_of result) (left_by first.exit) (state self.new) }
         ensures no_handle { HasNoHandle (left_by first.exit) };
 
     /// Whether a native of a name, by the type of its first argument (the empty text where there
     /// is none) and the number of its arguments, changes nothing.
     fn is_pure(&self, name: &str, first_type: &str, count: usize) -> bool
-        ensures { result ≡ pure (state self.now) (OfName name.now first_type.now count) };
+        ensures { result ≡ natives.pure (state self.now) (OfName name.now first_type.now count) };
 
     /// Whether a native of a number changes nothing.
     fn is_pure_numbered(&self, id: NativeId) -> bool
-        ensures { result ≡ pure (state self.now) (OfNumber id.number) };
+        ensures { result ≡ natives.pure (state self.now) (OfNumber id.number) };
 
-    ghost lawful: { Lawful gives };
+    ghost lawful: { Lawful natives };
 }

@@ -1,16 +1,19 @@
 //! Whole scripts. Ports upstream's `eval_global_statements`.
 
-ghost use Rattle.std.specs.Prelude.{◌≡◌, ◌≤◌, length, true, None, Ok, IfOk, IfErr, IsTrue};
+ghost use Rattle.std.specs.Prelude.{◌≡◌, ◌≤◌, length, true, None, IfErr, IsTrue};
 ghost use Rattle.rhai_tree.specs.Names.{Begins};
-ghost use Rattle.rhai_values.specs.Scope.{names_in};
-ghost use Rattle.rhai_machine.specs.language.Setting.{limit_of};
-ghost use Rattle.rhai_machine.specs.language.Unwinding.{topped};
-ghost use Rattle.rhai_machine.specs.language.Script.{EndsAsMachine, AgreesWithHigherLimits};
 ghost use Rattle.rhai_values.specs.Errors.{is_out_of_memory};
+ghost use Rattle.rhai_values.specs.Scope.{names_in};
+ghost use Rattle.rhai_machine.specs.language.Memory.{UpToMemory};
+ghost use Rattle.rhai_machine.specs.language.Script.{EndsAsMachine, AgreesWithHigherLimits, start_of_script, end_of_script};
+ghost use Rattle.rhai_steps.specs.States.{state_of};
+ghost use Rattle.rhai_laws.specs.Kept.{Kept};
 ghost use Rattle.rhai_eval.specs.Memory.{may_ask};
-ghost use Rattle.rhai_eval.specs.States.{setting_of, state_of, around_of};
+ghost use Rattle.rhai_eval.specs.States.{under};
 
+use crate::context::{give_back, take};
 use crate::engine::Engine;
+use rhai_steps::outcome::top;
 use rhai_tree::checked::CheckedTree;
 use rhai_values::base::error::EvalAltResult;
 use rhai_values::base::scope::Scope;
@@ -20,47 +23,13 @@ use rhai_values::state::GlobalRuntimeState;
 use rhai_values::table::NativeTable;
 use std::alloc::Global;
 
-/// What a script's end makes of an error: a `return` gives its value, and so does an exit where
-/// that is asked.
-fn top_error<H: Host>(
-    error: EvalAltResult<H>,
-    map_exit_to_return_value: bool,
-) -> Result<Dynamic<H>, EvalAltResult<H>>
-    ensures { result ≡ topped map_exit_to_return_value error }
-{
-    match error {
-        EvalAltResult::Return(value, _) => Ok(value.into_inner()),
-        EvalAltResult::Exit(value, pos) => {
-            if map_exit_to_return_value {
-                Ok(value.into_inner())
-            } else {
-                Err(EvalAltResult::Exit(value, pos))
-            }
-        }
-        error => Err(error),
-    }
-}
-
-/// What a script's end makes of its outcome.
-fn top<H: Host>(
-    outcome: Result<Dynamic<H>, EvalAltResult<H>>,
-    map_exit_to_return_value: bool,
-) -> Result<Dynamic<H>, EvalAltResult<H>>
-    ensures value { IfOk outcome (λ value. result ≡ Ok value) }
-    ensures error { IfErr outcome (λ error. result ≡ topped map_exit_to_return_value error) }
-{
-    match outcome {
-        Ok(value) => Ok(value),
-        Err(error) => top_error(error, map_exit_to_return_value),
-    }
-}
-
 impl<H: Host> Engine<H> {
     /// Runs a checked tree in a scope. Its variables stay, after an error too. A `return` outside a
     /// function gives the script's value; so does an exit where `map_exit_to_return_value` is set.
     ///
-    /// Ends exactly as the step machine does that is cut at the first charge past
-    /// `max_operations`, or with `ErrorOutOfMemory` where there was no memory.
+    /// Ends exactly as the step machine does that is cut at the first charge past the limit of
+    /// operations, or with `ErrorOutOfMemory`: then the run is the machine's own up to where memory
+    /// ran out, and unwinds from there.
     pub fn eval_global_statements<T: NativeTable<H>>(
         &self,
         alloc: Global,
@@ -72,28 +41,26 @@ impl<H: Host> Engine<H> {
         map_exit_to_return_value: bool,
     ) -> Result<Dynamic<H>, EvalAltResult<H>>
         requires fast { self.now.fast_operators ≡ true }
-        ensures ends { EndsAsMachine (setting_of H.name_of self.now) T.gives T.pure tree.now.0 map_exit_to_return_value (state_of (T.state table.old) global.old scope.old None) result (state_of (T.state table.new) global.new scope.new None) }
-        ensures two_limits { AgreesWithHigherLimits (setting_of H.name_of self.now) T.gives T.pure tree.now.0 map_exit_to_return_value (state_of (T.state table.old) global.old scope.old None) result (state_of (T.state table.new) global.new scope.new None) }
+        ensures ends { EndsAsMachine (under H.name_of self.now T.natives) tree.now.0 map_exit_to_return_value
+            (state_of (T.state table.old) global.old scope.old None) result
+            (state_of (T.state table.new) global.new scope.new None) }
+        ensures two_limits { AgreesWithHigherLimits (under H.name_of self.now T.natives) tree.now.0 map_exit_to_return_value
+            (state_of (T.state table.old) global.old scope.old None) result
+            (state_of (T.state table.new) global.new scope.new None) }
+        ensures up_to { UpToMemory (under H.name_of self.now T.natives)
+            (start_of_script tree.now.0 map_exit_to_return_value (state_of (T.state table.old) global.old scope.old None))
+            (end_of_script result (state_of (T.state table.new) global.new scope.new None)) }
         ensures memory { IfErr result (λ error. is_out_of_memory error ≡ true → IsTrue (may_ask tree.now.0)) }
-        ensures counts { global.old.num_operations ≤ global.new.num_operations }
-        ensures within { global.old.num_operations ≤ limit_of self.now.max_operations → global.new.num_operations ≤ limit_of self.now.max_operations }
-        ensures around { around_of global.new ≡ around_of global.old }
-        ensures scope_level { global.new.scope_level ≡ global.old.scope_level }
+        ensures kept { Kept (under H.name_of self.now T.natives)
+            (state_of (T.state table.old) global.old scope.old None)
+            (state_of (T.state table.new) global.new scope.new None) }
         ensures begins { Begins (names_in scope.old) (names_in scope.new) }
-        ensures variables { length (names_in scope.old) ≤ self.now.max_variables → length (names_in scope.new) ≤ self.now.max_variables }
+        ensures variables { length (names_in scope.old) ≤ self.now.limits.max_variables →
+            length (names_in scope.new) ≤ self.now.limits.max_variables }
     {
-        let mut unbound = None;
-        let statements = tree.statements();
-        let outcome = self.run_stmt_block(
-            alloc,
-            global,
-            caches,
-            table,
-            scope,
-            &mut unbound,
-            statements,
-            false,
-        );
+        let mut run = take(alloc, global, caches, scope);
+        let outcome = self.run_stmt_block(alloc, &mut run, table, tree.statements(), false);
+        give_back(run, global, caches, scope);
         top(outcome, map_exit_to_return_value)
     }
 }

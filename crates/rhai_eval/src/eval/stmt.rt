@@ -1,24 +1,28 @@
 //! Statements. Ports upstream's `eval/stmt.rs`; the contracts speak of the machine's runs.
 
-ghost use Rattle.std.specs.Prelude.{◌≡◌, ◌<◌, ◌≤◌, ◌++◌, ◌∷◌, [], ◌||◌, OnOk, IfErr, IsTrue, is_some, true, None, Some, length, map};
+ghost use Rattle.std.specs.Prelude.{◌≡◌, ◌<◌, ◌≤◌, ◌++◌, ◌∷◌, [], ◌||◌, OnOk, IfErr, IsTrue, true, None, length, map};
 ghost use Rattle.rhai_tree.specs.Frame.{tests_of, target_resolves, resolves_expr, resolves_stmt, resolves_block, all_resolve};
 ghost use Rattle.rhai_tree.specs.Names.{Begins};
-ghost use Rattle.rhai_values.specs.Scope.{names_in};
-ghost use Rattle.rhai_values.specs.Native.{was};
-ghost use Rattle.rhai_machine.specs.language.Setting.{limit_of};
 ghost use Rattle.rhai_tree.specs.declared.expr.Expr.TheOpen as layer;
+ghost use Rattle.rhai_values.specs.Errors.{is_out_of_memory};
+ghost use Rattle.rhai_values.specs.Native.{was};
+ghost use Rattle.rhai_values.specs.Scope.{names_in};
 ghost use Rattle.rhai_machine.specs.language.Values.{unit_value as unit};
 ghost use Rattle.rhai_machine.specs.language.Frames.{Exec, OpenStmt, Enter, Run};
 ghost use Rattle.rhai_machine.specs.language.Runs.{Runs};
-ghost use Rattle.rhai_values.specs.Errors.{is_out_of_memory};
-ghost use Rattle.rhai_eval.specs.Loops.{leaves_turn};
+ghost use Rattle.rhai_steps.specs.States.{state_of};
+ghost use Rattle.rhai_laws.specs.Kept.{Kept};
+ghost use Rattle.rhai_eval.specs.Ends.{EndsAs};
 ghost use Rattle.rhai_eval.specs.Memory.{asks_expr, asks_block, asks_stmt, may_ask};
-ghost use Rattle.rhai_eval.specs.States.{setting_of, state_of, around_of};
+ghost use Rattle.rhai_eval.specs.States.{names, state_in, under};
 
+use crate::context::{Context, give_back, take};
 use crate::engine::Engine;
-use crate::eval::errors::variable_exists;
-use crate::eval::values::{flatten, truth_value, unit_value};
-use crate::eval::variables::{define_variable, enter_list, leave_list, mode_of};
+use rhai_assign::assign_variable;
+use rhai_steps::charges::track_operation;
+use rhai_steps::loops::chosen;
+use rhai_steps::values::{flatten, truth_value, unit_value};
+use rhai_steps::variables::{define_variable, enter_list, leave_list, may_declare, mode_of};
 use rhai_tree::expr::{Expr, Ident, OpAssignment, Stmt, StmtBlock};
 use rhai_tree::flags::ASTFlags;
 use rhai_tree::position::Position;
@@ -49,26 +53,21 @@ impl<H: Host> Engine<H> {
     ) -> Result<Dynamic<H>, EvalAltResult<H>>
         requires resolves { IsTrue (resolves_stmt stmt.now (names_in scope.old)).0 }
         requires fast { self.now.fast_operators ≡ true }
-        ensures runs { Runs (setting_of H.name_of self.now) T.gives T.pure (Exec stmt.now rewind_scope) (state_of (T.state table.old) global.old scope.old (was _this.entry)) result (state_of (T.state table.new) global.new scope.new (was _this.entry)) }
-        ensures counts { global.old.num_operations ≤ global.new.num_operations }
-        ensures within { global.old.num_operations ≤ limit_of self.now.max_operations → global.new.num_operations ≤ limit_of self.now.max_operations }
-        ensures around { around_of global.new ≡ around_of global.old }
-        ensures scope_level { global.new.scope_level ≡ global.old.scope_level }
+        ensures ends { EndsAs (under H.name_of self.now T.natives) (Exec stmt.now rewind_scope)
+            (state_of (T.state table.old) global.old scope.old (was _this.entry)) result
+            (state_of (T.state table.new) global.new scope.new (was _this.entry)) }
+        ensures kept { Kept (under H.name_of self.now T.natives)
+            (state_of (T.state table.old) global.old scope.old (was _this.entry))
+            (state_of (T.state table.new) global.new scope.new (was _this.entry)) }
         ensures begins { Begins (names_in scope.old) (names_in scope.new) }
         ensures names { OnOk result (names_in scope.new ≡ (resolves_stmt stmt.now (names_in scope.old)).1) }
-        ensures variables { length (names_in scope.old) ≤ self.now.max_variables → length (names_in scope.new) ≤ self.now.max_variables }
+        ensures variables { length (names_in scope.old) ≤ self.now.limits.max_variables →
+            length (names_in scope.new) ≤ self.now.limits.max_variables }
     {
-        let mut unbound = None;
-        self.run_stmt(
-            alloc,
-            global,
-            caches,
-            table,
-            scope,
-            &mut unbound,
-            stmt,
-            rewind_scope,
-        )
+        let mut run = take(alloc, global, caches, scope);
+        let result = self.run_stmt(alloc, &mut run, table, stmt, rewind_scope);
+        give_back(run, global, caches, scope);
+        result
     }
 
     /// What a list of statements does, charged statement by statement. With `restore_orig_state` the
@@ -90,26 +89,21 @@ impl<H: Host> Engine<H> {
     ) -> Result<Dynamic<H>, EvalAltResult<H>>
         requires resolves { IsTrue (all_resolve (map resolves_stmt statements.now) (names_in scope.old)).0 }
         requires fast { self.now.fast_operators ≡ true }
-        ensures runs { Runs (setting_of H.name_of self.now) T.gives T.pure (Enter statements.now restore_orig_state) (state_of (T.state table.old) global.old scope.old (was _this.entry)) result (state_of (T.state table.new) global.new scope.new (was _this.entry)) }
-        ensures counts { global.old.num_operations ≤ global.new.num_operations }
-        ensures within { global.old.num_operations ≤ limit_of self.now.max_operations → global.new.num_operations ≤ limit_of self.now.max_operations }
-        ensures around { around_of global.new ≡ around_of global.old }
-        ensures scope_level { global.new.scope_level ≡ global.old.scope_level }
+        ensures ends { EndsAs (under H.name_of self.now T.natives) (Enter statements.now restore_orig_state)
+            (state_of (T.state table.old) global.old scope.old (was _this.entry)) result
+            (state_of (T.state table.new) global.new scope.new (was _this.entry)) }
+        ensures kept { Kept (under H.name_of self.now T.natives)
+            (state_of (T.state table.old) global.old scope.old (was _this.entry))
+            (state_of (T.state table.new) global.new scope.new (was _this.entry)) }
         ensures begins { Begins (names_in scope.old) (names_in scope.new) }
         ensures restores { IsTrue restore_orig_state → names_in scope.new ≡ names_in scope.old }
-        ensures variables { length (names_in scope.old) ≤ self.now.max_variables → length (names_in scope.new) ≤ self.now.max_variables }
+        ensures variables { length (names_in scope.old) ≤ self.now.limits.max_variables →
+            length (names_in scope.new) ≤ self.now.limits.max_variables }
     {
-        let mut unbound = None;
-        self.run_stmt_block(
-            alloc,
-            global,
-            caches,
-            table,
-            scope,
-            &mut unbound,
-            statements,
-            restore_orig_state,
-        )
+        let mut run = take(alloc, global, caches, scope);
+        let result = self.run_stmt_block(alloc, &mut run, table, statements, restore_orig_state);
+        give_back(run, global, caches, scope);
+        result
     }
 
     /// What a statement does, in a list that restores or not.
@@ -117,72 +111,43 @@ impl<H: Host> Engine<H> {
     pub(crate) fn run_stmt<T: NativeTable<H>>(
         &self,
         alloc: Global,
-        global: &mut GlobalRuntimeState<H>,
-        caches: &mut Caches<H>,
+        run: &mut Context<H>,
         table: &mut T,
-        scope: &mut Scope<H>,
-        this: &mut Option<Dynamic<H>>,
         stmt: &Stmt,
         restoring: bool,
     ) -> Result<Dynamic<H>, EvalAltResult<H>>
-        requires resolves { IsTrue (resolves_stmt stmt.now (names_in scope.old)).0 }
+        requires resolves { IsTrue (resolves_stmt stmt.now (names run.old)).0 }
         requires fast { self.now.fast_operators ≡ true }
-        ensures counts { global.old.num_operations ≤ global.new.num_operations }
-        ensures within { global.old.num_operations ≤ limit_of self.now.max_operations → global.new.num_operations ≤ limit_of self.now.max_operations }
-        ensures charges { OnOk result (global.old.num_operations < global.new.num_operations) }
-        ensures turns { IfErr result (λ error. leaves_turn error ≡ true → global.old.num_operations < global.new.num_operations) }
-        ensures around { around_of global.new ≡ around_of global.old }
-        ensures scope_level { global.new.scope_level ≡ global.old.scope_level }
-        ensures bound { is_some this.new ≡ is_some this.old }
-        ensures begins { Begins (names_in scope.old) (names_in scope.new) }
-        ensures names { OnOk result (names_in scope.new ≡ (resolves_stmt stmt.now (names_in scope.old)).1) }
-        ensures variables { length (names_in scope.old) ≤ self.now.max_variables → length (names_in scope.new) ≤ self.now.max_variables }
-        ensures runs { Runs (setting_of H.name_of self.now) T.gives T.pure (Exec stmt.now restoring) (state_of (T.state table.old) global.old scope.old this.old) result (state_of (T.state table.new) global.new scope.new this.new) }
+        ensures charges { OnOk result (run.old.global.num_operations < run.new.global.num_operations) }
+        ensures names { OnOk result (names run.new ≡ (resolves_stmt stmt.now (names run.old)).1) }
+        ensures runs { Runs (under H.name_of self.now T.natives) (Exec stmt.now restoring)
+            (state_in (T.state table.old) run.old) result (state_in (T.state table.new) run.new) }
         ensures memory { IfErr result (λ error. is_out_of_memory error ≡ true → IsTrue (asks_stmt stmt.now)) }
     {
-        self.track_operation(global, stmt.position())?;
+        track_operation(&self.limits, &mut run.global, stmt.position())?;
         match stmt {
             Stmt::Noop(_) => Ok(unit_value()),
-            Stmt::Expr(expr) => {
-                self.run_expr_stmt(alloc, global, caches, table, scope, this, expr, restoring)
+            Stmt::Expr(expr) => self.run_expr_stmt(alloc, run, table, expr, restoring),
+            Stmt::Block(block) => {
+                self.run_stmt_block(alloc, run, table, block.statements.as_slice(), true)
             }
-            Stmt::Block(block) => self.run_stmt_block(
-                alloc,
-                global,
-                caches,
-                table,
-                scope,
-                this,
-                block.statements.as_slice(),
-                true,
-            ),
-            Stmt::Assignment(op, lhs, rhs) => self.run_assignment(
-                alloc, global, caches, table, scope, this, *op, lhs, rhs, restoring,
-            ),
-            Stmt::If(test, body, branch, pos) => self.run_if(
-                alloc, global, caches, table, scope, this, test, body, branch, *pos, restoring,
-            ),
-            Stmt::Var(ident, value, None, options, pos) => self.run_var(
-                alloc, global, caches, table, scope, this, ident, value, *options, *pos, restoring,
-            ),
-            Stmt::While(test, body, _) => {
-                self.run_while(alloc, global, caches, table, scope, this, test, body)
+            Stmt::Assignment(op, lhs, rhs) => {
+                self.run_assignment(alloc, run, table, *op, lhs, rhs, restoring)
             }
+            Stmt::If(test, body, branch, pos) => {
+                self.run_if(alloc, run, table, test, body, branch, *pos, restoring)
+            }
+            Stmt::Var(ident, value, None, options, pos) => {
+                self.run_var(alloc, run, table, ident, value, *options, *pos, restoring)
+            }
+            Stmt::While(test, body, _) => self.run_while(alloc, run, table, test, body),
             Stmt::Do(test, body, options, _) => {
-                self.run_do(
-                    alloc, global, caches, table, scope, this, test, body, *options,
-                )
+                self.run_do(alloc, run, table, test, body, *options)
             }
             Stmt::BreakLoop(value, options, pos) => {
-                self.run_break(
-                    alloc, global, caches, table, scope, this, value, *options, *pos,
-                )
+                self.run_break(alloc, run, table, value, *options, *pos)
             }
-            Stmt::Return(value, options, pos) => {
-                self.run_return(
-                    alloc, global, caches, table, scope, this, value, *options, *pos,
-                )
-            }
+            Stmt::Return(value, _, pos) => self.run_return(alloc, run, table, value, *pos),
             _ => unreachable!(),
         }
     }
@@ -192,27 +157,21 @@ impl<H: Host> Engine<H> {
     fn run_expr_stmt<T: NativeTable<H>>(
         &self,
         alloc: Global,
-        global: &mut GlobalRuntimeState<H>,
-        caches: &mut Caches<H>,
+        run: &mut Context<H>,
         table: &mut T,
-        scope: &mut Scope<H>,
-        this: &mut Option<Dynamic<H>>,
         expr: &Expr,
         restoring: bool,
     ) -> Result<Dynamic<H>, EvalAltResult<H>>
-        requires resolves { IsTrue (resolves_expr expr.now (names_in scope.old)) }
+        requires resolves { IsTrue (resolves_expr expr.now (names run.old)) }
         requires fast { self.now.fast_operators ≡ true }
-        ensures counts { global.old.num_operations ≤ global.new.num_operations }
-        ensures within { global.old.num_operations ≤ limit_of self.now.max_operations → global.new.num_operations ≤ limit_of self.now.max_operations }
-        ensures around { around_of global.new ≡ around_of global.old }
-        ensures scope_level { global.new.scope_level ≡ global.old.scope_level }
-        ensures bound { is_some this.new ≡ is_some this.old }
-        ensures names { names_in scope.new ≡ names_in scope.old }
-        ensures runs { Runs (setting_of H.name_of self.now) T.gives T.pure (OpenStmt (layer.Expr expr.now) restoring) (state_of (T.state table.old) global.old scope.old this.old) result (state_of (T.state table.new) global.new scope.new this.new) }
-        ensures memory { IfErr result (λ error. is_out_of_memory error ≡ true → IsTrue ((asks_expr expr.now).0)) }
+        ensures counts { OnOk result (run.old.global.num_operations ≤ run.new.global.num_operations) }
+        ensures names { OnOk result (names run.new ≡ names run.old) }
+        ensures runs { Runs (under H.name_of self.now T.natives) (OpenStmt (layer.Expr expr.now) restoring)
+            (state_in (T.state table.old) run.old) result (state_in (T.state table.new) run.new) }
+        ensures memory { IfErr result (λ error. is_out_of_memory error ≡ true → IsTrue (asks_expr expr.now).0) }
     {
-        let value = self.run_expr(alloc, global, caches, table, scope, this, expr)?;
-        flatten(alloc, &global.cells, value, expr.position())
+        let value = self.run_expr(alloc, run, table, expr)?;
+        flatten(alloc, &run.global.cells, value, expr.position())
     }
 
     /// An assignment to a variable: its value, then the variable.
@@ -220,33 +179,37 @@ impl<H: Host> Engine<H> {
     fn run_assignment<T: NativeTable<H>>(
         &self,
         alloc: Global,
-        global: &mut GlobalRuntimeState<H>,
-        caches: &mut Caches<H>,
+        run: &mut Context<H>,
         table: &mut T,
-        scope: &mut Scope<H>,
-        this: &mut Option<Dynamic<H>>,
         op: OpAssignment,
         lhs: &Expr,
         rhs: &Expr,
         restoring: bool,
     ) -> Result<Dynamic<H>, EvalAltResult<H>>
-        requires resolves_target { IsTrue (target_resolves (tests_of lhs.now) (names_in scope.old)) }
-        requires resolves { IsTrue (resolves_expr rhs.now (names_in scope.old)) }
+        requires resolves_target { IsTrue (target_resolves (tests_of lhs.now) (names run.old)) }
+        requires resolves { IsTrue (resolves_expr rhs.now (names run.old)) }
         requires fast { self.now.fast_operators ≡ true }
-        ensures counts { global.old.num_operations ≤ global.new.num_operations }
-        ensures within { global.old.num_operations ≤ limit_of self.now.max_operations → global.new.num_operations ≤ limit_of self.now.max_operations }
-        ensures around { around_of global.new ≡ around_of global.old }
-        ensures scope_level { global.new.scope_level ≡ global.old.scope_level }
-        ensures bound { is_some this.new ≡ is_some this.old }
-        ensures names { names_in scope.new ≡ names_in scope.old }
-        ensures runs { Runs (setting_of H.name_of self.now) T.gives T.pure (OpenStmt (layer.Assignment op lhs.now rhs.now) restoring) (state_of (T.state table.old) global.old scope.old this.old) result (state_of (T.state table.new) global.new scope.new this.new) }
+        ensures counts { OnOk result (run.old.global.num_operations ≤ run.new.global.num_operations) }
+        ensures names { OnOk result (names run.new ≡ names run.old) }
+        ensures runs { Runs (under H.name_of self.now T.natives) (OpenStmt (layer.Assignment op lhs.now rhs.now) restoring)
+            (state_in (T.state table.old) run.old) result (state_in (T.state table.new) run.new) }
     {
         let Expr::Variable { name, pos, .. } = lhs else {
             unreachable!()
         };
-        let value = self.run_expr(alloc, global, caches, table, scope, this, rhs)?;
-        let value = flatten(alloc, &global.cells, value, rhs.position())?;
-        self.assign_variable(alloc, global, table, scope, name, *pos, op, value)
+        let value = self.run_expr(alloc, run, table, rhs)?;
+        let value = flatten(alloc, &run.global.cells, value, rhs.position())?;
+        assign_variable(
+            &self.limits,
+            alloc,
+            &mut run.global,
+            table,
+            &mut run.scope,
+            name,
+            *pos,
+            op,
+            value,
+        )
     }
 
     /// The list that a condition chose.
@@ -254,39 +217,28 @@ impl<H: Host> Engine<H> {
     fn run_if<T: NativeTable<H>>(
         &self,
         alloc: Global,
-        global: &mut GlobalRuntimeState<H>,
-        caches: &mut Caches<H>,
+        run: &mut Context<H>,
         table: &mut T,
-        scope: &mut Scope<H>,
-        this: &mut Option<Dynamic<H>>,
         test: &Expr,
         body: &StmtBlock,
         branch: &StmtBlock,
         pos: Position,
         restoring: bool,
     ) -> Result<Dynamic<H>, EvalAltResult<H>>
-        requires resolves_test { IsTrue (resolves_expr test.now (names_in scope.old)) }
-        requires resolves_body { IsTrue (resolves_block body.now (names_in scope.old)) }
-        requires resolves_branch { IsTrue (resolves_block branch.now (names_in scope.old)) }
+        requires resolves_test { IsTrue (resolves_expr test.now (names run.old)) }
+        requires resolves_body { IsTrue (resolves_block body.now (names run.old)) }
+        requires resolves_branch { IsTrue (resolves_block branch.now (names run.old)) }
         requires fast { self.now.fast_operators ≡ true }
-        ensures counts { global.old.num_operations ≤ global.new.num_operations }
-        ensures within { global.old.num_operations ≤ limit_of self.now.max_operations → global.new.num_operations ≤ limit_of self.now.max_operations }
-        ensures around { around_of global.new ≡ around_of global.old }
-        ensures scope_level { global.new.scope_level ≡ global.old.scope_level }
-        ensures bound { is_some this.new ≡ is_some this.old }
-        ensures names { names_in scope.new ≡ names_in scope.old }
-        ensures runs { Runs (setting_of H.name_of self.now) T.gives T.pure (OpenStmt (layer.If test.now body.now branch.now pos) restoring) (state_of (T.state table.old) global.old scope.old this.old) result (state_of (T.state table.new) global.new scope.new this.new) }
-        ensures memory { IfErr result (λ error. is_out_of_memory error ≡ true → IsTrue ((asks_expr test.now).1 || (asks_block body.now || asks_block branch.now))) }
+        ensures counts { OnOk result (run.old.global.num_operations ≤ run.new.global.num_operations) }
+        ensures names { OnOk result (names run.new ≡ names run.old) }
+        ensures runs { Runs (under H.name_of self.now T.natives) (OpenStmt (layer.If test.now body.now branch.now pos) restoring)
+            (state_in (T.state table.old) run.old) result (state_in (T.state table.new) run.new) }
+        ensures memory { IfErr result (λ error. is_out_of_memory error ≡ true →
+            IsTrue ((asks_expr test.now).1 || (asks_block body.now || asks_block branch.now))) }
     {
-        let value = self.run_expr(alloc, global, caches, table, scope, this, test)?;
-        let chosen = truth_value(alloc, &global.cells, value, test.position())?;
-        if chosen {
-            let statements = body.statements.as_slice();
-            self.run_stmt_block(alloc, global, caches, table, scope, this, statements, true)
-        } else {
-            let statements = branch.statements.as_slice();
-            self.run_stmt_block(alloc, global, caches, table, scope, this, statements, true)
-        }
+        let value = self.run_expr(alloc, run, table, test)?;
+        let holds = truth_value(alloc, &run.global.cells, value, test.position())?;
+        self.run_stmt_block(alloc, run, table, chosen(holds, body, branch), true)
     }
 
     /// A new variable.
@@ -294,82 +246,61 @@ impl<H: Host> Engine<H> {
     fn run_var<T: NativeTable<H>>(
         &self,
         alloc: Global,
-        global: &mut GlobalRuntimeState<H>,
-        caches: &mut Caches<H>,
+        run: &mut Context<H>,
         table: &mut T,
-        scope: &mut Scope<H>,
-        this: &mut Option<Dynamic<H>>,
         ident: &Ident,
         value: &Expr,
         options: ASTFlags,
         pos: Position,
         restoring: bool,
     ) -> Result<Dynamic<H>, EvalAltResult<H>>
-        requires resolves { IsTrue (resolves_expr value.now (names_in scope.old)) }
+        requires resolves { IsTrue (resolves_expr value.now (names run.old)) }
         requires fast { self.now.fast_operators ≡ true }
-        ensures counts { global.old.num_operations ≤ global.new.num_operations }
-        ensures within { global.old.num_operations ≤ limit_of self.now.max_operations → global.new.num_operations ≤ limit_of self.now.max_operations }
-        ensures around { around_of global.new ≡ around_of global.old }
-        ensures scope_level { global.new.scope_level ≡ global.old.scope_level }
-        ensures bound { is_some this.new ≡ is_some this.old }
-        ensures begins { Begins (names_in scope.old) (names_in scope.new) }
-        ensures names { OnOk result (names_in scope.new ≡ names_in scope.old ++ ident.now.name ∷ []) }
-        ensures variables { length (names_in scope.old) ≤ self.now.max_variables → length (names_in scope.new) ≤ self.now.max_variables }
-        ensures runs { Runs (setting_of H.name_of self.now) T.gives T.pure (OpenStmt (layer.Var ident.now value.now None options pos) restoring) (state_of (T.state table.old) global.old scope.old this.old) result (state_of (T.state table.new) global.new scope.new this.new) }
+        ensures counts { OnOk result (run.old.global.num_operations ≤ run.new.global.num_operations) }
+        ensures names { OnOk result (names run.new ≡ names run.old ++ ident.now.name ∷ []) }
+        ensures runs { Runs (under H.name_of self.now T.natives) (OpenStmt (layer.Var ident.now value.now None options pos) restoring)
+            (state_in (T.state table.old) run.old) result (state_in (T.state table.new) run.new) }
     {
-        if self.refuses_name(scope, &ident.name) {
-            return Err(variable_exists(&ident.name, pos));
-        }
-        if scope.len() >= self.max_variables {
-            return Err(EvalAltResult::ErrorTooManyVariables(pos));
-        }
-        let given = self.run_expr(alloc, global, caches, table, scope, this, value)?;
-        let given = flatten(alloc, &global.cells, given, value.position())?;
-        define_variable(scope, ident, mode_of(options), given, pos)
+        may_declare(
+            &self.limits,
+            self.allow_shadowing,
+            &run.scope,
+            &ident.name,
+            pos,
+        )?;
+        let given = self.run_expr(alloc, run, table, value)?;
+        let given = flatten(alloc, &run.global.cells, given, value.position())?;
+        define_variable(&mut run.scope, ident, mode_of(options), given, pos)
     }
 
-    /// What a list of statements does. A restoring list takes back on every way out the variables that it
-    /// added, the imports and the scope level; an empty one has no effect.
+    /// What a list of statements does. A restoring list takes back on every way out the variables that
+    /// it added, the imports and the scope level; an empty one has no effect.
     #[cycle(eval)]
     pub(crate) fn run_stmt_block<T: NativeTable<H>>(
         &self,
         alloc: Global,
-        global: &mut GlobalRuntimeState<H>,
-        caches: &mut Caches<H>,
+        run: &mut Context<H>,
         table: &mut T,
-        scope: &mut Scope<H>,
-        this: &mut Option<Dynamic<H>>,
         statements: &[Stmt],
         restoring: bool,
     ) -> Result<Dynamic<H>, EvalAltResult<H>>
-        requires resolves { IsTrue (all_resolve (map resolves_stmt statements.now) (names_in scope.old)).0 }
+        requires resolves { IsTrue (all_resolve (map resolves_stmt statements.now) (names run.old)).0 }
         requires fast { self.now.fast_operators ≡ true }
-        ensures counts { global.old.num_operations ≤ global.new.num_operations }
-        ensures within { global.old.num_operations ≤ limit_of self.now.max_operations → global.new.num_operations ≤ limit_of self.now.max_operations }
-        ensures charges { OnOk result (0 < length statements.now → global.old.num_operations < global.new.num_operations) }
-        ensures turns { IfErr result (λ error. leaves_turn error ≡ true → global.old.num_operations < global.new.num_operations) }
-        ensures around { around_of global.new ≡ around_of global.old }
-        ensures scope_level { global.new.scope_level ≡ global.old.scope_level }
-        ensures bound { is_some this.new ≡ is_some this.old }
-        ensures begins { Begins (names_in scope.old) (names_in scope.new) }
-        ensures restores { IsTrue restoring → names_in scope.new ≡ names_in scope.old }
-        ensures variables { length (names_in scope.old) ≤ self.now.max_variables → length (names_in scope.new) ≤ self.now.max_variables }
-        ensures runs { Runs (setting_of H.name_of self.now) T.gives T.pure (Enter statements.now restoring) (state_of (T.state table.old) global.old scope.old this.old) result (state_of (T.state table.new) global.new scope.new this.new) }
+        ensures counts { OnOk result (run.old.global.num_operations ≤ run.new.global.num_operations) }
+        ensures restores { OnOk result (IsTrue restoring → names run.new ≡ names run.old) }
+        ensures runs { Runs (under H.name_of self.now T.natives) (Enter statements.now restoring)
+            (state_in (T.state table.old) run.old) result (state_in (T.state table.new) run.new) }
         ensures memory { IfErr result (λ error. is_out_of_memory error ≡ true → IsTrue (may_ask statements.now)) }
     {
         if statements.is_empty() {
             return Ok(unit_value());
         }
         if !restoring {
-            return self.run_statements(
-                alloc, global, caches, table, scope, this, statements, restoring,
-            );
+            return self.run_statements(alloc, run, table, statements, restoring);
         }
-        let saved = enter_list(global, scope);
-        let result = self.run_statements(
-            alloc, global, caches, table, scope, this, statements, restoring,
-        );
-        leave_list(global, scope, saved);
+        let saved = enter_list(&mut run.global, &run.scope);
+        let result = self.run_statements(alloc, run, table, statements, restoring);
+        leave_list(&mut run.global, &mut run.scope, saved);
         result
     }
 
@@ -378,32 +309,21 @@ impl<H: Host> Engine<H> {
     fn run_statements<T: NativeTable<H>>(
         &self,
         alloc: Global,
-        global: &mut GlobalRuntimeState<H>,
-        caches: &mut Caches<H>,
+        run: &mut Context<H>,
         table: &mut T,
-        scope: &mut Scope<H>,
-        this: &mut Option<Dynamic<H>>,
         statements: &[Stmt],
         restoring: bool,
     ) -> Result<Dynamic<H>, EvalAltResult<H>>
-        requires resolves { IsTrue (all_resolve (map resolves_stmt statements.now) (names_in scope.old)).0 }
+        requires resolves { IsTrue (all_resolve (map resolves_stmt statements.now) (names run.old)).0 }
         requires fast { self.now.fast_operators ≡ true }
-        ensures counts { global.old.num_operations ≤ global.new.num_operations }
-        ensures within { global.old.num_operations ≤ limit_of self.now.max_operations → global.new.num_operations ≤ limit_of self.now.max_operations }
-        ensures charges { OnOk result (0 < length statements.now → global.old.num_operations < global.new.num_operations) }
-        ensures turns { IfErr result (λ error. leaves_turn error ≡ true → global.old.num_operations < global.new.num_operations) }
-        ensures around { around_of global.new ≡ around_of global.old }
-        ensures scope_level { global.new.scope_level ≡ global.old.scope_level }
-        ensures bound { is_some this.new ≡ is_some this.old }
-        ensures begins { Begins (names_in scope.old) (names_in scope.new) }
-        ensures names { OnOk result (names_in scope.new ≡ (all_resolve (map resolves_stmt statements.now) (names_in scope.old)).1) }
-        ensures variables { length (names_in scope.old) ≤ self.now.max_variables → length (names_in scope.new) ≤ self.now.max_variables }
-        ensures runs { Runs (setting_of H.name_of self.now) T.gives T.pure (Run statements.now restoring unit) (state_of (T.state table.old) global.old scope.old this.old) result (state_of (T.state table.new) global.new scope.new this.new) }
+        ensures counts { OnOk result (run.old.global.num_operations ≤ run.new.global.num_operations) }
+        ensures runs { Runs (under H.name_of self.now T.natives) (Run statements.now restoring unit)
+            (state_in (T.state table.old) run.old) result (state_in (T.state table.new) run.new) }
         ensures memory { IfErr result (λ error. is_out_of_memory error ≡ true → IsTrue (may_ask statements.now)) }
     {
         let mut last = unit_value();
         'each_stmt: for stmt in statements {
-            last = self.run_stmt(alloc, global, caches, table, scope, this, stmt, restoring)?;
+            last = self.run_stmt(alloc, run, table, stmt, restoring)?;
         }
         Ok(last)
     }

@@ -1,25 +1,23 @@
 //! Calls. Ports upstream's `func/call.rs`; the contracts speak of the machine's runs.
 
-ghost use Rattle.std.specs.Prelude.{◌≡◌, ◌≤◌, ◌∷◌, ◌==◌, ◌||◌, [], IsTrue, Some, is_some, length, true};
+ghost use Rattle.std.specs.Prelude.{◌≡◌, ◌<◌, ◌≤◌, ◌∷◌, ◌==◌, ◌||◌, [], IsTrue, Some, OnOk, length, true};
 ghost use Rattle.std.specs.Option.{option_copied, option_to_list};
 ghost use Rattle.rhai_tree.specs.Frame.{resolves_expr, resolves_call};
-ghost use Rattle.rhai_values.specs.Scope.{names_in};
-ghost use Rattle.rhai_machine.specs.language.Setting.{limit_of};
 ghost use Rattle.rhai_tree.specs.declared.expr.Expr.TheOpen as layer;
-ghost use Rattle.rhai_machine.specs.language.Frames.{OpenExpr};
+ghost use Rattle.rhai_machine.specs.language.Frames.{Argument, OpenExpr};
 ghost use Rattle.rhai_machine.specs.language.Runs.{Runs};
-ghost use Rattle.rhai_eval.specs.States.{setting_of, state_of, around_of};
+ghost use Rattle.rhai_eval.specs.States.{names, state_in, under};
 
+use crate::context::Context;
 use crate::engine::Engine;
-use crate::eval::values::{flatten, let_go};
+use rhai_calls::native::{operate_one, operate_two};
+use rhai_steps::charges::literal_arg;
+use rhai_steps::values::{flatten, let_go, literal_value};
 use rhai_tree::expr::{Expr, FnCallExpr};
 use rhai_tree::position::Position;
 use rhai_tree::token::Token;
 use rhai_values::base::error::EvalAltResult;
-use rhai_values::base::scope::Scope;
 use rhai_values::base::value::{Dynamic, Host};
-use rhai_values::caches::Caches;
-use rhai_values::state::GlobalRuntimeState;
 use rhai_values::table::NativeTable;
 use std::alloc::Global;
 
@@ -42,35 +40,25 @@ impl<H: Host> Engine<H> {
     pub(crate) fn run_fn_call_expr<T: NativeTable<H>>(
         &self,
         alloc: Global,
-        global: &mut GlobalRuntimeState<H>,
-        caches: &mut Caches<H>,
+        run: &mut Context<H>,
         table: &mut T,
-        scope: &mut Scope<H>,
-        this: &mut Option<Dynamic<H>>,
         call: &FnCallExpr,
         pos: Position,
     ) -> Result<Dynamic<H>, EvalAltResult<H>>
-        requires resolves { IsTrue (resolves_call call.now (names_in scope.old)) }
+        requires resolves { IsTrue (resolves_call call.now (names run.old)) }
         requires fast { self.now.fast_operators ≡ true }
-        ensures counts { global.old.num_operations ≤ global.new.num_operations }
-        ensures within { global.old.num_operations ≤ limit_of self.now.max_operations → global.new.num_operations ≤ limit_of self.now.max_operations }
-        ensures around { around_of global.new ≡ around_of global.old }
-        ensures scope_level { global.new.scope_level ≡ global.old.scope_level }
-        ensures bound { is_some this.new ≡ is_some this.old }
-        ensures names { names_in scope.new ≡ names_in scope.old }
-        ensures runs { Runs (setting_of H.name_of self.now) T.gives T.pure (OpenExpr (layer.Expr::FnCall call.now pos)) (state_of (T.state table.old) global.old scope.old this.old) result (state_of (T.state table.new) global.new scope.new this.new) }
+        ensures counts { OnOk result (run.old.global.num_operations ≤ run.new.global.num_operations) }
+        ensures names { OnOk result (names run.new ≡ names run.old) }
+        ensures runs { Runs (under H.name_of self.now T.natives) (OpenExpr (layer.Expr::FnCall call.now pos))
+            (state_in (T.state table.old) run.old) result (state_in (T.state table.new) run.new) }
     {
         let Some(token) = call.op_token else {
             unreachable!()
         };
         let (left, right) = operands_of(call);
         match right {
-            None => self.run_unary(
-                alloc, global, caches, table, scope, this, call, token, left, pos,
-            ),
-            Some(right) => self.run_binary(
-                alloc, global, caches, table, scope, this, call, token, left, right, pos,
-            ),
+            None => self.run_unary(alloc, run, table, call, token, left, pos),
+            Some(right) => self.run_binary(alloc, run, table, call, token, left, right, pos),
         }
     }
 
@@ -79,11 +67,8 @@ impl<H: Host> Engine<H> {
     fn run_unary<T: NativeTable<H>>(
         &self,
         alloc: Global,
-        global: &mut GlobalRuntimeState<H>,
-        caches: &mut Caches<H>,
+        run: &mut Context<H>,
         table: &mut T,
-        scope: &mut Scope<H>,
-        this: &mut Option<Dynamic<H>>,
         call: &FnCallExpr,
         token: Token,
         operand: &Expr,
@@ -91,19 +76,25 @@ impl<H: Host> Engine<H> {
     ) -> Result<Dynamic<H>, EvalAltResult<H>>
         requires token { call.now.op_token ≡ Some token }
         requires args { call.now.args ≡ operand.now ∷ [] }
-        requires resolves { IsTrue (resolves_expr operand.now (names_in scope.old)) }
+        requires resolves { IsTrue (resolves_expr operand.now (names run.old)) }
         requires fast { self.now.fast_operators ≡ true }
-        ensures counts { global.old.num_operations ≤ global.new.num_operations }
-        ensures within { global.old.num_operations ≤ limit_of self.now.max_operations → global.new.num_operations ≤ limit_of self.now.max_operations }
-        ensures around { around_of global.new ≡ around_of global.old }
-        ensures scope_level { global.new.scope_level ≡ global.old.scope_level }
-        ensures bound { is_some this.new ≡ is_some this.old }
-        ensures names { names_in scope.new ≡ names_in scope.old }
-        ensures runs { Runs (setting_of H.name_of self.now) T.gives T.pure (OpenExpr (layer.Expr::FnCall call.now pos)) (state_of (T.state table.old) global.old scope.old this.old) result (state_of (T.state table.new) global.new scope.new this.new) }
+        ensures counts { OnOk result (run.old.global.num_operations ≤ run.new.global.num_operations) }
+        ensures names { OnOk result (names run.new ≡ names run.old) }
+        ensures runs { Runs (under H.name_of self.now T.natives) (OpenExpr (layer.Expr::FnCall call.now pos))
+            (state_in (T.state table.old) run.old) result (state_in (T.state table.new) run.new) }
     {
-        let value = self.run_arg(alloc, global, caches, table, scope, this, operand)?;
-        let value = flatten(alloc, &global.cells, value, operand.position())?;
-        self.operate_one(alloc, global, table, &call.name, token, value, pos)
+        let value = self.run_arg(alloc, run, table, operand)?;
+        let value = flatten(alloc, &run.global.cells, value, operand.position())?;
+        operate_one(
+            &self.limits,
+            alloc,
+            &mut run.global,
+            table,
+            &call.name,
+            token,
+            value,
+            pos,
+        )
     }
 
     /// A binary operator: the left operand, then the right.
@@ -111,11 +102,8 @@ impl<H: Host> Engine<H> {
     fn run_binary<T: NativeTable<H>>(
         &self,
         alloc: Global,
-        global: &mut GlobalRuntimeState<H>,
-        caches: &mut Caches<H>,
+        run: &mut Context<H>,
         table: &mut T,
-        scope: &mut Scope<H>,
-        this: &mut Option<Dynamic<H>>,
         call: &FnCallExpr,
         token: Token,
         left: &Expr,
@@ -124,33 +112,60 @@ impl<H: Host> Engine<H> {
     ) -> Result<Dynamic<H>, EvalAltResult<H>>
         requires token { call.now.op_token ≡ Some token }
         requires args { call.now.args ≡ left.now ∷ right.now ∷ [] }
-        requires resolves_left { IsTrue (resolves_expr left.now (names_in scope.old)) }
-        requires resolves_right { IsTrue (resolves_expr right.now (names_in scope.old)) }
+        requires resolves_left { IsTrue (resolves_expr left.now (names run.old)) }
+        requires resolves_right { IsTrue (resolves_expr right.now (names run.old)) }
         requires fast { self.now.fast_operators ≡ true }
-        ensures counts { global.old.num_operations ≤ global.new.num_operations }
-        ensures within { global.old.num_operations ≤ limit_of self.now.max_operations → global.new.num_operations ≤ limit_of self.now.max_operations }
-        ensures around { around_of global.new ≡ around_of global.old }
-        ensures scope_level { global.new.scope_level ≡ global.old.scope_level }
-        ensures bound { is_some this.new ≡ is_some this.old }
-        ensures names { names_in scope.new ≡ names_in scope.old }
-        ensures runs { Runs (setting_of H.name_of self.now) T.gives T.pure (OpenExpr (layer.Expr::FnCall call.now pos)) (state_of (T.state table.old) global.old scope.old this.old) result (state_of (T.state table.new) global.new scope.new this.new) }
+        ensures counts { OnOk result (run.old.global.num_operations ≤ run.new.global.num_operations) }
+        ensures names { OnOk result (names run.new ≡ names run.old) }
+        ensures runs { Runs (under H.name_of self.now T.natives) (OpenExpr (layer.Expr::FnCall call.now pos))
+            (state_in (T.state table.old) run.old) result (state_in (T.state table.new) run.new) }
     {
-        let first = self.run_arg(alloc, global, caches, table, scope, this, left)?;
-        let first = flatten(alloc, &global.cells, first, left.position())?;
-        match self.run_arg(alloc, global, caches, table, scope, this, right) {
+        let first = self.run_arg(alloc, run, table, left)?;
+        let first = flatten(alloc, &run.global.cells, first, left.position())?;
+        match self.run_arg(alloc, run, table, right) {
             Err(error) => {
                 let_go(first);
                 Err(error)
             }
-            Ok(second) => match flatten(alloc, &global.cells, second, right.position()) {
+            Ok(second) => match flatten(alloc, &run.global.cells, second, right.position()) {
                 Err(error) => {
                     let_go(first);
                     Err(error)
                 }
-                Ok(second) => {
-                    self.operate_two(alloc, global, table, &call.name, token, first, second, pos)
-                }
+                Ok(second) => operate_two(
+                    &self.limits,
+                    alloc,
+                    &mut run.global,
+                    table,
+                    &call.name,
+                    token,
+                    first,
+                    second,
+                    pos,
+                ),
             },
+        }
+    }
+
+    /// The value of an argument. A literal is charged here, anything else as an expression.
+    #[cycle(eval)]
+    fn run_arg<T: NativeTable<H>>(
+        &self,
+        alloc: Global,
+        run: &mut Context<H>,
+        table: &mut T,
+        arg: &Expr,
+    ) -> Result<Dynamic<H>, EvalAltResult<H>>
+        requires resolves { IsTrue (resolves_expr arg.now (names run.old)) }
+        requires fast { self.now.fast_operators ≡ true }
+        ensures charges { OnOk result (run.old.global.num_operations < run.new.global.num_operations) }
+        ensures names { OnOk result (names run.new ≡ names run.old) }
+        ensures runs { Runs (under H.name_of self.now T.natives) (Argument arg.now)
+            (state_in (T.state table.old) run.old) result (state_in (T.state table.new) run.new) }
+    {
+        match literal_value(arg) {
+            Some(value) => literal_arg(&self.limits, &mut run.global, value, arg.start_position()),
+            None => self.run_expr(alloc, run, table, arg),
         }
     }
 }

@@ -75,14 +75,14 @@ module _ {H : Type 0} where
   module _ (s : Setting H) where
     -- a built-in's answer is measured at the operator and written; where there is none the native is asked
     abbrev pub update_core : Answer H → Update H → List (Frame H) → Local H → Core H
-    update_core (Some r) u k l = written_core (applied s r u.at) u.place k l
+    update_core (Some r) u k l = written_core (applied s.limits r u.at) u.place k l
     update_core None u k l = core (AskUpdate u) k l
 
     -- without an operator the value is written, and may be changed from then on
     abbrev pub assign_core : Option Token → Assignment → Target H → Dynamic H → List (Frame H) → Local H → Core H
     assign_core None assignment target v k l = core (Back unit_value) k (put target.place (with_mode ReadWrite v) l)
     assign_core (Some token) assignment target v k l =
-        update_core (if_fast s.fast_operators (op_assign_of token target.value v))
+        update_core (if_fast s.offer.fast_operators (op_assign_of token target.value v))
         (record { attempt = InPlace; operator = token; at = assignment.op.position; place = target.place; target = target.value; operand = v; target_at = assignment.at })
         k l
 
@@ -98,7 +98,7 @@ module _ {H : Type 0} where
 
     -- the native `op=` changed the target, and its value is only measured
     abbrev pub changed_core : Result (Dynamic H) (EvalAltResult H) → Update H → List (Frame H) → Local H → Core H
-    changed_core (Ok v) u k l = core (done (sized s u.target u.target_at)) k l
+    changed_core (Ok v) u k l = core (done (sized s.limits u.target u.target_at)) k l
     changed_core (Err e) u k l = core (Fail e) k l
 
     -- where no function is named `op=` the one named `op` is asked
@@ -108,15 +108,15 @@ module _ {H : Type 0} where
 
     -- the native `op` gave the target's new value
     abbrev pub value_core : Result (Dynamic H) (EvalAltResult H) → Update H → List (Frame H) → Local H → Core H
-    value_core (Ok v) u k l = core (done (sized s v u.target_at)) k (put u.place v l)
+    value_core (Ok v) u k l = core (done (sized s.limits v u.target_at)) k (put u.place v l)
     value_core (Err e) u k l = core (Fail e) k l
 
     -- what the native answered, the target as it left it
     abbrev pub answered_core : Attempt → Reply H → Update H → List (Frame H) → Local H → Core H
     answered_core InPlace Missing u k l = update_core (op_assign_of u.operator u.target u.operand) (record u { attempt = AsValue }) k l
-    answered_core InPlace (Gives v) u k l = changed_core (sized s v u.at) u k l
+    answered_core InPlace (Gives v) u k l = changed_core (sized s.limits v u.at) u k l
     answered_core InPlace (Faults e) u k l = fault_core (says_missing (native_of InPlace u.operator) e) (placed_if_none u.at e) u k l
-    answered_core AsValue reply u k l = value_core (replied s reply (Some u.target) (u.operand ∷ []) (operation_of u) l.around.cells) u k l
+    answered_core AsValue reply u k l = value_core (replied s.limits s.host_type reply (Some u.target) (u.operand ∷ []) (operation_of u) l.around.cells) u k l
 
     -- the target is lent to the native, which may change it, and is written back whatever the answer
     abbrev pub lent_core : Reply H → Dynamic H → Update H → List (Frame H) → Local H → Core H

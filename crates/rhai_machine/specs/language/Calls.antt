@@ -6,6 +6,7 @@ use Rattle.rhai_values.specs.declared.base.value.Dynamic.{Dynamic}
 use Rattle.rhai_values.specs.declared.base.value.Union.{Union}
 use Rattle.rhai_values.specs.declared.base.value.Union.TheVariants as value
 use Rattle.rhai_values.specs.declared.base.error.EvalAltResult.{EvalAltResult}
+use Rattle.rhai_values.specs.declared.limits.Limits.{Limits}
 use Rattle.rhai_values.specs.declared.base.error.EvalAltResult.TheVariants as error
 use Rattle.rhai_values.specs.Native.{Reply, Missing, Gives, Faults, Named, OfName, request}
 use Rattle.rhai_values.specs.Errors.{position_of, at_position}
@@ -64,40 +65,42 @@ module _ {H : Type 0} where
   abbrev pub call_at : List ℕ → Token → Position → List (Dynamic H) → Call H
   call_at name token at args = record { operation = operation_at name token at; args = args }
 
-  module _ (s : Setting H) where
+  module _ (limits : Limits) where
     abbrev pub sized_by : Option (List ℕ) → Dynamic H → Position → Result (Dynamic H) (EvalAltResult H)
     sized_by None v at = Ok v
     sized_by (Some text) v at = Err (error.ErrorDataTooLarge text at)
 
     -- a value whose data is too large is refused
     abbrev pub sized : Dynamic H → Position → Result (Dynamic H) (EvalAltResult H)
-    sized v at = sized_by (too_large s.max_string_size s.max_array_size s.max_map_size v) v at
+    sized v at = sized_by (too_large limits.max_string_size limits.max_array_size limits.max_map_size v) v at
 
     -- what a built-in operator gave, at the operator
     abbrev pub applied : Result (Dynamic H) (EvalAltResult H) → Position → Result (Dynamic H) (EvalAltResult H)
     applied (Ok v) at = sized v at
     applied (Err e) at = Err (at_position at e)
 
+    module _ (host : H → List ℕ) where
+      -- where no native has the name: the built-in, or there is no such function
+      abbrev pub missing : Option (Result (Dynamic H) (EvalAltResult H)) → Operation → List (Dynamic H) → Cells H → Result (Dynamic H) (EvalAltResult H)
+      missing (Some r) operation args cells = applied r operation.at
+      missing None operation args cells = Err (not_found host cells operation.name args operation.at)
+
+      -- the arguments as the native left the first
+      abbrev pub args_left : Option (Dynamic H) → List (Dynamic H) → List (Dynamic H)
+      args_left (Some x) rest = x ∷ rest
+      args_left None rest = rest
+
+      -- what a native answered, at the call
+      abbrev pub replied : Reply H → Option (Dynamic H) → List (Dynamic H) → Operation → Cells H → Result (Dynamic H) (EvalAltResult H)
+      replied Missing first rest operation cells = missing (builtin_of operation.token (args_left first rest)) operation (args_left first rest) cells
+      replied (Gives v) first rest operation cells = sized v operation.at
+      replied (Faults e) first rest operation cells = Err (placed_if_none operation.at e)
+
+  module _ (s : Setting H) where
     -- a built-in operator, or else the native of its name
     abbrev pub operator_core : Option (Result (Dynamic H) (EvalAltResult H)) → Call H → List (Frame H) → Local H → Core H
-    operator_core (Some r) call k l = core (ended (applied r call.operation.at)) k l
+    operator_core (Some r) call k l = core (ended (applied s.limits r call.operation.at)) k l
     operator_core None call k l = core (Ask call) k l
-
-    -- where no native has the name: the built-in, or there is no such function
-    abbrev pub missing : Option (Result (Dynamic H) (EvalAltResult H)) → Operation → List (Dynamic H) → Cells H → Result (Dynamic H) (EvalAltResult H)
-    missing (Some r) operation args cells = applied r operation.at
-    missing None operation args cells = Err (not_found s.host_type cells operation.name args operation.at)
-
-    -- the arguments as the native left the first
-    abbrev pub args_left : Option (Dynamic H) → List (Dynamic H) → List (Dynamic H)
-    args_left (Some x) rest = x ∷ rest
-    args_left None rest = rest
-
-    -- what a native answered, at the call
-    abbrev pub replied : Reply H → Option (Dynamic H) → List (Dynamic H) → Operation → Cells H → Result (Dynamic H) (EvalAltResult H)
-    replied Missing first rest operation cells = missing (builtin_of operation.token (args_left first rest)) operation (args_left first rest) cells
-    replied (Gives v) first rest operation cells = sized v operation.at
-    replied (Faults e) first rest operation cells = Err (placed_if_none operation.at e)
 
     -- the native of a call is asked whether it is pure, which an operator has no use for, and then called
     abbrev pub question_move : Call H → List (Frame H) → Local H → Move H (Core H)
@@ -107,7 +110,7 @@ module _ {H : Type 0} where
     abbrev pub call_native : Call H → Option (Dynamic H) → List (Dynamic H) → List (Frame H) → Local H → Move H (Core H)
     call_native call first rest k l =
         Native (request l.around.cells (Named call.operation.name) first rest call.operation.at)
-        (λ reply left. core (ended (replied reply left rest call.operation l.around.cells)) k l)
+        (λ reply left. core (ended (replied s.limits s.host_type reply left rest call.operation l.around.cells)) k l)
 
     -- an operand that is still a bare handle is nobody's to hand in
     abbrev pub fire_first : Union H → Dynamic H → Call H → List (Dynamic H) → List (Frame H) → Local H → Move H (Core H)

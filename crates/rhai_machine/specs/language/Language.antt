@@ -1,13 +1,12 @@
 -- The machine of the language.
-use Rattle.std.specs.Prelude.{Bool, true, List, [], ◌∷◌}
+use Rattle.std.specs.Prelude.{true, List, [], ◌∷◌}
 use Rattle.rhai_tree.specs.declared.position.Position.{Position}
 use Rattle.rhai_tree.specs.declared.expr.Expr.{out-Expr}
 use Rattle.rhai_tree.specs.declared.expr.Stmt.{out-Stmt}
 use Rattle.rhai_tree.specs.Positions.{position_of, stmt_position_of}
 use Rattle.rhai_values.specs.declared.base.error.EvalAltResult.TheVariants as error
-use Rattle.rhai_values.specs.Native.{Request, Effect, Purity}
 use Rattle.rhai_machine.specs.machine.Machine.{Move, Halt, Go, Charge, Machine}
-use Rattle.rhai_machine.specs.language.Setting.{Setting}
+use Rattle.rhai_machine.specs.language.Setting.{Setting, Rules}
 use Rattle.rhai_machine.specs.language.State.{Local}
 use Rattle.rhai_machine.specs.language.Frames.{Control, Frame, Core, core, Eval, Exec, Ask, Assign, AskUpdate, Argument, Question, Fire, QuestionUpdate, FireUpdate, OpenExpr, OpenStmt, Enter, Run, Store, WhileTurn, DoTurn, Back, Fail, DoBody}
 use Rattle.rhai_machine.specs.language.Expressions.{literal_of, argument_move, expr_move}
@@ -31,7 +30,7 @@ module _ {H : Type 0} (s : Setting H) where
   move_at (Fire call) k l = fire_move s call call.args k l
   move_at (QuestionUpdate u) k l = question_update s u k l
   move_at (FireUpdate u) k l = fire_update s u.target.value u k l
-  move_at (OpenExpr form) k l = expr_move s.fast_operators form k l
+  move_at (OpenExpr form) k l = expr_move s.offer.fast_operators form k l
   move_at (OpenStmt form restoring) k l = stmt_move s form restoring k l
   move_at (Enter stmts restoring) k l = Go (enter_core stmts restoring k l)
   move_at (Run stmts restoring last) k l = Go (run_core stmts restoring last k l)
@@ -50,6 +49,10 @@ module _ {H : Type 0} (s : Setting H) where
 abbrev pub refuse : {H : Type 0} → Position → Core H → Core H
 refuse pos c = core (Fail (error.ErrorTooManyOperations pos)) c.stack c.local
 
--- the machine of a setting and a table
-abbrev pub machine : {S H : Type 0} → Setting H → (S → Request H → Effect S H) → (S → Purity → Bool) → Machine S H (Core H)
-machine s gives pure = record { move = move s; refuse = refuse; gives = gives; pure = pure }
+-- where memory runs out an error comes down too
+abbrev pub want : {H : Type 0} → Position → Core H → Core H
+want pos c = core (Fail (error.ErrorOutOfMemory pos)) c.stack c.local
+
+-- the machine of the language, under its rules
+abbrev pub machine : {S H : Type 0} → Rules S H → Machine S H (Core H)
+machine rules = record { move = move rules.setting; refuse = refuse; want = want; natives = rules.natives }

@@ -2,41 +2,41 @@
 use Rattle.std.specs.Prelude.{◌⊎◌, ◌<◌, ℕ, Bool, [], Result}
 use Rattle.rhai_values.specs.declared.base.value.Dynamic.{Dynamic}
 use Rattle.rhai_values.specs.declared.base.error.EvalAltResult.{EvalAltResult}
-use Rattle.rhai_values.specs.Native.{Request, Effect, Purity}
 use Rattle.rhai_machine.specs.machine.Machine.{Config, Run, below, always}
+use Rattle.rhai_machine.specs.machine.Point.{Reaches}
 use Rattle.rhai_machine.specs.machine.Unwinding.{Unwound}
 use Rattle.rhai_machine.specs.machine.Laws.{SameOrRefused, PartsAt, LimitsAgree}
-use Rattle.rhai_machine.specs.language.Setting.{Setting, limit_of}
+use Rattle.rhai_machine.specs.language.Setting.{Rules, cut, limit_under}
 use Rattle.rhai_machine.specs.language.State.{State}
 use Rattle.rhai_machine.specs.language.Frames.{Control, Core, ended}
 use Rattle.rhai_machine.specs.language.Language.{machine}
 use Rattle.rhai_machine.specs.language.Limits.{IsRefused}
-use Rattle.rhai_machine.specs.language.Runs.{at, Goes}
+use Rattle.rhai_machine.specs.language.Runs.{at}
 
-module _ {S H : Type 0} (s : Setting H) (gives : S → Request H → Effect S H) (pure : S → Purity → Bool) where
+module _ {S H : Type 0} (rules : Rules S H) where
   -- an error of a refused charge is caught by nothing: the run ends with it, and with table, count and calls as they were
   abbrev pub IsNeverCaught : Type 0
-  IsNeverCaught = (allows : ℕ → Bool) (c a : Config S H (Core H)) → IsRefused c.core → Run (machine s gives pure) allows c a → Unwound IsRefused c a
+  IsNeverCaught = (allows : ℕ → Bool) (c a : Config S H (Core H)) → IsRefused c.core → Run (machine rules) allows c a → Unwound IsRefused c a
 
   -- the cut run is the run without a limit, or follows it up to the first charge that is refused
   abbrev pub CutFollows : Type 0
-  CutFollows = (limit : ℕ) (c a : Config S H (Core H)) → Run (machine s gives pure) (below limit) c a
-      → Run (machine s gives pure) always c a ⊎ PartsAt (machine s gives pure) IsRefused (below limit) always c a
+  CutFollows = (limit : ℕ) (c a : Config S H (Core H)) → Run (machine rules) (below limit) c a
+      → Run (machine rules) always c a ⊎ PartsAt (machine rules) IsRefused (below limit) always c a
 
   -- where the run without a limit ends too, the cut run has the same end, or it refused a charge
   abbrev pub CutOrSame : Type 0
-  CutOrSame = (limit : ℕ) (c a b : Config S H (Core H)) → Run (machine s gives pure) (below limit) c a → Run (machine s gives pure) always c b → SameOrRefused IsRefused a b
+  CutOrSame = (limit : ℕ) (c a b : Config S H (Core H)) → Run (machine rules) (below limit) c a → Run (machine rules) always c b → SameOrRefused IsRefused a b
 
   -- the cut run always ends
   abbrev pub CutEnds : Type 0
-  CutEnds = (limit : ℕ) (c : Config S H (Core H)) → (a : Config S H (Core H)) × Run (machine s gives pure) (below limit) c a
+  CutEnds = (limit : ℕ) (c : Config S H (Core H)) → (a : Config S H (Core H)) × Run (machine rules) (below limit) c a
 
   -- under a higher limit the run ends too, and at the same end, or the lower limit refused a charge
   abbrev pub HigherLimit : Type 0
-  HigherLimit = (m n : ℕ) → m < n → (c a : Config S H (Core H)) → Run (machine s gives pure) (below m) c a
-      → (b : Config S H (Core H)) × Run (machine s gives pure) (below n) c b × SameOrRefused IsRefused a b
+  HigherLimit = (m n : ℕ) → m < n → (c a : Config S H (Core H)) → Run (machine rules) (below m) c a
+      → (b : Config S H (Core H)) × Run (machine rules) (below n) c b × SameOrRefused IsRefused a b
 
   -- the same, of what an evaluator tells of a run from a control with nothing below it to how it ended
   abbrev pub HigherLimitOfSteps : Type 0
-  HigherLimitOfSteps = (c : Control H) (old new : State S H) (r : Result (Dynamic H) (EvalAltResult H)) → Goes s gives pure (at c [] old) (at (ended r) [] new)
-      → LimitsAgree (machine s gives pure) IsRefused (limit_of s.max_operations) (at c [] old) (at (ended r) [] new)
+  HigherLimitOfSteps = (c : Control H) (old new : State S H) (r : Result (Dynamic H) (EvalAltResult H)) → Reaches (machine rules) (cut rules) (at c [] old) (at (ended r) [] new)
+      → LimitsAgree (machine rules) IsRefused (limit_under rules) (at c [] old) (at (ended r) [] new)

@@ -1,14 +1,12 @@
 -- What each part of an evaluator promises: over any stack, the cut machine runs from a control to how the part ended.
-use Rattle.std.specs.Prelude.{Bool, List, Result}
+use Rattle.std.specs.Prelude.{List, Result}
 use Rattle.rhai_values.specs.declared.base.value.Dynamic.{Dynamic}
 use Rattle.rhai_values.specs.declared.base.error.EvalAltResult.{EvalAltResult}
-use Rattle.rhai_values.specs.Native.{Request, Effect, Purity}
-use Rattle.rhai_machine.specs.machine.Machine.{below}
-use Rattle.rhai_machine.specs.machine.Point.{Point, Reaches}
-use Rattle.rhai_machine.specs.language.Setting.{Setting, limit_of}
-use Rattle.rhai_machine.specs.language.State.{State, HasMemory}
-use Rattle.rhai_machine.specs.language.Frames.{Call, Control, Frame, Core, core, ended}
-use Rattle.rhai_machine.specs.language.Calls.{builtin_of, operator_core}
+use Rattle.rhai_machine.specs.machine.Point.{Point}
+use Rattle.rhai_machine.specs.machine.Memory.{Leads}
+use Rattle.rhai_machine.specs.language.Setting.{Rules, cut}
+use Rattle.rhai_machine.specs.language.State.{State}
+use Rattle.rhai_machine.specs.language.Frames.{Control, Frame, Core, core, ended}
 use Rattle.rhai_machine.specs.language.Language.{machine}
 
 module _ {S H : Type 0} where
@@ -20,20 +18,15 @@ module _ {S H : Type 0} where
   abbrev pub with_core : Core H → State S H → Point S (Core H)
   with_core c s = record { core = c; table = s.table; count = s.count }
 
-  module _ (s : Setting H) (gives : S → Request H → Effect S H) (pure : S → Purity → Bool) where
-    -- some steps of the machine, cut at the limit of operations
+  module _ (rules : Rules S H) where
+    -- some steps of the machine, cut at the limit of operations; memory may run out on the way
     abbrev pub Goes : Point S (Core H) → Point S (Core H) → Type 0
-    Goes p q = Reaches (machine s gives pure) (below (limit_of s.max_operations)) p q
+    Goes p q = Leads (machine rules) (cut rules) p q
 
     -- from one control to another, over any stack
     unfoldable pub Steps : Control H → State S H → Control H → State S H → Type 0
     Steps c old d new = (k : List (Frame H)) → Goes (at c k old) (at d k new)
 
-    -- from a control to the value or error that came of it, want of memory aside
+    -- from a control to the value or error that came of it
     abbrev pub Runs : Control H → State S H → Result (Dynamic H) (EvalAltResult H) → State S H → Type 0
-    Runs c old result new = HasMemory result → Steps c old (ended result) new
-
-    -- from an operator whose operands are there to what it gave, want of memory aside
-    abbrev pub Operates : Call H → State S H → Result (Dynamic H) (EvalAltResult H) → State S H → Type 0
-    Operates call old result new =
-        HasMemory result → (k : List (Frame H)) → Goes (with_core (operator_core s (builtin_of call.operation.token call.args) call k old.local) old) (at (ended result) k new)
+    Runs c old result new = Steps c old (ended result) new

@@ -3,15 +3,14 @@ use Rattle.std.specs.Prelude.{Bool, false, List, [], ◌∷◌, Result}
 use Rattle.rhai_tree.specs.declared.expr.Stmt.{Stmt}
 use Rattle.rhai_values.specs.declared.base.value.Dynamic.{Dynamic}
 use Rattle.rhai_values.specs.declared.base.error.EvalAltResult.{EvalAltResult}
-use Rattle.rhai_values.specs.Native.{Request, Effect, Purity}
-use Rattle.rhai_machine.specs.machine.Point.{Point}
+use Rattle.rhai_machine.specs.machine.Point.{Point, Reaches}
 use Rattle.rhai_machine.specs.machine.Laws.{LimitsAgree}
-use Rattle.rhai_machine.specs.language.Setting.{Setting, limit_of}
+use Rattle.rhai_machine.specs.language.Setting.{Rules, cut, limit_under}
 use Rattle.rhai_machine.specs.language.State.{State, HasMemory}
 use Rattle.rhai_machine.specs.language.Frames.{Core, ended, Enter, Top}
 use Rattle.rhai_machine.specs.language.Language.{machine}
 use Rattle.rhai_machine.specs.language.Limits.{IsRefused}
-use Rattle.rhai_machine.specs.language.Runs.{at, Goes}
+use Rattle.rhai_machine.specs.language.Runs.{at}
 
 module _ {S H : Type 0} where
   -- a script starts with its statements, in a list that does not restore, over the frame of its end
@@ -23,14 +22,12 @@ module _ {S H : Type 0} where
   end_of_script result new = at (ended result) [] new
 
   -- the script ends as the cut machine does, want of memory aside
-  abbrev pub EndsAsMachine : Setting H → (S → Request H → Effect S H) → (S → Purity → Bool) →
-      List Stmt → (map_exit : Bool) → State S H → Result (Dynamic H) (EvalAltResult H) → State S H → Type 0
-  EndsAsMachine s gives pure statements map_exit old result new =
-      HasMemory result → Goes s gives pure (start_of_script statements map_exit old) (end_of_script result new)
+  abbrev pub EndsAsMachine : Rules S H → List Stmt → (map_exit : Bool) → State S H → Result (Dynamic H) (EvalAltResult H) → State S H → Type 0
+  EndsAsMachine rules statements map_exit old result new =
+      HasMemory result → Reaches (machine rules) (cut rules) (start_of_script statements map_exit old) (end_of_script result new)
 
   -- Two limits, want of memory aside: under each higher limit, any whole number, the script ends too, and at the same end, or
   -- here a charge was refused, and the calls of natives so far begin those under the higher limit.
-  abbrev pub AgreesWithHigherLimits : Setting H → (S → Request H → Effect S H) → (S → Purity → Bool) →
-      List Stmt → (map_exit : Bool) → State S H → Result (Dynamic H) (EvalAltResult H) → State S H → Type 0
-  AgreesWithHigherLimits s gives pure statements map_exit old result new =
-      HasMemory result → LimitsAgree (machine s gives pure) IsRefused (limit_of s.max_operations) (start_of_script statements map_exit old) (end_of_script result new)
+  abbrev pub AgreesWithHigherLimits : Rules S H → List Stmt → (map_exit : Bool) → State S H → Result (Dynamic H) (EvalAltResult H) → State S H → Type 0
+  AgreesWithHigherLimits rules statements map_exit old result new =
+      HasMemory result → LimitsAgree (machine rules) IsRefused (limit_under rules) (start_of_script statements map_exit old) (end_of_script result new)

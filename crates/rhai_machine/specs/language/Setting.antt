@@ -1,24 +1,43 @@
--- What is fixed while a script runs: the limits, the switches, and the modules that the engine offers.
-use Rattle.std.specs.Prelude.{ℕ, ◌-◌, ◌^◌, Bool, List, nat_eq, if◌then◌else◌}
+-- What is fixed while a script runs: the limits, what the engine offers, and the table of natives.
+use Rattle.std.specs.Prelude.{ℕ, Bool, List}
 use Rattle.rhai_values.specs.declared.base.value.Module.{Module}
+use Rattle.rhai_values.specs.declared.limits.Limits.{Limits}
+use Rattle.rhai_values.specs.Limits.{limit_of}
+use Rattle.rhai_values.specs.Native.{Natives}
+use Rattle.rhai_machine.specs.machine.Machine.{below}
 
-pub record Setting (H : Type 0) : Type 0 where
-  pub max_operations : ℕ
-  pub max_variables : ℕ
-  pub max_modules : ℕ
-  pub max_call_levels : ℕ
-  pub max_array_size : ℕ
-  pub max_map_size : ℕ
-  pub max_string_size : ℕ
+-- the switches and the modules of an engine
+pub record Offer (H : Type 0) : Type 0 where
   pub fast_operators : Bool
   pub allow_shadowing : Bool
   pub fail_on_invalid_map_property : Bool
   pub global_modules : List (Module H)
   pub global_sub_modules : List (List ℕ) × List (Module H)
   pub modules : List (List ℕ) × List (Module H)
+
+-- what the rules of the language read
+pub record Setting (H : Type 0) : Type 0 where
+  pub limits : Limits
+  pub offer : Offer H
   -- the type name of a host value
   pub host_type : H → List ℕ
 
--- the limit of operations, a plain number: zero means the greatest count
-abbrev pub limit_of : ℕ → ℕ
-limit_of max_operations = if nat_eq max_operations 0 then 2 ^ 64 - 1 else max_operations
+-- what a run is under: a setting, and a table of natives
+pub record Rules (S H : Type 0) : Type 0 where
+  pub setting : Setting H
+  pub natives : Natives S H
+
+module _ {S H : Type 0} where
+  abbrev pub over : Setting H → Natives S H → Rules S H
+  over setting natives = record { setting = setting; natives = natives }
+
+  abbrev pub rules_of : Limits → (H → List ℕ) → Offer H → Natives S H → Rules S H
+  rules_of limits host offer natives = over (record { limits = limits; offer = offer; host_type = host }) natives
+
+  -- the limit of operations
+  abbrev pub limit_under : Rules S H → ℕ
+  limit_under rules = limit_of rules.setting.limits.max_operations
+
+  -- at which counts a charge is let through
+  abbrev pub cut : Rules S H → ℕ → Bool
+  cut rules = below (limit_under rules)

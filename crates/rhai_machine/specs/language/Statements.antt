@@ -97,7 +97,7 @@ module _ {H : Type 0} where
     stmt_move (layer.Block block) restoring k l = Go (core (Enter block.statements true) k l)
     stmt_move (layer.Assignment op lhs rhs) restoring k l = assignment_move (out-Expr lhs) op rhs k l
     stmt_move (layer.Var ident value None options pos) restoring k l =
-        Go (define_core (not s.allow_shadowing && is_some (index_of ident.name l.scope)) (nat_le s.max_variables (length l.scope)) ident value options pos k l)
+        Go (define_core (not s.offer.allow_shadowing && is_some (index_of ident.name l.scope)) (nat_le s.limits.max_variables (length l.scope)) ident value options pos k l)
     stmt_move (layer.If test body branch pos) restoring k l = Go (core (Eval test) (IfCondition (position_of test) body branch ∷ k) l)
     stmt_move (layer.While test body pos) restoring k l = Go (core (WhileTurn test body) k l)
     stmt_move (layer.Do test body options pos) restoring k l = Go (core (DoTurn test body options) k l)

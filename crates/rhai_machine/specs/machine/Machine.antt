@@ -2,7 +2,7 @@
 use Rattle.std.specs.Prelude.{◌≡◌, ℕ, ◌+◌, nat_lt, Bool, true, false, List, ◌∷◌, Option, Some, None}
 use Rattle.rhai_tree.specs.declared.position.Position.{Position}
 use Rattle.rhai_values.specs.declared.base.value.Dynamic.{Dynamic}
-use Rattle.rhai_values.specs.Native.{Request, Reply, Effect, Purity}
+use Rattle.rhai_values.specs.Native.{Request, Reply, Effect, Natives, Purity}
 
 -- What a core does next. A core is all that a language works on: control, stack, scope and the rest of its state.
 pub data Move (H Core : Type 0) : Type 0 where
@@ -17,13 +17,13 @@ pub data Move (H Core : Type 0) : Type 0 where
   -- a question whether a native is pure, and the core that goes on from the answer
   AskPure : Purity → (Bool → Core) → Move H Core
 
--- A language over a table of natives. The language: its moves, and the core in which a refused charge leaves one.
--- The table: what a call gives in a state, and which natives are pure.
+-- A language over a table of natives: its moves, the core in which a refused charge leaves one, and that in which want of
+-- memory does.
 pub record Machine (S H Core : Type 0) : Type 0 where
   pub move : Core → Move H Core
   pub refuse : Position → Core → Core
-  pub gives : S → Request H → Effect S H
-  pub pure : S → Purity → Bool
+  pub want : Position → Core → Core
+  pub natives : Natives S H
 
 -- Where a run stands: the core, the state of the table, the count of charges, and the calls of natives, newest first.
 pub record Config (S H Core : Type 0) : Type 0 where
@@ -49,8 +49,8 @@ module _ {S H Core : Type 0} (M : Machine S H Core) (allows : ℕ → Bool) wher
   act Halt c = None
   act (Go d) c = Some (record c { core = d })
   act (Charge at d) c = Some (charged M (allows c.count) at d c)
-  act (Native q f) c = Some (called q f (M.gives c.table q) c)
-  act (AskPure p f) c = Some (record c { core = f (M.pure c.table p) })
+  act (Native q f) c = Some (called q f (M.natives.gives c.table q) c)
+  act (AskPure p f) c = Some (record c { core = f (M.natives.pure c.table p) })
 
   -- one step
   abbrev pub step : Config S H Core → Option (Config S H Core)

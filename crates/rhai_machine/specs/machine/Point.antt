@@ -31,8 +31,8 @@ module _ {S H Core : Type 0} (M : Machine S H Core) (allows : ℕ → Bool) wher
   moved Halt p = p
   moved (Go d) p = record p { core = d }
   moved (Charge at d) p = paid M (allows p.count) at d p
-  moved (Native q f) p = answered f (M.gives p.table q) p
-  moved (AskPure q f) p = record p { core = f (M.pure p.table q) }
+  moved (Native q f) p = answered f (M.natives.gives p.table q) p
+  moved (AskPure q f) p = record p { core = f (M.natives.pure p.table q) }
 
   -- one step
   unfoldable pub after : Point S Core → Point S Core

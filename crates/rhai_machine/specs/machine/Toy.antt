@@ -38,9 +38,14 @@ module _ {H : Type 0} where
   abbrev pub stands : Toy → ℕ → ℕ → List (Request H) → Config ℕ H Toy
   stands t table count calls = record { core = t; table = table; count = count; calls = calls }
 
--- a refused charge unwinds two frames; the table counts its calls, and all its natives are pure
+-- a refused charge unwinds two frames, and so does want of memory; the table counts its calls, and all its natives are pure
 abbrev pub toy : (H : Type 0) → Machine ℕ H Toy
-toy H = record { move = move; refuse = λ at t. Fail at 2; gives = λ s q. effect Missing q.first (s + 1); pure = λ s p. true }
+toy H = record {
+  move = move;
+  refuse = λ at t. Fail at 2;
+  want = λ at t. Fail at 2;
+  natives = record { gives = λ s q. effect Missing q.first (s + 1); pure = λ s p. true };
+}
 
 -- the run of a toy, cut at a limit, ends so
 abbrev pub Ends : {H : Type 0} → ℕ → Toy → Config ℕ H Toy → Type 0

@@ -1,4 +1,4 @@
--- Samples of natives: an operator that has no built-in for its operands is a call of the native of its name.
+-- Samples of table: an operator that has no built-in for its operands is a call of the native of its name.
 use Rattle.std.specs.Prelude.{ℕ, true, List, [], ◌∷◌, Some, Ok, Err, codes}
 use Rattle.rhai_tree.specs.declared.expr.Stmt.{Stmt}
 use Rattle.rhai_tree.specs.declared.token.Token.TheVariants.{Plus}
@@ -10,7 +10,7 @@ use Rattle.rhai_values.specs.declared.base.value.Union.TheVariants.{Str}
 use Rattle.rhai_machine.specs.language.Setting.{Setting}
 use Rattle.rhai_values.specs.Native.{Request, Missing, Gives, Faults, Named, request}
 use Rattle.rhai_machine.specs.samples.Trees.{column, int, bool, op, value}
-use Rattle.rhai_machine.specs.samples.Runs.{Natives, Replies, EndsFrom, Fails, usual, limited, integer, truth}
+use Rattle.rhai_machine.specs.samples.Runs.{usual_limits, Table, Replies, EndsFrom, Fails, usual, limited, integer, truth}
 
 -- `1 + true`
 abbrev pub mixed_sum : List Stmt
@@ -24,21 +24,21 @@ plus_called = request [] (Named (codes "+")) (Some (integer 1)) (truth true ∷ 
 abbrev pub abc : {H : Type 0} → Dynamic H
 abc = record { value = Str (codes "abc"); mode = ReadWrite }
 
-module _ {S H : Type 0} (natives : Natives S H) (host : H → List ℕ) where
+module _ {S H : Type 0} (table : Table S H) (host : H → List ℕ) where
   -- the usual setting under a limit on the bytes of texts
   abbrev pub short_texts : ℕ → Setting H
-  short_texts limit = record (usual host) { max_string_size = limit }
+  short_texts limit = record (usual host) { limits = record usual_limits { max_string_size = limit } }
 
   pub record Called : Type 0 where
     -- where there is no such native the error names the operator and its operands' types
-    pub missing : Replies natives Missing → EndsFrom natives 0 (usual host) mixed_sum (Err (ErrorFunctionNotFound (codes "+ (i64, bool)") (column 3))) 5 [] plus_called
+    pub missing : Replies table Missing → EndsFrom table 0 (usual host) mixed_sum (Err (ErrorFunctionNotFound (codes "+ (i64, bool)") (column 3))) 5 [] plus_called
     -- what a native gives is the value
-    pub gives : Replies natives (Gives (integer 7)) → EndsFrom natives 0 (usual host) mixed_sum (Ok (integer 7)) 5 [] plus_called
+    pub gives : Replies table (Gives (integer 7)) → EndsFrom table 0 (usual host) mixed_sum (Ok (integer 7)) 5 [] plus_called
     -- a fault without a position stands at the operator, and one with a position where it says
-    pub faults : Replies natives (Faults (ErrorArithmetic (codes "no") none)) → EndsFrom natives 0 (usual host) mixed_sum (Err (ErrorArithmetic (codes "no") (column 3))) 5 [] plus_called
-    pub placed : Replies natives (Faults (ErrorArithmetic (codes "no") (column 9))) → EndsFrom natives 0 (usual host) mixed_sum (Err (ErrorArithmetic (codes "no") (column 9))) 5 [] plus_called
+    pub faults : Replies table (Faults (ErrorArithmetic (codes "no") none)) → EndsFrom table 0 (usual host) mixed_sum (Err (ErrorArithmetic (codes "no") (column 3))) 5 [] plus_called
+    pub placed : Replies table (Faults (ErrorArithmetic (codes "no") (column 9))) → EndsFrom table 0 (usual host) mixed_sum (Err (ErrorArithmetic (codes "no") (column 9))) 5 [] plus_called
     -- a value is measured where the call stands
-    pub fits : Replies natives (Gives abc) → EndsFrom natives 0 (short_texts 3) mixed_sum (Ok abc) 5 [] plus_called
-    pub too_long : Replies natives (Gives abc) → EndsFrom natives 0 (short_texts 2) mixed_sum (Err (ErrorDataTooLarge (codes "Length of string") (column 3))) 5 [] plus_called
+    pub fits : Replies table (Gives abc) → EndsFrom table 0 (short_texts 3) mixed_sum (Ok abc) 5 [] plus_called
+    pub too_long : Replies table (Gives abc) → EndsFrom table 0 (short_texts 2) mixed_sum (Err (ErrorDataTooLarge (codes "Length of string") (column 3))) 5 [] plus_called
     -- the call is charged before the native, which is then not called
-    pub refused : Fails natives (limited host 4) mixed_sum (ErrorTooManyOperations (column 3)) 4 []
+    pub refused : Fails table (limited host 4) mixed_sum (ErrorTooManyOperations (column 3)) 4 []

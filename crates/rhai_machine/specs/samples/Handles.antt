@@ -9,12 +9,13 @@ use Rattle.rhai_values.specs.declared.base.scope.ScopeEntry.{ScopeEntry}
 use Rattle.rhai_values.specs.declared.base.error.EvalAltResult.{EvalAltResult}
 use Rattle.rhai_values.specs.declared.base.error.EvalAltResult.TheVariants.{ErrorDataRace}
 use Rattle.rhai_machine.specs.machine.Machine.{Run, below}
-use Rattle.rhai_machine.specs.language.Setting.{limit_of}
+use Rattle.rhai_values.specs.Limits.{limit_of}
+use Rattle.rhai_values.specs.Limits.{limit_of}
 use Rattle.rhai_machine.specs.language.State.{Local}
 use Rattle.rhai_machine.specs.language.Frames.{Enter, ended}
 use Rattle.rhai_machine.specs.language.Language.{machine}
 use Rattle.rhai_machine.specs.samples.Trees.{column, int, var, op, value, braces, let_, if_, no_else}
-use Rattle.rhai_machine.specs.samples.Runs.{Natives, alone_in, nothing_but, usual, integer, truth, unit, entry}
+use Rattle.rhai_machine.specs.samples.Runs.{under, Table, alone_in, nothing_but, usual, integer, truth, unit, entry}
 
 -- `h`
 abbrev pub handle_alone : List Stmt
@@ -40,7 +41,7 @@ handle_tested = if_ 1 (var 4 (codes "h")) (braces 6 10 (value (int 8 1) ∷ []))
 abbrev pub handle : {H : Type 0} → Dynamic H
 handle = record { value = Cell (record { number = 0 }); mode = ReadWrite }
 
-module _ {S H : Type 0} (natives : Natives S H) (host : H → List ℕ) where
+module _ {S H : Type 0} (table : Table S H) (host : H → List ℕ) where
   -- the variable `h` is the handle of the only cell, whose value is this, or which is held; then come other variables
   abbrev pub one_cell : Option (Dynamic H) → List (ScopeEntry H) → Local H
   one_cell cell others =
@@ -50,7 +51,7 @@ module _ {S H : Type 0} (natives : Natives S H) (host : H → List ℕ) where
   -- over the cell the script comes to this result, and leaves this count and these further variables
   abbrev pub EndsOver : Option (Dynamic H) → List Stmt → Result (Dynamic H) (EvalAltResult H) → (count : ℕ) → List (ScopeEntry H) → Type 0
   EndsOver cell script result count others =
-      Run (machine (usual host) natives.gives natives.pure) (below (limit_of 0)) (alone_in natives (one_cell cell []) (Enter script false) 0 []) (alone_in natives (one_cell cell others) (ended result) count [])
+      Run (machine (under (usual host) table)) (below (limit_of 0)) (alone_in table (one_cell cell []) (Enter script false) 0 []) (alone_in table (one_cell cell others) (ended result) count [])
 
   pub record Handles : Type 0 where
     -- the value of a statement, the operands of an operator and the value of a `let` are the cell's value

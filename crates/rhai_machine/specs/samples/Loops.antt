@@ -6,7 +6,7 @@ use Rattle.rhai_tree.specs.declared.expr.StmtBlock.{StmtBlock}
 use Rattle.rhai_tree.specs.declared.token.Token.TheVariants.{Plus, Bang, LessThan, GreaterThanEqualsTo}
 use Rattle.rhai_values.specs.declared.base.error.EvalAltResult.TheVariants.{ErrorTooManyOperations}
 use Rattle.rhai_machine.specs.samples.Trees.{column, int, bool, var, op, value, braces, inner, let_, if_, no_else, assign, while_, loop_, do_while, do_until, break_, continue_, return_}
-use Rattle.rhai_machine.specs.samples.Runs.{Natives, Returns, Fails, Ends, usual, limited, integer, unit, entry, nothing_but}
+use Rattle.rhai_machine.specs.samples.Runs.{Table, Returns, Fails, Ends, usual, limited, integer, unit, entry, nothing_but}
 use Rattle.rhai_machine.specs.samples.Handles.{one_cell, handle}
 
 -- `let n = 0; while n < 3 { n += 1; } n`
@@ -75,30 +75,30 @@ returned = return_ 1 (Some (int 8 5)) ∷ value (int 11 6) ∷ []
 abbrev pub returned_handle : List Stmt
 returned_handle = loop_ 1 (braces 6 18 (return_ 8 (Some (var 15 (codes "h"))) ∷ [])) ∷ []
 
-module _ {S H : Type 0} (natives : Natives S H) (host : H → List ℕ) where
+module _ {S H : Type 0} (table : Table S H) (host : H → List ℕ) where
   pub record Loops : Type 0 where
     -- a `while` tests its condition before each turn
-    pub counts : Returns natives (limited host 26) counted (integer 3) 26 (entry (codes "n") (integer 3) ∷ [])
-    pub cut : Fails natives (limited host 25) counted (ErrorTooManyOperations (column 36)) 25 (entry (codes "n") (integer 3) ∷ [])
+    pub counts : Returns table (limited host 26) counted (integer 3) 26 (entry (codes "n") (integer 3) ∷ [])
+    pub cut : Fails table (limited host 25) counted (ErrorTooManyOperations (column 36)) 25 (entry (codes "n") (integer 3) ∷ [])
     -- `continue` in a `do` starts the next turn without testing its condition
-    pub continues : Returns natives (usual host) continued (integer 5) 47 (entry (codes "n") (integer 5) ∷ [])
+    pub continues : Returns table (usual host) continued (integer 5) 47 (entry (codes "n") (integer 5) ∷ [])
     -- a `do .. while` goes on while its condition holds
-    pub goes_once : Returns natives (usual host) once unit 2 []
+    pub goes_once : Returns table (usual host) once unit 2 []
     -- an endless loop with an empty body is charged at its body, each turn
-    pub empty : Fails natives (limited host 10) endless (ErrorTooManyOperations (column 6)) 10 []
+    pub empty : Fails table (limited host 10) endless (ErrorTooManyOperations (column 6)) 10 []
     -- a `while` with an empty body evaluates its condition, each turn
-    pub waiting : Fails natives (limited host 5) waits (ErrorTooManyOperations (column 7)) 5 []
+    pub waiting : Fails table (limited host 5) waits (ErrorTooManyOperations (column 7)) 5 []
 
   pub record WaysOut : Type 0 where
     -- `break` gives the loop its value
-    pub breaks : Returns natives (usual host) broken (integer 8) 9 (entry (codes "x") (integer 7) ∷ [])
+    pub breaks : Returns table (usual host) broken (integer 8) 9 (entry (codes "x") (integer 7) ∷ [])
     -- the variables of the body go with it
-    pub takes_back : Returns natives (usual host) left_early unit 4 []
+    pub takes_back : Returns table (usual host) left_early unit 4 []
     -- it ends the innermost loop
-    pub inner_loop : Returns natives (usual host) innermost (integer 1) 5 []
+    pub inner_loop : Returns table (usual host) innermost (integer 1) 5 []
     -- its value comes as it is, a handle too
-    pub as_it_is : Ends natives (usual host) (one_cell natives host (Some (integer 5)) []) broken_handle (Ok handle) 3 (one_cell natives host (Some (integer 5)) [])
+    pub as_it_is : Ends table (usual host) (one_cell table host (Some (integer 5)) []) broken_handle (Ok handle) 3 (one_cell table host (Some (integer 5)) [])
     -- `return` gives the script its value, and nothing after it is run
-    pub returns : Ends natives (usual host) (nothing_but []) returned (Ok (integer 5)) 2 (nothing_but [])
+    pub returns : Ends table (usual host) (nothing_but []) returned (Ok (integer 5)) 2 (nothing_but [])
     -- it passes through a loop, and its value is flattened
-    pub flattened : Ends natives (usual host) (one_cell natives host (Some (integer 5)) []) returned_handle (Ok (integer 5)) 3 (one_cell natives host (Some (integer 5)) [])
+    pub flattened : Ends table (usual host) (one_cell table host (Some (integer 5)) []) returned_handle (Ok (integer 5)) 3 (one_cell table host (Some (integer 5)) [])

@@ -4,7 +4,7 @@ use Rattle.rhai_tree.specs.declared.expr.Stmt.{Stmt}
 use Rattle.rhai_tree.specs.declared.token.Token.TheVariants.{Plus, Bang, EqualsTo, NotEqualsTo}
 use Rattle.rhai_values.specs.declared.base.error.EvalAltResult.TheVariants.{ErrorTooManyOperations, ErrorVariableNotFound, ErrorArithmetic}
 use Rattle.rhai_machine.specs.samples.Trees.{column, int, bool, var, op, value}
-use Rattle.rhai_machine.specs.samples.Runs.{Natives, Returns, Fails, usual, limited, integer, truth}
+use Rattle.rhai_machine.specs.samples.Runs.{Table, Returns, Fails, usual, limited, integer, truth}
 
 -- `40 + 2`
 abbrev pub forty_two : List Stmt
@@ -34,24 +34,24 @@ equal_types = value (op 3 EqualsTo (int 1 1 ∷ bool 6 true ∷ [])) ∷ []
 abbrev pub different_types : List Stmt
 different_types = value (op 3 NotEqualsTo (int 1 1 ∷ bool 6 true ∷ [])) ∷ []
 
-module _ {S H : Type 0} (natives : Natives S H) (host : H → List ℕ) where
+module _ {S H : Type 0} (table : Table S H) (host : H → List ℕ) where
   -- the statement is charged first, then the operator, then its operands from left to right
   pub record Sums : Type 0 where
-    pub within : Returns natives (limited host 4) forty_two (integer 42) 4 []
-    pub no_right : Fails natives (limited host 3) forty_two (ErrorTooManyOperations (column 6)) 3 []
-    pub no_left : Fails natives (limited host 2) forty_two (ErrorTooManyOperations (column 1)) 2 []
-    pub no_operator : Fails natives (limited host 1) forty_two (ErrorTooManyOperations (column 4)) 1 []
-    pub unlimited : Returns natives (usual host) forty_two (integer 42) 4 []
+    pub within : Returns table (limited host 4) forty_two (integer 42) 4 []
+    pub no_right : Fails table (limited host 3) forty_two (ErrorTooManyOperations (column 6)) 3 []
+    pub no_left : Fails table (limited host 2) forty_two (ErrorTooManyOperations (column 1)) 2 []
+    pub no_operator : Fails table (limited host 1) forty_two (ErrorTooManyOperations (column 4)) 1 []
+    pub unlimited : Returns table (usual host) forty_two (integer 42) 4 []
 
   pub record Operands : Type 0 where
     -- the left operand comes first
-    pub order : Fails natives (usual host) unknown_names (ErrorVariableNotFound (codes "y") (column 1)) 3 []
+    pub order : Fails table (usual host) unknown_names (ErrorVariableNotFound (codes "y") (column 1)) 3 []
     -- a name that is unknown is an error where it stands
-    pub unknown : Fails natives (usual host) unknown_name (ErrorVariableNotFound (codes "y") (column 1)) 3 []
+    pub unknown : Fails table (usual host) unknown_name (ErrorVariableNotFound (codes "y") (column 1)) 3 []
     -- a built-in's error stands at the operator
-    pub too_great : Fails natives (usual host) overflow (ErrorArithmetic (codes "integer overflow") (column 21)) 4 []
+    pub too_great : Fails table (usual host) overflow (ErrorArithmetic (codes "integer overflow") (column 21)) 4 []
     -- one operand
-    pub negated : Returns natives (usual host) negation (truth false) 3 []
+    pub negated : Returns table (usual host) negation (truth false) 3 []
     -- values of two types are different
-    pub equal : Returns natives (usual host) equal_types (truth false) 4 []
-    pub different : Returns natives (usual host) different_types (truth true) 4 []
+    pub equal : Returns table (usual host) equal_types (truth false) 4 []
+    pub different : Returns table (usual host) different_types (truth true) 4 []

@@ -7,7 +7,7 @@ use Rattle.rhai_values.specs.declared.base.value.Union.TheVariants as value_of
 use Rattle.rhai_values.specs.declared.base.error.EvalAltResult.TheVariants.{ErrorTooManyOperations, ErrorTooManyVariables, ErrorVariableExists, ErrorVariableNotFound, ErrorMismatchDataType}
 use Rattle.rhai_machine.specs.language.Setting.{Setting}
 use Rattle.rhai_machine.specs.samples.Trees.{column, int, var, op, value, braces, block, inner, let_, const_, if_, no_else}
-use Rattle.rhai_machine.specs.samples.Runs.{Natives, Returns, Fails, usual, limited, integer, unit, entry}
+use Rattle.rhai_machine.specs.samples.Runs.{usual_limits, Table, Returns, Fails, usual, limited, integer, unit, entry}
 
 -- `let x = 40; { let x = 1; } if x == 40 { x + 2 } else { 0 }`
 abbrev pub scopes : List Stmt
@@ -55,37 +55,37 @@ constant = const_ 1 (codes "x") (int 11 1) ∷ value (var 14 (codes "x")) ∷ []
 abbrev pub no_truth : List Stmt
 no_truth = if_ 1 (int 4 1) (braces 6 7 []) no_else ∷ []
 
-module _ {S H : Type 0} (natives : Natives S H) (host : H → List ℕ) where
+module _ {S H : Type 0} (table : Table S H) (host : H → List ℕ) where
   pub record Blocks : Type 0 where
     -- a block takes back its variables, and an `if` goes on with the list that its condition chose
-    pub restored : Returns natives (limited host 13) scopes (integer 42) 13 (entry (codes "x") (integer 40) ∷ [])
+    pub restored : Returns table (limited host 13) scopes (integer 42) 13 (entry (codes "x") (integer 40) ∷ [])
     -- cut before its last operand; the variables of the script stay
-    pub cut : Fails natives (limited host 12) scopes (ErrorTooManyOperations (column 45)) 12 (entry (codes "x") (integer 40) ∷ [])
+    pub cut : Fails table (limited host 12) scopes (ErrorTooManyOperations (column 45)) 12 (entry (codes "x") (integer 40) ∷ [])
     -- a block takes back its variables after an error too
-    pub inside : Fails natives (usual host) fails_inside (ErrorVariableNotFound (codes "y") (column 14)) 5 []
+    pub inside : Fails table (usual host) fails_inside (ErrorVariableNotFound (codes "y") (column 14)) 5 []
     -- those of the script itself stay
-    pub outside : Fails natives (usual host) fails_outside (ErrorVariableNotFound (codes "y") (column 12)) 4 (entry (codes "x") (integer 1) ∷ [])
+    pub outside : Fails table (usual host) fails_outside (ErrorVariableNotFound (codes "y") (column 12)) 4 (entry (codes "x") (integer 1) ∷ [])
     -- a block is an expression too
-    pub as_value : Returns natives (usual host) inner_block unit 4 (entry (codes "x") (integer 1) ∷ [])
+    pub as_value : Returns table (usual host) inner_block unit 4 (entry (codes "x") (integer 1) ∷ [])
     -- an empty one gives `()`
-    pub empty : Returns natives (usual host) empty_block unit 1 []
+    pub empty : Returns table (usual host) empty_block unit 1 []
 
   -- the usual setting where a name is declared once
   abbrev pub no_shadowing : Setting H
-  no_shadowing = record (usual host) { allow_shadowing = false }
+  no_shadowing = record (usual host) { offer = record (usual host).offer { allow_shadowing = false } }
 
   -- the usual setting where a scope holds one variable
   abbrev pub one_variable : Setting H
-  one_variable = record (usual host) { max_variables = 1 }
+  one_variable = record (usual host) { limits = record usual_limits { max_variables = 1 } }
 
   pub record Variables : Type 0 where
     -- a newer variable hides an older one, and both stay
-    pub newest : Returns natives (usual host) hides (integer 2) 6 (entry (codes "x") (integer 1) ∷ entry (codes "x") (integer 2) ∷ [])
+    pub newest : Returns table (usual host) hides (integer 2) 6 (entry (codes "x") (integer 1) ∷ entry (codes "x") (integer 2) ∷ [])
     -- without shadowing it is refused, before its value is looked at
-    pub once : Fails natives no_shadowing declared_twice (ErrorVariableExists (codes "x") (column 12)) 3 (entry (codes "x") (integer 1) ∷ [])
+    pub once : Fails table no_shadowing declared_twice (ErrorVariableExists (codes "x") (column 12)) 3 (entry (codes "x") (integer 1) ∷ [])
     -- so is one variable too many
-    pub full : Fails natives one_variable two_variables (ErrorTooManyVariables (column 12)) 3 (entry (codes "x") (integer 1) ∷ [])
+    pub full : Fails table one_variable two_variables (ErrorTooManyVariables (column 12)) 3 (entry (codes "x") (integer 1) ∷ [])
     -- a constant is kept as one, and its value is read as one that may be written
-    pub kept : Returns natives (usual host) constant (integer 1) 4 (entry (codes "x") (record { value = value_of.Int (pos 1); mode = ReadOnly }) ∷ [])
+    pub kept : Returns table (usual host) constant (integer 1) 4 (entry (codes "x") (record { value = value_of.Int (pos 1); mode = ReadOnly }) ∷ [])
     -- a condition is a truth value
-    pub condition : Fails natives (usual host) no_truth (ErrorMismatchDataType (record { wanted = codes "bool"; found = codes "i64" }) (column 4)) 2 []
+    pub condition : Fails table (usual host) no_truth (ErrorMismatchDataType (record { wanted = codes "bool"; found = codes "i64" }) (column 4)) 2 []

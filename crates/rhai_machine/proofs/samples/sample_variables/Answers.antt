@@ -2,4 +2,4 @@ use Rattle.rhai_machine.proofs.SampleRuns.{variables}
 use Rattle.rhai_machine.proofs.samples.sample_variables.Goals as goal
 
 pub returns : goal.returns
-returns g c = λ natives host. variables natives host
+returns g c = λ table host. variables table host

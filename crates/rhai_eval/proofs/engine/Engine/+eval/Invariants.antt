@@ -1,176 +1,149 @@
-use Rattle.std.specs.Prelude.{◌≡◌, ◌<◌, ◌≤◌, ◌+◌, ◌*◌, ◌-◌, List, length, is_some, drop, map}
+use Rattle.std.specs.Prelude.{◌≡◌, ◌≤◌, ◌+◌, ◌*◌, ◌-◌, ℕ, List, drop, map}
 use Rattle.rhai_tree.specs.Frame.{resolves_stmt, all_resolve}
-use Rattle.rhai_tree.specs.Names.{Begins}
-use Rattle.rhai_values.specs.Scope.{names_in}
-use Rattle.rhai_machine.specs.language.Setting.{limit_of}
+use Rattle.rhai_values.specs.Limits.{limit_of}
 use Rattle.rhai_machine.specs.language.Values.{unit_value}
 use Rattle.rhai_machine.specs.language.Frames.{Frame, Run, WhileTurn, DoTurn}
 use Rattle.rhai_machine.specs.language.Runs.{with_core, Goes, Steps}
 use Rattle.rhai_machine.specs.language.Expressions.{and_core, or_core, coalesce_core}
-use Rattle.rhai_eval.specs.States.{setting_of, local_of, state_of, around_of}
+use Rattle.rhai_eval.specs.declared.context.Context.{Context}
+use Rattle.rhai_eval.specs.declared.engine.Engine.{Engine}
+use Rattle.rhai_eval.specs.States.{names, state_in, under}
 use Rattle.rhai_eval.proofs.engine.Engine.+eval.Given as goal
 
+-- how many operations may still be charged
+abbrev left : {H : Type 0} → Engine H → Context H → ℕ
+left engine run = limit_of engine.limits.max_operations - run.global.num_operations
+
 abbrev pub decreases-run_expr : goal.decreases-run_expr
-decreases-run_expr g l = 8 * (limit_of l.self.now.max_operations - l.global.now.num_operations) + 0
+decreases-run_expr g l = 8 * left l.self.now l.run.now + 0
 
 abbrev pub decreases-run_stmt : goal.decreases-run_stmt
-decreases-run_stmt g l = 8 * (limit_of l.self.now.max_operations - l.global.now.num_operations) + 0
+decreases-run_stmt g l = 8 * left l.self.now l.run.now + 0
 
 abbrev pub decreases-run_arg : goal.decreases-run_arg
-decreases-run_arg g l = 8 * (limit_of l.self.now.max_operations - l.global.now.num_operations) + 1
+decreases-run_arg g l = 8 * left l.self.now l.run.now + 1
 
 abbrev pub decreases-run_statements : goal.decreases-run_statements
-decreases-run_statements g l = 8 * (limit_of l.self.now.max_operations - l.global.now.num_operations) + 1
+decreases-run_statements g l = 8 * left l.self.now l.run.now + 1
 
 abbrev pub decreases-run_stmt_block : goal.decreases-run_stmt_block
-decreases-run_stmt_block g l = 8 * (limit_of l.self.now.max_operations - l.global.now.num_operations) + 2
+decreases-run_stmt_block g l = 8 * left l.self.now l.run.now + 2
 
 abbrev pub decreases-run_expr_stmt : goal.decreases-run_expr_stmt
-decreases-run_expr_stmt g l = 8 * (limit_of l.self.now.max_operations - l.global.now.num_operations) + 3
+decreases-run_expr_stmt g l = 8 * left l.self.now l.run.now + 3
 
 abbrev pub decreases-run_if : goal.decreases-run_if
-decreases-run_if g l = 8 * (limit_of l.self.now.max_operations - l.global.now.num_operations) + 3
+decreases-run_if g l = 8 * left l.self.now l.run.now + 3
 
 abbrev pub decreases-run_var : goal.decreases-run_var
-decreases-run_var g l = 8 * (limit_of l.self.now.max_operations - l.global.now.num_operations) + 3
+decreases-run_var g l = 8 * left l.self.now l.run.now + 3
 
 abbrev pub decreases-run_unary : goal.decreases-run_unary
-decreases-run_unary g l = 8 * (limit_of l.self.now.max_operations - l.global.now.num_operations) + 3
+decreases-run_unary g l = 8 * left l.self.now l.run.now + 3
 
 abbrev pub decreases-run_binary : goal.decreases-run_binary
-decreases-run_binary g l = 8 * (limit_of l.self.now.max_operations - l.global.now.num_operations) + 3
+decreases-run_binary g l = 8 * left l.self.now l.run.now + 3
 
 abbrev pub decreases-run_fn_call_expr : goal.decreases-run_fn_call_expr
-decreases-run_fn_call_expr g l = 8 * (limit_of l.self.now.max_operations - l.global.now.num_operations) + 4
+decreases-run_fn_call_expr g l = 8 * left l.self.now l.run.now + 4
 
 abbrev pub decreases-run_assignment : goal.decreases-run_assignment
-decreases-run_assignment g l = 8 * (limit_of l.self.now.max_operations - l.global.now.num_operations) + 3
+decreases-run_assignment g l = 8 * left l.self.now l.run.now + 3
 
 abbrev pub decreases-run_while : goal.decreases-run_while
-decreases-run_while g l = 8 * (limit_of l.self.now.max_operations - l.global.now.num_operations) + 6
+decreases-run_while g l = 8 * left l.self.now l.run.now + 6
 
 abbrev pub decreases-while_turn : goal.decreases-while_turn
-decreases-while_turn g l = 8 * (limit_of l.self.now.max_operations - l.global.now.num_operations) + 5
+decreases-while_turn g l = 8 * left l.self.now l.run.now + 5
 
 abbrev pub decreases-endless_turn : goal.decreases-endless_turn
-decreases-endless_turn g l = 8 * (limit_of l.self.now.max_operations - l.global.now.num_operations) + 4
+decreases-endless_turn g l = 8 * left l.self.now l.run.now + 4
 
 abbrev pub decreases-while_body : goal.decreases-while_body
-decreases-while_body g l = 8 * (limit_of l.self.now.max_operations - l.global.now.num_operations) + 3
+decreases-while_body g l = 8 * left l.self.now l.run.now + 3
 
 abbrev pub decreases-run_do : goal.decreases-run_do
-decreases-run_do g l = 8 * (limit_of l.self.now.max_operations - l.global.now.num_operations) + 6
+decreases-run_do g l = 8 * left l.self.now l.run.now + 6
 
 abbrev pub decreases-do_turn : goal.decreases-do_turn
-decreases-do_turn g l = 8 * (limit_of l.self.now.max_operations - l.global.now.num_operations) + 5
+decreases-do_turn g l = 8 * left l.self.now l.run.now + 5
 
 abbrev pub decreases-do_test : goal.decreases-do_test
-decreases-do_test g l = 8 * (limit_of l.self.now.max_operations - l.global.now.num_operations) + 3
+decreases-do_test g l = 8 * left l.self.now l.run.now + 3
 
 abbrev pub decreases-run_break : goal.decreases-run_break
-decreases-run_break g l = 8 * (limit_of l.self.now.max_operations - l.global.now.num_operations) + 3
+decreases-run_break g l = 8 * left l.self.now l.run.now + 3
 
 abbrev pub decreases-run_return : goal.decreases-run_return
-decreases-run_return g l = 8 * (limit_of l.self.now.max_operations - l.global.now.num_operations) + 3
+decreases-run_return g l = 8 * left l.self.now l.run.now + 3
 
 abbrev pub decreases-run_and : goal.decreases-run_and
-decreases-run_and g l = 8 * (limit_of l.self.now.max_operations - l.global.now.num_operations) + 1
+decreases-run_and g l = 8 * left l.self.now l.run.now + 1
 
 abbrev pub decreases-run_or : goal.decreases-run_or
-decreases-run_or g l = 8 * (limit_of l.self.now.max_operations - l.global.now.num_operations) + 1
+decreases-run_or g l = 8 * left l.self.now l.run.now + 1
 
 abbrev pub decreases-run_coalesce : goal.decreases-run_coalesce
-decreases-run_coalesce g l = 8 * (limit_of l.self.now.max_operations - l.global.now.num_operations) + 1
+decreases-run_coalesce g l = 8 * left l.self.now l.run.now + 1
 
 abbrev pub decreases-break_with : goal.decreases-break_with
-decreases-break_with g l = 8 * (limit_of l.self.now.max_operations - l.global.now.num_operations) + 2
+decreases-break_with g l = 8 * left l.self.now l.run.now + 2
 
 abbrev pub decreases-return_with : goal.decreases-return_with
-decreases-return_with g l = 8 * (limit_of l.self.now.max_operations - l.global.now.num_operations) + 2
+decreases-return_with g l = 8 * left l.self.now l.run.now + 2
 
 abbrev pub invariant-run_statements-each_stmt : goal.invariant-run_statements-each_stmt
 invariant-run_statements-each_stmt g l = record {
-  counts : l.fn.global.num_operations ≤ l.global.num_operations;
-  within : l.fn.global.num_operations ≤ limit_of l.self.max_operations → l.global.num_operations ≤ limit_of l.self.max_operations;
-  around : around_of l.global ≡ around_of l.fn.global;
-  scope_level : l.global.scope_level ≡ l.fn.global.scope_level;
-  bound : is_some l.this ≡ is_some l.fn.this;
-  begins : Begins (names_in l.fn.scope) (names_in l.scope);
-  charged : 0 < l.stmt-index → l.fn.global.num_operations < l.global.num_operations;
-  variables : length (names_in l.fn.scope) ≤ l.self.max_variables → length (names_in l.scope) ≤ l.self.max_variables;
-  resolves : all_resolve (map resolves_stmt (drop l.stmt-index l.statements)) (names_in l.scope) ≡ all_resolve (map resolves_stmt l.statements) (names_in l.fn.scope);
-  steps : Steps (setting_of g.H.Host.name_of l.self) g.T.NativeTable.gives g.T.NativeTable.pure
-      (Run l.statements l.restoring unit_value) (state_of (g.T.NativeTable.state l.fn.table) l.fn.global l.fn.scope l.fn.this)
-      (Run (drop l.stmt-index l.statements) l.restoring l.last) (state_of (g.T.NativeTable.state l.table) l.global l.scope l.this);
+  counts : l.fn.run.global.num_operations ≤ l.run.global.num_operations;
+  resolves : all_resolve (map resolves_stmt (drop l.stmt-index l.statements)) (names l.run) ≡ all_resolve (map resolves_stmt l.statements) (names l.fn.run);
+  steps : Steps (under g.H.Host.name_of l.self g.T.NativeTable.natives)
+      (Run l.statements l.restoring unit_value) (state_in (g.T.NativeTable.state l.fn.table) l.fn.run)
+      (Run (drop l.stmt-index l.statements) l.restoring l.last) (state_in (g.T.NativeTable.state l.table) l.run);
 }
 
 abbrev pub invariant-run_and-each_part : goal.invariant-run_and-each_part
 invariant-run_and-each_part g l = record {
-  counts : l.fn.global.num_operations ≤ l.global.num_operations;
-  within : l.fn.global.num_operations ≤ limit_of l.self.max_operations → l.global.num_operations ≤ limit_of l.self.max_operations;
-  around : around_of l.global ≡ around_of l.fn.global;
-  scope_level : l.global.scope_level ≡ l.fn.global.scope_level;
-  bound : is_some l.this ≡ is_some l.fn.this;
-  names : names_in l.scope ≡ names_in l.fn.scope;
-  steps : (k : List (Frame g.row.H.Denot)) → Goes (setting_of g.H.Host.name_of l.self) g.T.NativeTable.gives g.T.NativeTable.pure
-      (with_core (and_core l.parts k (local_of l.fn.global l.fn.scope l.fn.this)) (state_of (g.T.NativeTable.state l.fn.table) l.fn.global l.fn.scope l.fn.this))
-      (with_core (and_core (drop l.part-index l.parts) k (local_of l.global l.scope l.this)) (state_of (g.T.NativeTable.state l.table) l.global l.scope l.this));
+  counts : l.fn.run.global.num_operations ≤ l.run.global.num_operations;
+  names : names l.run ≡ names l.fn.run;
+  steps : (k : List (Frame g.row.H.Denot)) → Goes (under g.H.Host.name_of l.self g.T.NativeTable.natives)
+      (with_core (and_core l.parts k (state_in (g.T.NativeTable.state l.fn.table) l.fn.run).local) (state_in (g.T.NativeTable.state l.fn.table) l.fn.run))
+      (with_core (and_core (drop l.part-index l.parts) k (state_in (g.T.NativeTable.state l.table) l.run).local) (state_in (g.T.NativeTable.state l.table) l.run));
 }
 
 abbrev pub invariant-run_or-each_part : goal.invariant-run_or-each_part
 invariant-run_or-each_part g l = record {
-  counts : l.fn.global.num_operations ≤ l.global.num_operations;
-  within : l.fn.global.num_operations ≤ limit_of l.self.max_operations → l.global.num_operations ≤ limit_of l.self.max_operations;
-  around : around_of l.global ≡ around_of l.fn.global;
-  scope_level : l.global.scope_level ≡ l.fn.global.scope_level;
-  bound : is_some l.this ≡ is_some l.fn.this;
-  names : names_in l.scope ≡ names_in l.fn.scope;
-  steps : (k : List (Frame g.row.H.Denot)) → Goes (setting_of g.H.Host.name_of l.self) g.T.NativeTable.gives g.T.NativeTable.pure
-      (with_core (or_core l.parts k (local_of l.fn.global l.fn.scope l.fn.this)) (state_of (g.T.NativeTable.state l.fn.table) l.fn.global l.fn.scope l.fn.this))
-      (with_core (or_core (drop l.part-index l.parts) k (local_of l.global l.scope l.this)) (state_of (g.T.NativeTable.state l.table) l.global l.scope l.this));
+  counts : l.fn.run.global.num_operations ≤ l.run.global.num_operations;
+  names : names l.run ≡ names l.fn.run;
+  steps : (k : List (Frame g.row.H.Denot)) → Goes (under g.H.Host.name_of l.self g.T.NativeTable.natives)
+      (with_core (or_core l.parts k (state_in (g.T.NativeTable.state l.fn.table) l.fn.run).local) (state_in (g.T.NativeTable.state l.fn.table) l.fn.run))
+      (with_core (or_core (drop l.part-index l.parts) k (state_in (g.T.NativeTable.state l.table) l.run).local) (state_in (g.T.NativeTable.state l.table) l.run));
 }
 
 abbrev pub invariant-run_coalesce-each_part : goal.invariant-run_coalesce-each_part
 invariant-run_coalesce-each_part g l = record {
-  counts : l.fn.global.num_operations ≤ l.global.num_operations;
-  within : l.fn.global.num_operations ≤ limit_of l.self.max_operations → l.global.num_operations ≤ limit_of l.self.max_operations;
-  around : around_of l.global ≡ around_of l.fn.global;
-  scope_level : l.global.scope_level ≡ l.fn.global.scope_level;
-  bound : is_some l.this ≡ is_some l.fn.this;
-  names : names_in l.scope ≡ names_in l.fn.scope;
-  steps : (k : List (Frame g.row.H.Denot)) → Goes (setting_of g.H.Host.name_of l.self) g.T.NativeTable.gives g.T.NativeTable.pure
-      (with_core (coalesce_core unit_value l.parts k (local_of l.fn.global l.fn.scope l.fn.this)) (state_of (g.T.NativeTable.state l.fn.table) l.fn.global l.fn.scope l.fn.this))
-      (with_core (coalesce_core l.last (drop l.part-index l.parts) k (local_of l.global l.scope l.this)) (state_of (g.T.NativeTable.state l.table) l.global l.scope l.this));
+  counts : l.fn.run.global.num_operations ≤ l.run.global.num_operations;
+  names : names l.run ≡ names l.fn.run;
+  steps : (k : List (Frame g.row.H.Denot)) → Goes (under g.H.Host.name_of l.self g.T.NativeTable.natives)
+      (with_core (coalesce_core unit_value l.parts k (state_in (g.T.NativeTable.state l.fn.table) l.fn.run).local) (state_in (g.T.NativeTable.state l.fn.table) l.fn.run))
+      (with_core (coalesce_core l.last (drop l.part-index l.parts) k (state_in (g.T.NativeTable.state l.table) l.run).local) (state_in (g.T.NativeTable.state l.table) l.run));
 }
 
 abbrev pub invariant-run_while-turns : goal.invariant-run_while-turns
 invariant-run_while-turns g l = record {
-  counts : l.fn.global.num_operations ≤ l.global.num_operations;
-  within : l.fn.global.num_operations ≤ limit_of l.self.max_operations → l.global.num_operations ≤ limit_of l.self.max_operations;
-  around : around_of l.global ≡ around_of l.fn.global;
-  scope_level : l.global.scope_level ≡ l.fn.global.scope_level;
-  bound : is_some l.this ≡ is_some l.fn.this;
-  names : names_in l.scope ≡ names_in l.fn.scope;
-  steps : Steps (setting_of g.H.Host.name_of l.self) g.T.NativeTable.gives g.T.NativeTable.pure
-      (WhileTurn l.test l.body) (state_of (g.T.NativeTable.state l.fn.table) l.fn.global l.fn.scope l.fn.this)
-      (WhileTurn l.test l.body) (state_of (g.T.NativeTable.state l.table) l.global l.scope l.this);
+  counts : l.fn.run.global.num_operations ≤ l.run.global.num_operations;
+  names : names l.run ≡ names l.fn.run;
+  steps : Steps (under g.H.Host.name_of l.self g.T.NativeTable.natives) (WhileTurn l.test l.body) (state_in (g.T.NativeTable.state l.fn.table) l.fn.run) (WhileTurn l.test l.body) (state_in (g.T.NativeTable.state l.table) l.run);
 }
 
 abbrev pub decreases-run_while-turns : goal.decreases-run_while-turns
-decreases-run_while-turns g l = limit_of l.self.max_operations - l.global.num_operations
+decreases-run_while-turns g l = left l.self l.run
 
 abbrev pub invariant-run_do-turns : goal.invariant-run_do-turns
 invariant-run_do-turns g l = record {
-  counts : l.fn.global.num_operations ≤ l.global.num_operations;
-  within : l.fn.global.num_operations ≤ limit_of l.self.max_operations → l.global.num_operations ≤ limit_of l.self.max_operations;
-  around : around_of l.global ≡ around_of l.fn.global;
-  scope_level : l.global.scope_level ≡ l.fn.global.scope_level;
-  bound : is_some l.this ≡ is_some l.fn.this;
-  names : names_in l.scope ≡ names_in l.fn.scope;
-  steps : Steps (setting_of g.H.Host.name_of l.self) g.T.NativeTable.gives g.T.NativeTable.pure
-      (DoTurn l.test l.body l.options) (state_of (g.T.NativeTable.state l.fn.table) l.fn.global l.fn.scope l.fn.this)
-      (DoTurn l.test l.body l.options) (state_of (g.T.NativeTable.state l.table) l.global l.scope l.this);
+  counts : l.fn.run.global.num_operations ≤ l.run.global.num_operations;
+  names : names l.run ≡ names l.fn.run;
+  steps : Steps (under g.H.Host.name_of l.self g.T.NativeTable.natives) (DoTurn l.test l.body l.options) (state_in (g.T.NativeTable.state l.fn.table) l.fn.run) (DoTurn l.test l.body l.options) (state_in (g.T.NativeTable.state l.table) l.run);
 }
 
 abbrev pub decreases-run_do-turns : goal.decreases-run_do-turns
-decreases-run_do-turns g l = limit_of l.self.max_operations - l.global.num_operations
+decreases-run_do-turns g l = left l.self l.run

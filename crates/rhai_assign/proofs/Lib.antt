@@ -1,0 +1,4 @@
+pub mod Places
+pub mod Natives
+pub mod Writes
+pub mod Updates

@@ -1,0 +1,157 @@
+-- The native of an update is asked: its charge, its call with the target, and what it leaves.
+use Rattle.std.proofs.Common.{◌≡◌, ◌<◌, ◌≤◌, ◌+◌, ℕ, true, false, List, [], ◌∷◌, Option, Some, None, IfSome, refl, ap}
+use Rattle.rhai_tree.specs.declared.position.Position.{Position}
+use Rattle.rhai_values.specs.declared.base.value.Dynamic.{Dynamic}
+use Rattle.rhai_values.specs.declared.base.value.Union.{Union}
+use Rattle.rhai_values.specs.declared.base.value.Union.TheVariants as value
+use Rattle.rhai_values.specs.declared.base.scope.Scope.{Scope}
+use Rattle.rhai_values.specs.declared.cells.CellStore.{CellStore}
+use Rattle.rhai_values.specs.declared.state.GlobalRuntimeState.{GlobalRuntimeState}
+use Rattle.rhai_values.specs.declared.base.error.EvalAltResult.{EvalAltResult}
+use Rattle.rhai_values.specs.declared.base.error.EvalAltResult.TheVariants as error
+use Rattle.rhai_values.specs.Errors.{is_out_of_memory}
+use Rattle.rhai_values.specs.Native.{Request, Reply, Faults, Named, Obeys, effect, request}
+use Rattle.rhai_machine.specs.machine.Machine.{Go, Native}
+use Rattle.rhai_machine.specs.machine.Point.{Point, after}
+use Rattle.rhai_machine.specs.machine.Memory.{here, next, starved, starved_at, ◌⨾◌}
+use Rattle.rhai_machine.specs.language.Setting.{Setting, Rules, limit_under}
+use Rattle.rhai_machine.specs.language.State.{State, Local}
+use Rattle.rhai_machine.specs.language.Values.{is_handle}
+use Rattle.rhai_machine.specs.language.Places.{put, while_lent}
+use Rattle.rhai_machine.specs.language.Frames.{Attempt, InPlace, AsValue, Update, Frame, Core, core, AskUpdate, QuestionUpdate, FireUpdate, Fail}
+use Rattle.rhai_machine.specs.language.Assignment.{answered_core, call_update, fire_update, left_in, lent_core, native_of}
+use Rattle.rhai_machine.specs.language.Language.{machine, move, want}
+use Rattle.rhai_machine.specs.language.Runs.{at, Goes, Steps}
+use Rattle.rhai_steps.specs.States.{state_of}
+use Rattle.rhai_steps.proofs.Pieces.{charged, faulted, refused, step_by}
+use Rattle.rhai_assign.specs.declared.place.Update as code
+use Rattle.rhai_assign.specs.Follows.{Asked, Comes}
+use Rattle.rhai_assign.specs.Targets.{IsPut, lent_request, standing_at}
+use Rattle.rhai_assign.specs.Updates.{update_of, updating}
+use Rattle.rhai_assign.proofs.Places.{local_put, standing_charged}
+
+module _ {H : Type 0} (s : Setting H) where
+  handle_move : (x : Union H) (u : Update H) (k : List (Frame H)) (l : Local H) → is_handle x ≡ true →
+      fire_update s x u k l ≡ Go (core (Fail (error.ErrorDataRace (native_of u.attempt u.operator) u.at)) k l)
+  handle_move (value.Cell id) u k l h = refl
+  handle_move _ u k l h = cc
+
+  plain_move : (x : Union H) (u : Update H) (k : List (Frame H)) (l : Local H) → is_handle x ≡ false →
+      fire_update s x u k l ≡ call_update s u k l
+  plain_move (value.Cell id) u k l h = cc
+  plain_move _ u k l h = refl
+
+  -- a native that wants memory leaves the target written back
+  wants_answered : (attempt : Attempt) (pos : Position) (u : Update H) (k : List (Frame H)) (l : Local H) →
+      want pos (answered_core s attempt (Faults (error.ErrorOutOfMemory pos)) u k l) ≡ core (Fail (error.ErrorOutOfMemory pos)) k l
+  wants_answered InPlace pos u k l = refl
+  wants_answered AsValue pos u k l = refl
+
+module _ {S H : Type 0} (rules : Rules S H) where
+  -- an update that is charged stands before its native
+  asks_update : (t : S) (old mid : GlobalRuntimeState H) (scope : Scope H) (this : Option (Dynamic H)) (u : Update H) →
+      old.num_operations < limit_under rules → mid ≡ record old { num_operations = old.num_operations + 1 } →
+      (k : List (Frame H)) → Goes rules (at (AskUpdate u) k (state_of t old scope this)) (at (FireUpdate u) k (state_of t mid scope this))
+  unfolding after
+  asks_update t old mid scope this u room counted k =
+      charged rules t old mid scope this (AskUpdate u) (QuestionUpdate u) u.at (λ j. refl) room counted k ⨾ next here
+
+  -- a target that is a bare handle is refused
+  fires_held : (u : Update H) (k : List (Frame H)) (now : State S H) → is_handle u.target.value ≡ true →
+      Goes rules (at (FireUpdate u) k now) (at (Fail (error.ErrorDataRace (native_of u.attempt u.operator) u.at)) k now)
+  fires_held u k now handle = step_by rules _ _ _ (handle_move rules.setting u.target.value u k now.local handle) here
+
+  -- the call of the native
+  abbrev call_of : Update H → State S H → Request H
+  call_of u now = request (while_lent u.place now.local.around.cells) (Named (native_of u.attempt u.operator)) (Some u.target)
+      (u.operand ∷ []) u.at
+
+  -- the native is called, and its target is written back
+  fires_update : (u : Update H) (k : List (Frame H)) (now : State S H) (r : Reply H) (v : Dynamic H) (t : S) →
+      is_handle u.target.value ≡ false →
+      rules.natives.gives now.table (call_of u now) ≡ effect r (Some v) t →
+      (p : Point S (Core H)) → p ≡ record { core = lent_core rules.setting r v u k now.local; table = t; count = now.count } →
+      Goes rules (at (FireUpdate u) k now) p
+  fires_update u k now r v t plain obeys p is =
+      step_by rules _ _ _ (plain_move rules.setting u.target.value u k now.local plain) (rw (obeys, is) here)
+
+  -- or it wants memory, and its target is written back too
+  starves : (p q : Point S (Core H)) (call : Request H) (f : Reply H → Option (Dynamic H) → Core H) (pos : Position) →
+      move rules.setting p.core ≡ Native call f →
+      (e : EvalAltResult H) (first : Option (Dynamic H)) (state : S) → Goes rules (starved_at (machine rules) pos f e first state p) q →
+      Goes rules p q
+  starves p q call f pos is e first state go = starved {call = call} {f = f} {at = pos} is e first state go
+
+  fires_starved : (u : Update H) (k : List (Frame H)) (now new : State S H) (v : Dynamic H) (pos : Position) →
+      is_handle u.target.value ≡ false →
+      new ≡ record now { table = new.table; local = put u.place v now.local } →
+      Goes rules (at (FireUpdate u) k now) (at (Fail (error.ErrorOutOfMemory pos)) k new)
+  fires_starved u k now new v pos plain is =
+      starves (at (FireUpdate u) k now) (at (Fail (error.ErrorOutOfMemory pos)) k new) (call_of u now)
+      (λ reply left. lent_core rules.setting reply (left_in u left) u k now.local) pos
+      (plain_move rules.setting u.target.value u k now.local plain)
+      (error.ErrorOutOfMemory pos) (Some v) new.table
+      (rw (wants_answered rules.setting u.attempt pos (record u { target = v }) k (put u.place v now.local), is) here)
+
+  -- an update that is not charged, and one whose target is a bare handle
+  pub refuses_update : (t : S) (old new : GlobalRuntimeState H) (scope : Scope H) (this : Option (Dynamic H)) (u : Update H)
+      (x : EvalAltResult H) →
+      limit_under rules ≤ old.num_operations → x ≡ error.ErrorTooManyOperations u.at → new ≡ old →
+      Steps rules (AskUpdate u) (state_of t old scope this) (Fail x) (state_of t new scope this)
+  unfolding Steps
+  refuses_update t old new scope this u x full is same k =
+      refused rules t old new scope this (AskUpdate u) (QuestionUpdate u) u.at (λ j. refl) x full is same k
+
+  pub holds_update : (t : S) (old mid : GlobalRuntimeState H) (scope : Scope H) (this : Option (Dynamic H)) (u : Update H) (name : List ℕ)
+      (e : EvalAltResult H) →
+      old.num_operations < limit_under rules → mid ≡ record old { num_operations = old.num_operations + 1 } →
+      is_handle u.target.value ≡ true →
+      name ≡ native_of u.attempt u.operator → (is_out_of_memory e ≡ false → e ≡ error.ErrorDataRace name u.at) →
+      Steps rules (AskUpdate u) (state_of t old scope this) (Fail e) (state_of t mid scope this)
+  unfolding Steps
+  holds_update t old mid scope this u name e room counted handle named race k =
+      asks_update t old mid scope this u room counted k
+      ⨾ fires_held u k (state_of t mid scope this) handle
+      ⨾ faulted rules e (error.ErrorDataRace (native_of u.attempt u.operator) u.at) (rw named at race) k (state_of t mid scope this)
+
+  module _ (t called : S) (old mid : GlobalRuntimeState H) (store : CellStore H) (before later : Scope H) (update : code.Update)
+      (w : Dynamic H)
+      (room : old.num_operations < limit_under rules) (counted : mid ≡ record old { num_operations = old.num_operations + 1 })
+      (plain : is_handle (standing_at update.place before old.cells).value ≡ false)
+      (wrote : IsPut update.place w before later mid.cells store) where
+    answers_update : (answer : Option (Reply H)) (name : List ℕ) (rest : List (Dynamic H)) →
+        Obeys (rules.natives.gives t (lent_request update.place before mid.cells name rest update.at)) answer (Some w) called →
+        (this : Option (Dynamic H)) (attempt : Attempt) (operand : Dynamic H) → name ≡ native_of attempt update.token →
+        rest ≡ operand ∷ [] →
+        IfSome answer (λ reply. Comes rules (AskUpdate (updating update attempt before old operand)) (state_of t old before this)
+        (answered_core rules.setting attempt reply (update_of update attempt w operand))
+        (state_of called (record mid { cells = store }) later this))
+    answers_update None name rest obeys this attempt operand named only = tt
+    answers_update (Some reply) name rest obeys this attempt operand named only = λ k.
+        asks_update t old mid before this (updating update attempt before old operand) room counted k
+        ⨾ fires_update (updating update attempt before old operand) k (state_of t mid before this) reply w called plain
+        (rw (standing_charged update.place before old mid _ counted, named, only) at obeys) _
+        (ap (λ (l : Local H). record {
+          core = answered_core rules.setting attempt reply (update_of update attempt w operand) k l;
+          table = called;
+          count = mid.num_operations;
+        })
+        (local_put update.place w mid store before later this wrote))
+
+    -- an update whose native was called, over any attempt whose native has the name
+    pub asked : (answer : Option (Reply H)) (name : List ℕ) (rest : List (Dynamic H)) →
+        Obeys (rules.natives.gives t (lent_request update.place before mid.cells name rest update.at)) answer (Some w) called →
+        (this : Option (Dynamic H)) (attempt : Attempt) (operand : Dynamic H) → name ≡ native_of attempt update.token →
+        rest ≡ operand ∷ [] →
+        Asked rules (updating update attempt before old operand) (state_of t old before this) answer w
+        (state_of called (record mid { cells = store }) later this)
+    unfolding Steps
+    asked answer name rest obeys this attempt operand named only = record {
+      answered = answers_update answer name rest obeys this attempt operand named only;
+      starved = λ pos k.
+          asks_update t old mid before this (updating update attempt before old operand) room counted k
+          ⨾ fires_starved (updating update attempt before old operand) k (state_of t mid before this)
+          (state_of called (record mid { cells = store }) later this) w pos plain
+          (ap (λ (l : Local H). record { table = called; count = mid.num_operations; local = l })
+          (local_put update.place w mid store before later this wrote));
+    }

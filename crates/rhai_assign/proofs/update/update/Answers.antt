@@ -1,0 +1,33 @@
+use Rattle.std.proofs.Common.{refl, ◌∙◌}
+use Rattle.rhai_operators.specs.Answers.{op_assign_of}
+use Rattle.rhai_machine.specs.language.Setting.{Rules, rules_of}
+use Rattle.rhai_machine.specs.language.Frames.{InPlace, Update}
+use Rattle.rhai_steps.specs.States.{state_of}
+use Rattle.rhai_assign.specs.Updates.{updating}
+use Rattle.rhai_assign.proofs.Updates.{built, built_for, not_built}
+use Rattle.rhai_assign.proofs.update.update.Goals as goal
+
+pub returns-in-Some-clause-runs : goal.returns-in-Some-clause-runs
+returns-in-Some-clause-runs g c offer this =
+    let rules : Rules _ _ = rules_of c.args.limits.now g.H.Host.name_of offer g.T.NativeTable.natives in
+    let u : Update _ = updating c.args.update InPlace c.args.scope.now c.args.global.now c.args.operand in
+    built rules (g.T.NativeTable.state c.args.table.now)
+    c.args.global.now c.write_outcome.new.global c.args.scope.now c.write_outcome.new.scope this u
+    c.builtin_op_assign.result (op_assign_of u.operator u.target c.args.operand) c.in-Some.outcome
+    (built_for c.builtin_op_assign.result c.args.update c.args.scope.now c.args.global.now.cells c.value_at-target.result.now
+    c.args.operand c.args.operand
+    c.builtin_op_assign.ensures.value c.value_at-target.ensures refl)
+    c.in-Some.is c.write_outcome.ensures.counts c.write_outcome.result
+    (c.write_outcome.ensures.written this) c.write_outcome.ensures.left_global c.write_outcome.ensures.left_scope
+
+pub returns-in-Ok-clause-runs : goal.returns-in-Ok-clause-runs
+returns-in-Ok-clause-runs g c offer this =
+    let rules : Rules _ _ = rules_of c.args.limits.now g.H.Host.name_of offer g.T.NativeTable.natives in
+    let u : Update _ = updating c.args.update InPlace c.args.scope.now c.args.global.now c.args.operand in
+    not_built rules c.builtin_op_assign.result (op_assign_of u.operator u.target c.args.operand) c.update_in_place.result u
+    (state_of (g.T.NativeTable.state c.args.table.now) c.args.global.now c.args.scope.now this)
+    (state_of (g.T.NativeTable.state c.update_in_place.new.table) c.update_in_place.new.global c.update_in_place.new.scope this)
+    (built_for c.builtin_op_assign.result c.args.update c.args.scope.now c.args.global.now.cells c.value_at-target.result.now
+    c.args.operand c.args.operand
+    c.builtin_op_assign.ensures.value c.value_at-target.ensures refl)
+    c.in-None.is (c.update_in_place.ensures.runs offer this c.args.operand (c.as_slice-rest.ensures ∙ c.in-Ok.ensures.ok))

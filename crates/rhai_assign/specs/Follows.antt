@@ -1,0 +1,42 @@
+-- A part of an evaluator that begins in the middle of a rule: memory may run out before it has done what the rule has done
+-- already.
+use Rattle.std.specs.Prelude.{List, Option, Result, IfSome}
+use Rattle.rhai_tree.specs.declared.position.Position.{Position}
+use Rattle.rhai_values.specs.declared.base.value.Dynamic.{Dynamic}
+use Rattle.rhai_values.specs.declared.base.error.EvalAltResult.{EvalAltResult}
+use Rattle.rhai_values.specs.declared.base.error.EvalAltResult.TheVariants as error
+use Rattle.rhai_values.specs.Native.{Reply}
+use Rattle.rhai_operators.specs.Answers.{op_assign_of}
+use Rattle.rhai_machine.specs.machine.Point.{Point}
+use Rattle.rhai_machine.specs.language.Setting.{Rules}
+use Rattle.rhai_machine.specs.language.State.{State, Local}
+use Rattle.rhai_machine.specs.language.Places.{Target}
+use Rattle.rhai_machine.specs.language.Frames.{Assignment, Update, Control, Frame, Core, ended, AskUpdate, Fail}
+use Rattle.rhai_machine.specs.language.Assignment.{answered_core, assign_core, update_core}
+use Rattle.rhai_machine.specs.language.Runs.{at, with_core, Goes, Steps}
+
+module _ {S H : Type 0} (rules : Rules S H) where
+  -- from any point from which the machine goes to a core, and from which it may as well want memory in the state before that
+  -- core, it goes to how the part ended
+  abbrev pub Follows : (start : List (Frame H) → Local H → Core H) → State S H → Result (Dynamic H) (EvalAltResult H) → State S H → Type 0
+  Follows start old result new = (p : Point S (Core H)) (k : List (Frame H)) → Goes rules p (with_core (start k old.local) old)
+      → ((pos : Position) → Goes rules p (at (Fail (error.ErrorOutOfMemory pos)) k old)) → Goes rules p (at (ended result) k new)
+
+  -- an update, from where its built-in operator is tried
+  abbrev pub FollowsUpdate : Update H → State S H → Result (Dynamic H) (EvalAltResult H) → State S H → Type 0
+  FollowsUpdate u = Follows (update_core rules.setting (op_assign_of u.operator u.target u.operand) u)
+
+  -- an assignment, from where its target is found
+  abbrev pub FollowsAssign : Assignment → Target H → Dynamic H → State S H → Result (Dynamic H) (EvalAltResult H) → State S H → Type 0
+  FollowsAssign assignment target v = Follows (assign_core rules.setting assignment.op.op assignment target v)
+
+  -- from a control to a core, over any stack
+  abbrev pub Comes : Control H → State S H → (List (Frame H) → Local H → Core H) → State S H → Type 0
+  Comes c old end new = (k : List (Frame H)) → Goes rules (at c k old) (with_core (end k new.local) new)
+
+  -- a native was asked for an update, and left a value in the target: the machine comes to what it answered, where it found
+  -- memory, and may as well come to want of memory
+  pub record Asked (u : Update H) (old : State S H) (answer : Option (Reply H)) (left : Dynamic H) (new : State S H) : Type 0 where
+    pub answered : IfSome answer (λ reply. Comes (AskUpdate u) old
+        (answered_core rules.setting u.attempt reply (record u { target = left })) new)
+    pub starved : (pos : Position) → Steps rules (AskUpdate u) old (Fail (error.ErrorOutOfMemory pos)) new

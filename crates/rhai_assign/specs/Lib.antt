@@ -1,0 +1,4 @@
+pub mod Targets
+pub mod Updates
+pub mod Follows
+pub mod Keeps

@@ -1,0 +1,77 @@
+-- Where the value of a variable stands in the code, and what is written there.
+use Rattle.std.specs.Prelude.{◌≡◌, ◌<◌, ℕ, Bool, true, false, List, length, Option, Some, is_some, unwrap_or, slice_get, Result, Ok, Err}
+use Rattle.rhai_tree.specs.declared.position.Position.{Position}
+use Rattle.rhai_values.specs.declared.base.value.Dynamic.{Dynamic}
+use Rattle.rhai_values.specs.declared.base.scope.Scope.{Scope}
+use Rattle.rhai_values.specs.declared.base.scope.ScopeEntry.{ScopeEntry}
+use Rattle.rhai_values.specs.declared.base.error.EvalAltResult.{EvalAltResult}
+use Rattle.rhai_values.specs.declared.cells.CellStore.{CellStore}
+use Rattle.rhai_values.specs.Cells.{cells_of, value_of_cell, with_value}
+use Rattle.rhai_values.specs.Errors.{is_out_of_memory}
+use Rattle.rhai_values.specs.Native.{Request, Named, request}
+use Rattle.rhai_values.specs.Scope.{entries_of, value_in, revalued}
+use Rattle.rhai_machine.specs.language.Values.{Cells, unit_value}
+use Rattle.rhai_machine.specs.language.Places.{Place, InEntry, InCell, Target, target, while_lent}
+use Rattle.rhai_assign.specs.declared.place.Place as code
+use Rattle.rhai_assign.specs.declared.place.Place.TheVariants as place
+
+abbrev pub place_in : code.Place → Place
+place_in (place.InEntry index) = InEntry index
+place_in (place.InCell id) = InCell id.number
+
+module _ {H : Type 0} where
+  -- the value at a place, None where there is none
+  abbrev pub there : Place → List (ScopeEntry H) → Cells H → Option (Dynamic H)
+  there (InEntry index) entries cells = value_in entries (Some index)
+  there (InCell number) entries cells = value_of_cell cells number
+
+  -- there is a value at a place
+  abbrev pub stands : Place → List (ScopeEntry H) → Cells H → Bool
+  stands place entries cells = is_some (there place entries cells)
+
+  -- the value at a place that has one
+  abbrev pub standing : Place → List (ScopeEntry H) → Cells H → Dynamic H
+  standing place entries cells = unwrap_or (there place entries cells) unit_value
+
+  -- an entry or a cell that there is, held or not
+  abbrev pub IsKnown : Place → List (ScopeEntry H) → Cells H → Type 0
+  IsKnown (InEntry index) entries cells = index < length entries
+  IsKnown (InCell number) entries cells = number < length cells
+
+  -- the entries and the cells once a value is written to a place
+  abbrev pub entries_put : Place → Dynamic H → List (ScopeEntry H) → List (ScopeEntry H)
+  entries_put (InEntry index) v entries = revalued entries index (slice_get entries index) v
+  entries_put (InCell number) v entries = entries
+
+  abbrev pub cells_put : Place → Dynamic H → Cells H → Cells H
+  cells_put (InEntry index) v cells = cells
+  cells_put (InCell number) v cells = with_value cells number v
+
+  -- the same of a place, a scope and a store of cells in the code
+  abbrev pub there_at : code.Place → Scope H → CellStore H → Option (Dynamic H)
+  there_at place scope cells = there (place_in place) (entries_of scope) (cells_of cells)
+
+  abbrev pub stands_at : code.Place → Scope H → CellStore H → Bool
+  stands_at place scope cells = stands (place_in place) (entries_of scope) (cells_of cells)
+
+  abbrev pub standing_at : code.Place → Scope H → CellStore H → Dynamic H
+  standing_at place scope cells = standing (place_in place) (entries_of scope) (cells_of cells)
+
+  abbrev pub IsKnownAt : code.Place → Scope H → CellStore H → Type 0
+  IsKnownAt place scope cells = IsKnown (place_in place) (entries_of scope) (cells_of cells)
+
+  -- a value is written to a place, and nothing else is
+  pub record IsPut (place : code.Place) (v : Dynamic H) (before after : Scope H) (old new : CellStore H) : Type 0 where
+    pub entries : entries_of after ≡ entries_put (place_in place) v (entries_of before)
+    pub cells : cells_of new ≡ cells_put (place_in place) v (cells_of old)
+
+  -- the call of a native with the value of a place as its first argument, while that is lent to it
+  abbrev pub lent_request : code.Place → Scope H → CellStore H → (name : List ℕ) → (rest : List (Dynamic H)) → Position → Request H
+  lent_request place scope cells name rest at =
+      request (while_lent (place_in place) (cells_of cells)) (Named name) (Some (standing_at place scope cells)) rest at
+
+  -- a place that was found has the target's value, and an error is the machine's, want of memory aside
+  abbrev pub Finds : Result code.Place (EvalAltResult H) → List (ScopeEntry H) → Cells H → Result (Target H) (EvalAltResult H) → Type 0
+  Finds (Ok p) entries cells wanted =
+      (wanted ≡ Ok (target (place_in p) (standing (place_in p) entries cells))) × (stands (place_in p) entries cells ≡ true)
+  Finds (Err e) entries cells wanted = is_out_of_memory e ≡ false → wanted ≡ Err e

@@ -1,0 +1,73 @@
+//! Assignment to a variable: of a value as it is, or by an operator, for which the built-in is
+//! tried first, then the native `op=` on the target, then the native `op` for a new value. Ports
+//! upstream's `eval_op_assignment` for variables. The contracts cite the machine's specs/language,
+//! Places and Assignment, and the crate's own specs/.
+#![tactic(auto)]
+
+mod native;
+mod place;
+mod update;
+mod write;
+
+ghost use Rattle.std.specs.Prelude.{◌≡◌, ◌≤◌, true};
+ghost use Rattle.rhai_values.specs.Scope.{names_in};
+ghost use Rattle.rhai_machine.specs.language.Setting.{rules_of};
+ghost use Rattle.rhai_machine.specs.language.Frames.{Assign};
+ghost use Rattle.rhai_machine.specs.language.Runs.{Runs};
+ghost use Rattle.rhai_steps.specs.States.{state_of};
+
+use crate::place::find_target;
+use crate::update::store;
+use rhai_items::{Shared, Text};
+use rhai_steps::charges::track_operation;
+use rhai_steps::values::let_go;
+use rhai_tree::expr::OpAssignment;
+use rhai_tree::position::Position;
+use rhai_values::base::error::EvalAltResult;
+use rhai_values::base::scope::Scope;
+use rhai_values::base::value::{Dynamic, Host};
+use rhai_values::limits::Limits;
+use rhai_values::state::GlobalRuntimeState;
+use rhai_values::table::NativeTable;
+use std::alloc::Global;
+
+/// Assigns a value to the variable of a name, charged first at the variable. By an operator the
+/// built-in is tried first, then the native `op=`, which may change the target, and where that
+/// is missing the native `op`, which gives its new value.
+///
+/// # Errors
+/// At the variable: `ErrorTooManyOperations` where the count has reached the limit,
+/// `ErrorVariableNotFound`, `ErrorAssignmentToConstant`, and `ErrorDataRace` where its cell is
+/// held. At the operator: what the operator answers, and `ErrorDataTooLarge` for a value above
+/// a limit; what a native left in the target is measured at the variable.
+pub fn assign_variable<H: Host, T: NativeTable<H>>(
+    limits: &Limits,
+    alloc: Global,
+    global: &mut GlobalRuntimeState<H>,
+    table: &mut T,
+    scope: &mut Scope<H>,
+    name: &Shared<Text>,
+    pos: Position,
+    op: OpAssignment,
+    value: Dynamic<H>,
+) -> Result<Dynamic<H>, EvalAltResult<H>>
+    ensures counts { global.old.num_operations ≤ global.new.num_operations }
+    ensures names { names_in scope.new ≡ names_in scope.old }
+    ensures runs { (offer : _) (this : _) → offer.fast_operators ≡ true →
+        Runs (rules_of limits.now H.name_of offer T.natives)
+        (Assign (record { name = name.now; at = pos; op = op }) value)
+        (state_of (T.state table.old) global.old scope.old this)
+        result (state_of (T.state table.new) global.new scope.new this) }
+{
+    if let Err(error) = track_operation(limits, global, pos) {
+        let_go(value);
+        return Err(error);
+    }
+    match find_target(&global.cells, scope, name, pos) {
+        Ok(place) => store(limits, alloc, global, table, scope, place, pos, op, value),
+        Err(error) => {
+            let_go(value);
+            Err(error)
+        }
+    }
+}

@@ -1,0 +1,150 @@
+//! Where the value of a variable stands, as it is assigned to: it is found, read, taken and
+//! written there.
+
+ghost use Rattle.std.specs.Prelude.{◌≡◌, ◌||◌, Some, true};
+ghost use Rattle.rhai_values.specs.Cells.{cells_of, value_of_cell};
+ghost use Rattle.rhai_values.specs.Scope.{entries_of};
+ghost use Rattle.rhai_machine.specs.language.Values.{unit_value as unit};
+ghost use Rattle.rhai_machine.specs.language.Places.{is_constant as constant_at, target, target_in_cell, target_of, unless_constant as allowed, while_lent};
+ghost use Rattle.rhai_assign.specs.Targets.{Finds, IsKnownAt, IsPut, entries_put, place_in, stands_at, there, there_at};
+
+use rhai_items::{Shared, Text};
+use rhai_steps::errors::{assignment_to_constant, data_race_of, variable_not_found};
+use rhai_steps::values::{let_go, unit_value};
+use rhai_tree::position::Position;
+use rhai_tree::token::Token;
+use rhai_values::base::error::EvalAltResult;
+use rhai_values::base::scope::Scope;
+use rhai_values::base::value::{AccessMode, CellId, Dynamic, Host, Union};
+use rhai_values::cells::CellStore;
+
+/// Where a variable's value stands: in an entry of the scope, or in a cell.
+#[derive(Clone, Copy)]
+pub(crate) enum Place {
+    InEntry(usize),
+    InCell(CellId),
+}
+
+/// An assignment by an operator, its target found.
+#[derive(Clone, Copy)]
+pub(crate) struct Update {
+    /// The operator without its `=`.
+    pub(crate) token: Token,
+    /// Where the operator stands.
+    pub(crate) at: Position,
+    pub(crate) place: Place,
+    /// Where the target stands in the script.
+    pub(crate) target_at: Position,
+}
+
+/// Whether a variable is a constant, by its own mode or by that of its cell's value.
+fn is_constant(mode: AccessMode, inner: AccessMode) -> bool
+    ensures { result ≡ (constant_at mode || constant_at inner) }
+{
+    matches!(mode, AccessMode::ReadOnly) || matches!(inner, AccessMode::ReadOnly)
+}
+
+/// A place, unless it is a constant's.
+fn unless_constant<H: Host>(
+    constant: bool,
+    place: Place,
+    name: &Shared<Text>,
+    pos: Position,
+) -> Result<Place, EvalAltResult<H>>
+    ensures { (entries : _) (cells : _) (v : _) → there (place_in place) entries cells ≡ Some v →
+        Finds result entries cells (allowed constant name.now pos (target (place_in place) v)) }
+{
+    if constant {
+        return Err(assignment_to_constant(name, pos));
+    }
+    Ok(place)
+}
+
+/// The place of a variable whose value is in a cell.
+fn find_in_cell<H: Host>(
+    cells: &CellStore<H>,
+    mode: AccessMode,
+    id: CellId,
+    name: &Shared<Text>,
+    pos: Position,
+) -> Result<Place, EvalAltResult<H>>
+    ensures { (entries : _) → Finds result entries (cells_of cells.now)
+        (target_in_cell name.now pos mode id.number (value_of_cell (cells_of cells.now) id.number)) }
+{
+    match cells.get(id) {
+        Some(inner) => {
+            let constant = is_constant(mode, inner.access_mode());
+            unless_constant(constant, Place::InCell(id), name, pos)
+        }
+        None => Err(data_race_of(name, pos)),
+    }
+}
+
+/// The place of the newest variable of a name, as it is assigned to.
+pub(crate) fn find_target<H: Host>(
+    cells: &CellStore<H>,
+    scope: &Scope<H>,
+    name: &Shared<Text>,
+    pos: Position,
+) -> Result<Place, EvalAltResult<H>>
+    ensures { Finds result (entries_of scope.now) (cells_of cells.now)
+        (target_of (cells_of cells.now) name.now pos (entries_of scope.now)) }
+{
+    let Some(index) = scope.search(name.get().as_str()) else {
+        return Err(variable_not_found(name, pos));
+    };
+    let value = scope.value_at(index);
+    let mode = value.access_mode();
+    match &value.value {
+        Union::Cell(id) => find_in_cell(cells, mode, *id, name, pos),
+        _ => unless_constant(is_constant(mode, mode), Place::InEntry(index), name, pos),
+    }
+}
+
+/// The value at a place. Asked: there is one.
+pub(crate) fn value_at<'a, H: Host>(
+    cells: &'a CellStore<H>,
+    scope: &'a Scope<H>,
+    place: Place,
+) -> &'a Dynamic<H>
+    requires { stands_at place scope.now cells.now ≡ true }
+    ensures { there_at place scope.now cells.now ≡ Some result.now }
+{
+    match place {
+        Place::InEntry(index) => scope.value_at(index),
+        Place::InCell(id) => cells.get(id).unwrap(),
+    }
+}
+
+/// Writes a value to a place. Asked: the place is known.
+pub(crate) fn put<H: Host>(
+    cells: &mut CellStore<H>,
+    scope: &mut Scope<H>,
+    place: Place,
+    value: Dynamic<H>,
+)
+    requires { IsKnownAt place scope.old cells.old }
+    ensures { IsPut place value scope.old scope.new cells.old cells.new }
+{
+    match place {
+        Place::InEntry(index) => let_go(scope.replace_value(index, value)),
+        Place::InCell(id) => cells.set(id, value),
+    }
+}
+
+/// Takes the value out of a place, whose cell is then held. Asked: there is one.
+pub(crate) fn take<H: Host>(
+    cells: &mut CellStore<H>,
+    scope: &mut Scope<H>,
+    place: Place,
+) -> Dynamic<H>
+    requires { stands_at place scope.old cells.old ≡ true }
+    ensures value { there_at place scope.old cells.old ≡ Some result }
+    ensures entries { entries_of scope.new ≡ entries_put (place_in place) unit (entries_of scope.old) }
+    ensures cells { cells_of cells.new ≡ while_lent (place_in place) (cells_of cells.old) }
+{
+    match place {
+        Place::InEntry(index) => scope.replace_value(index, unit_value()),
+        Place::InCell(id) => cells.take(id).unwrap(),
+    }
+}

@@ -1,0 +1,109 @@
+//! What an update writes to its target, and what it measures.
+
+ghost use Rattle.std.specs.Prelude.{◌≡◌, Err, true, IfErr, IfOk};
+ghost use Rattle.rhai_values.specs.Scope.{names_in};
+ghost use Rattle.rhai_machine.specs.language.State.{Answers};
+ghost use Rattle.rhai_machine.specs.language.Calls.{applied as applied_at, sized as sized_at};
+ghost use Rattle.rhai_machine.specs.language.Places.{put as put_at};
+ghost use Rattle.rhai_machine.specs.language.Assignment.{written_core};
+ghost use Rattle.rhai_steps.specs.States.{local_of};
+ghost use Rattle.rhai_assign.specs.Targets.{place_in, stands_at};
+ghost use Rattle.rhai_assign.specs.Updates.{Becomes, changed_of, finished};
+
+use crate::place::{Update, put};
+use rhai_steps::errors::data_too_large;
+use rhai_steps::replies::{applied, sized};
+use rhai_steps::values::{let_go, unit_value};
+use rhai_tree::position::Position;
+use rhai_values::base::error::EvalAltResult;
+use rhai_values::base::scope::Scope;
+use rhai_values::base::value::{Dynamic, Host};
+use rhai_values::limits::Limits;
+use rhai_values::state::GlobalRuntimeState;
+use std::alloc::Global;
+
+/// Refuses a value whose data is too large, and leaves it where it is.
+fn measure<H: Host>(
+    limits: &Limits,
+    alloc: Global,
+    value: &Dynamic<H>,
+    pos: Position,
+) -> Result<Dynamic<H>, EvalAltResult<H>>
+    ensures { Answers result (finished (sized_at limits.now value.now pos)) }
+{
+    match value.exceeds(
+        limits.max_string_size,
+        limits.max_array_size,
+        limits.max_map_size,
+    ) {
+        None => Ok(unit_value()),
+        Some(fault) => Err(data_too_large(alloc, fault, pos)),
+    }
+}
+
+/// What an update ends with whose native changed the target: its value is measured at the
+/// operator, then the target.
+pub(crate) fn changed<H: Host>(
+    limits: &Limits,
+    alloc: Global,
+    update: Update,
+    value: Dynamic<H>,
+    target: &Dynamic<H>,
+) -> Result<Dynamic<H>, EvalAltResult<H>>
+    ensures { Answers result
+        (changed_of limits.now (sized_at limits.now value update.at) target.now update.target_at) }
+{
+    let_go(sized(alloc, limits, value, update.at)?);
+    measure(limits, alloc, target, update.target_at)
+}
+
+/// Writes what a built-in operator gave, measured at the operator; an error leaves the target.
+pub(crate) fn write_outcome<H: Host>(
+    limits: &Limits,
+    alloc: Global,
+    global: &mut GlobalRuntimeState<H>,
+    scope: &mut Scope<H>,
+    update: Update,
+    outcome: Result<Dynamic<H>, EvalAltResult<H>>,
+) -> Result<Dynamic<H>, EvalAltResult<H>>
+    requires { stands_at update.place scope.old global.old.cells ≡ true }
+    ensures counts { global.new.num_operations ≡ global.old.num_operations }
+    ensures names { names_in scope.new ≡ names_in scope.old }
+    ensures written { (this : _) →
+        Becomes (written_core (applied_at limits.now outcome update.at) (place_in update.place))
+        (local_of global.old scope.old this) result (local_of global.new scope.new this) }
+    ensures left_global { IfErr result (λ _. global.new ≡ global.old) }
+    ensures left_scope { IfErr result (λ _. scope.new ≡ scope.old) }
+{
+    let value = applied(alloc, limits, outcome, update.at)?;
+    put(&mut global.cells, scope, update.place, value);
+    Ok(unit_value())
+}
+
+/// Writes what the native `op` gave, and measures it where the target stands; an error leaves
+/// the target.
+pub(crate) fn write_value<H: Host>(
+    limits: &Limits,
+    alloc: Global,
+    global: &mut GlobalRuntimeState<H>,
+    scope: &mut Scope<H>,
+    update: Update,
+    outcome: Result<Dynamic<H>, EvalAltResult<H>>,
+) -> Result<Dynamic<H>, EvalAltResult<H>>
+    requires { stands_at update.place scope.old global.old.cells ≡ true }
+    ensures counts { global.new.num_operations ≡ global.old.num_operations }
+    ensures names { names_in scope.new ≡ names_in scope.old }
+    ensures written { (this : _) →
+        IfOk outcome (λ v. local_of global.new scope.new this ≡
+        put_at (place_in update.place) v (local_of global.old scope.old this)) }
+    ensures measured { IfOk outcome (λ v.
+        Answers result (finished (sized_at limits.now v update.target_at))) }
+    ensures fault { IfErr outcome (λ e. result ≡ Err e) }
+    ensures left_global { IfErr outcome (λ _. global.new ≡ global.old) }
+    ensures left_scope { IfErr outcome (λ _. scope.new ≡ scope.old) }
+{
+    let value = outcome?;
+    let measured = measure(limits, alloc, &value, update.target_at);
+    put(&mut global.cells, scope, update.place, value);
+    measured
+}

@@ -1,0 +1,139 @@
+-- The indexers of a host: where one is asked, what it is asked, and what its answer comes to.
+use Rattle.std.specs.Prelude.{ℕ, Bool, true, false, not, ◌&&◌, List, [], ◌∷◌, Option, Some, None, Result, Ok, Err, codes, length}
+use Rattle.rhai_tree.specs.declared.position.Position.{Position}
+use Rattle.rhai_tree.specs.Position.{none}
+use Rattle.rhai_values.specs.declared.base.error.EvalAltResult.{EvalAltResult}
+use Rattle.rhai_values.specs.declared.base.error.EvalAltResult.TheVariants as error
+use Rattle.rhai_values.specs.declared.base.value.CellId.{CellId}
+use Rattle.rhai_values.specs.declared.base.value.Dynamic.{Dynamic}
+use Rattle.rhai_values.specs.declared.base.value.FnPtrKind.TheOpen as layer
+use Rattle.rhai_values.specs.declared.limits.Limits.{Limits}
+use Rattle.rhai_values.specs.Layers.{UnionLayer}
+use Rattle.rhai_values.specs.Native.{Request, Reply, Missing, Gives, Faults, Effect, Natives, Named, OfName, effect, request}
+use Rattle.rhai_values.specs.TypeNames.{type_name_of}
+use Rattle.rhai_values.specs.Cells.{value_of_cell, with_held, with_value}
+use Rattle.rhai_places.specs.declared.target.Part.{Part}
+use Rattle.rhai_places.specs.declared.target.Part.TheVariants as part
+use Rattle.rhai_places.specs.Refusals.{indexing_text}
+use Rattle.rhai_machine.specs.language.Calls.{placed_if_none, sized}
+use Rattle.rhai_machine.specs.language.Places.{is_constant}
+
+-- a call of an indexer on an object: its name, the index, the values after it, whether the object is lent to it, and where
+-- the call stands
+pub record IndexerCall (H : Type 0) : Type 0 where
+  pub name : List ℕ
+  pub index : Dynamic H
+  pub values : List (Dynamic H)
+  pub is_lent : Bool
+  pub at : Position
+
+module _ {H : Type 0} where
+  -- the indexer that reads, to which the object is lent
+  abbrev pub reading : (index : Dynamic H) → Position → IndexerCall H
+  reading index at = record { name = codes "index$get$"; index = index; values = []; is_lent = true; at = at }
+
+  -- the indexer that writes, with whether the object is lent to it
+  abbrev pub writing : (index value : Dynamic H) → (is_lent : Bool) → Position → IndexerCall H
+  writing index value is_lent at = record { name = codes "index$set$"; index = index; values = value ∷ []; is_lent = is_lent; at = at }
+
+  -- ---- where one is asked
+
+  -- the kinds of values that are indexed without a host
+  abbrev pub is_indexed : UnionLayer H → Bool
+  is_indexed (layer.Int number) = true
+  is_indexed (layer.Str text) = true
+  is_indexed (layer.Array items) = true
+  is_indexed (layer.Blob bytes) = true
+  is_indexed (layer.Map entries) = true
+  is_indexed _ = false
+
+  -- the host's indexer is asked: it may be, and the value is of another kind
+  abbrev pub asks_indexer : (use_indexers : Bool) → UnionLayer H → Bool
+  asks_indexer use_indexers object = use_indexers && not (is_indexed object)
+
+  -- an indexer that is not pure gets no constant that is lent to it
+  abbrev pub is_barred : (is_lent is_pure : Bool) → Dynamic H → Bool
+  is_barred is_lent is_pure object = is_lent && (not is_pure && is_constant object.mode)
+
+  -- ---- what it leaves
+
+  -- what is asked of the table
+  abbrev pub indexer_request : List (Option (Dynamic H)) → (name : List ℕ) → (object : Dynamic H) → (others : List (Dynamic H)) →
+      Position → Request H
+  indexer_request cells name object others at = request cells (Named name) (Some object) others at
+
+  module _ {S : Type 0} (natives : Natives S H) where
+    -- what a call of a name leaves: an object that is barred is not touched
+    abbrev pub called : List (Option (Dynamic H)) → Position → (barred : Bool) → S → (name : List ℕ) → (object : Dynamic H) →
+        (others : List (Dynamic H)) → Effect S H
+    called cells at true t name object others = effect (Faults (error.ErrorNonPureMethodCallOnConstant name none)) (Some object) t
+    called cells at false t name object others = natives.gives t (indexer_request cells name object others at)
+
+    module _ (host : H → List ℕ) (cells : List (Option (Dynamic H))) (t : S) where
+      -- an indexer changes nothing of an object of this type, with so many arguments
+      abbrev pub is_pure_on : (name : List ℕ) → (object : Dynamic H) → (count : ℕ) → Bool
+      is_pure_on name object count = natives.pure t (OfName name (type_name_of host cells object) count)
+
+      -- the same of a call
+      abbrev pub is_pure_for : IndexerCall H → (object : Dynamic H) → Bool
+      is_pure_for call object = is_pure_on call.name object (length (object ∷ call.index ∷ call.values))
+
+      -- what a call leaves
+      abbrev pub effect_of : IndexerCall H → (object : Dynamic H) → Effect S H
+      effect_of call object =
+          called cells call.at (is_barred call.is_lent (is_pure_for call object) object) t call.name object (call.index ∷ call.values)
+
+  -- ---- what its answer comes to
+
+  -- a value of a size that is allowed, the indexer's fault, or the refusal of the object and the index
+  abbrev pub indexer_result : Limits → (H → List ℕ) → List (Option (Dynamic H)) → (object index : Dynamic H) → Position → Reply H →
+      Result (Dynamic H) (EvalAltResult H)
+  indexer_result limits host cells object index at Missing =
+      Err (error.ErrorIndexingType (indexing_text (type_name_of host cells object) (type_name_of host cells index)) at)
+  indexer_result limits host cells object index at (Gives v) = sized limits v at
+  indexer_result limits host cells object index at (Faults e) = Err (placed_if_none at e)
+
+  -- what comes of a call
+  abbrev pub outcome_of : {S : Type 0} → Limits → (H → List ℕ) → Natives S H → List (Option (Dynamic H)) → S → IndexerCall H →
+      (object : Dynamic H) → Result (Dynamic H) (EvalAltResult H)
+  outcome_of limits host natives cells t call object =
+      indexer_result limits host cells object call.index call.at (effect_of natives host cells t call object).reply
+
+  -- an outcome by itself, whatever the indexer may have changed
+  abbrev pub by_itself : (is_pure : Bool) → Result (Dynamic H) (EvalAltResult H) → Result (Dynamic H) (EvalAltResult H)
+  by_itself is_pure outcome = outcome
+
+  -- an outcome with whether the object may have been changed
+  abbrev pub with_change : (changed : Bool) → Result (Dynamic H) (EvalAltResult H) → Result (Dynamic H × Bool) (EvalAltResult H)
+  with_change changed (Ok v) = Ok (v, changed)
+  with_change changed (Err e) = Err e
+
+  abbrev pub beside_change : (is_pure : Bool) → Result (Dynamic H) (EvalAltResult H) → Result (Dynamic H × Bool) (EvalAltResult H)
+  beside_change is_pure outcome = with_change (not is_pure) outcome
+
+  -- its value as a part of a target: a temporary
+  abbrev pub as_temporary : Result (Dynamic H) (EvalAltResult H) → Result (Part H) (EvalAltResult H)
+  as_temporary (Ok v) = Ok (part.Temporary v)
+  as_temporary (Err e) = Err e
+
+  -- ---- an object that is a handle
+
+  -- the cell that a value is a handle of
+  abbrev pub cell_of : UnionLayer H → Option CellId
+  cell_of (layer.Cell id) = Some id
+  cell_of _ = None
+
+  -- the value that is lent for an object: the one of its cell where it is a handle, None where the cell is held
+  abbrev pub lent_by : Option CellId → List (Option (Dynamic H)) → (object : Dynamic H) → Option (Dynamic H)
+  lent_by None cells object = Some object
+  lent_by (Some id) cells object = value_of_cell cells id.number
+
+  -- the cells while it is lent: that cell is held
+  abbrev pub lending : Option CellId → List (Option (Dynamic H)) → List (Option (Dynamic H))
+  lending None cells = cells
+  lending (Some id) cells = with_held cells id.number
+
+  -- the cells and the object once it is given back
+  abbrev pub given_back : Option CellId → List (Option (Dynamic H)) → (object left : Dynamic H) → List (Option (Dynamic H)) × Dynamic H
+  given_back None cells object left = (cells, left)
+  given_back (Some id) cells object left = (with_value (with_held cells id.number) id.number left, object)

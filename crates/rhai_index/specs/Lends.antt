@@ -1,0 +1,29 @@
+-- What an object that was indexed ends as, once the target's borrow has ended.
+use Rattle.std.specs.Prelude.{◌≡◌, ⊤, Bool, true, false, Result, IsOk, OnErr}
+use Rattle.std.specs.Borrow.{follows_so, MutBor, RattleType, Fml}
+use Rattle.rhai_values.specs.contracts.base.value.Dynamic as dynamic
+use Rattle.rhai_values.specs.declared.base.value.Dynamic.{Dynamic}
+use Rattle.rhai_values.specs.declared.base.error.EvalAltResult.{EvalAltResult}
+use Rattle.rhai_places.specs.declared.spot.Spot.{Spot}
+use Rattle.rhai_places.specs.declared.target.Target.{Target}
+use Rattle.rhai_places.specs.Found.{EndsBy}
+use Rattle.rhai_places.specs.Lends.{result_name}
+
+module _ {H : Type 0} where
+  -- what the object ends as, where the place of the target ends as it was changed: with that at the place, or where an indexer
+  -- was asked as that
+  abbrev pub EndsAs : (asked : Bool) → Result (Dynamic H × Spot) (EvalAltResult H) → (place end : Dynamic H) → Type 0
+  EndsAs true found place end = end ≡ place
+  EndsAs false found place end = EndsBy found place end
+
+  -- at an error the object stays, unless an indexer was asked
+  abbrev pub StaysUnless : (asked : Bool) → (object end : Dynamic H) → Type 0
+  StaysUnless true object end = ⊤
+  StaysUnless false object end = end ≡ object
+
+module _ (H : RattleType) where
+  abbrev pub lends_indexed : (asked : Bool) → MutBor (Dynamic H.Denot) → Result (Dynamic H.Denot × Spot) (EvalAltResult H.Denot) →
+      Result (Target H.Denot) (EvalAltResult H.Denot) → Fml
+  lends_indexed asked s found r =
+      follows_so (dynamic.the_row H) (dynamic.the_row H) s.ghost_name (result_name H r)
+      (λ x n. IsOk r → EndsAs asked found x n) (λ n. OnErr r (StaysUnless asked s.now n))

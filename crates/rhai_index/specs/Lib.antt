@@ -1,0 +1,4 @@
+pub mod Calls
+pub mod Indexers
+pub mod Indexes
+pub mod Lends

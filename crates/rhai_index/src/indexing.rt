@@ -1,0 +1,83 @@
+//! What an index leads to, with the charge and the host's indexers. Ports upstream's
+//! `get_indexed_mut`. The contracts cite specs/Indexers.antt, specs/Indexes.antt and
+//! specs/Lends.antt.
+
+ghost use Rattle.std.specs.Prelude.{◌≡◌};
+ghost use Rattle.std.specs.Borrow.{sem};
+ghost use Rattle.rhai_values.specs.Cells.{cells_of};
+ghost use Rattle.rhai_values.specs.Layers.{layer_of};
+ghost use Rattle.rhai_values.specs.Native.{IsNoHandle};
+ghost use Rattle.rhai_places.specs.Found.{found};
+ghost use Rattle.rhai_index.specs.Indexers.{asks_indexer as is_asked};
+ghost use Rattle.rhai_index.specs.Indexes.{Indexes};
+ghost use Rattle.rhai_index.specs.Lends.{lends_indexed};
+
+use crate::indexers::ask_get;
+use rhai_places::indexing;
+use rhai_places::spot::Access;
+use rhai_places::target::{Part, Target};
+use rhai_steps::charges::track_operation;
+use rhai_tree::position::Position;
+use rhai_values::base::error::EvalAltResult;
+use rhai_values::base::value::{Dynamic, Host, Union};
+use rhai_values::limits::Limits;
+use rhai_values::state::GlobalRuntimeState;
+use rhai_values::table::NativeTable;
+use std::alloc::Global;
+
+/// Whether the host's indexer is asked: it may be, and the value is of no kind that is indexed
+/// without it.
+fn asks_indexer<H: Host>(object: &Dynamic<H>, use_indexers: bool) -> bool
+    ensures { result ≡ is_asked use_indexers (layer_of object.now) }
+{
+    match &object.value {
+        Union::Int(_) | Union::Str(_) | Union::Array(_) | Union::Blob(_) | Union::Map(_) => false,
+        _ => use_indexers,
+    }
+}
+
+/// The target that an index leads to, charged first without a position. Where the object is of a
+/// kind that is not indexed here and indexers are allowed, the host's indexer is charged at the
+/// operator and called with the object and the index, and its value is a temporary; what the target
+/// borrows then is the object as the indexer left it. Ports upstream's `get_indexed_mut`. Asked: the
+/// object is no handle of a cell.
+///
+/// The object comes first, so that a clause can tell what becomes of it: when the target's borrow
+/// ends, what was written through it stands in the object at the place where the index leads, beside
+/// a missing key that was inserted. The place of a part or a temporary is the whole object. At an
+/// error the object stays, unless an indexer was asked.
+///
+/// # Errors
+/// `ErrorTooManyOperations` where the count has reached the limit: without a position, and nothing
+/// is changed; or at the operator, before the indexer is called. At the operator too:
+/// `ErrorIndexingType` where there is no indexer, its own fault where that says no position, and
+/// `ErrorDataTooLarge` for a value of it above a limit. All others are those of
+/// `rhai_places::indexing::get_indexed_mut`.
+pub fn get_indexed_mut<'t, H: Host, T: NativeTable<H>>(
+    target: &'t mut Dynamic<H>,
+    alloc: Global,
+    limits: &Limits,
+    global: &mut GlobalRuntimeState<H>,
+    table: &mut T,
+    idx: &mut Dynamic<H>,
+    how: Access,
+    use_indexers: bool,
+) -> Result<Target<'t, H>, EvalAltResult<H>>
+    requires { IsNoHandle target.old.value }
+    ensures* writes_back { sem 𝓛 (lends_indexed H.row
+        (is_asked use_indexers (layer_of target.entry.now)) target.entry
+        (found how H.name_of (cells_of global.entry.now.cells) target.entry.now idx.entry.now) result) }
+    ensures indexes { Indexes limits.now H.name_of T.natives T.state how use_indexers
+        global.old table.old target.old idx.old global.new table.new idx.new result }
+{
+    track_operation(limits, global, Position::NONE)?;
+    if !asks_indexer(target, use_indexers) {
+        return indexing::get_indexed_mut(target, alloc, &global.cells, idx, how);
+    }
+    track_operation(limits, global, how.op_pos)?;
+    let value = ask_get(alloc, limits, &global.cells, table, target, idx, how.op_pos)?;
+    Ok(Target {
+        at: target,
+        part: Part::Temporary(value),
+    })
+}

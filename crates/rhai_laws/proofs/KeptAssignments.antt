@@ -1,0 +1,146 @@
+-- What the rules of assignment keep: they write to places that stand, and add no names.
+use Rattle.std.proofs.Common.{refl, ap, subst}
+use Rattle.std.specs.Prelude.{◌≡◌, Bool, true, false, ◌||◌, ℕ, List, [], ◌∷◌, Option, Some, None, Result, Ok, Err, is_some}
+use Rattle.rhai_tree.specs.declared.position.Position.{Position}
+use Rattle.rhai_tree.specs.declared.token.Token.{Token}
+use Rattle.rhai_tree.specs.declared.expr.OpAssignment.{OpAssignment}
+use Rattle.rhai_tree.specs.declared.expr.Expr.{Expr}
+use Rattle.rhai_tree.specs.declared.expr.Expr.TheOpen as layer
+use Rattle.rhai_tree.specs.Layers.{ExprLayer}
+use Rattle.rhai_values.specs.declared.base.value.AccessMode.{AccessMode}
+use Rattle.rhai_values.specs.declared.base.value.AccessMode.TheVariants.{ReadWrite}
+use Rattle.rhai_values.specs.declared.base.value.Dynamic.{Dynamic}
+use Rattle.rhai_values.specs.declared.base.value.Union.{Union}
+use Rattle.rhai_values.specs.declared.base.value.Union.TheVariants as value
+use Rattle.rhai_values.specs.declared.base.error.EvalAltResult.{EvalAltResult}
+use Rattle.rhai_values.specs.Cells.{value_of_cell}
+use Rattle.rhai_values.specs.Modes.{with_mode}
+use Rattle.rhai_values.specs.Native.{Reply, Missing, Gives, Faults}
+use Rattle.rhai_values.specs.Scope.{index_of, found}
+use Rattle.rhai_operators.specs.Answers.{Answer, op_assign_of}
+use Rattle.rhai_machine.specs.language.Setting.{Setting}
+use Rattle.rhai_machine.specs.language.State.{Local}
+use Rattle.rhai_machine.specs.language.Places.{Place, InEntry, InCell, Target, target, is_constant, unless_constant, target_in_cell}
+use Rattle.rhai_machine.specs.language.Places.{target_at, target_found, target_of, put}
+use Rattle.rhai_machine.specs.language.Frames.{Attempt, InPlace, AsValue, Assignment, Update, Frame, Core, core, FireUpdate}
+use Rattle.rhai_machine.specs.language.Calls.{sized, applied, replied, placed_if_none}
+use Rattle.rhai_machine.specs.language.Assignment.{assignment_move, assigned_core, written_core, done, if_fast, says_missing, operation_of}
+use Rattle.rhai_machine.specs.language.Assignment.{native_of, left_in, update_core, assign_core, store_core, changed_core, fault_core}
+use Rattle.rhai_machine.specs.language.Assignment.{value_core, answered_core, lent_core, fire_update}
+use Rattle.rhai_laws.specs.Kept.{Stands}
+use Rattle.rhai_laws.specs.Steady.{Moves}
+use Rattle.rhai_laws.proofs.Keeping.{Asked, Keeps, quiet, through, after, calm, put_keeps, put_stands}
+
+module _ {H : Type 0} where
+  -- the target of an assignment stands
+  constant_stands : (b : Bool) (name : List ℕ) (pos : Position) (there t : Target H) (l : Local H) → Stands there.place l →
+      unless_constant b name pos there ≡ Ok t → Stands t.place l
+  constant_stands true name pos there t l stands is = cc
+  constant_stands false name pos there t l stands is = let same : there ≡ t = cc in subst (λ (x : Target H). Stands x.place l) same stands
+
+  cell_stands : (name : List ℕ) (pos : Position) (mode : AccessMode) (n : ℕ) (there : Option (Dynamic H)) (t : Target H) (l : Local H) →
+      value_of_cell l.around.cells n ≡ there → target_in_cell name pos mode n there ≡ Ok t → Stands t.place l
+  cell_stands name pos mode n (Some v) t l there is =
+      constant_stands (is_constant mode || is_constant v.mode) name pos (target (InCell n) v) t l (ap is_some there) is
+  cell_stands name pos mode n None t l there is = cc
+
+  at_stands : (name : List ℕ) (pos : Position) (i : ℕ) (u : Union H) (v : Dynamic H) (t : Target H) (l : Local H) →
+      target_at l.around.cells name pos i u v ≡ Ok t → Stands t.place l
+  at_stands name pos i (value.Cell id) v t l is = cell_stands name pos v.mode id.number (value_of_cell l.around.cells id.number) t l refl is
+  at_stands name pos i _ v t l is = constant_stands (is_constant v.mode) name pos (target (InEntry i) v) t l tt is
+
+  found_stands : (name : List ℕ) (pos : Position) (index : Option ℕ) (there : Option (Dynamic H)) (t : Target H) (l : Local H) →
+      target_found l.around.cells name pos index there ≡ Ok t → Stands t.place l
+  found_stands name pos (Some i) (Some v) t l is = at_stands name pos i v.value v t l is
+  found_stands name pos (Some i) None t l is = cc
+  found_stands name pos None there t l is = cc
+
+  pub target_stands : (name : List ℕ) (pos : Position) (t : Target H) (l : Local H) → target_of l.around.cells name pos l.scope ≡ Ok t →
+      Stands t.place l
+  target_stands name pos t l is = found_stands name pos (index_of name l.scope) (found name l.scope) t l is
+
+module _ {H : Type 0} (a : Asked) where
+  pub assignment_keeps : (form : ExprLayer) (op : OpAssignment) (rhs : Expr) (c : Core H) (k : List (Frame H)) (l : Local H) →
+      Keeps a c (calm k l) → Moves (Keeps a) c (assignment_move form op rhs k l)
+  assignment_keeps (layer.Variable offset name namespace pos) op rhs c k l h = through a h (quiet a tt refl (λ t. t))
+  assignment_keeps _ op rhs c k l h = tt
+
+  pub assigned_keeps : (r : Result (Dynamic H) (EvalAltResult H)) (assignment : Assignment) (k : List (Frame H)) (l : Local H) →
+      Keeps a (calm k l) (assigned_core r assignment k l)
+  assigned_keeps (Ok v) assignment k l = quiet a tt refl (λ t. t)
+  assigned_keeps (Err e) assignment k l = quiet a tt refl (λ t. t)
+
+  written_keeps : (r : Result (Dynamic H) (EvalAltResult H)) (place : Place) (k : List (Frame H)) (l : Local H) → Stands place l →
+      Keeps a (calm k l) (written_core r place k l)
+  written_keeps (Ok v) place k l stands = put_keeps a place v k l stands
+  written_keeps (Err e) place k l stands = quiet a tt refl (λ t. t)
+
+  done_keeps : {A : Type 0} (r : Result A (EvalAltResult H)) (k : List (Frame H)) (l : Local H) → Keeps a (calm k l) (core (done r) k l)
+  done_keeps (Ok v) k l = quiet a tt refl (λ t. t)
+  done_keeps (Err e) k l = quiet a tt refl (λ t. t)
+
+  module _ (s : Setting H) where
+    update_keeps : (answer : Answer H) (u : Update H) (k : List (Frame H)) (l : Local H) → Stands u.place l →
+        Keeps a (calm k l) (update_core s answer u k l)
+    update_keeps (Some r) u k l stands = written_keeps (applied s.limits r u.at) u.place k l stands
+    update_keeps None u k l stands = quiet a stands refl (λ t. t)
+
+    assign_keeps : (op : Option Token) (assignment : Assignment) (there : Target H) (v : Dynamic H) (k : List (Frame H)) (l : Local H) →
+        Stands there.place l →
+        Keeps a (calm k l) (assign_core s op assignment there v k l)
+    assign_keeps None assignment there v k l stands = put_keeps a there.place (with_mode ReadWrite v) k l stands
+    assign_keeps (Some token) assignment there v k l stands =
+        update_keeps (if_fast s.offer.fast_operators (op_assign_of token there.value v))
+        (record {
+          attempt = InPlace;
+          operator = token;
+          at = assignment.op.position;
+          place = there.place;
+          target = there.value;
+          operand = v;
+          target_at = assignment.at;
+        })
+        k l stands
+
+    pub store_keeps : (r : Result (Target H) (EvalAltResult H)) (assignment : Assignment) (v : Dynamic H)
+        (k : List (Frame H)) (l : Local H) →
+        target_of l.around.cells assignment.name assignment.at l.scope ≡ r → Keeps a (calm k l) (store_core s r assignment v k l)
+    store_keeps (Ok there) assignment v k l is =
+        assign_keeps assignment.op.op assignment there v k l (target_stands assignment.name assignment.at there l is)
+    store_keeps (Err e) assignment v k l is = quiet a tt refl (λ t. t)
+
+    changed_keeps : (r : Result (Dynamic H) (EvalAltResult H)) (u : Update H) (k : List (Frame H)) (l : Local H) →
+        Keeps a (calm k l) (changed_core s r u k l)
+    changed_keeps (Ok v) u k l = done_keeps (sized s.limits u.target u.target_at) k l
+    changed_keeps (Err e) u k l = quiet a tt refl (λ t. t)
+
+    fault_keeps : (missing : Bool) (e : EvalAltResult H) (u : Update H) (k : List (Frame H)) (l : Local H) → Stands u.place l →
+        Keeps a (calm k l) (fault_core s missing e u k l)
+    fault_keeps true e u k l stands = quiet a stands refl (λ t. t)
+    fault_keeps false e u k l stands = quiet a tt refl (λ t. t)
+
+    value_keeps : (r : Result (Dynamic H) (EvalAltResult H)) (u : Update H) (k : List (Frame H)) (l : Local H) → Stands u.place l →
+        Keeps a (calm k l) (value_core s r u k l)
+    value_keeps (Ok v) u k l stands = through a (put_keeps a u.place v k l stands) (done_keeps (sized s.limits v u.target_at) k (put u.place v l))
+    value_keeps (Err e) u k l stands = quiet a tt refl (λ t. t)
+
+    answered_keeps : (attempt : Attempt) (reply : Reply H) (u : Update H) (k : List (Frame H)) (l : Local H) → Stands u.place l →
+        Keeps a (calm k l) (answered_core s attempt reply u k l)
+    answered_keeps InPlace Missing u k l stands =
+        update_keeps (op_assign_of u.operator u.target u.operand) (record u { attempt = AsValue }) k l stands
+    answered_keeps InPlace (Gives v) u k l stands = changed_keeps (sized s.limits v u.at) u k l
+    answered_keeps InPlace (Faults e) u k l stands =
+        fault_keeps (says_missing (native_of InPlace u.operator) e) (placed_if_none u.at e) u k l stands
+    answered_keeps AsValue reply u k l stands =
+        value_keeps (replied s.limits s.host_type reply (Some u.target) (u.operand ∷ []) (operation_of u) l.around.cells) u k l stands
+
+    lent_keeps : (reply : Reply H) (v : Dynamic H) (u : Update H) (k : List (Frame H)) (l : Local H) → Stands u.place l →
+        Keeps a (calm k l) (lent_core s reply v u k l)
+    lent_keeps reply v u k l stands =
+        through a (put_keeps a u.place v k l stands)
+        (answered_keeps u.attempt reply (record u { target = v }) k (put u.place v l) (put_stands u.place v l stands))
+
+    pub fire_update_keeps : (there : Union H) (u : Update H) (k : List (Frame H)) (l : Local H) → Stands u.place l →
+        Moves (Keeps a) (core (FireUpdate u) k l) (fire_update s there u k l)
+    fire_update_keeps (value.Cell id) u k l stands = quiet a tt refl (λ t. t)
+    fire_update_keeps _ u k l stands = λ reply left. after a (calm k l) refl (λ t. t) (lent_keeps reply (left_in u left) u k l stands)

@@ -1,0 +1,155 @@
+-- What every run of the language keeps, whatever its end, want of memory included.
+use Rattle.std.proofs.Common.{refl, ap, arith}
+use Rattle.std.proofs.lemmas.Bool.Decides.{nat_tests}
+use Rattle.std.proofs.lemmas.List.{length-append}
+use Rattle.std.specs.Prelude.{◌≡◌, ◌≤◌, ◌<◌, ⊤, nat_le, length, true, false, List, [], ◌∷◌, ◌++◌}
+use Rattle.rhai_tree.specs.Names.{Name, Begins}
+use Rattle.rhai_values.specs.declared.base.error.EvalAltResult.{EvalAltResult}
+use Rattle.rhai_values.specs.declared.base.error.EvalAltResult.TheVariants as error
+use Rattle.rhai_machine.specs.machine.Machine.{Move, Halt, Go, Charge, Native, AskPure}
+use Rattle.rhai_machine.specs.language.Setting.{Rules, cut, limit_under}
+use Rattle.rhai_machine.specs.language.State.{State}
+use Rattle.rhai_machine.specs.language.Frames.{Control, Frame, Core, core, Exec, OpenStmt, Enter, Run, Fail}
+use Rattle.rhai_machine.specs.language.Language.{machine}
+use Rattle.rhai_machine.specs.language.Runs.{Steps}
+use Rattle.rhai_laws.specs.Kept.{Sound, names_of, AddsNone, Kept}
+use Rattle.rhai_laws.specs.Steady.{Moves, Steady}
+use Rattle.rhai_laws.proofs.MemoryLaws.{keeps, counts, within}
+use Rattle.rhai_laws.proofs.Keeping.{Outline, Asked, Grows, begins_self, Tight, Free, TightAt, Held, Keeps, quiet, through}
+use Rattle.rhai_laws.proofs.KeptRules.{move_keeps}
+
+module _ {H : Type 0} (a : Asked) where
+  -- what a run from a sound core keeps
+  abbrev Stays : Core H → Core H → Type 0
+  Stays c d = Sound c.control c.local → Keeps a c d
+
+  -- a move from a sound core
+  from_sound : (c : Core H) (v : Move H (Core H)) → (Sound c.control c.local → Moves (Keeps a) c v) → Moves Stays c v
+  from_sound c Halt f = tt
+  from_sound c (Go d) f = f
+  from_sound c (Charge at d) f = f
+  from_sound c (Native q f) g = λ reply first h. g h reply first
+  from_sound c (AskPure q f) g = λ pure h. g h pure
+
+  -- at any control no more names may be added
+  stopped : (c : Control H) (k : List (Frame H)) (n : List Name) → a.along n → TightAt a c k n → Tight a k n
+  stopped (Exec stmt restoring) k n w t = t n (begins_self n) w
+  stopped (OpenStmt form restoring) k n w t = t n (begins_self n) w
+  stopped (Run stmts restoring last) k n w t = t n (begins_self n) w
+  stopped (Enter stmts true) k n w t = t
+  stopped (Enter stmts false) k n w t = t n (begins_self n) w
+  stopped _ k n w t = t
+
+  -- an error adds no names
+  failed : (c : Core H) (e : EvalAltResult H) → Held a c → Held a (core (Fail e) c.stack c.local)
+  failed c e t = (t.0, stopped c.control c.stack (names_of c.local) t.0 t.1)
+
+  -- what may add names may be started where any more names will do
+  started : (c : Control H) (k : List (Frame H)) (n : List Name) → Tight a k n → Free a k n → TightAt a c k n
+  started (Exec stmt restoring) k n t f = f
+  started (OpenStmt form restoring) k n t f = f
+  started (Run stmts restoring last) k n t f = f
+  started (Enter stmts true) k n t f = t
+  started (Enter stmts false) k n t f = f
+  started _ k n t f = t
+
+  -- what adds none may be started where these will do
+  started_none : (c : Control H) (k : List (Frame H)) (n : List Name) → AddsNone c → Tight a k n → TightAt a c k n
+  started_none (Exec stmt restoring) k n none t = absurd none
+  started_none (OpenStmt form restoring) k n none t = absurd none
+  started_none (Run stmts restoring last) k n none t = absurd none
+  started_none (Enter stmts true) k n none t = t
+  started_none (Enter stmts false) k n none t = absurd none
+  started_none _ k n none t = t
+
+module _ {S H : Type 0} (rules : Rules S H) where
+  module _ (a : Asked) (grows : Grows a rules.setting.limits.max_variables) where
+    -- each step keeps it
+    steady : Steady (machine rules) (Stays a)
+    steady = record {
+      same = λ c h. quiet a h refl (λ t. t);
+      through = λ p q h. through a (p h) (q (p h).sound);
+      moves = λ c. from_sound a c _ (move_keeps a rules.setting grows c.control c.stack c.local);
+      refuses = λ at c h. quiet a tt refl (failed a c (error.ErrorTooManyOperations at));
+      wants = λ at c h. quiet a tt refl (failed a c (error.ErrorOutOfMemory at));
+    }
+
+    -- and so does a run
+    run_keeps : (c d : Control H) (old new : State S H) → Sound c old.local → Steps rules c old d new →
+        Keeps a (core c [] old.local) (core d [] new.local)
+    unfolding Steps
+    run_keeps c d old new h steps = keeps (machine rules) (cut rules) (Stays a) steady (steps []) h
+
+    -- what is asked of the names at the end
+    at_end : (c d : Control H) (old new : State S H) → Sound c old.local → Steps rules c old d new →
+        a.along (names_of old.local) → TightAt a c [] (names_of old.local) → a.along (names_of new.local) × a.last (names_of new.local)
+    at_end c d old new h steps w t =
+        let end : Held a (core d [] new.local) = (run_keeps c d old new h steps).names (w, t) in
+        (end.0, stopped a d [] (names_of new.local) end.0 end.1)
+
+  -- nothing is asked
+  abbrev nothing : Asked
+  nothing = record { along = λ n. ⊤; last = λ n. ⊤ }
+
+  -- charges are only added
+  pub counted : (c d : Control H) (old new : State S H) → Steps rules c old d new → old.count ≤ new.count
+  unfolding Steps
+  counted c d old new steps = counts (machine rules) (cut rules) (steps [])
+
+  -- a count within the limit stays within it
+  pub counted_within : (c d : Control H) (old new : State S H) → Steps rules c old d new → old.count ≤ limit_under rules →
+      new.count ≤ limit_under rules
+  unfolding Steps
+  counted_within c d old new steps = within (machine rules) (limit_under rules) (steps [])
+
+  -- what every run keeps, want of memory included
+  pub kept : (c d : Control H) (old new : State S H) → Sound c old.local → Steps rules c old d new → Kept rules old new
+  kept c d old new h steps =
+      let same = (run_keeps nothing (λ n name w is. tt) c d old new h steps).around in
+      record {
+        counts = counted c d old new steps;
+        within = counted_within c d old new steps;
+        around = ap (λ (o : Outline H). o.around) same;
+        scope_level = ap (λ (o : Outline H). o.scope_level) same;
+        bound = ap (λ (o : Outline H). o.bound) same;
+      }
+
+  -- at the end the names are these
+  abbrev exactly : List Name → Asked
+  exactly n = record { along = λ m. ⊤; last = λ m. m ≡ n }
+
+  -- what adds no variable leaves the names as they were
+  pub names_stay : (c d : Control H) (old new : State S H) → AddsNone c → Sound c old.local → Steps rules c old d new →
+      names_of new.local ≡ names_of old.local
+  names_stay c d old new none h steps =
+      (at_end (exactly (names_of old.local)) (λ n name w is. tt) c d old new h steps tt
+      (started_none (exactly (names_of old.local)) c [] (names_of old.local) none refl)).1
+
+  -- at the end the names begin with these
+  abbrev beginning : List Name → Asked
+  beginning n = record { along = λ m. ⊤; last = λ m. Begins n m }
+
+  -- variables are only added
+  pub names_begin : (c d : Control H) (old new : State S H) → Sound c old.local → Steps rules c old d new →
+      Begins (names_of old.local) (names_of new.local)
+  names_begin c d old new h steps =
+      (at_end (beginning (names_of old.local)) (λ n name w is. tt) c d old new h steps tt
+      (started (beginning (names_of old.local)) c [] (names_of old.local) (begins_self (names_of old.local)) (λ m b w. b))).1
+
+  -- all along there are no more names than the limit allows
+  abbrev so_few : Asked
+  so_few = record { along = λ m. length m ≤ rules.setting.limits.max_variables; last = λ m. ⊤ }
+
+  -- where there is room for one more, one more is still within the limit
+  room : (n : List Name) (name : Name) → length n ≤ rules.setting.limits.max_variables →
+      nat_le rules.setting.limits.max_variables (length n) ≡ false →
+      length (n ++ name ∷ []) ≤ rules.setting.limits.max_variables
+  room n name le is =
+      let less : length n < rules.setting.limits.max_variables = grind (arith, nat_tests) in
+      omega (arith, less, length-append n (name ∷ []))
+
+  -- there are never more variables than the limit allows
+  pub variables_stay : (c d : Control H) (old new : State S H) → Sound c old.local → Steps rules c old d new →
+      length (names_of old.local) ≤ rules.setting.limits.max_variables → length (names_of new.local) ≤ rules.setting.limits.max_variables
+  variables_stay c d old new h steps le =
+      (at_end so_few room c d old new h steps le (started so_few c [] (names_of old.local) tt (λ m b w. tt))).0

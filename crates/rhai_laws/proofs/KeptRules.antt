@@ -1,0 +1,337 @@
+-- What each rule keeps.
+use Rattle.std.proofs.Common.{refl, ap}
+use Rattle.std.proofs.lemmas.List.{length-map, map-append}
+use Rattle.std.specs.Prelude.{◌≡◌, nat_le, length, not, ◌&&◌, Bool, true, false, List, [], ◌∷◌, ◌++◌, Option, Some, None, Result, Ok, Err}
+use Rattle.std.specs.Prelude.{is_some}
+use Rattle.rhai_tree.specs.declared.position.Position.{Position}
+use Rattle.rhai_tree.specs.declared.token.Token.{Token}
+use Rattle.rhai_tree.specs.declared.flags.ASTFlags.{ASTFlags}
+use Rattle.rhai_tree.specs.declared.expr.Ident.{Ident}
+use Rattle.rhai_tree.specs.declared.expr.Expr.{Expr, out-Expr}
+use Rattle.rhai_tree.specs.declared.expr.Stmt.{Stmt}
+use Rattle.rhai_tree.specs.declared.expr.FnCallExpr.{FnCallExpr}
+use Rattle.rhai_tree.specs.declared.expr.StmtBlock.{StmtBlock}
+use Rattle.rhai_tree.specs.declared.expr.Expr.TheOpen as layer
+use Rattle.rhai_tree.specs.Layers.{ExprLayer, StmtLayer}
+use Rattle.rhai_tree.specs.Positions.{position_of}
+use Rattle.rhai_values.specs.declared.base.value.AccessMode.{AccessMode}
+use Rattle.rhai_values.specs.declared.base.value.Dynamic.{Dynamic}
+use Rattle.rhai_values.specs.declared.base.value.Union.{Union}
+use Rattle.rhai_values.specs.declared.base.value.Union.TheVariants as value
+use Rattle.rhai_values.specs.declared.base.error.EvalAltResult.{EvalAltResult}
+use Rattle.rhai_values.specs.declared.base.error.EvalAltResult.TheVariants as error
+use Rattle.rhai_values.specs.Scope.{name_of, index_of, new_entry}
+use Rattle.rhai_machine.specs.language.Setting.{Setting}
+use Rattle.rhai_machine.specs.language.State.{Local}
+use Rattle.rhai_machine.specs.language.Values.{flat, through as seen_through, truth, unit_value}
+use Rattle.rhai_machine.specs.language.Names.{read}
+use Rattle.rhai_machine.specs.language.Frames.{Operation, Call, Control, Frame, Core, core, Eval, Exec, Ask, Assign, AskUpdate, Argument}
+use Rattle.rhai_machine.specs.language.Frames.{Question, Fire, QuestionUpdate, FireUpdate, OpenExpr, OpenStmt, Enter, Run, Store, WhileTurn}
+use Rattle.rhai_machine.specs.language.Frames.{DoTurn, Back, Fail, StatementValue, DefineValue, IfCondition, RestOfList, RestoreList, Top}
+use Rattle.rhai_machine.specs.language.Frames.{UnaryOperand, LeftOperand, RightOperand, AndPart, OrPart, CoalescePart, AssignValue}
+use Rattle.rhai_machine.specs.language.Frames.{WhileCondition, WhileBody, DoCondition, DoBody, BreakValue, ReturnValue}
+use Rattle.rhai_machine.specs.language.Places.{target_of}
+use Rattle.rhai_machine.specs.language.Loops.{is_endless, goes_on, while_move, while_core, if_goes_on, do_control, caught}
+use Rattle.rhai_machine.specs.language.Expressions.{literal_of, argument_move, operands_move, expr_move, and_core, and_next, or_core}
+use Rattle.rhai_machine.specs.language.Expressions.{or_next, coalesce_core, coalesce_seen, coalesce_next}
+use Rattle.rhai_machine.specs.language.Calls.{operator_core, builtin_of, fire_first, fire_move, replied, applied}
+use Rattle.rhai_machine.specs.language.Statements.{has_option, mode_of, enter_core, run_core, chosen_core, defined_core, define_core}
+use Rattle.rhai_machine.specs.language.Statements.{stmt_move, break_core, return_move, returned_core}
+use Rattle.rhai_machine.specs.language.Unwinding.{up_core, down_core, topped, unary_core, left_core, right_core, operated, call_of}
+use Rattle.rhai_machine.specs.language.Language.{move_at}
+use Rattle.rhai_laws.specs.Kept.{Sound, names_of}
+use Rattle.rhai_laws.specs.Steady.{Moves}
+use Rattle.rhai_laws.proofs.Keeping.{Asked, Grows, Free, Held, begins_through, unwound, Keeps, quiet, through, after, calm, eager, held}
+use Rattle.rhai_laws.proofs.Keeping.{ended_keeps}
+use Rattle.rhai_laws.proofs.Keeping.{entered_around, entered_names, left_names}
+use Rattle.rhai_laws.proofs.KeptAssignments.{assignment_keeps, assigned_keeps, store_keeps, fire_update_keeps}
+
+module _ {H : Type 0} (a : Asked) where
+  -- lists
+  enter_keeps : (stmts : List Stmt) (restoring : Bool) (k : List (Frame H)) (l : Local H) →
+      Keeps a (core (Enter stmts restoring) k l) (enter_core stmts restoring k l)
+  enter_keeps [] true k l = quiet a tt refl (λ t. t)
+  enter_keeps [] false k l = quiet a tt refl (held a k l)
+  enter_keeps (stmt ∷ stmts) true k l = quiet a tt (ap (unwound k) (entered_around l)) (entered_names a k l)
+  enter_keeps (stmt ∷ stmts) false k l = quiet a tt refl (λ t. t)
+
+  run_keeps : (stmts : List Stmt) (restoring : Bool) (last : Dynamic H) (k : List (Frame H)) (l : Local H) →
+      Keeps a (core (Run stmts restoring last) k l) (run_core stmts restoring last k l)
+  run_keeps [] restoring last k l = quiet a tt refl (held a k l)
+  run_keeps (stmt ∷ stmts) restoring last k l =
+      quiet a tt refl (λ t. (t.0, λ m b q n c r. t.1 n (begins_through (names_of l) m n b c) r))
+
+  -- expressions
+  argument_keeps : (literal : Option (Dynamic H)) (e : Expr) (k : List (Frame H)) (l : Local H) →
+      Moves (Keeps a) (core (Argument e) k l) (argument_move literal e k l)
+  argument_keeps (Some v) e k l = quiet a tt refl (λ t. t)
+  argument_keeps None e k l = quiet a tt refl (λ t. t)
+
+  operands_keeps : (fast : Bool) (token : Option Token) (call : FnCallExpr) (args : List Expr) (pos : Position) (form : ExprLayer)
+      (k : List (Frame H)) (l : Local H) →
+      Moves (Keeps a) (core (OpenExpr form) k l) (operands_move fast token call args pos k l)
+  operands_keeps true (Some token) call (operand ∷ []) pos form k l = quiet a tt refl (λ t. t)
+  operands_keeps true (Some token) call (left ∷ right ∷ []) pos form k l = quiet a tt refl (λ t. t)
+  operands_keeps _ _ call args pos form k l = tt
+
+  and_keeps : (parts : List Expr) (k : List (Frame H)) (l : Local H) → Keeps a (calm k l) (and_core parts k l)
+  and_keeps [] k l = quiet a tt refl (λ t. t)
+  and_keeps (part ∷ parts) k l = quiet a tt refl (λ t. t)
+
+  and_next_keeps : (r : Result Bool (EvalAltResult H)) (parts : List Expr) (k : List (Frame H)) (l : Local H) →
+      Keeps a (calm k l) (and_next r parts k l)
+  and_next_keeps (Ok true) parts k l = and_keeps parts k l
+  and_next_keeps (Ok false) parts k l = quiet a tt refl (λ t. t)
+  and_next_keeps (Err e) parts k l = quiet a tt refl (λ t. t)
+
+  or_keeps : (parts : List Expr) (k : List (Frame H)) (l : Local H) → Keeps a (calm k l) (or_core parts k l)
+  or_keeps [] k l = quiet a tt refl (λ t. t)
+  or_keeps (part ∷ parts) k l = quiet a tt refl (λ t. t)
+
+  or_next_keeps : (r : Result Bool (EvalAltResult H)) (parts : List Expr) (k : List (Frame H)) (l : Local H) →
+      Keeps a (calm k l) (or_next r parts k l)
+  or_next_keeps (Ok true) parts k l = quiet a tt refl (λ t. t)
+  or_next_keeps (Ok false) parts k l = or_keeps parts k l
+  or_next_keeps (Err e) parts k l = quiet a tt refl (λ t. t)
+
+  coalesce_keeps : (last : Dynamic H) (parts : List Expr) (k : List (Frame H)) (l : Local H) →
+      Keeps a (calm k l) (coalesce_core last parts k l)
+  coalesce_keeps last [] k l = quiet a tt refl (λ t. t)
+  coalesce_keeps last (part ∷ parts) k l = quiet a tt refl (λ t. t)
+
+  coalesce_seen_keeps : (u : Union H) (v : Dynamic H) (parts : List Expr) (k : List (Frame H)) (l : Local H) →
+      Keeps a (calm k l) (coalesce_seen u v parts k l)
+  coalesce_seen_keeps value.Unit v parts k l = coalesce_keeps v parts k l
+  coalesce_seen_keeps _ v parts k l = quiet a tt refl (λ t. t)
+
+  coalesce_next_keeps : (r : Result (Dynamic H) (EvalAltResult H)) (v : Dynamic H) (parts : List Expr) (k : List (Frame H)) (l : Local H) →
+      Keeps a (calm k l) (coalesce_next r v parts k l)
+  coalesce_next_keeps (Ok seen) v parts k l = coalesce_seen_keeps seen.value v parts k l
+  coalesce_next_keeps (Err e) v parts k l = quiet a tt refl (λ t. t)
+
+  expr_keeps : (fast : Bool) (form : ExprLayer) (k : List (Frame H)) (l : Local H) →
+      Moves (Keeps a) (core (OpenExpr form) k l) (expr_move fast form k l)
+  expr_keeps fast (layer.BoolConstant b pos) k l = quiet a tt refl (λ t. t)
+  expr_keeps fast (layer.IntegerConstant n pos) k l = quiet a tt refl (λ t. t)
+  expr_keeps fast (layer.Unit pos) k l = quiet a tt refl (λ t. t)
+  expr_keeps fast (layer.Variable offset name namespace pos) k l =
+      after a (calm k l) refl (λ t. t) (ended_keeps a (read l.around.cells name pos l.scope) k l)
+  expr_keeps fast (layer.Expr::FnCall call pos) k l = operands_keeps fast call.op_token call call.args pos (layer.Expr::FnCall call pos) k l
+  expr_keeps fast (layer.Stmt block) k l = quiet a tt refl (λ t. t)
+  expr_keeps fast (layer.And parts pos) k l = after a (calm k l) refl (λ t. t) (and_keeps parts k l)
+  expr_keeps fast (layer.Or parts pos) k l = after a (calm k l) refl (λ t. t) (or_keeps parts k l)
+  expr_keeps fast (layer.Coalesce parts pos) k l = after a (calm k l) refl (λ t. t) (coalesce_keeps unit_value parts k l)
+  expr_keeps fast _ k l = tt
+
+  -- loops, and the ways out of them
+  while_keeps : (endless : Bool) (stmts : List Stmt) (test : Expr) (body : StmtBlock) (k : List (Frame H)) (l : Local H) →
+      Moves (Keeps a) (core (WhileTurn test body) k l) (while_move endless stmts test body k l)
+  while_keeps false stmts test body k l = quiet a tt refl (λ t. t)
+  while_keeps true [] test body k l = quiet a tt refl (λ t. t)
+  while_keeps true (stmt ∷ stmts) test body k l = quiet a tt refl (λ t. t)
+
+  while_core_keeps : (r : Result Bool (EvalAltResult H)) (test : Expr) (body : StmtBlock) (k : List (Frame H)) (l : Local H) →
+      Keeps a (calm k l) (while_core r test body k l)
+  while_core_keeps (Ok true) test body k l = quiet a tt refl (λ t. t)
+  while_core_keeps (Ok false) test body k l = quiet a tt refl (λ t. t)
+  while_core_keeps (Err e) test body k l = quiet a tt refl (λ t. t)
+
+  goes_on_keeps : (b : Bool) (turn : Control H) (k : List (Frame H)) (l : Local H) → Keeps a (calm k l) (core turn k l) →
+      Keeps a (calm k l) (core (if_goes_on b turn) k l)
+  goes_on_keeps true turn k l h = h
+  goes_on_keeps false turn k l h = quiet a tt refl (λ t. t)
+
+  do_keeps : (r : Result Bool (EvalAltResult H)) (until : Bool) (turn : Control H) (k : List (Frame H)) (l : Local H) →
+      Keeps a (calm k l) (core turn k l) →
+      Keeps a (calm k l) (core (do_control r until turn) k l)
+  do_keeps (Ok holds) until turn k l h = goes_on_keeps (goes_on until holds) turn k l h
+  do_keeps (Err e) until turn k l h = quiet a tt refl (λ t. t)
+
+  caught_keeps : (turn : Control H) (e : EvalAltResult H) (k : List (Frame H)) (l : Local H) → Keeps a (calm k l) (core turn k l) →
+      Keeps a (calm k l) (core (caught turn e) k l)
+  caught_keeps turn (error.LoopBreak v false pos) k l h = h
+  caught_keeps turn (error.LoopBreak v true pos) k l h = quiet a tt refl (λ t. t)
+  caught_keeps turn _ k l h = quiet a tt refl (λ t. t)
+
+  break_keeps : (value : Option Expr) (is_break : Bool) (pos : Position) (k : List (Frame H)) (l : Local H) →
+      Keeps a (calm k l) (break_core value is_break pos k l)
+  break_keeps None is_break pos k l = quiet a tt refl (λ t. t)
+  break_keeps (Some value) is_break pos k l = quiet a tt refl (λ t. t)
+
+  return_keeps : (throws : Bool) (value : Option Expr) (pos : Position) (c : Core H) (k : List (Frame H)) (l : Local H) →
+      Keeps a c (calm k l) →
+      Moves (Keeps a) c (return_move throws value pos k l)
+  return_keeps true value pos c k l h = tt
+  return_keeps false None pos c k l h = through a h (quiet a tt refl (λ t. t))
+  return_keeps false (Some value) pos c k l h = through a h (quiet a tt refl (λ t. t))
+
+  returned_keeps : (r : Result (Dynamic H) (EvalAltResult H)) (pos : Position) (k : List (Frame H)) (l : Local H) →
+      Keeps a (calm k l) (returned_core r pos k l)
+  returned_keeps (Ok v) pos k l = quiet a tt refl (λ t. t)
+  returned_keeps (Err e) pos k l = quiet a tt refl (λ t. t)
+
+  -- statements
+  chosen_keeps : (r : Result Bool (EvalAltResult H)) (body branch : StmtBlock) (k : List (Frame H)) (l : Local H) →
+      Keeps a (calm k l) (chosen_core r body branch k l)
+  chosen_keeps (Ok true) body branch k l = quiet a tt refl (λ t. t)
+  chosen_keeps (Ok false) body branch k l = quiet a tt refl (λ t. t)
+  chosen_keeps (Err e) body branch k l = quiet a tt refl (λ t. t)
+
+  -- a new variable adds its name
+  added_names : (ident : Ident) (mode : AccessMode) (w : Dynamic H) (k : List (Frame H)) (l : Local H) →
+      a.along (names_of l) × (a.along (names_of l ++ ident.name ∷ []) × Free a k (names_of l)) →
+      Held a (calm k (record l { scope = l.scope ++ new_entry ident.name mode w ∷ [] }))
+  added_names ident mode w k l t =
+      rw (map-append name_of l.scope (new_entry ident.name mode w ∷ []))
+      (t.1.0, t.1.1 (names_of l ++ ident.name ∷ []) (ident.name ∷ [], refl) t.1.0)
+
+  defined_keeps : (r : Result (Dynamic H) (EvalAltResult H)) (ident : Ident) (options : ASTFlags) (value_at : Position) (v : Dynamic H)
+      (k : List (Frame H)) (l : Local H) →
+      Keeps a (core (Back v) (DefineValue ident options value_at ∷ k) l) (defined_core r ident options k l)
+  defined_keeps (Ok w) ident options value_at v k l =
+      quiet a tt refl (added_names ident (mode_of options) w k l)
+  defined_keeps (Err e) ident options value_at v k l = quiet a tt refl (λ t. held a k l (t.0, t.1.1))
+
+  module _ (s : Setting H) where
+    -- calls
+    fire_first_keeps : (u : Union H) (x : Dynamic H) (call : Call H) (rest : List (Dynamic H)) (k : List (Frame H)) (l : Local H) →
+        Moves (Keeps a) (core (Fire call) k l) (fire_first s u x call rest k l)
+    fire_first_keeps (value.Cell id) x call rest k l = quiet a tt refl (λ t. t)
+    fire_first_keeps _ x call rest k l =
+        λ reply left. after a (calm k l) refl (λ t. t) (ended_keeps a (replied s.limits s.host_type reply left rest call.operation l.around.cells) k l)
+
+    fire_keeps : (call : Call H) (args : List (Dynamic H)) (k : List (Frame H)) (l : Local H) →
+        Moves (Keeps a) (core (Fire call) k l) (fire_move s call args k l)
+    fire_keeps call [] k l =
+        λ reply left. after a (calm k l) refl (λ t. t) (ended_keeps a (replied s.limits s.host_type reply left [] call.operation l.around.cells) k l)
+    fire_keeps call (x ∷ rest) k l = fire_first_keeps x.value x call rest k l
+
+    operator_keeps : (builtin : Option (Result (Dynamic H) (EvalAltResult H))) (call : Call H) (k : List (Frame H)) (l : Local H) →
+        Keeps a (calm k l) (operator_core s builtin call k l)
+    operator_keeps (Some r) call k l = ended_keeps a (applied s.limits r call.operation.at) k l
+    operator_keeps None call k l = quiet a tt refl (λ t. t)
+
+    operated_keeps : (operation : Operation) (args : List (Dynamic H)) (k : List (Frame H)) (l : Local H) →
+        Keeps a (calm k l) (operated s operation args k l)
+    operated_keeps operation args k l = operator_keeps (builtin_of operation.token args) (call_of s operation args) k l
+
+    unary_keeps : (r : Result (Dynamic H) (EvalAltResult H)) (operation : Operation) (k : List (Frame H)) (l : Local H) →
+        Keeps a (calm k l) (unary_core s r operation k l)
+    unary_keeps (Ok x) operation k l = operated_keeps operation (x ∷ []) k l
+    unary_keeps (Err e) operation k l = quiet a tt refl (λ t. t)
+
+    left_keeps : (r : Result (Dynamic H) (EvalAltResult H)) (operation : Operation) (right : Expr) (k : List (Frame H)) (l : Local H) →
+        Keeps a (calm k l) (left_core s r operation right k l)
+    left_keeps (Ok x) operation right k l = quiet a tt refl (λ t. t)
+    left_keeps (Err e) operation right k l = quiet a tt refl (λ t. t)
+
+    right_keeps : (x : Dynamic H) (r : Result (Dynamic H) (EvalAltResult H)) (operation : Operation) (k : List (Frame H)) (l : Local H) →
+        Keeps a (calm k l) (right_core s x r operation k l)
+    right_keeps x (Ok y) operation k l = operated_keeps operation (x ∷ y ∷ []) k l
+    right_keeps x (Err e) operation k l = quiet a tt refl (λ t. t)
+
+    -- a value comes up, an error comes down
+    up_keeps : (frame : Frame H) (v : Dynamic H) (k : List (Frame H)) (l : Local H) →
+        Keeps a (core (Back v) (frame ∷ k) l) (up_core s frame v k l)
+    up_keeps (StatementValue pos) v k l = after a (calm k l) refl (λ t. t) (ended_keeps a (flat l.around.cells v pos) k l)
+    up_keeps (DefineValue ident options value_at) v k l = defined_keeps (flat l.around.cells v value_at) ident options value_at v k l
+    up_keeps (IfCondition test_at body branch) v k l =
+        after a (calm k l) refl (λ t. t) (chosen_keeps (truth s.host_type l.around.cells v test_at) body branch k l)
+    up_keeps (RestOfList rest restoring) v k l = quiet a tt refl (λ t. t)
+    up_keeps (RestoreList saved) v k l = quiet a tt refl (left_names a saved k l)
+    up_keeps (Top map_exit) v k l = quiet a tt refl (λ t. t)
+    up_keeps (UnaryOperand operation operand_at) v k l =
+        after a (calm k l) refl (λ t. t) (unary_keeps (flat l.around.cells v operand_at) operation k l)
+    up_keeps (LeftOperand operation left_at right) v k l =
+        after a (calm k l) refl (λ t. t) (left_keeps (flat l.around.cells v left_at) operation right k l)
+    up_keeps (RightOperand operation left right_at) v k l =
+        after a (calm k l) refl (λ t. t) (right_keeps left (flat l.around.cells v right_at) operation k l)
+    up_keeps (AndPart part_at rest) v k l =
+        after a (calm k l) refl (λ t. t) (and_next_keeps (truth s.host_type l.around.cells v part_at) rest k l)
+    up_keeps (OrPart part_at rest) v k l =
+        after a (calm k l) refl (λ t. t) (or_next_keeps (truth s.host_type l.around.cells v part_at) rest k l)
+    up_keeps (CoalescePart part_at rest) v k l =
+        after a (calm k l) refl (λ t. t) (coalesce_next_keeps (seen_through l.around.cells v part_at) v rest k l)
+    up_keeps (AssignValue assignment value_at) v k l =
+        after a (calm k l) refl (λ t. t) (assigned_keeps a (flat l.around.cells v value_at) assignment k l)
+    up_keeps (WhileCondition test body) v k l =
+        after a (calm k l) refl (λ t. t) (while_core_keeps (truth s.host_type l.around.cells v (position_of test)) test body k l)
+    up_keeps (WhileBody test body) v k l = quiet a tt refl (λ t. t)
+    up_keeps (DoCondition test body options) v k l =
+        after a (calm k l) refl (λ t. t)
+        (do_keeps (truth s.host_type l.around.cells v (position_of test)) (has_option 1 options) (DoTurn test body options) k l
+        (quiet a tt refl (λ t. t)))
+    up_keeps (DoBody test body options) v k l = quiet a tt refl (λ t. t)
+    up_keeps (BreakValue is_break pos) v k l = quiet a tt refl (λ t. t)
+    up_keeps (ReturnValue value_at pos) v k l = after a (calm k l) refl (λ t. t) (returned_keeps (flat l.around.cells v value_at) pos k l)
+
+    down_keeps : (frame : Frame H) (e : EvalAltResult H) (k : List (Frame H)) (l : Local H) →
+        Keeps a (core (Fail e) (frame ∷ k) l) (down_core s frame e k l)
+    down_keeps (Top map_exit) e k l = after a (calm k l) refl (λ t. t) (ended_keeps a (topped map_exit e) k l)
+    down_keeps (WhileBody test body) e k l =
+        after a (calm k l) refl (λ t. t) (caught_keeps (WhileTurn test body) e k l (quiet a tt refl (λ t. t)))
+    down_keeps (DoBody test body options) e k l =
+        after a (calm k l) refl (λ t. t) (caught_keeps (DoTurn test body options) e k l (quiet a tt refl (λ t. t)))
+    down_keeps (RestOfList rest restoring) e k l = quiet a tt refl (held a k l)
+    down_keeps (DefineValue ident options value_at) e k l = quiet a tt refl (λ t. held a k l (t.0, t.1.1))
+    down_keeps (RestoreList saved) e k l = quiet a tt refl (left_names a saved k l)
+    down_keeps _ e k l = quiet a tt refl (λ t. t)
+
+    module _ (grows : Grows a s.limits.max_variables) where
+      -- a `let` is tried only where there is room for one more variable
+      define_keeps : (shadows full : Bool) (ident : Ident) (value : Expr) (options : ASTFlags) (pos : Position)
+          (k : List (Frame H)) (l : Local H) →
+          nat_le s.limits.max_variables (length l.scope) ≡ full →
+          Keeps a (eager k l) (define_core s shadows full ident value options pos k l)
+      define_keeps true full ident value options pos k l is = quiet a tt refl (held a k l)
+      define_keeps false true ident value options pos k l is = quiet a tt refl (held a k l)
+      define_keeps false false ident value options pos k l is =
+          quiet a tt refl (λ t. (t.0, (grows (names_of l) ident.name t.0 (rw (length-map l.scope name_of) is), t.1)))
+
+      stmt_keeps : (form : StmtLayer) (restoring : Bool) (k : List (Frame H)) (l : Local H) →
+          Moves (Keeps a) (core (OpenStmt form restoring) k l) (stmt_move s form restoring k l)
+      stmt_keeps (layer.Noop pos) restoring k l = quiet a tt refl (held a k l)
+      stmt_keeps (layer.Expr value) restoring k l = quiet a tt refl (held a k l)
+      stmt_keeps (layer.Block block) restoring k l = quiet a tt refl (held a k l)
+      stmt_keeps (layer.Assignment op lhs rhs) restoring k l =
+          assignment_keeps a (out-Expr lhs) op rhs (core (OpenStmt (layer.Assignment op lhs rhs) restoring) k l) k l
+          (quiet a tt refl (held a k l))
+      stmt_keeps (layer.Var ident value None options pos) restoring k l =
+          after a (eager k l) refl (λ t. t)
+          (define_keeps (not s.offer.allow_shadowing && is_some (index_of ident.name l.scope))
+          (nat_le s.limits.max_variables (length l.scope)) ident value options pos k l refl)
+      stmt_keeps (layer.If test body branch pos) restoring k l = quiet a tt refl (held a k l)
+      stmt_keeps (layer.While test body pos) restoring k l = quiet a tt refl (held a k l)
+      stmt_keeps (layer.Do test body options pos) restoring k l = quiet a tt refl (held a k l)
+      stmt_keeps (layer.BreakLoop value options pos) restoring k l =
+          after a (calm k l) refl (held a k l) (break_keeps value (has_option 2 options) pos k l)
+      stmt_keeps (layer.Return value options pos) restoring k l =
+          return_keeps (has_option 2 options) value pos (core (OpenStmt (layer.Return value options pos) restoring) k l) k l
+          (quiet a tt refl (held a k l))
+      stmt_keeps _ restoring k l = tt
+
+      -- each move from a sound core
+      pub move_keeps : (c : Control H) (k : List (Frame H)) (l : Local H) → Sound c l → Moves (Keeps a) (core c k l) (move_at s c k l)
+      move_keeps (Eval e) k l h = quiet a tt refl (λ t. t)
+      move_keeps (Exec stmt restoring) k l h = quiet a tt refl (λ t. t)
+      move_keeps (Ask call) k l h = quiet a tt refl (λ t. t)
+      move_keeps (Assign assignment v) k l h = quiet a tt refl (λ t. t)
+      move_keeps (AskUpdate u) k l h = quiet a h refl (λ t. t)
+      move_keeps (Argument e) k l h = argument_keeps (literal_of (out-Expr e)) e k l
+      move_keeps (Question call) k l h = λ pure. quiet a tt refl (λ t. t)
+      move_keeps (Fire call) k l h = fire_keeps call call.args k l
+      move_keeps (QuestionUpdate u) k l h = λ pure. quiet a h refl (λ t. t)
+      move_keeps (FireUpdate u) k l h = fire_update_keeps a s u.target.value u k l h
+      move_keeps (OpenExpr form) k l h = expr_keeps s.offer.fast_operators form k l
+      move_keeps (OpenStmt form restoring) k l h = stmt_keeps form restoring k l
+      move_keeps (Enter stmts restoring) k l h = enter_keeps stmts restoring k l
+      move_keeps (Run stmts restoring last) k l h = run_keeps stmts restoring last k l
+      move_keeps (Store assignment v) k l h =
+          after a (calm k l) refl (λ t. t)
+          (store_keeps a s (target_of l.around.cells assignment.name assignment.at l.scope) assignment v k l refl)
+      move_keeps (WhileTurn test body) k l h = while_keeps (is_endless (out-Expr test)) body.statements test body k l
+      move_keeps (DoTurn test body options) k l h = quiet a tt refl (λ t. t)
+      move_keeps (Back v) [] l h = tt
+      move_keeps (Back v) (frame ∷ k) l h = up_keeps frame v k l
+      move_keeps (Fail e) [] l h = tt
+      move_keeps (Fail e) (frame ∷ k) l h = down_keeps frame e k l

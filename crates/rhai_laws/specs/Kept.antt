@@ -1,0 +1,53 @@
+-- What every run of the language keeps, whatever its end, want of memory included.
+use Rattle.std.specs.Prelude.{◌≡◌, ◌≤◌, ⊤, true, false, List, map, Option, Some, None, is_some}
+use Rattle.rhai_tree.specs.Names.{Name}
+use Rattle.rhai_values.specs.declared.base.value.Dynamic.{Dynamic}
+use Rattle.rhai_values.specs.Cells.{value_of_cell}
+use Rattle.rhai_values.specs.Scope.{name_of}
+use Rattle.rhai_machine.specs.language.Setting.{Rules, limit_under}
+use Rattle.rhai_machine.specs.language.State.{Surroundings, Local, State}
+use Rattle.rhai_machine.specs.language.Values.{unit_value}
+use Rattle.rhai_machine.specs.language.Places.{Place, InEntry, InCell}
+use Rattle.rhai_machine.specs.language.Frames.{Control, Exec, AskUpdate, QuestionUpdate, FireUpdate, OpenStmt, Enter, Run}
+
+module _ {H : Type 0} where
+  -- a cell without its value: it is free, or it is held
+  abbrev pub forgotten_cell : Option (Dynamic H) → Option (Dynamic H)
+  forgotten_cell (Some v) = Some unit_value
+  forgotten_cell None = None
+
+  -- the surroundings without the values of the cells
+  abbrev pub forgotten : Surroundings H → Surroundings H
+  forgotten around = record around { cells = map forgotten_cell around.cells }
+
+  -- a place that may be written to: a cell has to be free
+  abbrev pub Stands : Place → Local H → Type 0
+  Stands (InEntry index) l = ⊤
+  Stands (InCell number) l = is_some (value_of_cell l.around.cells number) ≡ true
+
+  -- in the midst of an update its place may be written to
+  abbrev pub Sound : Control H → Local H → Type 0
+  Sound (AskUpdate u) l = Stands u.place l
+  Sound (QuestionUpdate u) l = Stands u.place l
+  Sound (FireUpdate u) l = Stands u.place l
+  Sound _ l = ⊤
+
+  -- the names of the variables, the newest last
+  abbrev pub names_of : Local H → List Name
+  names_of l = map name_of l.scope
+
+  -- a control that leaves no variable behind: any but a statement and the rest of a list, or a list that does not restore
+  abbrev pub AddsNone : Control H → Type 0
+  AddsNone (Exec stmt restoring) = ⊥
+  AddsNone (OpenStmt form restoring) = ⊥
+  AddsNone (Run stmts restoring last) = ⊥
+  AddsNone (Enter stmts false) = ⊥
+  AddsNone _ = ⊤
+
+  -- what stays: the count grows up to the limit, the surroundings are the same but for values of cells, and `this` stays bound or unbound
+  pub record Kept {S : Type 0} (rules : Rules S H) (old new : State S H) : Type 0 where
+    pub counts : old.count ≤ new.count
+    pub within : old.count ≤ limit_under rules → new.count ≤ limit_under rules
+    pub around : forgotten new.local.around ≡ forgotten old.local.around
+    pub scope_level : new.local.scope_level ≡ old.local.scope_level
+    pub bound : is_some new.local.this ≡ is_some old.local.this

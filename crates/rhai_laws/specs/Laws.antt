@@ -1,0 +1,43 @@
+-- What holds of every run of the language, want of memory included.
+use Rattle.std.specs.Prelude.{◌≡◌, ◌≤◌, [], length, Result}
+use Rattle.rhai_tree.specs.Names.{Begins}
+use Rattle.rhai_values.specs.declared.base.value.Dynamic.{Dynamic}
+use Rattle.rhai_values.specs.declared.base.error.EvalAltResult.{EvalAltResult}
+use Rattle.rhai_machine.specs.machine.Point.{Point, Reaches}
+use Rattle.rhai_machine.specs.language.Setting.{Rules, cut}
+use Rattle.rhai_machine.specs.language.State.{State, HasMemory}
+use Rattle.rhai_machine.specs.language.Frames.{Control, Core, ended}
+use Rattle.rhai_machine.specs.language.Language.{machine}
+use Rattle.rhai_machine.specs.language.Memory.{UpToMemory}
+use Rattle.rhai_machine.specs.language.Runs.{at, Goes, Steps}
+use Rattle.rhai_laws.specs.Kept.{Sound, names_of, AddsNone, Kept}
+
+module _ {S H : Type 0} (rules : Rules S H) where
+  -- where memory was not wanting at the end, the machine takes the steps by itself
+  abbrev pub GoesWithMemory : Type 0
+  GoesWithMemory =
+      (p : Point S (Core H)) (r : Result (Dynamic H) (EvalAltResult H)) (new : State S H) → HasMemory r → Goes rules p (at (ended r) [] new)
+      → Reaches (machine rules) (cut rules) p (at (ended r) [] new)
+
+  -- else it does up to where memory runs out
+  abbrev pub GoesUpToMemory : Type 0
+  GoesUpToMemory = (p q : Point S (Core H)) → Goes rules p q → UpToMemory rules p q
+
+  -- what steps keep, from a control that is not in the midst of an update, or whose update has a place that stands
+  abbrev pub StepsKeep : Type 0
+  StepsKeep = (c d : Control H) (old new : State S H) → Sound c old.local → Steps rules c old d new → Kept rules old new
+
+  -- what adds no variable leaves the names as they were
+  abbrev pub NamesStay : Type 0
+  NamesStay = (c d : Control H) (old new : State S H) → AddsNone c → Sound c old.local → Steps rules c old d new
+      → names_of new.local ≡ names_of old.local
+
+  -- variables are only added
+  abbrev pub NamesBegin : Type 0
+  NamesBegin = (c d : Control H) (old new : State S H) → Sound c old.local → Steps rules c old d new
+      → Begins (names_of old.local) (names_of new.local)
+
+  -- there are never more variables than the limit allows
+  abbrev pub VariablesStay : Type 0
+  VariablesStay = (c d : Control H) (old new : State S H) → Sound c old.local → Steps rules c old d new
+      → length (names_of old.local) ≤ rules.setting.limits.max_variables → length (names_of new.local) ≤ rules.setting.limits.max_variables

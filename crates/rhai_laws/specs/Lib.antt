@@ -1,0 +1,4 @@
+pub mod Steady
+pub mod Memory
+pub mod Kept
+pub mod Laws

@@ -1,0 +1,17 @@
+-- Where memory has run out.
+use Rattle.std.specs.Prelude.{◌≡◌, ◌⊎◌}
+use Rattle.rhai_tree.specs.declared.position.Position.{Position}
+use Rattle.rhai_values.specs.declared.base.error.EvalAltResult.TheVariants as error
+use Rattle.rhai_machine.specs.machine.Point.{Point, Reaches}
+use Rattle.rhai_machine.specs.machine.Memory.{RunsOut}
+use Rattle.rhai_machine.specs.language.Setting.{Rules, cut}
+use Rattle.rhai_machine.specs.language.Frames.{Core, Fail}
+use Rattle.rhai_machine.specs.language.Language.{machine}
+
+-- the error that says so is on its way down
+abbrev pub IsWanting : {H : Type 0} → Core H → Type 0
+IsWanting c = (at : Position) × (c.control ≡ Fail (error.ErrorOutOfMemory at))
+
+-- the machine goes from one point to the other by itself, or it comes by itself to where memory runs out, and only unwinds from there
+abbrev pub UpToMemory : {S H : Type 0} → Rules S H → Point S (Core H) → Point S (Core H) → Type 0
+UpToMemory rules p q = Reaches (machine rules) (cut rules) p q ⊎ RunsOut (machine rules) (cut rules) IsWanting p q

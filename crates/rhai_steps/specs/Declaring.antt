@@ -1,0 +1,23 @@
+-- When a variable may be declared.
+use Rattle.std.specs.Prelude.{ℕ, Bool, true, false, not, ◌&&◌, List, Result, Ok, Err, is_some, length, nat_le}
+use Rattle.rhai_tree.specs.declared.position.Position.{Position}
+use Rattle.rhai_values.specs.declared.base.scope.ScopeEntry.{ScopeEntry}
+use Rattle.rhai_values.specs.declared.base.error.EvalAltResult.{EvalAltResult}
+use Rattle.rhai_values.specs.declared.base.error.EvalAltResult.TheVariants as error
+use Rattle.rhai_values.specs.declared.limits.Limits.{Limits}
+use Rattle.rhai_values.specs.Scope.{index_of}
+
+module _ {H : Type 0} where
+  -- shadowing is off, and the scope has the name
+  abbrev pub is_taken : (allow_shadowing : Bool) → List ℕ → List (ScopeEntry H) → Bool
+  is_taken allow_shadowing name entries = not allow_shadowing && is_some (index_of name entries)
+
+  -- the scope has no room
+  abbrev pub is_full : Limits → List (ScopeEntry H) → Bool
+  is_full limits entries = nat_le limits.max_variables (length entries)
+
+  -- whether it may, or why not
+  abbrev pub declarable : List ℕ → Position → (taken full : Bool) → Result (Unit {0}) (EvalAltResult H)
+  declarable name at true full = Err (error.ErrorVariableExists name at)
+  declarable name at false true = Err (error.ErrorTooManyVariables at)
+  declarable name at false false = Ok tt

@@ -1,0 +1,5 @@
+pub mod Declaring
+pub mod Loops
+pub mod Saves
+pub mod States
+pub mod Values

@@ -1,0 +1,22 @@
+-- What a restoring list keeps in code, as the machine's frame keeps it.
+use Rattle.std.specs.Prelude.{length, take}
+use Rattle.rhai_values.specs.declared.base.scope.Scope.{Scope}
+use Rattle.rhai_values.specs.declared.state.GlobalRuntimeState.{GlobalRuntimeState}
+use Rattle.rhai_values.specs.Scope.{entries_of}
+use Rattle.rhai_machine.specs.language.Frames as machine
+use Rattle.rhai_steps.specs.declared.variables.Saved.{Saved}
+
+abbrev pub saved_in : Saved → machine.Saved
+saved_in saved = record { scope_length = saved.scope_length; imports_length = saved.imports_length; scope_level = saved.scope_level }
+
+-- what is kept of a state and a scope
+abbrev pub saved_now : {H : Type 0} → GlobalRuntimeState H → Scope H → machine.Saved
+saved_now global scope = record { scope_length = length (entries_of scope); imports_length = length global.imports; scope_level = global.scope_level }
+
+-- the state that is left
+abbrev pub left_global : {H : Type 0} → Saved → GlobalRuntimeState H → GlobalRuntimeState H
+left_global saved global = record global {
+  imports = take saved.imports_length global.imports;
+  scope_level = saved.scope_level;
+  always_search_scope = saved.always_search_scope;
+}

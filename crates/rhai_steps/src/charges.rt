@@ -1,0 +1,66 @@
+//! Charges of operations. Ports upstream's `track_operation`.
+
+ghost use Rattle.std.specs.Prelude.{◌≡◌, ◌<◌, ◌≤◌, ◌+◌, OnOk, IfErr, IfOk};
+ghost use Rattle.rhai_values.specs.Limits.{limit_of};
+ghost use Rattle.rhai_values.specs.declared.base.error.EvalAltResult.TheVariants as error;
+
+use crate::values::let_go;
+use rhai_tree::position::Position;
+use rhai_values::base::error::EvalAltResult;
+use rhai_values::base::value::{Dynamic, Host};
+use rhai_values::limits::Limits;
+use rhai_values::state::GlobalRuntimeState;
+
+/// How many operations a run may charge.
+fn limit(limits: &Limits) -> u64
+    ensures { result ≡ limit_of limits.now.max_operations }
+{
+    if limits.max_operations == 0 {
+        u64::MAX
+    } else {
+        limits.max_operations
+    }
+}
+
+/// Charges one operation, or refuses it where the count has reached the limit; the count then
+/// stays.
+pub fn track_operation<H: Host>(
+    limits: &Limits,
+    global: &mut GlobalRuntimeState<H>,
+    pos: Position,
+) -> Result<(), EvalAltResult<H>>
+    ensures room { OnOk result (global.old.num_operations < limit_of limits.now.max_operations) }
+    ensures charged { OnOk result (global.new ≡ record global.old { num_operations = global.old.num_operations + 1 }) }
+    ensures full { IfErr result (λ _. limit_of limits.now.max_operations ≤ global.old.num_operations) }
+    ensures refused { IfErr result (λ e. e ≡ error.ErrorTooManyOperations pos) }
+    ensures same { IfErr result (λ _. global.new ≡ global.old) }
+{
+    if global.num_operations >= limit(limits) {
+        return Err(EvalAltResult::ErrorTooManyOperations(pos));
+    }
+    global.num_operations += 1;
+    Ok(())
+}
+
+/// Charges a literal argument at its start, and hands it on.
+pub fn literal_arg<H: Host>(
+    limits: &Limits,
+    global: &mut GlobalRuntimeState<H>,
+    value: Dynamic<H>,
+    pos: Position,
+) -> Result<Dynamic<H>, EvalAltResult<H>>
+    ensures room { OnOk result (global.old.num_operations < limit_of limits.now.max_operations) }
+    ensures charged { OnOk result (global.new ≡ record global.old { num_operations = global.old.num_operations + 1 }) }
+    ensures value { IfOk result (λ v. v ≡ value) }
+    ensures full { IfErr result (λ _. limit_of limits.now.max_operations ≤ global.old.num_operations) }
+    ensures refused { IfErr result (λ e. e ≡ error.ErrorTooManyOperations pos) }
+    ensures same { IfErr result (λ _. global.new ≡ global.old) }
+{
+    match track_operation(limits, global, pos) {
+        Ok(()) => Ok(value),
+        Err(error) => {
+            let_go(value);
+            Err(error)
+        }
+    }
+}

@@ -1,0 +1,168 @@
+//! The making of errors. Each stands in one place, so that texts stay alike; where there is no
+//! memory for one the answer is want of memory.
+
+ghost use Rattle.std.specs.Prelude.{◌≡◌, false, [], IfOk};
+ghost use Rattle.rhai_values.specs.Errors.{is_out_of_memory};
+ghost use Rattle.rhai_values.specs.DataSize.{fault_text};
+ghost use Rattle.rhai_values.specs.declared.base.error.EvalAltResult.TheVariants as error;
+ghost use Rattle.rhai_machine.specs.language.Values.{mismatch as mismatched};
+
+use rhai_items::{Boxed, Shared, Text};
+use rhai_tree::position::Position;
+use rhai_values::base::error::{EvalAltResult, TypeMismatch};
+use rhai_values::base::size::SizeFault;
+use rhai_values::base::value::{Dynamic, Host};
+use std::alloc::{AllocError, Global};
+
+/// A race for the cell that a handle leads to.
+#[cold]
+#[inline(never)]
+pub fn data_race<H>(alloc: Global, pos: Position) -> EvalAltResult<H>
+    ensures { is_out_of_memory result ≡ false → result ≡ error.ErrorDataRace [] pos }
+{
+    match Shared::new(alloc, Text::new(alloc)) {
+        Ok(name) => EvalAltResult::ErrorDataRace(name, pos),
+        Err(_) => EvalAltResult::ErrorOutOfMemory(pos),
+    }
+}
+
+/// A race for the cell that a name leads to.
+#[cold]
+#[inline(never)]
+pub fn data_race_of<H>(name: &Shared<Text>, pos: Position) -> EvalAltResult<H>
+    ensures { is_out_of_memory result ≡ false → result ≡ error.ErrorDataRace name.now pos }
+{
+    match name.share() {
+        Ok(name) => EvalAltResult::ErrorDataRace(name, pos),
+        Err(_) => EvalAltResult::ErrorOutOfMemory(pos),
+    }
+}
+
+/// A constant that is assigned to.
+#[cold]
+#[inline(never)]
+pub fn assignment_to_constant<H>(name: &Shared<Text>, pos: Position) -> EvalAltResult<H>
+    ensures { is_out_of_memory result ≡ false → result ≡ error.ErrorAssignmentToConstant name.now pos }
+{
+    match name.share() {
+        Ok(name) => EvalAltResult::ErrorAssignmentToConstant(name, pos),
+        Err(_) => EvalAltResult::ErrorOutOfMemory(pos),
+    }
+}
+
+/// A name that means no variable.
+#[cold]
+#[inline(never)]
+pub fn variable_not_found<H>(name: &Shared<Text>, pos: Position) -> EvalAltResult<H>
+    ensures { is_out_of_memory result ≡ false → result ≡ error.ErrorVariableNotFound name.now pos }
+{
+    match name.share() {
+        Ok(name) => EvalAltResult::ErrorVariableNotFound(name, pos),
+        Err(_) => EvalAltResult::ErrorOutOfMemory(pos),
+    }
+}
+
+/// A name that is declared twice where that is not allowed.
+#[cold]
+#[inline(never)]
+pub fn variable_exists<H>(name: &Shared<Text>, pos: Position) -> EvalAltResult<H>
+    ensures { is_out_of_memory result ≡ false → result ≡ error.ErrorVariableExists name.now pos }
+{
+    match name.share() {
+        Ok(name) => EvalAltResult::ErrorVariableExists(name, pos),
+        Err(_) => EvalAltResult::ErrorOutOfMemory(pos),
+    }
+}
+
+fn type_mismatch(
+    alloc: Global,
+    wanted: &str,
+    found: &str,
+) -> Result<Boxed<TypeMismatch>, AllocError>
+    ensures { IfOk result (λ m. m ≡ record { wanted = wanted.now; found = found.now }) }
+{
+    let wanted = Text::from_str(alloc, wanted)?;
+    let found = Text::from_str(alloc, found)?;
+    Boxed::new(alloc, TypeMismatch { wanted, found })
+}
+
+/// A value of another type than the one that is wanted.
+#[cold]
+#[inline(never)]
+pub fn mismatch<H>(alloc: Global, wanted: &str, found: &str, pos: Position) -> EvalAltResult<H>
+    ensures { is_out_of_memory result ≡ false → result ≡ mismatched wanted.now found.now pos }
+{
+    match type_mismatch(alloc, wanted, found) {
+        Ok(types) => EvalAltResult::ErrorMismatchDataType(types, pos),
+        Err(_) => EvalAltResult::ErrorOutOfMemory(pos),
+    }
+}
+
+/// A race for the cell of an argument of a native.
+#[cold]
+#[inline(never)]
+pub fn data_race_by<H>(alloc: Global, name: &str, pos: Position) -> EvalAltResult<H>
+    ensures { is_out_of_memory result ≡ false → result ≡ error.ErrorDataRace name.now pos }
+{
+    match shared_text(alloc, name) {
+        Ok(text) => EvalAltResult::ErrorDataRace(text, pos),
+        Err(_) => EvalAltResult::ErrorOutOfMemory(pos),
+    }
+}
+
+/// A native that is not pure, on a constant.
+#[cold]
+#[inline(never)]
+pub fn non_pure<H>(alloc: Global, name: &str, pos: Position) -> EvalAltResult<H>
+    ensures { is_out_of_memory result ≡ false → result ≡ error.ErrorNonPureMethodCallOnConstant name.now pos }
+{
+    match shared_text(alloc, name) {
+        Ok(text) => EvalAltResult::ErrorNonPureMethodCallOnConstant(text, pos),
+        Err(_) => EvalAltResult::ErrorOutOfMemory(pos),
+    }
+}
+
+/// A text that may have several owners.
+pub fn shared_text(alloc: Global, text: &str) -> Result<Shared<Text>, AllocError>
+    ensures { IfOk result (λ t. t ≡ text.now) }
+{
+    let text = Text::from_str(alloc, text)?;
+    Shared::new(alloc, text)
+}
+
+/// A value whose data is above a limit.
+#[cold]
+#[inline(never)]
+pub fn data_too_large<H>(alloc: Global, fault: SizeFault, pos: Position) -> EvalAltResult<H>
+    ensures { is_out_of_memory result ≡ false → result ≡ error.ErrorDataTooLarge (fault_text fault) pos }
+{
+    match shared_text(alloc, fault.text()) {
+        Ok(text) => EvalAltResult::ErrorDataTooLarge(text, pos),
+        Err(_) => EvalAltResult::ErrorOutOfMemory(pos),
+    }
+}
+
+/// A `break` or a `continue` on its way to its loop.
+pub fn loop_break<H: Host>(
+    alloc: Global,
+    value: Dynamic<H>,
+    is_break: bool,
+    pos: Position,
+) -> EvalAltResult<H>
+    ensures { is_out_of_memory result ≡ false → result ≡ error.LoopBreak value is_break pos }
+{
+    match Boxed::new(alloc, value) {
+        Ok(value) => EvalAltResult::LoopBreak(value, is_break, pos),
+        Err(_) => EvalAltResult::ErrorOutOfMemory(pos),
+    }
+}
+
+/// A `return` on its way to the end of its function or script.
+pub fn returned<H: Host>(alloc: Global, value: Dynamic<H>, pos: Position) -> EvalAltResult<H>
+    ensures { is_out_of_memory result ≡ false → result ≡ error.Return value pos }
+{
+    match Boxed::new(alloc, value) {
+        Ok(value) => EvalAltResult::Return(value, pos),
+        Err(_) => EvalAltResult::ErrorOutOfMemory(pos),
+    }
+}

@@ -1,0 +1,12 @@
+//! The single steps of the evaluator, which lead to no part of a tree: charges, errors, values,
+//! variables, what a native's answer comes to, and what loops and scripts make of an outcome. Each
+//! says exactly what it answers, want of memory aside.
+#![tactic(auto)]
+
+pub mod charges;
+pub mod errors;
+pub mod loops;
+pub mod outcome;
+pub mod replies;
+pub mod values;
+pub mod variables;

@@ -1,0 +1,42 @@
+//! What a script's end makes of its outcome.
+
+ghost use Rattle.std.specs.Prelude.{◌≡◌, Ok, IfOk, IfErr};
+ghost use Rattle.rhai_machine.specs.language.Unwinding.{topped};
+
+use rhai_values::base::error::EvalAltResult;
+use rhai_values::base::value::{Dynamic, Host};
+
+/// What a script's end makes of an error: a `return` gives its value, and so does an exit where
+/// that is asked.
+fn top_error<H: Host>(
+    error: EvalAltResult<H>,
+    map_exit_to_return_value: bool,
+) -> Result<Dynamic<H>, EvalAltResult<H>>
+    ensures { result ≡ topped map_exit_to_return_value error }
+{
+    match error {
+        EvalAltResult::Return(value, _) => Ok(value.into_inner()),
+        EvalAltResult::Exit(value, pos) => {
+            if map_exit_to_return_value {
+                Ok(value.into_inner())
+            } else {
+                Err(EvalAltResult::Exit(value, pos))
+            }
+        }
+        error => Err(error),
+    }
+}
+
+/// What a script's end makes of its outcome.
+pub fn top<H: Host>(
+    outcome: Result<Dynamic<H>, EvalAltResult<H>>,
+    map_exit_to_return_value: bool,
+) -> Result<Dynamic<H>, EvalAltResult<H>>
+    ensures value { IfOk outcome (λ value. result ≡ Ok value) }
+    ensures error { IfErr outcome (λ error. result ≡ topped map_exit_to_return_value error) }
+{
+    match outcome {
+        Ok(value) => Ok(value),
+        Err(error) => top_error(error, map_exit_to_return_value),
+    }
+}

@@ -1,0 +1,186 @@
+//! Built-in operators and natives: what a call does without going down the tree.
+
+ghost use Rattle.std.specs.Prelude.{◌≡◌, ◌<◌, ◌≤◌, ◌+◌, ◌∷◌, ◌++◌, [], Some, IfOk, IfErr, IfSome, OnOk, is_some, true, false, codes};
+ghost use Rattle.std.specs.String.{string_bytes};
+ghost use Rattle.rhai_values.specs.Errors.{is_out_of_memory};
+ghost use Rattle.rhai_values.specs.Cells.{cells_of};
+ghost use Rattle.rhai_values.specs.declared.base.error.EvalAltResult.TheVariants as error;
+ghost use Rattle.rhai_values.specs.Native.{Missing, reply_of};
+ghost use Rattle.rhai_operators.specs.Answers.{HasMemory};
+ghost use Rattle.rhai_machine.specs.language.State.{Answers, HasMemory as WithMemory};
+ghost use Rattle.rhai_machine.specs.language.Values.{is_handle as handle_at};
+ghost use Rattle.rhai_machine.specs.language.Calls.{applied as applied_at, builtin_of as builtin_for, call_at, operation_at, not_found as not_found_at, placed_if_none, replied as replied_at, signature as signature_of, sized as sized_at, types_of};
+
+use crate::errors::data_too_large;
+use rhai_items::{Items, Shared, Text};
+use rhai_operators::{builtin_binary, builtin_unary};
+use rhai_tree::position::Position;
+use rhai_tree::token::Token;
+use rhai_values::base::error::EvalAltResult;
+use rhai_values::base::value::{Dynamic, Host};
+use rhai_values::cells::CellStore;
+use rhai_values::limits::Limits;
+use rhai_values::table::Answer;
+use std::alloc::{AllocError, Global};
+
+/// Adds a further type to a row of types.
+fn push_type(text: &mut String, name: &str) -> Result<(), AllocError>
+    ensures { OnOk result (string_bytes text.new ≡ string_bytes text.old ++ (codes ", " ++ name.now)) }
+{
+    text.push_str(", ")?;
+    text.push_str(name)
+}
+
+/// A function's name and the first of its arguments' types.
+fn open_signature(alloc: Global, name: &str, first: &str) -> Result<String, AllocError>
+    ensures { IfOk result (λ text. string_bytes text ≡ name.now ++ (codes " (" ++ first.now)) }
+{
+    let mut text = String::from_str(alloc, name)?;
+    text.push_str(" (")?;
+    text.push_str(first)?;
+    Ok(text)
+}
+
+/// A function's name with the types of its arguments in brackets.
+fn signature<H: Host>(
+    alloc: Global,
+    cells: &CellStore<H>,
+    name: &str,
+    first: &Dynamic<H>,
+    rest: &[Dynamic<H>],
+) -> Result<Shared<Text>, AllocError>
+    ensures { IfOk result (λ text. text ≡ signature_of name.now (types_of H.name_of (cells_of cells.now) (first.now ∷ rest.now))) }
+{
+    let mut text = open_signature(alloc, name, first.type_name(cells))?;
+    'others: for value in rest {
+        push_type(&mut text, value.type_name(cells))?;
+    }
+    text.push_str(")")?;
+    Shared::new(alloc, Text::from_string(text))
+}
+
+/// No function of the name takes these arguments.
+#[cold]
+#[inline(never)]
+fn not_found<H: Host>(
+    alloc: Global,
+    cells: &CellStore<H>,
+    name: &str,
+    first: &Dynamic<H>,
+    rest: &[Dynamic<H>],
+    pos: Position,
+) -> EvalAltResult<H>
+    ensures { is_out_of_memory result ≡ false → result ≡ not_found_at H.name_of (cells_of cells.now) name.now (first.now ∷ rest.now) pos }
+{
+    match signature(alloc, cells, name, first, rest) {
+        Ok(text) => EvalAltResult::ErrorFunctionNotFound(text, pos),
+        Err(_) => EvalAltResult::ErrorOutOfMemory(pos),
+    }
+}
+
+/// A native's fault, at the call where it has no position of its own.
+pub fn placed<H: Host>(error: EvalAltResult<H>, pos: Position) -> EvalAltResult<H>
+    ensures { result ≡ placed_if_none pos error }
+{
+    let mut error = error;
+    if error.position().is_none() {
+        error.set_position(pos);
+    }
+    error
+}
+
+/// What a built-in operator gives for one operand or two, None where there is no such built-in.
+fn builtin<H: Host>(
+    alloc: Global,
+    token: Token,
+    first: &Dynamic<H>,
+    rest: &[Dynamic<H>],
+) -> Option<Result<Dynamic<H>, EvalAltResult<H>>>
+    ensures { HasMemory result → result ≡ builtin_for (Some token) (first.now ∷ rest.now) }
+{
+    match rest {
+        [] => builtin_unary(alloc, token, first),
+        [second] => builtin_binary(alloc, token, first, second),
+        _ => None,
+    }
+}
+
+/// Refuses a value whose data is too large. Ports upstream's `check_data_size`.
+pub fn sized<H: Host>(
+    alloc: Global,
+    limits: &Limits,
+    value: Dynamic<H>,
+    pos: Position,
+) -> Result<Dynamic<H>, EvalAltResult<H>>
+    ensures { Answers result (sized_at limits.now value pos) }
+{
+    match value.exceeds(
+        limits.max_string_size,
+        limits.max_array_size,
+        limits.max_map_size,
+    ) {
+        None => Ok(value),
+        Some(fault) => Err(data_too_large(alloc, fault, pos)),
+    }
+}
+
+/// What a built-in operator gave, at the operator.
+pub fn applied<H: Host>(
+    alloc: Global,
+    limits: &Limits,
+    outcome: Result<Dynamic<H>, EvalAltResult<H>>,
+    pos: Position,
+) -> Result<Dynamic<H>, EvalAltResult<H>>
+    ensures { Answers result (applied_at limits.now outcome pos) }
+{
+    match outcome {
+        Ok(value) => sized(alloc, limits, value, pos),
+        Err(error) => {
+            let mut error = error;
+            error.set_position(pos);
+            Err(error)
+        }
+    }
+}
+
+/// Where no native has the name: the built-in, or there is no such function.
+fn missing<H: Host>(
+    alloc: Global,
+    limits: &Limits,
+    cells: &CellStore<H>,
+    name: &Shared<Text>,
+    token: Token,
+    first: &Dynamic<H>,
+    rest: &[Dynamic<H>],
+    pos: Position,
+) -> Result<Dynamic<H>, EvalAltResult<H>>
+    ensures { Answers result (replied_at limits.now H.name_of Missing (Some first.now) rest.now (operation_at name.now token pos) (cells_of cells.now)) }
+{
+    match builtin(alloc, token, first, rest) {
+        Some(outcome) => applied(alloc, limits, outcome, pos),
+        None => Err(not_found(alloc, cells, name.get().as_str(), first, rest, pos)),
+    }
+}
+
+/// What a native's answer comes to, at the call.
+pub fn replied<H: Host>(
+    alloc: Global,
+    limits: &Limits,
+    cells: &CellStore<H>,
+    answer: Answer<H>,
+    name: &Shared<Text>,
+    token: Token,
+    first: &Dynamic<H>,
+    rest: &[Dynamic<H>],
+    pos: Position,
+) -> Result<Dynamic<H>, EvalAltResult<H>>
+    ensures told { IfSome (reply_of answer) (λ reply. Answers result (replied_at limits.now H.name_of reply (Some first.now) rest.now (operation_at name.now token pos) (cells_of cells.now))) }
+    ensures memory { WithMemory result → is_some (reply_of answer) ≡ true }
+{
+    match answer {
+        Answer::Missing => missing(alloc, limits, cells, name, token, first, rest, pos),
+        Answer::Value(value) => sized(alloc, limits, value, pos),
+        Answer::Fault(error) => Err(placed(error, pos)),
+        Answer::NoMemory => Err(EvalAltResult::ErrorOutOfMemory(pos)),
+    }
+}

@@ -1,0 +1,173 @@
+//! Values as the evaluator makes them and looks at them.
+
+ghost use Rattle.std.specs.Prelude.{◌≡◌, ◌∷◌, [], Ok, true, false, IfErr, IfOk};
+ghost use Rattle.rhai_tree.specs.declared.expr.Expr.{out-Expr};
+ghost use Rattle.rhai_values.specs.Cells.{cells_of, value_of_cell};
+ghost use Rattle.rhai_values.specs.Copy.{copy_of, plain};
+ghost use Rattle.rhai_values.specs.declared.base.value.Union.TheVariants as kind;
+ghost use Rattle.rhai_machine.specs.language.State.{Answers};
+ghost use Rattle.rhai_machine.specs.language.Values.{bool_value as truth_of, copied, flat, is_handle, is_truth, through, truth, truth_union, unit_value as unit, used};
+ghost use Rattle.rhai_machine.specs.language.Expressions.{literal_of};
+ghost use Rattle.rhai_steps.specs.Values.{unit_seen};
+
+use crate::errors::{data_race, mismatch};
+use rhai_items::Items;
+use rhai_tree::expr::Expr;
+use rhai_tree::position::Position;
+use rhai_values::base::error::EvalAltResult;
+use rhai_values::base::value::{CellId, Dynamic, Host, Union};
+use rhai_values::cells::CellStore;
+use std::alloc::Global;
+
+/// `()`.
+pub fn unit_value<H>() -> Dynamic<H>
+    ensures { result ≡ unit }
+{
+    Dynamic::new(Union::Unit)
+}
+
+/// A truth value.
+pub fn bool_value<H>(value: bool) -> Dynamic<H>
+    ensures { result ≡ truth_of value }
+{
+    Dynamic::new(Union::Bool(value))
+}
+
+/// An integer.
+pub fn int_value<H>(value: &i64) -> Dynamic<H>
+    ensures { result ≡ plain (kind.Int value.now) }
+{
+    Dynamic::new(Union::Int(*value))
+}
+
+/// The value of a literal, None for any other expression.
+pub fn literal_value<H>(expr: &Expr) -> Option<Dynamic<H>>
+    ensures { result ≡ literal_of (out-Expr expr.now) }
+{
+    match expr {
+        Expr::BoolConstant(value, _) => Some(bool_value(*value)),
+        Expr::IntegerConstant(value, _) => Some(int_value(value)),
+        Expr::Unit(_) => Some(unit_value()),
+        _ => None,
+    }
+}
+
+/// A copy of a value.
+pub fn copy<H: Host>(
+    alloc: Global,
+    value: &Dynamic<H>,
+    pos: Position,
+) -> Result<Dynamic<H>, EvalAltResult<H>>
+    ensures { Answers result (Ok (copy_of value.now)) }
+{
+    match value.try_clone(alloc) {
+        Ok(value) => Ok(value),
+        Err(_) => Err(EvalAltResult::ErrorOutOfMemory(pos)),
+    }
+}
+
+/// A copy of what a cell holds.
+fn copy_cell<H: Host>(
+    alloc: Global,
+    cells: &CellStore<H>,
+    id: CellId,
+    pos: Position,
+) -> Result<Dynamic<H>, EvalAltResult<H>>
+    ensures { Answers result (copied (used [] pos (value_of_cell (cells_of cells.now) id.number))) }
+{
+    match cells.get(id) {
+        Some(value) => copy(alloc, value, pos),
+        None => Err(data_race(alloc, pos)),
+    }
+}
+
+/// A value without its handle: of a handle, a copy of the cell's value; any other stays.
+pub fn flatten<H: Host>(
+    alloc: Global,
+    cells: &CellStore<H>,
+    value: Dynamic<H>,
+    pos: Position,
+) -> Result<Dynamic<H>, EvalAltResult<H>>
+    ensures exact { Answers result (flat (cells_of cells.now) value pos) }
+    ensures memory { IfErr result (λ _. is_handle value.value ≡ true) }
+{
+    match &value.value {
+        Union::Cell(id) => copy_cell(alloc, cells, *id, pos),
+        _ => Ok(value),
+    }
+}
+
+fn plain_truth<H: Host>(
+    alloc: Global,
+    cells: &CellStore<H>,
+    value: &Dynamic<H>,
+    pos: Position,
+) -> Result<bool, EvalAltResult<H>>
+    ensures exact { Answers result (truth_union H.name_of (cells_of cells.now) value.now.value value.now pos) }
+    ensures memory { IfErr result (λ _. is_truth value.now.value ≡ false) }
+{
+    match &value.value {
+        Union::Bool(b) => Ok(*b),
+        _ => Err(mismatch(alloc, "bool", value.type_name(cells), pos)),
+    }
+}
+
+/// The truth value that a condition gave, through a handle.
+pub fn truth_value<H: Host>(
+    alloc: Global,
+    cells: &CellStore<H>,
+    value: Dynamic<H>,
+    pos: Position,
+) -> Result<bool, EvalAltResult<H>>
+    ensures exact { Answers result (truth H.name_of (cells_of cells.now) value pos) }
+    ensures memory { IfErr result (λ _. is_truth value.value ≡ false) }
+{
+    match &value.value {
+        Union::Cell(id) => match cells.get(*id) {
+            Some(inner) => plain_truth(alloc, cells, inner, pos),
+            None => Err(data_race(alloc, pos)),
+        },
+        _ => plain_truth(alloc, cells, &value, pos),
+    }
+}
+
+/// Whether a value is `()`, through a handle.
+pub fn is_unit<H: Host>(
+    alloc: Global,
+    cells: &CellStore<H>,
+    value: &Dynamic<H>,
+    pos: Position,
+) -> Result<bool, EvalAltResult<H>>
+    ensures { Answers result (unit_seen (through (cells_of cells.now) value.now pos)) }
+{
+    match &value.value {
+        Union::Unit => Ok(true),
+        Union::Cell(id) => match cells.get(*id) {
+            Some(inner) => Ok(matches!(&inner.value, Union::Unit)),
+            None => Err(data_race(alloc, pos)),
+        },
+        _ => Ok(false),
+    }
+}
+
+/// Whether a value is a bare handle of a cell.
+pub fn is_bare_handle<H: Host>(value: &Dynamic<H>) -> bool
+    ensures { result ≡ is_handle value.now.value }
+{
+    matches!(&value.value, Union::Cell(_))
+}
+
+/// A list of one value. Where there is no memory the value comes back.
+pub fn list_of<H: Host>(alloc: Global, value: Dynamic<H>) -> Result<Items<Dynamic<H>>, Dynamic<H>>
+    ensures ok { IfOk result (λ items. items ≡ value ∷ []) }
+    ensures err { IfErr result (λ v. v ≡ value) }
+{
+    let mut items = Items::new(alloc);
+    match items.try_push(value) {
+        Ok(()) => Ok(items),
+        Err(failed) => Err(failed.value),
+    }
+}
+
+/// Lets go of a value.
+pub fn let_go<H: Host>(_value: Dynamic<H>) {}

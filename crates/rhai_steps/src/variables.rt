@@ -1,0 +1,197 @@
+//! Variables, and what a restoring list takes back.
+
+ghost use Rattle.std.specs.Prelude.{◌≡◌, ℕ, List, Ok, Err, Some, None, false, IsTrue, ◌++◌, ◌∷◌, [], true, not, ◌&&◌, is_some, take, IfOk, IfErr, OnOk, OnErr};
+ghost use Rattle.rhai_values.specs.Cells.{cells_of};
+ghost use Rattle.rhai_values.specs.Errors.{is_out_of_memory};
+ghost use Rattle.rhai_values.specs.declared.base.error.EvalAltResult.TheVariants as error;
+ghost use Rattle.rhai_places.specs.declared.target.Part.TheVariants as part;
+ghost use Rattle.rhai_values.specs.Scope.{entries_of, found, index_of, new_entry};
+ghost use Rattle.rhai_machine.specs.language.State.{Answers};
+ghost use Rattle.rhai_machine.specs.language.Values.{copied, unit_value as unit};
+ghost use Rattle.rhai_machine.specs.language.Names.{looked_up, read, variable_of};
+ghost use Rattle.rhai_machine.specs.language.Statements.{deeper, mode_of as mode_asked};
+ghost use Rattle.rhai_steps.specs.Declaring.{declarable, is_full, is_taken};
+ghost use Rattle.rhai_steps.specs.Saves.{saved_in, saved_now, left_global};
+
+use crate::errors::{data_race_of, variable_exists, variable_not_found};
+use crate::values::{copy, unit_value};
+use bitflags::Flags;
+use rhai_items::{Shared, Text};
+use rhai_places::target::{Part, Target};
+use rhai_tree::expr::Ident;
+use rhai_tree::flags::ASTFlags;
+use rhai_tree::position::Position;
+use rhai_values::base::error::EvalAltResult;
+use rhai_values::base::scope::Scope;
+use rhai_values::base::value::{AccessMode, Dynamic, Host, Union};
+use rhai_values::cells::CellStore;
+use rhai_values::limits::Limits;
+use rhai_values::state::GlobalRuntimeState;
+use std::alloc::Global;
+
+/// Reads a variable by its name: a copy, unless there is none or its cell is held.
+pub fn read_variable<H: Host>(
+    alloc: Global,
+    cells: &CellStore<H>,
+    scope: &Scope<H>,
+    name: &Shared<Text>,
+    pos: Position,
+) -> Result<Dynamic<H>, EvalAltResult<H>>
+    ensures { Answers result (read (cells_of cells.now) name.now pos (entries_of scope.now)) }
+{
+    match scope.search(name.get().as_str()) {
+        Some(index) => copy_variable(alloc, cells, scope.value_at(index), name, pos),
+        None => Err(variable_not_found(name, pos)),
+    }
+}
+
+fn copy_variable<H: Host>(
+    alloc: Global,
+    cells: &CellStore<H>,
+    value: &Dynamic<H>,
+    name: &Shared<Text>,
+    pos: Position,
+) -> Result<Dynamic<H>, EvalAltResult<H>>
+    ensures { Answers result (copied (looked_up (cells_of cells.now) name.now pos value.now.value value.now)) }
+{
+    match &value.value {
+        Union::Cell(id) => match cells.get(*id) {
+            Some(_) => copy(alloc, value, pos),
+            None => Err(data_race_of(name, pos)),
+        },
+        _ => copy(alloc, value, pos),
+    }
+}
+
+/// Whether a value is the handle of a cell that is held.
+fn is_held<H: Host>(cells: &CellStore<H>, value: &Dynamic<H>) -> bool
+    ensures held { IsTrue result → (name : List ℕ) → (pos : _) → looked_up (cells_of cells.now) name pos value.now.value value.now ≡ Err (error.ErrorDataRace name pos) }
+    ensures free { result ≡ false → (name : List ℕ) → (pos : _) → looked_up (cells_of cells.now) name pos value.now.value value.now ≡ Ok value.now }
+{
+    match &value.value {
+        Union::Cell(id) => cells.get(*id).is_none(),
+        _ => false,
+    }
+}
+
+/// Whether a new variable of this name is refused: shadowing is off, and the scope has the name.
+fn refuses_name<H: Host>(allow_shadowing: bool, scope: &Scope<H>, name: &Shared<Text>) -> bool
+    ensures { result ≡ (not allow_shadowing && is_some (index_of name.now (entries_of scope.now))) }
+{
+    !allow_shadowing && scope.contains(name.get().as_str())
+}
+
+/// Whether a variable may be declared: its name is free where shadowing is off, and the scope has
+/// room for it.
+///
+/// # Errors
+/// `ErrorVariableExists` first, then `ErrorTooManyVariables`, both at the statement.
+pub fn may_declare<H: Host>(
+    limits: &Limits,
+    allow_shadowing: bool,
+    scope: &Scope<H>,
+    name: &Shared<Text>,
+    pos: Position,
+) -> Result<(), EvalAltResult<H>>
+    ensures { Answers result (declarable name.now pos (is_taken allow_shadowing name.now (entries_of scope.now)) (is_full limits.now (entries_of scope.now))) }
+{
+    if refuses_name(allow_shadowing, scope, name) {
+        return Err(variable_exists(name, pos));
+    }
+    if scope.len() >= limits.max_variables {
+        return Err(EvalAltResult::ErrorTooManyVariables(pos));
+    }
+    Ok(())
+}
+
+/// The place of the newest variable of a name.
+pub fn find_variable<'s, H: Host>(
+    cells: &CellStore<H>,
+    scope: &'s mut Scope<H>,
+    name: &Shared<Text>,
+    pos: Position,
+) -> Result<Target<'s, H>, EvalAltResult<H>>
+    ensures found { IfOk result (λ target. variable_of (cells_of cells.now) name.now pos (found name.now (entries_of scope.old)) ≡ Ok target.at.now) }
+    ensures place { IfOk result (λ target. target.part ≡ part.Whole) }
+    ensures missed { IfErr result (λ e. is_out_of_memory e ≡ false → variable_of (cells_of cells.now) name.now pos (found name.now (entries_of scope.old)) ≡ Err e) }
+{
+    let Some(index) = scope.search(name.get().as_str()) else {
+        return Err(variable_not_found(name, pos));
+    };
+    if is_held(cells, scope.value_at(index)) {
+        return Err(data_race_of(name, pos));
+    }
+    Ok(Target {
+        at: scope.value_at_mut(index),
+        part: Part::Whole,
+    })
+}
+
+/// The mode that a `let` or a `const` asks for.
+pub fn mode_of(options: ASTFlags) -> AccessMode
+    ensures { result ≡ mode_asked options }
+{
+    if options.contains(ASTFlags::CONSTANT) {
+        AccessMode::ReadOnly
+    } else {
+        AccessMode::ReadWrite
+    }
+}
+
+/// Adds a variable. Where there is no memory the scope stays.
+pub fn define_variable<H: Host>(
+    scope: &mut Scope<H>,
+    ident: &Ident,
+    mode: AccessMode,
+    value: Dynamic<H>,
+    pos: Position,
+) -> Result<Dynamic<H>, EvalAltResult<H>>
+    ensures defined { IfOk result (λ v. v ≡ unit) }
+    ensures pushed { OnOk result (entries_of scope.new ≡ entries_of scope.old ++ new_entry ident.now.name mode value ∷ []) }
+    ensures refused { IfErr result (λ e. is_out_of_memory e ≡ true) }
+    ensures same { OnErr result (entries_of scope.new ≡ entries_of scope.old) }
+{
+    let Ok(name) = ident.name.share() else {
+        return Err(EvalAltResult::ErrorOutOfMemory(pos));
+    };
+    match scope.push_shared(name, mode, value) {
+        Ok(()) => Ok(unit_value()),
+        Err(_) => Err(EvalAltResult::ErrorOutOfMemory(pos)),
+    }
+}
+
+/// What a restoring list takes back as it ends.
+#[derive(Clone, Copy)]
+pub struct Saved {
+    scope_length: usize,
+    imports_length: usize,
+    scope_level: usize,
+    always_search_scope: bool,
+}
+
+/// Enters a restoring list, one level deeper.
+pub fn enter_list<H: Host>(global: &mut GlobalRuntimeState<H>, scope: &Scope<H>) -> Saved
+    ensures saved { saved_in result ≡ saved_now global.old scope.now }
+    ensures search { result.always_search_scope ≡ global.old.always_search_scope }
+    ensures deeper { global.new ≡ record global.old { scope_level = deeper global.old.scope_level } }
+{
+    let saved = Saved {
+        scope_length: scope.len(),
+        imports_length: global.imports.len(),
+        scope_level: global.scope_level,
+        always_search_scope: global.always_search_scope,
+    };
+    global.scope_level = global.scope_level.saturating_add(1);
+    saved
+}
+
+/// Leaves a restoring list, on every way out.
+pub fn leave_list<H: Host>(global: &mut GlobalRuntimeState<H>, scope: &mut Scope<H>, saved: Saved)
+    ensures scope { entries_of scope.new ≡ take saved.scope_length (entries_of scope.old) }
+    ensures global { global.new ≡ left_global saved global.old }
+{
+    scope.rewind(saved.scope_length);
+    global.truncate_imports(saved.imports_length);
+    global.scope_level = saved.scope_level;
+    global.always_search_scope = saved.always_search_scope;
+}

@@ -1,0 +1,20 @@
+//! The limits of a run.
+
+/// The limits of a run. Ports upstream's `Limits`.
+#[derive(Clone, Copy, Debug, PartialEq, Eq)]
+pub struct Limits {
+    /// How many operations a run may charge; zero is the greatest count.
+    pub max_operations: u64,
+    /// How many variables a scope may hold.
+    pub max_variables: usize,
+    /// How many modules a run may load.
+    pub max_modules: usize,
+    /// How deep calls may be.
+    pub max_call_levels: usize,
+    /// How many elements a value's arrays and blobs may hold; zero is no limit.
+    pub max_array_size: usize,
+    /// How many entries a value's maps may hold; zero is no limit.
+    pub max_map_size: usize,
+    /// How many bytes a value's texts may hold; zero is no limit.
+    pub max_string_size: usize,
+}
