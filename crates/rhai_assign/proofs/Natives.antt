@@ -18,7 +18,8 @@ use Rattle.rhai_machine.specs.language.Setting.{Setting, Rules, limit_under}
 use Rattle.rhai_machine.specs.language.State.{State, Local}
 use Rattle.rhai_machine.specs.language.Values.{is_handle}
 use Rattle.rhai_machine.specs.language.Places.{put, while_lent}
-use Rattle.rhai_machine.specs.language.Frames.{Attempt, InPlace, AsValue, Update, Frame, Core, core, AskUpdate, QuestionUpdate, FireUpdate, Fail}
+use Rattle.rhai_machine.specs.language.Frames.{Attempt, InPlace, AsValue, Update, Frame, Core, core, AskUpdate, QuestionUpdate}
+use Rattle.rhai_machine.specs.language.Frames.{FireUpdate, Fail}
 use Rattle.rhai_machine.specs.language.Assignment.{answered_core, call_update, fire_update, left_in, lent_core, native_of}
 use Rattle.rhai_machine.specs.language.Language.{machine, move, want}
 use Rattle.rhai_machine.specs.language.Runs.{at, Goes, Steps}

@@ -1,5 +1,6 @@
 -- What stands at the place of a variable, and what is written there.
-use Rattle.std.proofs.Common.{◌≡◌, ◌<◌, ℕ, zero, suc, true, List, [], ◌∷◌, map, length, Option, Some, None, is_some, unwrap_or, refl, sym, ap, ◌∙◌, slice_get, slice_set, arith}
+use Rattle.std.proofs.Common.{◌≡◌, ◌<◌, ℕ, zero, suc, true, List, [], ◌∷◌, map, length, Option, Some, None, is_some, unwrap_or, refl, sym}
+use Rattle.std.proofs.Common.{ap, ◌∙◌, slice_get, slice_set, arith}
 use Rattle.std.proofs.lemmas.List.{length-set, set-set}
 use Rattle.std.proofs.lemmas.Option.{slice_get_within, get_or_from_slice_get}
 use Rattle.std.proofs.Math.Seq.{map-set_same}
@@ -15,7 +16,8 @@ use Rattle.rhai_machine.specs.language.Values.{Cells, unit_value}
 use Rattle.rhai_machine.specs.language.Places.{Place, InEntry, InCell, put, while_lent}
 use Rattle.rhai_steps.specs.States.{local_of}
 use Rattle.rhai_assign.specs.declared.place.Place as code
-use Rattle.rhai_assign.specs.Targets.{there, stands, standing, IsKnown, IsPut, entries_put, cells_put, place_in, stands_at, standing_at, there_at}
+use Rattle.rhai_assign.specs.Targets.{there, stands, standing, IsKnown, IsPut, entries_put, cells_put, place_in, stands_at, standing_at}
+use Rattle.rhai_assign.specs.Targets.{there_at}
 
 module _ {A : Type 0} where
   get_set : (xs : List A) (i : ℕ) (x y : A) → slice_get xs i ≡ Some x → slice_get (slice_set xs i y) i ≡ Some y

@@ -1,5 +1,6 @@
 -- The pieces of a run that assigns to a variable.
-use Rattle.std.proofs.Common.{◌≡◌, ◌<◌, ◌≤◌, ◌+◌, ℕ, Bool, true, false, List, [], ◌∷◌, Option, Some, None, is_some, IfSome, Result, Ok, Err, IfOk, IfErr, get_or, refl, sym, ap, ◌∙◌}
+use Rattle.std.proofs.Common.{◌≡◌, ◌<◌, ◌≤◌, ◌+◌, ℕ, Bool, true, false, List, [], ◌∷◌, Option, Some, None, is_some, IfSome, Result, Ok}
+use Rattle.std.proofs.Common.{Err, IfOk, IfErr, get_or, refl, sym, ap, ◌∙◌}
 use Rattle.std.proofs.lemmas.Bool.{false≢true}
 use Rattle.rhai_tree.specs.declared.position.Position.{Position}
 use Rattle.rhai_values.specs.declared.base.value.Dynamic.{Dynamic}
@@ -20,7 +21,8 @@ use Rattle.rhai_machine.specs.language.Setting.{Rules, limit_under}
 use Rattle.rhai_machine.specs.language.State.{State, Local, HasMemory, Answers}
 use Rattle.rhai_machine.specs.language.Places.{Target, target_of, put}
 use Rattle.rhai_machine.specs.language.Calls.{applied, operation_at, placed_if_none, replied, sized}
-use Rattle.rhai_machine.specs.language.Frames.{Control, Assignment, AsValue, Update, Frame, Core, core, ended, Assign, Store, AskUpdate, Fail}
+use Rattle.rhai_machine.specs.language.Frames.{Control, Assignment, AsValue, Update, Frame, Core, core, ended, Assign, Store, AskUpdate}
+use Rattle.rhai_machine.specs.language.Frames.{Fail}
 use Rattle.rhai_machine.specs.language.Assignment.{changed_core, fault_core, native_of, store_core, update_core, value_core, written_core}
 use Rattle.rhai_machine.specs.language.Runs.{at, with_core, Goes, Runs, Steps}
 use Rattle.rhai_steps.specs.States.{local_of, state_of}

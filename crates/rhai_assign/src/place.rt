@@ -5,8 +5,10 @@ ghost use Rattle.std.specs.Prelude.{◌≡◌, ◌||◌, Some, true};
 ghost use Rattle.rhai_values.specs.Cells.{cells_of, value_of_cell};
 ghost use Rattle.rhai_values.specs.Scope.{entries_of};
 ghost use Rattle.rhai_machine.specs.language.Values.{unit_value as unit};
-ghost use Rattle.rhai_machine.specs.language.Places.{is_constant as constant_at, target, target_in_cell, target_of, unless_constant as allowed, while_lent};
-ghost use Rattle.rhai_assign.specs.Targets.{Finds, IsKnownAt, IsPut, entries_put, place_in, stands_at, there, there_at};
+ghost use Rattle.rhai_machine.specs.language.Places.{is_constant as constant_at, target, target_in_cell};
+ghost use Rattle.rhai_machine.specs.language.Places.{target_of, unless_constant as allowed, while_lent};
+ghost use Rattle.rhai_assign.specs.Targets.{Finds, IsKnownAt, IsPut, entries_put, place_in, stands_at};
+ghost use Rattle.rhai_assign.specs.Targets.{there, there_at};
 
 use rhai_items::{Shared, Text};
 use rhai_steps::errors::{assignment_to_constant, data_race_of, variable_not_found};

@@ -2,7 +2,7 @@
 
 ghost use Rattle.std.specs.Prelude.{codes};
 
-use rhai_values::base::value::Host;
+use rhai_eval::base::Host;
 use std::alloc::{AllocError, Global};
 
 /// The bench's own type of values: two numbers.

@@ -1,12 +1,13 @@
 //! Trees built by hand, with a host's values and tables of natives, that show what the evaluator
-//! does.
+//! does, and the work of the program that runs them.
 #![tactic(auto)]
 
-pub mod build;
+mod build;
+pub mod command;
 pub mod host;
 pub mod outcome;
 pub mod print;
 pub mod rows;
 pub mod script;
 pub mod settings;
-pub mod tables;
+mod tables;

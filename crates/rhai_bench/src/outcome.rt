@@ -4,10 +4,8 @@ ghost use Rattle.std.specs.Prelude.{◌≡◌};
 ghost use Rattle.rhai_bench.specs.Outcome.{status_of};
 
 use crate::host::Pair;
-use rhai_tree::check::CheckFault;
-use rhai_values::base::error::EvalAltResult;
-use rhai_values::base::scope::Scope;
-use rhai_values::base::value::Dynamic;
+use rhai_eval::base::{Dynamic, EvalAltResult, Scope};
+use rhai_eval::check::CheckFault;
 
 /// How a script ended.
 #[derive(Drop)]

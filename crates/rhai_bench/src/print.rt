@@ -2,9 +2,7 @@
 
 use crate::host::Pair;
 use crate::outcome::Ending;
-use rhai_items::Table;
-use rhai_tree::position::Position;
-use rhai_values::base::value::{Dynamic, Union};
+use rhai_eval::base::{Dynamic, Position, Table, Union};
 use std::io;
 use std::io::Write;
 

@@ -1,12 +1,12 @@
 //! The rows of the bench: scripts under a number, run one after the other.
 
 use crate::script::Script;
-use rhai_items::Items;
+use rhai_eval::base::Items;
 use std::alloc::{AllocError, Global};
 
 pub mod loops;
 pub mod operators;
-pub mod variables;
+mod variables;
 
 /// The scripts of a row in their order, None where no row has the number. A number is written in
 /// decimal digits, without zeros in front.

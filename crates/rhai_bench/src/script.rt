@@ -4,20 +4,18 @@ ghost use Rattle.std.specs.Prelude.{◌≡◌, ◌≢◌, ◌≤◌, [], IfOk, l
 ghost use Rattle.rhai_tree.specs.WellFormed.{IsFormedTree};
 ghost use Rattle.rhai_tree.specs.declared.check.CheckFault.TheVariants.{NoMemory};
 ghost use Rattle.rhai_values.specs.Scope.{entries_of, names_in};
-ghost use Rattle.rhai_machine.specs.language.Setting.{limit_of};
+ghost use Rattle.rhai_values.specs.Limits.{limit_of};
 ghost use Rattle.rhai_bench.specs.Outcome.{IfRefused};
 
 use crate::host::Pair;
 use crate::outcome::{Ending, Outcome};
 use crate::settings::{Settings, Way};
 use crate::tables::NoNatives;
+use rhai_eval::base::{Items, Scope, Stmt};
+use rhai_eval::check::check_tree;
 use rhai_eval::engine::Engine;
-use rhai_items::Items;
-use rhai_tree::check::check_tree;
-use rhai_tree::expr::Stmt;
-use rhai_tree::function::ScriptFuncDef;
-use rhai_values::base::scope::Scope;
-use rhai_values::state::GlobalRuntimeState;
+use rhai_eval::script::ScriptFuncDef;
+use rhai_eval::state::GlobalRuntimeState;
 use std::alloc::{AllocError, Global};
 
 /// The tree of a script, and what is set for its run.
@@ -33,7 +31,7 @@ impl Script {
     pub fn new(alloc: Global, statements: Items<Stmt>) -> Script
         ensures statements { result.statements ≡ statements }
         ensures functions { result.functions ≡ [] }
-        ensures operations { result.settings.max_operations ≡ 0 }
+        ensures operations { result.settings.limits.max_operations ≡ 0 }
     {
         Script::with_settings(alloc, statements, Settings::USUAL)
     }
@@ -42,13 +40,9 @@ impl Script {
     pub fn with_max_operations(alloc: Global, statements: Items<Stmt>, count: u64) -> Script
         ensures statements { result.statements ≡ statements }
         ensures functions { result.functions ≡ [] }
-        ensures operations { result.settings.max_operations ≡ count }
+        ensures operations { result.settings.limits.max_operations ≡ count }
     {
-        let settings = Settings {
-            max_operations: count,
-            ..Settings::USUAL
-        };
-        Script::with_settings(alloc, statements, settings)
+        Script::with_settings(alloc, statements, Settings::with_max_operations(count))
     }
 
     fn with_settings(alloc: Global, statements: Items<Stmt>, settings: Settings) -> Script
@@ -65,10 +59,13 @@ impl Script {
 
     /// Checks the script and runs it in one of the ways, in an empty scope and without natives.
     pub fn run(self, alloc: Global, way: Way) -> Result<Outcome, AllocError>
-        ensures limit { IfOk result (λ o. o.num_operations ≤ limit_of self.settings.max_operations) }
-        ensures variables { IfOk result (λ o. length (names_in o.scope) ≤ self.settings.max_variables) }
-        ensures refused { IfOk result (λ o. IfRefused o.ending (λ f. f ≢ NoMemory → ¬ IsFormedTree self.statements self.functions)) }
-        ensures not_run { IfOk result (λ o. IfRefused o.ending (λ _. (o.num_operations ≡ 0) × (entries_of o.scope ≡ []))) }
+        ensures limit { IfOk result (λ o. o.num_operations ≤ limit_of self.settings.limits.max_operations) }
+        ensures variables { IfOk result (λ o. length (names_in o.scope)
+            ≤ self.settings.limits.max_variables) }
+        ensures refused { IfOk result (λ o. IfRefused o.ending
+            (λ f. f ≢ NoMemory → ¬ IsFormedTree self.statements self.functions)) }
+        ensures not_run { IfOk result (λ o. IfRefused o.ending
+            (λ _. (o.num_operations ≡ 0) × (entries_of o.scope ≡ []))) }
     {
         let mut global = GlobalRuntimeState::new(alloc)?;
         global.always_search_scope = way.always_search_scope;

@@ -5,21 +5,13 @@ ghost use Rattle.rhai_values.specs.Caches.{depth_of, is_on};
 
 use crate::host::Pair;
 use rhai_eval::engine::Engine;
-use rhai_values::caches::Caches;
+use rhai_eval::state::{Caches, Limits};
 use std::alloc::Global;
 
 /// The limits and switches of a run.
 #[derive(Clone, Copy, Debug, PartialEq, Eq)]
 pub struct Settings {
-    /// How many operations the run may charge; zero is no limit.
-    pub max_operations: u64,
-    pub max_variables: usize,
-    pub max_modules: usize,
-    pub max_call_levels: usize,
-    /// How much data a value may hold; zero is no limit.
-    pub max_array_size: usize,
-    pub max_map_size: usize,
-    pub max_string_size: usize,
+    pub limits: Limits,
     pub allow_shadowing: bool,
     pub fail_on_invalid_map_property: bool,
     pub map_exit_to_return_value: bool,
@@ -28,39 +20,38 @@ pub struct Settings {
 impl Settings {
     /// What a script runs with that sets nothing else.
     pub const USUAL: Settings = Settings {
-        max_operations: 0,
-        max_variables: 1000,
-        max_modules: 100,
-        max_call_levels: 64,
-        max_array_size: 0,
-        max_map_size: 0,
-        max_string_size: 0,
+        limits: Limits {
+            max_operations: 0,
+            max_variables: 1000,
+            max_modules: 100,
+            max_call_levels: 64,
+            max_array_size: 0,
+            max_map_size: 0,
+            max_string_size: 0,
+        },
         allow_shadowing: true,
         fail_on_invalid_map_property: false,
         map_exit_to_return_value: false,
     };
 
+    /// The usual settings, but for the limit of operations.
+    pub fn with_max_operations(count: u64) -> Settings
+        ensures { result.limits.max_operations ≡ count }
+    {
+        let mut settings = Settings::USUAL;
+        settings.limits.max_operations = count;
+        settings
+    }
+
     /// An engine with these limits and switches, with fast operators and without modules.
     pub fn engine(&self, alloc: Global) -> Engine<Pair>
+        ensures limits { result.limits ≡ self.now.limits }
         ensures fast_operators { result.fast_operators ≡ true }
-        ensures operations { result.max_operations ≡ self.now.max_operations }
-        ensures variables { result.max_variables ≡ self.now.max_variables }
-        ensures modules { result.max_modules ≡ self.now.max_modules }
-        ensures call_levels { result.max_call_levels ≡ self.now.max_call_levels }
-        ensures array_size { result.max_array_size ≡ self.now.max_array_size }
-        ensures map_size { result.max_map_size ≡ self.now.max_map_size }
-        ensures string_size { result.max_string_size ≡ self.now.max_string_size }
         ensures shadowing { result.allow_shadowing ≡ self.now.allow_shadowing }
         ensures map_property { result.fail_on_invalid_map_property ≡ self.now.fail_on_invalid_map_property }
     {
         let mut engine = Engine::new(alloc);
-        engine.max_operations = self.max_operations;
-        engine.max_variables = self.max_variables;
-        engine.max_modules = self.max_modules;
-        engine.max_call_levels = self.max_call_levels;
-        engine.max_array_size = self.max_array_size;
-        engine.max_map_size = self.max_map_size;
-        engine.max_string_size = self.max_string_size;
+        engine.limits = self.limits;
         engine.allow_shadowing = self.allow_shadowing;
         engine.fail_on_invalid_map_property = self.fail_on_invalid_map_property;
         engine

@@ -1,18 +1,16 @@
 //! The bench's tables of natives.
 
-ghost use Rattle.std.specs.Prelude.{◌≡◌, Some, true};
+ghost use Rattle.std.specs.Prelude.{◌≡◌, Some};
 ghost use Rattle.rhai_values.specs.Native.{Missing, reply_of};
 
 use crate::host::Pair;
-use rhai_tree::literal::NativeId;
-use rhai_tree::position::Position;
-use rhai_values::base::value::Dynamic;
-use rhai_values::cells::CellStore;
-use rhai_values::table::{Answer, NativeTable};
+use rhai_eval::base::{Dynamic, NativeId, Position};
+use rhai_eval::cells::CellStore;
+use rhai_eval::table::{Answer, NativeTable};
 
 /// A table without natives.
 #[derive(Clone, Copy, Debug, PartialEq, Eq)]
-pub struct NoNatives;
+pub(crate) struct NoNatives;
 
 fn missing_at(_first: &mut Dynamic<Pair>) -> Answer<Pair>
     ensures reply { reply_of result ≡ Some Missing }
@@ -22,15 +20,13 @@ fn missing_at(_first: &mut Dynamic<Pair>) -> Answer<Pair>
 }
 
 impl NativeTable<Pair> for NoNatives {
-    ghost use Rattle.rhai_bench.specs.Tables.{Stateless, stateless, missing, missing_lawful};
+    ghost use Rattle.rhai_bench.specs.Tables.{Stateless, stateless, none, none_lawful};
 
     ghost State = { Stateless };
 
     ghost state = { λ t. stateless };
 
-    ghost gives = { missing };
-
-    ghost pure = { λ s p. true };
+    ghost natives = { none };
 
     fn call(
         &mut self,
@@ -68,5 +64,5 @@ impl NativeTable<Pair> for NoNatives {
         true
     }
 
-    ghost lawful = { missing_lawful };
+    ghost lawful = { none_lawful };
 }

@@ -11,4 +11,5 @@ use Rattle.rhai_machine.specs.language.Runs.{at, with_core, Goes}
 -- from an operator whose operands are there, over any stack, to what it gave
 abbrev pub Operates : {S H : Type 0} → Rules S H → Call H → State S H → Result (Dynamic H) (EvalAltResult H) → State S H → Type 0
 Operates {S} {H} rules call old result new = (k : List (Frame H)) →
-    Goes rules (with_core (operator_core rules.setting (builtin_of call.operation.token call.args) call k old.local) old) (at (ended result) k new)
+    Goes rules (with_core (operator_core rules.setting (builtin_of call.operation.token call.args) call k old.local) old)
+    (at (ended result) k new)

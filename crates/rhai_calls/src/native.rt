@@ -156,7 +156,8 @@ pub fn operate_one<H: Host, T: NativeTable<H>>(
     pos: Position,
 ) -> Result<Dynamic<H>, EvalAltResult<H>>
     ensures counts { global.old.num_operations ≤ global.new.num_operations }
-    ensures runs { (offer : _) (scope : _) (this : _) → Operates (rules_of limits.now H.name_of offer T.natives)
+    ensures runs { (offer : _) (scope : _) (this : _) → Operates
+        (rules_of limits.now H.name_of offer T.natives)
         (call_at name.now token pos (operand ∷ []))
         (state_of (T.state table.old) global.old scope this)
         result (state_of (T.state table.new) global.new scope this) }
@@ -186,7 +187,8 @@ pub fn operate_two<H: Host, T: NativeTable<H>>(
     pos: Position,
 ) -> Result<Dynamic<H>, EvalAltResult<H>>
     ensures counts { global.old.num_operations ≤ global.new.num_operations }
-    ensures runs { (offer : _) (scope : _) (this : _) → Operates (rules_of limits.now H.name_of offer T.natives)
+    ensures runs { (offer : _) (scope : _) (this : _) → Operates
+        (rules_of limits.now H.name_of offer T.natives)
         (call_at name.now token pos (left ∷ right ∷ []))
         (state_of (T.state table.old) global.old scope this)
         result (state_of (T.state table.new) global.new scope this) }

@@ -1,5 +1,6 @@
 -- Pieces of runs, as the functions of the evaluator put them together.
-use Rattle.std.proofs.Common.{◌≡◌, ◌≢◌, ◌<◌, ◌≤◌, ◌+◌, ◌==◌, ℕ, Bool, true, false, List, [], ◌∷◌, ◌++◌, length, take, drop, get_or, drop-cons, add-one, Option, Some, None, Result, Ok, Err, refl, sym, ap, is_some, rules}
+use Rattle.std.proofs.Common.{◌≡◌, ◌≢◌, ◌<◌, ◌≤◌, ◌+◌, ◌==◌, ℕ, Bool, true, false, List, [], ◌∷◌, ◌++◌, length, take, drop, get_or}
+use Rattle.std.proofs.Common.{drop-cons, add-one, Option, Some, None, Result, Ok, Err, refl, sym, ap, is_some, rules}
 use Rattle.std.proofs.lemmas.Bool.{lt-ltb, le-ltb, true≢false}
 use Rattle.std.proofs.lemmas.List as Lemmas
 use Rattle.std.specs.Prelude.{OnOk, IfOk, IfErr}
@@ -19,7 +20,10 @@ use Rattle.rhai_machine.specs.machine.Memory.{here, next, wanting, ◌⨾◌}
 use Rattle.rhai_machine.specs.language.Setting.{Rules, limit_under}
 use Rattle.rhai_machine.specs.language.State.{State}
 use Rattle.rhai_values.specs.Errors.{is_out_of_memory}
-use Rattle.rhai_machine.specs.language.Frames.{AndPart, OrPart, WhileCondition, DoCondition, StatementValue, RightOperand, AssignValue, ReturnValue, IfCondition, Control, Frame, Core, core, ended, UnaryOperand, LeftOperand, DefineValue, Eval, Exec, Argument, OpenExpr, OpenStmt, Enter, Run, Back, Fail, RestoreList, Saved}
+use Rattle.rhai_machine.specs.language.Frames.{AndPart, OrPart, WhileCondition, DoCondition, StatementValue, RightOperand, AssignValue}
+use Rattle.rhai_machine.specs.language.Frames.{ReturnValue, IfCondition, Control, Frame, Core, core, ended, UnaryOperand, LeftOperand}
+use Rattle.rhai_machine.specs.language.Frames.{DefineValue, Eval, Exec, Argument, OpenExpr, OpenStmt, Enter, Run, Back, Fail, RestoreList}
+use Rattle.rhai_machine.specs.language.Frames.{Saved}
 use Rattle.rhai_machine.specs.language.Expressions.{literal_of}
 use Rattle.rhai_machine.specs.language.Calls.{operation_at}
 use Rattle.rhai_tree.specs.declared.expr.Expr.TheOpen as layer
@@ -59,7 +63,8 @@ pub is_not_empty : {A : Type 0} (xs : List A) → (length xs == 0) ≡ false →
 is_not_empty xs h e = absurd (true≢false (rw e at h))
 
 -- the state that a restoring list leaves
-pub left_state : {S H : Type 0} (t : S) (old new : GlobalRuntimeState H) (before after : Scope H) (this : Option (Dynamic H)) (saved : code.Saved) (kept : Saved) →
+pub left_state : {S H : Type 0} (t : S) (old new : GlobalRuntimeState H) (before after : Scope H) (this : Option (Dynamic H))
+    (saved : code.Saved) (kept : Saved) →
     saved_in saved ≡ kept → entries_of after ≡ take saved.scope_length (entries_of before) → new ≡ left_global saved old →
     state_of t new after this ≡ record (state_of t old before this) { local = restored_by kept (local_of old before this) }
 left_state t old new before after this saved kept is scope global = rw (← is, scope, global) refl
@@ -91,47 +96,60 @@ module _ {S H : Type 0} (rules : Rules S H) where
     opens new r e o runs is k = begins e o is k ⨾ runs k
 
     pub opens_stmt : (new : State S H) (r : Result (Dynamic H) (EvalAltResult H)) (x : Stmt) (restoring : Bool) (o : StmtLayer) →
-        Runs rules (OpenStmt o restoring) (state_of t mid scope this) r new → out-Stmt x ≡ o → Runs rules (Exec x restoring) (state_of t old scope this) r new
+        Runs rules (OpenStmt o restoring) (state_of t mid scope this) r new → out-Stmt x ≡ o →
+        Runs rules (Exec x restoring) (state_of t old scope this) r new
     unfolding Steps
     opens_stmt new r x restoring o runs is k = begins_stmt x restoring o is k ⨾ runs k
 
-  module _ (t : S) (old new : GlobalRuntimeState H) (scope : Scope H) (this : Option (Dynamic H)) (pos : Position) (x : EvalAltResult H) (r : Result (Dynamic H) (EvalAltResult H))
-      (is : r ≡ Err x) (full : limit_under rules ≤ old.num_operations) (refused : x ≡ error.ErrorTooManyOperations pos) (same : new ≡ old) where
+  module _ (t : S) (old new : GlobalRuntimeState H) (scope : Scope H) (this : Option (Dynamic H)) (pos : Position) (x : EvalAltResult H)
+      (r : Result (Dynamic H) (EvalAltResult H))
+      (is : r ≡ Err x) (full : limit_under rules ≤ old.num_operations) (refused : x ≡ error.ErrorTooManyOperations pos)
+      (same : new ≡ old) where
     pub refuses : (e : Expr) → pos ≡ position_of e → Runs rules (Eval e) (state_of t old scope this) r (state_of t new scope this)
     unfolding after Steps
     refuses e place k = next (rw (le-ltb _ _ full, is, refused, same, place) here)
 
-    pub refuses_stmt : (e : Stmt) (restoring : Bool) → pos ≡ stmt_position_of e → Runs rules (Exec e restoring) (state_of t old scope this) r (state_of t new scope this)
+    pub refuses_stmt : (e : Stmt) (restoring : Bool) → pos ≡ stmt_position_of e →
+        Runs rules (Exec e restoring) (state_of t old scope this) r (state_of t new scope this)
     unfolding after Steps
     refuses_stmt e restoring place k = next (rw (le-ltb _ _ full, is, refused, same, place) here)
 
-    pub refuses_literal : (e : Expr) (v : Dynamic H) → literal_of (out-Expr e) ≡ Some v → pos ≡ start_of e → Runs rules (Argument e) (state_of t old scope this) r (state_of t new scope this)
+    pub refuses_literal : (e : Expr) (v : Dynamic H) → literal_of (out-Expr e) ≡ Some v → pos ≡ start_of e →
+        Runs rules (Argument e) (state_of t old scope this) r (state_of t new scope this)
     unfolding after Steps
     refuses_literal e v literal place k = next (rw (literal, le-ltb _ _ full, is, refused, same, place) here)
 
   -- a literal argument, charged or refused
   module _ (t : S) (old new : GlobalRuntimeState H) (scope : Scope H) (this : Option (Dynamic H)) (v : Dynamic H) (pos : Position) where
-    pub literal_runs : (r : Result (Dynamic H) (EvalAltResult H)) → OnOk r (old.num_operations < limit_under rules) → OnOk r (new ≡ record old { num_operations = old.num_operations + 1 }) →
-        IfOk r (λ x. x ≡ v) → IfErr r (λ _. limit_under rules ≤ old.num_operations) → IfErr r (λ x. x ≡ error.ErrorTooManyOperations pos) → IfErr r (λ _. new ≡ old) →
-        (e : Expr) → literal_of (out-Expr e) ≡ Some v → pos ≡ start_of e → Runs rules (Argument e) (state_of t old scope this) r (state_of t new scope this)
+    pub literal_runs : (r : Result (Dynamic H) (EvalAltResult H)) → OnOk r (old.num_operations < limit_under rules) →
+        OnOk r (new ≡ record old { num_operations = old.num_operations + 1 }) →
+        IfOk r (λ x. x ≡ v) → IfErr r (λ _. limit_under rules ≤ old.num_operations) →
+        IfErr r (λ x. x ≡ error.ErrorTooManyOperations pos) → IfErr r (λ _. new ≡ old) →
+        (e : Expr) → literal_of (out-Expr e) ≡ Some v → pos ≡ start_of e →
+        Runs rules (Argument e) (state_of t old scope this) r (state_of t new scope this)
     unfolding after Steps
     literal_runs (Ok x) room charged value full refused same e literal place k = next (rw (literal, lt-ltb _ _ room, charged, value) here)
-    literal_runs (Err x) room charged value full refused same e literal place k = next (rw (literal, le-ltb _ _ full, refused, same, place) here)
+    literal_runs (Err x) room charged value full refused same e literal place k =
+        next (rw (literal, le-ltb _ _ full, refused, same, place) here)
 
   -- an operator call begins with its first operand
   pub opens_unary : (call : FnCallExpr) (token : Token) (operand : Expr) (pos : Position) (k : List (Frame H)) (l : State S H) →
       rules.setting.offer.fast_operators ≡ true → call.op_token ≡ Some token → call.args ≡ operand ∷ [] →
-      Goes rules (at (OpenExpr (layer.Expr::FnCall call pos)) k l) (at (Argument operand) (UnaryOperand (operation_at call.name token pos) (position_of operand) ∷ k) l)
+      Goes rules (at (OpenExpr (layer.Expr::FnCall call pos)) k l)
+      (at (Argument operand) (UnaryOperand (operation_at call.name token pos) (position_of operand) ∷ k) l)
   unfolding after
   opens_unary call token operand pos k l fast is args =
-      step_by rules _ _ (Go (core (Argument operand) (UnaryOperand (operation_at call.name token pos) (position_of operand) ∷ k) l.local)) (rw (fast, is, args) refl) here
+      step_by rules _ _ (Go (core (Argument operand) (UnaryOperand (operation_at call.name token pos) (position_of operand) ∷ k)
+      l.local)) (rw (fast, is, args) refl) here
 
   pub opens_binary : (call : FnCallExpr) (token : Token) (left right : Expr) (pos : Position) (k : List (Frame H)) (l : State S H) →
       rules.setting.offer.fast_operators ≡ true → call.op_token ≡ Some token → call.args ≡ left ∷ right ∷ [] →
-      Goes rules (at (OpenExpr (layer.Expr::FnCall call pos)) k l) (at (Argument left) (LeftOperand (operation_at call.name token pos) (position_of left) right ∷ k) l)
+      Goes rules (at (OpenExpr (layer.Expr::FnCall call pos)) k l)
+      (at (Argument left) (LeftOperand (operation_at call.name token pos) (position_of left) right ∷ k) l)
   unfolding after
   opens_binary call token left right pos k l fast is args =
-      step_by rules _ _ (Go (core (Argument left) (LeftOperand (operation_at call.name token pos) (position_of left) right ∷ k) l.local)) (rw (fast, is, args) refl) here
+      step_by rules _ _ (Go (core (Argument left) (LeftOperand (operation_at call.name token pos) (position_of left) right ∷ k) l.local))
+      (rw (fast, is, args) refl) here
 
   -- a restoring list's end takes back what it saved
   pub restores : (r : Result (Dynamic H) (EvalAltResult H)) (saved : Saved) (k : List (Frame H)) (old new : State S H) →
@@ -141,8 +159,10 @@ module _ {S H : Type 0} (rules : Rules S H) where
   restores (Err e) saved k old new is = next (rw is here)
 
   -- a run with nothing under `this` is the same with what the caller has there
-  pub with_this : (c : Control H) (t u : S) (g h : GlobalRuntimeState H) (old new : Scope H) (r : Result (Dynamic H) (EvalAltResult H)) (before after this : Option (Dynamic H)) →
-      before ≡ None → after ≡ None → Runs rules c (state_of t g old before) r (state_of u h new after) → Runs rules c (state_of t g old this) r (state_of u h new this)
+  pub with_this : (c : Control H) (t u : S) (g h : GlobalRuntimeState H) (old new : Scope H) (r : Result (Dynamic H) (EvalAltResult H))
+      (before after this : Option (Dynamic H)) →
+      before ≡ None → after ≡ None → Runs rules c (state_of t g old before) r (state_of u h new after) →
+      Runs rules c (state_of t g old this) r (state_of u h new this)
   with_this c t u g h old new r before after this is none runs =
       steps_with this rules c (ended r) (state_of t g old None) (state_of u h new None) (rw (is, none) at runs)
 
@@ -159,7 +179,8 @@ module _ {S H : Type 0} (rules : Rules S H) where
   enters_plain (stmt ∷ stmts) k l some = next here
 
   pub enters_restoring : (stmts : List Stmt) (k : List (Frame H)) (l : State S H) → stmts ≢ [] →
-      Goes rules (at (Enter stmts true) k l) (at (Run stmts true unit_value) (RestoreList (saved_by l.local) ∷ k) (record l { local = record l.local { scope_level = deeper l.local.scope_level } }))
+      Goes rules (at (Enter stmts true) k l) (at (Run stmts true unit_value) (RestoreList (saved_by l.local) ∷ k)
+      (record l { local = record l.local { scope_level = deeper l.local.scope_level } }))
   unfolding after
   enters_restoring [] k l some = absurd (some refl)
   enters_restoring (stmt ∷ stmts) k l some = next here
@@ -167,8 +188,10 @@ module _ {S H : Type 0} (rules : Rules S H) where
   -- a frame makes an error of the value that it waited for, or wants memory before it does
   pub fails_on : (v : Dynamic H) (f : Frame H) (k : List (Frame H)) (l : State S H) (e : EvalAltResult H) →
       ((x : EvalAltResult H) → down_core rules.setting f x k l.local ≡ core (Fail x) k l.local) →
-      (is_out_of_memory e ≡ false → up_core rules.setting f v k l.local ≡ core (Fail e) k l.local) → Goes rules (at (Back v) (f ∷ k) l) (at (Fail e) k l)
-  fails_on v f k l (error.ErrorOutOfMemory pos) passes fails = wanting {at = pos} (step_by rules _ _ _ (ap Go (passes (error.ErrorOutOfMemory pos))) here)
+      (is_out_of_memory e ≡ false → up_core rules.setting f v k l.local ≡ core (Fail e) k l.local) →
+      Goes rules (at (Back v) (f ∷ k) l) (at (Fail e) k l)
+  fails_on v f k l (error.ErrorOutOfMemory pos) passes fails =
+      wanting {at = pos} (step_by rules _ _ _ (ap Go (passes (error.ErrorOutOfMemory pos))) here)
   fails_on v f k l e passes fails = step_by rules _ _ _ (ap Go (fails refl)) here
 
   -- where a frame asks for a truth value, and where it flattens its value
@@ -200,7 +223,8 @@ module _ {S H : Type 0} (rules : Rules S H) where
     truth_core (DoCondition test body options) is told = let same : position_of test ≡ pos = cc in rw (same, ← told) refl
     truth_core _ is told = cc
 
-    truth_passes : (f : Frame H) → asks_truth f ≡ Some pos → (x : EvalAltResult H) → down_core rules.setting f x k l.local ≡ core (Fail x) k l.local
+    truth_passes : (f : Frame H) → asks_truth f ≡ Some pos → (x : EvalAltResult H) →
+        down_core rules.setting f x k l.local ≡ core (Fail x) k l.local
     truth_passes (IfCondition test_at body branch) is x = refl
     truth_passes (AndPart part_at rest) is x = refl
     truth_passes (OrPart part_at rest) is x = refl
@@ -209,11 +233,13 @@ module _ {S H : Type 0} (rules : Rules S H) where
     truth_passes _ is x = cc
 
     -- a condition that is no truth value, or memory runs out
-    pub truth_fails : (f : Frame H) → asks_truth f ≡ Some pos → (is_out_of_memory e ≡ false → Err e ≡ truth rules.setting.host_type l.local.around.cells v pos) →
+    pub truth_fails : (f : Frame H) → asks_truth f ≡ Some pos →
+        (is_out_of_memory e ≡ false → Err e ≡ truth rules.setting.host_type l.local.around.cells v pos) →
         Goes rules (at (Back v) (f ∷ k) l) (at (Fail e) k l)
     truth_fails f is told = fails_on v f k l e (truth_passes f is) (λ m. truth_core f is (told m))
 
-    flat_core : (f : Frame H) → flattens f ≡ Some pos → Err e ≡ flat l.local.around.cells v pos → up_core rules.setting f v k l.local ≡ core (Fail e) k l.local
+    flat_core : (f : Frame H) → flattens f ≡ Some pos → Err e ≡ flat l.local.around.cells v pos →
+        up_core rules.setting f v k l.local ≡ core (Fail e) k l.local
     flat_core (StatementValue value_at) is told = let same : value_at ≡ pos = cc in rw (same, ← told) refl
     flat_core (DefineValue ident options value_at) is told = let same : value_at ≡ pos = cc in rw (same, ← told) refl
     flat_core (UnaryOperand operation operand_at) is told = let same : operand_at ≡ pos = cc in rw (same, ← told) refl
@@ -223,7 +249,8 @@ module _ {S H : Type 0} (rules : Rules S H) where
     flat_core (ReturnValue value_at at) is told = let same : value_at ≡ pos = cc in rw (same, ← told) refl
     flat_core _ is told = cc
 
-    flat_passes : (f : Frame H) → flattens f ≡ Some pos → (x : EvalAltResult H) → down_core rules.setting f x k l.local ≡ core (Fail x) k l.local
+    flat_passes : (f : Frame H) → flattens f ≡ Some pos → (x : EvalAltResult H) →
+        down_core rules.setting f x k l.local ≡ core (Fail x) k l.local
     flat_passes (StatementValue value_at) is x = refl
     flat_passes (DefineValue ident options value_at) is x = refl
     flat_passes (UnaryOperand operation operand_at) is x = refl
@@ -239,23 +266,29 @@ module _ {S H : Type 0} (rules : Rules S H) where
     flat_fails f is told = fails_on v f k l e (flat_passes f is) (λ m. flat_core f is (told m))
 
   -- a condition that was told chooses a list
-  pub chooses : (v : Dynamic H) (holds : Bool) (test_at : Position) (body branch : StmtBlock) (k : List (Frame H)) (l : State S H) {q : Point S (Core H)} →
+  pub chooses : (v : Dynamic H) (holds : Bool) (test_at : Position) (body branch : StmtBlock) (k : List (Frame H)) (l : State S H)
+      {q : Point S (Core H)} →
       Ok holds ≡ truth rules.setting.host_type l.local.around.cells v test_at →
-      Goes rules (at (Enter (if holds then body.statements else branch.statements) true) k l) q → Goes rules (at (Back v) (IfCondition test_at body branch ∷ k) l) q
+      Goes rules (at (Enter (if holds then body.statements else branch.statements) true) k l) q →
+      Goes rules (at (Back v) (IfCondition test_at body branch ∷ k) l) q
   unfolding after
   chooses v true test_at body branch k l told goes = next (rw (← told) goes)
   chooses v false test_at body branch k l told goes = next (rw (← told) goes)
 
   -- a `let`: refused, or on to its value
-  module _ (ident : Ident) (value : Expr) (options : ASTFlags) (pos : Position) (restoring : Bool) (k : List (Frame H)) (l : State S H) where
+  module _ (ident : Ident) (value : Expr) (options : ASTFlags) (pos : Position) (restoring : Bool) (k : List (Frame H))
+      (l : State S H) where
     refused_core : (taken full : Bool) (e : EvalAltResult H) → Err e ≡ declarable ident.name pos taken full →
         define_core rules.setting taken full ident value options pos k l.local ≡ core (Fail e) k l.local
-    refused_core true full e is = let same : e ≡ error.ErrorVariableExists ident.name pos = cc in ap (λ (x : EvalAltResult H). core (Fail x) k l.local) (sym same)
-    refused_core false true e is = let same : e ≡ error.ErrorTooManyVariables pos = cc in ap (λ (x : EvalAltResult H). core (Fail x) k l.local) (sym same)
+    refused_core true full e is = let same : e ≡ error.ErrorVariableExists ident.name pos = cc in
+        ap (λ (x : EvalAltResult H). core (Fail x) k l.local) (sym same)
+    refused_core false true e is = let same : e ≡ error.ErrorTooManyVariables pos = cc in
+        ap (λ (x : EvalAltResult H). core (Fail x) k l.local) (sym same)
     refused_core false false e is = cc
 
     declared_core : (taken full : Bool) → Ok tt ≡ declarable {H = H} ident.name pos taken full →
-        define_core rules.setting taken full ident value options pos k l.local ≡ core (Eval value) (DefineValue ident options (position_of value) ∷ k) l.local
+        define_core rules.setting taken full ident value options pos k l.local ≡ core (Eval value)
+        (DefineValue ident options (position_of value) ∷ k) l.local
     declared_core true full is = cc
     declared_core false true is = cc
     declared_core false false is = refl
@@ -273,15 +306,19 @@ module _ {S H : Type 0} (rules : Rules S H) where
         step_by rules _ _ _ (ap Go (refused_core taken full e (is m))) here)
 
     pub begins_value : Ok tt ≡ declarable {H = H} ident.name pos taken full →
-        Goes rules (at (OpenStmt (layer.Var ident value None options pos) restoring) k l) (at (Eval value) (DefineValue ident options (position_of value) ∷ k) l)
+        Goes rules (at (OpenStmt (layer.Var ident value None options pos) restoring) k l)
+        (at (Eval value) (DefineValue ident options (position_of value) ∷ k) l)
     begins_value is = step_by rules _ _ _ (ap Go (declared_core taken full is)) here
 
   -- the variable is there, or there was no memory for it
-  module _ (t : S) (g : GlobalRuntimeState H) (old new : Scope H) (this : Option (Dynamic H)) (ident : Ident) (options : ASTFlags) (given v : Dynamic H) (value_at : Position)
-      (flattened : Ok v ≡ flat (cells_of g.cells) given value_at) (mode : AccessMode) (asked : mode ≡ mode_of options) (k : List (Frame H)) where
+  module _ (t : S) (g : GlobalRuntimeState H) (old new : Scope H) (this : Option (Dynamic H)) (ident : Ident) (options : ASTFlags)
+      (given v : Dynamic H) (value_at : Position)
+      (flattened : Ok v ≡ flat (cells_of g.cells) given value_at) (mode : AccessMode) (asked : mode ≡ mode_of options)
+      (k : List (Frame H)) where
     pub defines : (r : Result (Dynamic H) (EvalAltResult H)) → IfOk r (λ x. x ≡ unit_value) → IfErr r (λ e. is_out_of_memory e ≡ true) →
         OnOk r (entries_of new ≡ entries_of old ++ new_entry ident.name mode v ∷ []) → OnErr r (entries_of new ≡ entries_of old) →
-        Goes rules (at (Back given) (DefineValue ident options value_at ∷ k) (state_of t g old this)) (at (ended r) k (state_of t g new this))
+        Goes rules (at (Back given) (DefineValue ident options value_at ∷ k) (state_of t g old this))
+        (at (ended r) k (state_of t g new this))
     unfolding after
     defines (Ok x) value fault pushed same = next (rw (← flattened, value, pushed, asked) here)
     defines (Err (error.ErrorOutOfMemory at)) value fault pushed same = wanting {at = at} (next (rw same here))

@@ -28,7 +28,8 @@ module _ {H : Type 0} (v : Dynamic H) (parts : List Expr) (k : List (Frame H)) (
   other_ends value.Unit is = cc
   other_ends _ is = refl
 
-  seen_on : (seen : Result (Dynamic H) (EvalAltResult H)) → Ok true ≡ unit_seen seen → coalesce_next seen v parts k l ≡ coalesce_core v parts k l
+  seen_on : (seen : Result (Dynamic H) (EvalAltResult H)) → Ok true ≡ unit_seen seen →
+      coalesce_next seen v parts k l ≡ coalesce_core v parts k l
   seen_on (Ok x) is = unit_on x.value cc
   seen_on (Err e) is = cc
 
@@ -36,18 +37,21 @@ module _ {H : Type 0} (v : Dynamic H) (parts : List Expr) (k : List (Frame H)) (
   seen_ends (Ok x) is = other_ends x.value cc
   seen_ends (Err e) is = cc
 
-  seen_fails : (seen : Result (Dynamic H) (EvalAltResult H)) (e : EvalAltResult H) → Err e ≡ unit_seen seen → coalesce_next seen v parts k l ≡ core (Fail e) k l
+  seen_fails : (seen : Result (Dynamic H) (EvalAltResult H)) (e : EvalAltResult H) → Err e ≡ unit_seen seen →
+      coalesce_next seen v parts k l ≡ core (Fail e) k l
   seen_fails (Ok x) e is = cc
   seen_fails (Err y) e is = let same : e ≡ y = cc in ap (λ (x : EvalAltResult H). core (Fail x) k l) (sym same)
 
 module _ {S H : Type 0} (rules : Rules S H)
     (v : Dynamic H) (pos : Position) (parts : List Expr) (k : List (Frame H)) (l : State S H) where
   -- a `()` leads to the next part
-  pub coalesce_on : Ok true ≡ unit_seen (through l.local.around.cells v pos) → Goes rules (at (Back v) (CoalescePart pos parts ∷ k) l) (with_core (coalesce_core v parts k l.local) l)
+  pub coalesce_on : Ok true ≡ unit_seen (through l.local.around.cells v pos) →
+      Goes rules (at (Back v) (CoalescePart pos parts ∷ k) l) (with_core (coalesce_core v parts k l.local) l)
   coalesce_on is = step_by rules _ _ _ (ap Go (seen_on v parts k l.local _ is)) here
 
   -- any other value comes up
-  pub coalesce_ends : Ok false ≡ unit_seen (through l.local.around.cells v pos) → Goes rules (at (Back v) (CoalescePart pos parts ∷ k) l) (at (Back v) k l)
+  pub coalesce_ends : Ok false ≡ unit_seen (through l.local.around.cells v pos) →
+      Goes rules (at (Back v) (CoalescePart pos parts ∷ k) l) (at (Back v) k l)
   coalesce_ends is = step_by rules _ _ _ (ap Go (seen_ends v parts k l.local _ is)) here
 
   -- a held cell is a race

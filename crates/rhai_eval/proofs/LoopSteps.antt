@@ -1,5 +1,6 @@
 -- How a body's outcome leads its loop on.
-use Rattle.std.proofs.Common.{◌≡◌, ◌≢◌, ◌<◌, ◌≤◌, ◌+◌, Bool, [], true, false, List, ◌∷◌, Option, Some, None, Result, Ok, Err, refl, sym, subst, ap, ◌∙◌, ℕ}
+use Rattle.std.proofs.Common.{◌≡◌, ◌≢◌, ◌<◌, ◌≤◌, ◌+◌, Bool, [], true, false, List, ◌∷◌, Option, Some, None, Result, Ok, Err, refl, sym}
+use Rattle.std.proofs.Common.{subst, ap, ◌∙◌, ℕ}
 use Rattle.std.proofs.lemmas.Bool.{lt-ltb, le-ltb}
 use Rattle.std.specs.Result.{IsErr, IsErrAnd}
 use Rattle.rhai_tree.specs.declared.position.Position.{Position}
@@ -25,7 +26,8 @@ use Rattle.rhai_machine.specs.machine.Point.{Point, moved, after}
 use Rattle.rhai_machine.specs.machine.Memory.{Leads, here, next, wanting, starved}
 use Rattle.rhai_machine.specs.language.Setting.{Rules, limit_under}
 use Rattle.rhai_machine.specs.language.State.{State, Local}
-use Rattle.rhai_machine.specs.language.Frames.{Control, Frame, Core, core, ended, OpenStmt, Eval, Enter, WhileTurn, DoTurn, Back, Fail, AssignValue, WhileCondition, WhileBody, DoBody, DoCondition, ReturnValue}
+use Rattle.rhai_machine.specs.language.Frames.{Control, Frame, Core, core, ended, OpenStmt, Eval, Enter, WhileTurn, DoTurn, Back, Fail}
+use Rattle.rhai_machine.specs.language.Frames.{AssignValue, WhileCondition, WhileBody, DoBody, DoCondition, ReturnValue}
 use Rattle.rhai_machine.specs.language.Loops.{goes_on, if_goes_on, is_endless, while_move}
 use Rattle.rhai_machine.specs.language.Statements.{has_option, return_move}
 use Rattle.rhai_machine.specs.language.Values.{truth, unit_value}
@@ -70,7 +72,8 @@ module _ {S H : Type 0} (rules : Rules S H) where
   test_turn true turn = refl
   test_turn false turn = refl
 
-  pub do_tested : (o : Option (Dynamic H)) (holds : Bool) (test : Expr) (body : StmtBlock) (options : ASTFlags) (v : Dynamic H) (k : List (Frame H)) (l : State S H) →
+  pub do_tested : (o : Option (Dynamic H)) (holds : Bool) (test : Expr) (body : StmtBlock) (options : ASTFlags) (v : Dynamic H)
+      (k : List (Frame H)) (l : State S H) →
       Ok holds ≡ truth rules.setting.host_type l.local.around.cells v (position_of test) → o ≡ after_test (has_option 1 options) holds →
       Goes rules (at (Back v) (DoCondition test body options ∷ k) l) (at (after_turn (Ok o) (DoTurn test body options)) k l)
   unfolding after
@@ -84,7 +87,8 @@ module _ {S H : Type 0} (rules : Rules S H) where
   do_goes (Ok (Break v)) test body options k l = at (Back v) k l
   do_goes (Err e) test body options k l = at (Fail e) k l
 
-  do_ends : (r : Result (Dynamic H) (EvalAltResult H)) (test : Expr) (body : StmtBlock) (options : ASTFlags) (k : List (Frame H)) (l : State S H) →
+  do_ends : (r : Result (Dynamic H) (EvalAltResult H)) (test : Expr) (body : StmtBlock) (options : ASTFlags) (k : List (Frame H))
+      (l : State S H) →
       Goes rules (at (ended r) (DoBody test body options ∷ k) l) (do_goes (turn_in r) test body options k l)
   unfolding after
   do_ends (Ok v) test body options k l = next here
@@ -92,10 +96,12 @@ module _ {S H : Type 0} (rules : Rules S H) where
   do_ends (Err (error.LoopBreak v true pos)) test body options k l = next here
   do_ends (Err e) test body options k l = next here
 
-  pub do_leads : (r : Result (Dynamic H) (EvalAltResult H)) (test : Expr) (body : StmtBlock) (options : ASTFlags) (k : List (Frame H)) (l : State S H) (x : Result (BodyEnd H) (EvalAltResult H)) →
+  pub do_leads : (r : Result (Dynamic H) (EvalAltResult H)) (test : Expr) (body : StmtBlock) (options : ASTFlags) (k : List (Frame H))
+      (l : State S H) (x : Result (BodyEnd H) (EvalAltResult H)) →
       turn_in r ≡ x → Goes rules (at (ended r) (DoBody test body options ∷ k) l) (do_goes x test body options k l)
   do_leads r test body options k l x is =
-      subst (λ (y : Result (BodyEnd H) (EvalAltResult H)). Goes rules (at (ended r) (DoBody test body options ∷ k) l) (do_goes y test body options k l)) is (do_ends r test body options k l)
+      subst (λ (y : Result (BodyEnd H) (EvalAltResult H)). Goes rules (at (ended r) (DoBody test body options ∷ k) l)
+      (do_goes y test body options k l)) is (do_ends r test body options k l)
 
   -- a way out of a turn by `?`
   pub turn_exits : (c turn : Control H) (old new : State S H) (r : Result (Option (Dynamic H)) (EvalAltResult H)) (e : EvalAltResult H) →
@@ -104,41 +110,49 @@ module _ {S H : Type 0} (rules : Rules S H) where
 
   module _ (test : Expr) (body : StmtBlock) (k : List (Frame H)) where
     -- a turn with a condition begins with it
-    pub while_asks : (l : State S H) → is_endless (out-Expr test) ≡ false → Goes rules (at (WhileTurn test body) k l) (at (Eval test) (WhileCondition test body ∷ k) l)
+    pub while_asks : (l : State S H) → is_endless (out-Expr test) ≡ false →
+        Goes rules (at (WhileTurn test body) k l) (at (Eval test) (WhileCondition test body ∷ k) l)
     unfolding after
     while_asks l is = next (rw is here)
 
-    entered : (stmts : List Stmt) (l : Local H) → stmts ≢ [] → while_move true stmts test body k l ≡ Go (core (Enter stmts true) (WhileBody test body ∷ k) l)
+    entered : (stmts : List Stmt) (l : Local H) → stmts ≢ [] →
+        while_move true stmts test body k l ≡ Go (core (Enter stmts true) (WhileBody test body ∷ k) l)
     entered [] l some = absurd (some refl)
     entered (stmt ∷ stmts) l some = refl
 
     -- one without a condition with its body
     pub endless_enters : (l : State S H) → is_endless (out-Expr test) ≡ true → body.statements ≢ [] →
         Goes rules (at (WhileTurn test body) k l) (at (Enter body.statements true) (WhileBody test body ∷ k) l)
-    endless_enters l is some = step_by rules _ _ (Go (core (Enter body.statements true) (WhileBody test body ∷ k) l.local)) (rw is (entered body.statements l.local some)) here
+    endless_enters l is some = step_by rules _ _ (Go (core (Enter body.statements true) (WhileBody test body ∷ k) l.local))
+        (rw is (entered body.statements l.local some)) here
 
     -- an empty body is charged, or its charge is refused
     pub endless_charged : (t : S) (old mid : GlobalRuntimeState H) (scope : Scope H) (this : Option (Dynamic H)) →
-        old.num_operations < limit_under rules → mid ≡ record old { num_operations = old.num_operations + 1 } → is_endless (out-Expr test) ≡ true → body.statements ≡ [] →
+        old.num_operations < limit_under rules → mid ≡ record old { num_operations = old.num_operations + 1 } →
+        is_endless (out-Expr test) ≡ true → body.statements ≡ [] →
         Goes rules (at (WhileTurn test body) k (state_of t old scope this)) (at (WhileTurn test body) k (state_of t mid scope this))
     unfolding after
     endless_charged t old mid scope this room charged is empty = next (rw (is, empty, lt-ltb _ _ room, charged) here)
 
     pub endless_refused : (t : S) (old new : GlobalRuntimeState H) (scope : Scope H) (this : Option (Dynamic H)) (x : EvalAltResult H) →
-        limit_under rules ≤ old.num_operations → x ≡ error.ErrorTooManyOperations body.position → new ≡ old → is_endless (out-Expr test) ≡ true → body.statements ≡ [] →
+        limit_under rules ≤ old.num_operations → x ≡ error.ErrorTooManyOperations body.position → new ≡ old →
+        is_endless (out-Expr test) ≡ true → body.statements ≡ [] →
         Goes rules (at (WhileTurn test body) k (state_of t old scope this)) (at (Fail x) k (state_of t new scope this))
     unfolding after
     endless_refused t old new scope this x full refused same is empty = next (rw (is, empty, le-ltb _ _ full, refused, same) here)
 
   -- an assignment to a variable begins with its value
-  pub begins_assignment : (op : OpAssignment) (lhs rhs : Expr) (offset : Option NonZeroUsize) (name : Name) (namespace : Namespace) (pos : Position) (restoring : Bool) (k : List (Frame H)) (l : State S H) →
+  pub begins_assignment : (op : OpAssignment) (lhs rhs : Expr) (offset : Option NonZeroUsize) (name : Name) (namespace : Namespace)
+      (pos : Position) (restoring : Bool) (k : List (Frame H)) (l : State S H) →
       out-Expr lhs ≡ layer.Variable offset name namespace pos →
-      Goes rules (at (OpenStmt (layer.Assignment op lhs rhs) restoring) k l) (at (Eval rhs) (AssignValue (record { name = name; at = pos; op = op }) (position_of rhs) ∷ k) l)
+      Goes rules (at (OpenStmt (layer.Assignment op lhs rhs) restoring) k l)
+      (at (Eval rhs) (AssignValue (record { name = name; at = pos; op = op }) (position_of rhs) ∷ k) l)
   unfolding after
   begins_assignment op lhs rhs offset name namespace pos restoring k l is = next (rw is here)
 
   -- a `break` without a value
-  pub breaks_unit : (options : ASTFlags) (is_break : Bool) (v : Dynamic H) (e : EvalAltResult H) (pos : Position) (restoring : Bool) (k : List (Frame H)) (l : State S H) →
+  pub breaks_unit : (options : ASTFlags) (is_break : Bool) (v : Dynamic H) (e : EvalAltResult H) (pos : Position) (restoring : Bool)
+      (k : List (Frame H)) (l : State S H) →
       is_break ≡ has_option 2 options → v ≡ unit_value → (is_out_of_memory e ≡ false → e ≡ error.LoopBreak v is_break pos) →
       Goes rules (at (OpenStmt (layer.BreakLoop None options pos) restoring) k l) (at (Fail e) k l)
   unfolding after
@@ -148,8 +162,12 @@ module _ {S H : Type 0} (rules : Rules S H) where
   -- a `return` without a value, and one with a value
   pub returns_unit : (options : _) (pos : Position) (restoring : Bool) (k : List (Frame H)) (l : State S H) → is_throw options ≡ false →
       Goes rules (at (OpenStmt (layer.Return None options pos) restoring) k l) (at (Fail (error.Return unit_value pos)) k l)
-  returns_unit options pos restoring k l plain = step_by rules _ _ (return_move false None pos k l.local) (ap (λ (throws : Bool). return_move throws None pos k l.local) plain) here
+  returns_unit options pos restoring k l plain = step_by rules _ _ (return_move false None pos k l.local)
+      (ap (λ (throws : Bool). return_move throws None pos k l.local) plain) here
 
-  pub returns_value : (value : Expr) (options : _) (pos : Position) (restoring : Bool) (k : List (Frame H)) (l : State S H) → is_throw options ≡ false →
-      Goes rules (at (OpenStmt (layer.Return (Some value) options pos) restoring) k l) (at (Eval value) (ReturnValue (position_of value) pos ∷ k) l)
-  returns_value value options pos restoring k l plain = step_by rules _ _ (return_move false (Some value) pos k l.local) (ap (λ (throws : Bool). return_move throws (Some value) pos k l.local) plain) here
+  pub returns_value : (value : Expr) (options : _) (pos : Position) (restoring : Bool) (k : List (Frame H)) (l : State S H) →
+      is_throw options ≡ false →
+      Goes rules (at (OpenStmt (layer.Return (Some value) options pos) restoring) k l)
+      (at (Eval value) (ReturnValue (position_of value) pos ∷ k) l)
+  returns_value value options pos restoring k l plain = step_by rules _ _ (return_move false (Some value) pos k l.local)
+      (ap (λ (throws : Bool). return_move throws (Some value) pos k l.local) plain) here

@@ -1,11 +1,13 @@
 -- The names of a scope that is cut back or grows, and the operands of a checked operator call.
-use Rattle.std.proofs.Common.{◌≡◌, ◌<◌, ◌+◌, ℕ, Bool, true, false, ◌&&◌, ◌||◌, IsTrue, subst, get_or, drop, List, [], ◌∷◌, ◌++◌, length, take, map, refl, sym, ap, ◌∙◌}
+use Rattle.std.proofs.Common.{◌≡◌, ◌<◌, ◌+◌, ℕ, Bool, true, false, ◌&&◌, ◌||◌, IsTrue, subst, get_or, drop, List, [], ◌∷◌, ◌++◌, length}
+use Rattle.std.proofs.Common.{take, map, refl, sym, ap, ◌∙◌}
 use Rattle.std.proofs.lemmas.List.{take-append-drop, take-map, length-map}
 use Rattle.std.proofs.Math.Seq.{take-append_seam}
 use Rattle.rhai_tree.specs.Names.{Name, Begins}
 use Rattle.rhai_tree.specs.declared.expr.Expr.{Expr}
 use Rattle.rhai_tree.specs.declared.expr.FnCallExpr.{FnCallExpr}
-use Rattle.rhai_tree.specs.Frame.{Test, Tests, Verdict, tests_of, expr_step, stmt_step, call_step, block_step, resolves_expr, resolves_call, all_resolve_exprs, all_resolve}
+use Rattle.rhai_tree.specs.Frame.{Test, Tests, Verdict, tests_of, expr_step, stmt_step, call_step, block_step, resolves_expr}
+use Rattle.rhai_tree.specs.Frame.{resolves_call, all_resolve_exprs, all_resolve}
 use Rattle.rhai_tree.specs.declared.expr.Expr.TheFolds.{fold_out-FnCallExpr}
 use Rattle.rhai_values.specs.declared.base.scope.ScopeEntry.{ScopeEntry}
 use Rattle.rhai_values.specs.Scope.{name_of}
@@ -22,42 +24,52 @@ use Rattle.rhai_eval.proofs.Chain.{drop_item}
 
 module _ {H : Type 0} where
   -- a list that is left has the names that it began with
-  pub names_restored : (old mid new : List (ScopeEntry H)) (count : ℕ) → new ≡ take count mid → count ≡ length old → Begins (map name_of old) (map name_of mid) → map name_of new ≡ map name_of old
+  pub names_restored : (old mid new : List (ScopeEntry H)) (count : ℕ) → new ≡ take count mid → count ≡ length old →
+      Begins (map name_of old) (map name_of mid) → map name_of new ≡ map name_of old
   names_restored old mid new count cut is (added, e) =
       let long : count ≡ length (map name_of old) = is ∙ sym (length-map old name_of) in
-      ap (map name_of) cut ∙ sym (take-map name_of count mid) ∙ ap (take count) e ∙ ap (λ n. take n (map name_of old ++ added)) long ∙ take-append_seam (map name_of old) added
+      ap (map name_of) cut ∙ sym (take-map name_of count mid) ∙ ap (take count) e ∙ ap (λ n. take n (map name_of old ++ added)) long
+      ∙ take-append_seam (map name_of old) added
 
 both : (a b : Bool) → IsTrue (a && b) → IsTrue a × IsTrue b
 both true true h = (refl, refl)
 both true false h = (refl, h)
 both false b h = (h, cc)
 
-two_resolve : (left right : Expr) (names : List Name) → IsTrue (all_resolve_exprs (map tests_of (left ∷ right ∷ [])) names) → IsTrue (resolves_expr left names) × IsTrue (resolves_expr right names)
+two_resolve : (left right : Expr) (names : List Name) → IsTrue (all_resolve_exprs (map tests_of (left ∷ right ∷ [])) names) →
+    IsTrue (resolves_expr left names) × IsTrue (resolves_expr right names)
 two_resolve left right names h =
     let first = both (resolves_expr left names) (resolves_expr right names && true) h in
     (first.0, (both (resolves_expr right names) true first.1).0)
 
-operands_of_call : (call : FnCallExpr) (names : List Name) → IsTrue (resolves_call call names) → IsTrue (all_resolve_exprs (map tests_of call.args) names)
+operands_of_call : (call : FnCallExpr) (names : List Name) → IsTrue (resolves_call call names) →
+    IsTrue (all_resolve_exprs (map tests_of call.args) names)
 operands_of_call call names h =
-    let opened = fold_out-FnCallExpr Tests Verdict (Unit {0}) Test (Unit {0}) Test expr_step stmt_step (λ conditional. tt) call_step (λ entry. tt) block_step call in
+    let opened = fold_out-FnCallExpr Tests Verdict (Unit {0}) Test (Unit {0}) Test expr_step stmt_step (λ conditional. tt) call_step
+    (λ entry. tt) block_step call in
     (both _ _ (rw opened at h)).1
 
 -- the operands of a call that resolves do
-pub operands_resolve : (call : FnCallExpr) (left right : Expr) (names : List Name) → call.args ≡ left ∷ right ∷ [] → IsTrue (resolves_call call names) →
+pub operands_resolve : (call : FnCallExpr) (left right : Expr) (names : List Name) → call.args ≡ left ∷ right ∷ [] →
+    IsTrue (resolves_call call names) →
     IsTrue (resolves_expr left names) × IsTrue (resolves_expr right names)
 operands_resolve call left right names is h = two_resolve left right names (rw is at (operands_of_call call names h))
 
 -- each of the parts that resolve does
-later_resolve : (before after : List Expr) (names : List Name) → IsTrue (all_resolve_exprs (map tests_of (before ++ after)) names) → IsTrue (all_resolve_exprs (map tests_of after) names)
+later_resolve : (before after : List Expr) (names : List Name) → IsTrue (all_resolve_exprs (map tests_of (before ++ after)) names) →
+    IsTrue (all_resolve_exprs (map tests_of after) names)
 later_resolve [] after names h = h
-later_resolve (part ∷ before) after names h = later_resolve before after names (both (resolves_expr part names) (all_resolve_exprs (map tests_of (before ++ after)) names) h).1
+later_resolve (part ∷ before) after names h = later_resolve before after names
+    (both (resolves_expr part names) (all_resolve_exprs (map tests_of (before ++ after)) names) h).1
 
 pub part_resolves : (parts : List Expr) (i : ℕ) (part : Expr) (names : List Name) → i < length parts → part ≡ get_or parts i part →
     IsTrue (all_resolve_exprs (map tests_of parts) names) → IsTrue (resolves_expr part names)
 part_resolves parts i part names lt is h =
-    let split : IsTrue (all_resolve_exprs (map tests_of (take i parts ++ drop i parts)) names) = subst (λ (items : List Expr). IsTrue (all_resolve_exprs (map tests_of items) names)) (sym (take-append-drop i parts)) h in
+    let split : IsTrue (all_resolve_exprs (map tests_of (take i parts ++ drop i parts)) names) =
+    subst (λ (items : List Expr). IsTrue (all_resolve_exprs (map tests_of items) names)) (sym (take-append-drop i parts)) h in
     let later : IsTrue (all_resolve_exprs (map tests_of (part ∷ drop (i + 1) parts)) names) =
-    subst (λ (items : List Expr). IsTrue (all_resolve_exprs (map tests_of items) names)) (drop_item parts i part lt is) (later_resolve (take i parts) (drop i parts) names split) in
+    subst (λ (items : List Expr). IsTrue (all_resolve_exprs (map tests_of items) names)) (drop_item parts i part lt is)
+    (later_resolve (take i parts) (drop i parts) names split) in
     (both (resolves_expr part names) (all_resolve_exprs (map tests_of (drop (i + 1) parts)) names) later).0
 
 -- the rest of a list resolves above the names after its first statement
@@ -65,7 +77,8 @@ rest_of_list : (first : Bool) (rest whole : Bool × List Name) → (first && res
 rest_of_list true rest whole e h = e
 rest_of_list false rest whole e h = cc
 
-pub rest_resolves : (part : Verdict) (parts : List Verdict) (names after : List Name) (whole : Bool × List Name) → all_resolve (part ∷ parts) names ≡ whole → IsTrue whole.0 → after ≡ (part names).1 → all_resolve parts after ≡ whole
+pub rest_resolves : (part : Verdict) (parts : List Verdict) (names after : List Name) (whole : Bool × List Name) →
+    all_resolve (part ∷ parts) names ≡ whole → IsTrue whole.0 → after ≡ (part names).1 → all_resolve parts after ≡ whole
 rest_resolves part parts names after whole e h is = rw is (rest_of_list (part names).0 (all_resolve parts (part names).1) whole e h)
 
 -- a part of a list that may ask for memory
@@ -81,7 +94,8 @@ any_later : {A : Type 0} (f : A → Bool) (before after : List A) → IsTrue (an
 any_later f [] after h = h
 any_later f (x ∷ before) after h = or_right (f x) (any_of (map f (before ++ after))) (any_later f before after h)
 
-pub any_item : {A : Type 0} (f : A → Bool) (xs : List A) (i : ℕ) (x : A) → i < length xs → x ≡ get_or xs i x → IsTrue (f x) → IsTrue (any_of (map f xs))
+pub any_item : {A : Type 0} (f : A → Bool) (xs : List A) (i : ℕ) (x : A) → i < length xs → x ≡ get_or xs i x → IsTrue (f x) →
+    IsTrue (any_of (map f xs))
 any_item f xs i x lt is h = subst (λ items. IsTrue (any_of (map f items))) (take-append-drop i xs)
     (any_later f (take i xs) (drop i xs) (rw (drop_item xs i x lt is) (or_left (f x) (any_of (map f (drop (i + 1) xs))) h)))
 
@@ -90,6 +104,8 @@ not_both true b h = cc
 not_both false b h = refl
 
 -- a `return` that resolves does not throw
-pub plain_return : (stmt : Stmt) (value : Option Expr) (options : ASTFlags) (pos : Position) (names : List Name) → out-Stmt stmt ≡ layer.Return value options pos →
+pub plain_return : (stmt : Stmt) (value : Option Expr) (options : ASTFlags) (pos : Position) (names : List Name) →
+    out-Stmt stmt ≡ layer.Return value options pos →
     IsTrue (resolves_stmt stmt names).0 → is_throw options ≡ false
-plain_return stmt value options pos names is h = not_both (is_throw options) _ (rw (resolves-stmt stmt (layer.Return value options pos) is) at h)
+plain_return stmt value options pos names is h = not_both (is_throw options) _
+    (rw (resolves-stmt stmt (layer.Return value options pos) is) at h)

@@ -20,7 +20,8 @@ use Rattle.rhai_eval.proofs.Chain.{still_none, with_this}
 
 module _ {S H : Type 0} (rules : Rules S H) where
   -- a run from a control is the end of its part
-  pub ends_as : (c : Control H) (old new : State S H) (r : Result (Dynamic H) (EvalAltResult H)) → Runs rules c old r new → EndsAs rules c old r new
+  pub ends_as : (c : Control H) (old new : State S H) (r : Result (Dynamic H) (EvalAltResult H)) → Runs rules c old r new →
+      EndsAs rules c old r new
   unfolding Steps
   ends_as c old new r runs = record {
     runs = λ memory k. steps_with_memory rules r k new memory (runs k);
@@ -28,9 +29,11 @@ module _ {S H : Type 0} (rules : Rules S H) where
   }
 
   -- a run over values that were taken from a caller and given back, whatever the caller's `this`
-  pub lent : (c : Control H) (t u : S) (taken left : Context H) (global after : GlobalRuntimeState H) (caches : Caches H) (scope names : Scope H)
+  pub lent : (c : Control H) (t u : S) (taken left : Context H) (global after : GlobalRuntimeState H) (caches : Caches H)
+      (scope names : Scope H)
       (r : Result (Dynamic H) (EvalAltResult H)) (this : Option (Dynamic H)) →
-      taken ≡ record { global = global; caches = caches; scope = scope; this = None } → after ≡ left.global → names ≡ left.scope → Sound c (local_of global scope None) →
+      taken ≡ record { global = global; caches = caches; scope = scope; this = None } → after ≡ left.global → names ≡ left.scope →
+      Sound c (local_of global scope None) →
       Runs rules c (state_in t taken) r (state_in u left) → Runs rules c (state_of t global scope this) r (state_of u after names this)
   lent c t u taken left global after caches scope names r this is given variables sound runs =
       let start : Runs rules c (state_of t global scope None) r (state_in u left) = rw is at runs in

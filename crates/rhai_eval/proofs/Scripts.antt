@@ -24,9 +24,11 @@ module _ {S H : Type 0} (rules : Rules S H)
   script_goes (Ok v) r runs value fault = rw value (runs (Top map_exit ∷ []) ⨾ next here)
   script_goes (Err e) r runs value fault = rw fault (runs (Top map_exit ∷ []) ⨾ next here)
 
-  pub script_ends : (r : Result (Dynamic H) (EvalAltResult H)) → Goes rules (start_of_script statements map_exit old) (end_of_script r new) →
+  pub script_ends : (r : Result (Dynamic H) (EvalAltResult H)) →
+      Goes rules (start_of_script statements map_exit old) (end_of_script r new) →
       EndsAsMachine rules statements map_exit old r new
   script_ends r goes memory = with_memory rules r new memory goes
 
-  pub script_agrees : (r : Result (Dynamic H) (EvalAltResult H)) → EndsAsMachine rules statements map_exit old r new → AgreesWithHigherLimits rules statements map_exit old r new
+  pub script_agrees : (r : Result (Dynamic H) (EvalAltResult H)) → EndsAsMachine rules statements map_exit old r new →
+      AgreesWithHigherLimits rules statements map_exit old r new
   script_agrees r ends memory = limits_agree_from rules r new (ends memory)

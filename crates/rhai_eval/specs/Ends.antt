@@ -12,6 +12,7 @@ use Rattle.rhai_machine.specs.language.Runs.{at}
 
 -- Over any stack the machine runs from a control to the value or error that came of it, where memory was not wanting. In any
 -- case it does up to where memory ran out.
-pub record EndsAs {S H : Type 0} (rules : Rules S H) (c : Control H) (old : State S H) (result : Result (Dynamic H) (EvalAltResult H)) (new : State S H) : Type 0 where
+pub record EndsAs {S H : Type 0} (rules : Rules S H) (c : Control H) (old : State S H) (result : Result (Dynamic H) (EvalAltResult H))
+    (new : State S H) : Type 0 where
   pub runs : HasMemory result → (k : List (Frame H)) → Reaches (machine rules) (cut rules) (at c k old) (at (ended result) k new)
   pub up_to : (k : List (Frame H)) → UpToMemory rules (at c k old) (at (ended result) k new)

@@ -25,13 +25,16 @@ stmt_step (layer.If test body branch pos) = test.1 || (body || branch)
 stmt_step _ = true
 
 abbrev pub asks_expr : Expr → Need
-asks_expr = fold-Expr Need Bool (Unit {0}) (Unit {0}) (Unit {0}) Bool expr_step stmt_step (λ conditional. tt) (λ call. tt) (λ entry. tt) (λ block. any_of block.statements)
+asks_expr = fold-Expr Need Bool (Unit {0}) (Unit {0}) (Unit {0}) Bool expr_step stmt_step (λ conditional. tt) (λ call. tt) (λ entry. tt)
+    (λ block. any_of block.statements)
 
 abbrev pub asks_block : StmtBlock → Bool
-asks_block = fold-StmtBlock Need Bool (Unit {0}) (Unit {0}) (Unit {0}) Bool expr_step stmt_step (λ conditional. tt) (λ call. tt) (λ entry. tt) (λ block. any_of block.statements)
+asks_block = fold-StmtBlock Need Bool (Unit {0}) (Unit {0}) (Unit {0}) Bool expr_step stmt_step (λ conditional. tt) (λ call. tt)
+    (λ entry. tt) (λ block. any_of block.statements)
 
 abbrev pub asks_stmt : Stmt → Bool
-asks_stmt = fold-Stmt Need Bool (Unit {0}) (Unit {0}) (Unit {0}) Bool expr_step stmt_step (λ conditional. tt) (λ call. tt) (λ entry. tt) (λ block. any_of block.statements)
+asks_stmt = fold-Stmt Need Bool (Unit {0}) (Unit {0}) (Unit {0}) Bool expr_step stmt_step (λ conditional. tt) (λ call. tt) (λ entry. tt)
+    (λ block. any_of block.statements)
 
 -- a list of statements
 abbrev pub may_ask : List Stmt → Bool

@@ -71,8 +71,10 @@ impl<H: Host> Engine<H> {
         pos: Position,
     ) -> Result<(), EvalAltResult<H>>
         ensures room { OnOk result (global.old.num_operations < limit_of self.now.limits.max_operations) }
-        ensures charged { OnOk result (global.new ≡ record global.old { num_operations = global.old.num_operations + 1 }) }
-        ensures full { IfErr result (λ _. limit_of self.now.limits.max_operations ≤ global.old.num_operations) }
+        ensures charged { OnOk result (global.new ≡ record global.old
+            { num_operations = global.old.num_operations + 1 }) }
+        ensures full { IfErr result (λ _. limit_of self.now.limits.max_operations
+            ≤ global.old.num_operations) }
         ensures refused { IfErr result (λ e. e ≡ error.ErrorTooManyOperations pos) }
         ensures same { IfErr result (λ _. global.new ≡ global.old) }
     {

@@ -1,7 +1,8 @@
 //! The indexers of a host: the natives `index$get$` and `index$set$`. The contracts cite
 //! specs/Indexers.antt and specs/Calls.antt.
 
-ghost use Rattle.std.specs.Prelude.{◌≡◌, ◌<◌, ◌∷◌, [], length, slice_get, Some, true, false, IfOk, IfErr, IfSome, is_some};
+ghost use Rattle.std.specs.Prelude.{◌≡◌, ◌<◌, ◌∷◌, [], length, slice_get, Some, true, false, IfOk, IfErr};
+ghost use Rattle.std.specs.Prelude.{IfSome, is_some};
 ghost use Rattle.rhai_values.specs.Cells.{cells_of};
 ghost use Rattle.rhai_values.specs.Errors.{is_out_of_memory};
 ghost use Rattle.rhai_values.specs.Layers.{layer_of};
@@ -11,7 +12,8 @@ ghost use Rattle.rhai_values.specs.declared.base.error.EvalAltResult.TheVariants
 ghost use Rattle.rhai_places.specs.Refusals.{indexing_text};
 ghost use Rattle.rhai_machine.specs.language.State.{Answers, HasMemory};
 ghost use Rattle.rhai_index.specs.Calls.{Asked, Calls, Leaves, LendsNoHandle};
-ghost use Rattle.rhai_index.specs.Indexers.{beside_change, by_itself, called, cell_of, indexer_result, reading, with_change, writing};
+ghost use Rattle.rhai_index.specs.Indexers.{beside_change, by_itself, called, cell_of, indexer_result};
+ghost use Rattle.rhai_index.specs.Indexers.{reading, with_change, writing};
 ghost use Rattle.rhai_index.specs.Indexers.{is_barred as is_barred_from, is_pure_on as is_pure_at};
 
 use rhai_items::Items;

@@ -1,5 +1,6 @@
 -- Ascending keys: what a comparison with one key says of the others, and where a key stands.
-use Rattle.std.proofs.Common.{◌≡◌, ℕ, zero, suc, ◌+◌, ◌<◌, ◌≤◌, ◌⊎◌, inl, inr, Bool, true, false, ◌&&◌, not, List, [], ◌∷◌, Some, None, refl, sym, ap, ◌∙◌, length, get_or, arith, ok_or, Ok, Err, cond}
+use Rattle.std.proofs.Common.{◌≡◌, ℕ, zero, suc, ◌+◌, ◌<◌, ◌≤◌, ◌⊎◌, inl, inr, Bool, true, false, ◌&&◌, not, List, [], ◌∷◌, Some, None}
+use Rattle.std.proofs.Common.{refl, sym, ap, ◌∙◌, length, get_or, arith, ok_or, Ok, Err, cond}
 use Rattle.std.proofs.lemmas.Bool.{lt-ltb, le-ltb, ltb-false, cases_lt}
 use Rattle.std.proofs.Math.Nat.{eq-or-lt_of_le}
 use Rattle.std.proofs.lemmas.List.{get_or_default}
@@ -51,7 +52,8 @@ turned_back : (x y : List ℕ) → compare x y ≡ Greater → compare y x ≡ L
 turned_back x y e = nat_list_cmp_total.antisymm y x ∙ ap ordering_reverse e
 
 -- a key that comes before an ascending list comes before each of it
-before_each : (key : List ℕ) (keys : List (List ℕ)) (j : ℕ) (d : List ℕ) → is_below key keys ≡ true → j < length keys → compare key (get_or keys j d) ≡ Less
+before_each : (key : List ℕ) (keys : List (List ℕ)) (j : ℕ) (d : List ℕ) → is_below key keys ≡ true → j < length keys →
+    compare key (get_or keys j d) ≡ Less
 before_each key [] j d e lt = absurd (omega arith)
 before_each key (next ∷ keys) zero d e lt = is_less _ (first _ _ e)
 before_each key (next ∷ keys) (suc j) d e lt =
@@ -61,14 +63,16 @@ rest_ascends : (key : List ℕ) (keys : List (List ℕ)) → is_below key keys �
 rest_ascends key [] e = refl
 rest_ascends key (next ∷ keys) e = second _ _ e
 
-ascends : (keys : List (List ℕ)) (i j : ℕ) (d : List ℕ) → is_ascending keys ≡ true → i < j → j < length keys → compare (get_or keys i d) (get_or keys j d) ≡ Less
+ascends : (keys : List (List ℕ)) (i j : ℕ) (d : List ℕ) → is_ascending keys ≡ true → i < j → j < length keys →
+    compare (get_or keys i d) (get_or keys j d) ≡ Less
 ascends [] i j d e lt below = absurd (omega arith)
 ascends (key ∷ keys) zero zero d e lt below = absurd (omega arith)
 ascends (key ∷ keys) zero (suc j) d e lt below = before_each key keys j d e (omega arith)
 ascends (key ∷ keys) (suc i) zero d e lt below = absurd (omega arith)
 ascends (key ∷ keys) (suc i) (suc j) d e lt below = ascends keys i j d (rest_ascends key keys e) (omega arith) (omega arith)
 
-module _ (keys : List (List ℕ)) (key : List ℕ) (up : is_ascending keys ≡ true) (middle : ℕ) (lt : middle < length keys) (x : List ℕ) (is : x ≡ get_or keys middle x) where
+module _ (keys : List (List ℕ)) (key : List ℕ) (up : is_ascending keys ≡ true) (middle : ℕ) (lt : middle < length keys) (x : List ℕ)
+    (is : x ≡ get_or keys middle x) where
   at_middle : (o : Ordering) → compare x key ≡ o → (d : List ℕ) → compare (get_or keys middle d) key ≡ o
   at_middle o e d = ap (λ k. compare k key) (get_or_default keys middle d x lt ∙ sym is) ∙ e
 
@@ -76,7 +80,8 @@ module _ (keys : List (List ℕ)) (key : List ℕ) (up : is_ascending keys ≡ t
   pub below_middle : compare x key ≡ Less → (k : ℕ) (d : List ℕ) → k < middle + 1 → compare (get_or keys k d) key ≡ Less
   below_middle e k d le = elim (eq-or-lt_of_le (let p : k ≤ middle = omega arith in p)) as (λ _. compare (get_or keys k d) key ≡ Less) [
     | inl same ↦ ap (λ n. compare (get_or keys n d) key) same ∙ at_middle Less e d
-    | inr less ↦ nat_list_cmp_total.trans (get_or keys k d) (get_or keys middle d) key (ascends keys k middle d up less lt) (at_middle Less e d)
+    | inr less ↦ nat_list_cmp_total.trans (get_or keys k d) (get_or keys middle d) key (ascends keys k middle d up less lt)
+        (at_middle Less e d)
   ]
 
   -- keys from one that comes after the key on come after it
@@ -84,7 +89,8 @@ module _ (keys : List (List ℕ)) (key : List ℕ) (up : is_ascending keys ≡ t
   above_middle e k d le below = elim (eq-or-lt_of_le le) as (λ _. compare (get_or keys k d) key ≡ Greater) [
     | inl same ↦ ap (λ n. compare (get_or keys n d) key) (sym same) ∙ at_middle Greater e d
     | inr less ↦ turned key (get_or keys k d)
-        (nat_list_cmp_total.trans key (get_or keys middle d) (get_or keys k d) (turned_back (get_or keys middle d) key (at_middle Greater e d)) (ascends keys middle k d up less below))
+        (nat_list_cmp_total.trans key (get_or keys middle d) (get_or keys k d)
+        (turned_back (get_or keys middle d) key (at_middle Greater e d)) (ascends keys middle k d up less below))
   ]
 
 differs : (x y : List ℕ) (o : Ordering) → compare x y ≡ o → is_eq o ≡ false → bytes_eq x y ≡ false
@@ -112,7 +118,8 @@ module _ (keys : List (List ℕ)) (key : List ℕ) where
       let e_at : compare (get_or keys i x) key ≡ Equal = ap (λ y. compare y key) (sym is) ∙ e in
       ap (λ o. ok_or o (rank key keys)) (sym (place_is (λ k. bytes_eq k key) keys i
       (position_or_len_is (λ k. bytes_eq k key) keys i x (omega arith)
-      (λ k less. differs (get_or keys k x) key Less (before_equal (get_or keys k x) (get_or keys i x) (ascends keys k i x up less lt) e_at) refl)
+      (λ k less. differs (get_or keys k x) key Less (before_equal (get_or keys k x) (get_or keys i x) (ascends keys k i x up less lt)
+      e_at) refl)
       (λ _. same (get_or keys i x) key e_at)) lt))
 
   unequal : (i : ℕ) → ((k : ℕ) (d : List ℕ) → k < i → compare (get_or keys k d) key ≡ Less) →
@@ -131,7 +138,8 @@ module _ (keys : List (List ℕ)) (key : List ℕ) where
       ap (λ r. Err r) (sym (position_or_len_is (λ k. not (is_before k key)) keys i [] le
       (λ k less. ap (λ o. not (is_lt o)) (below k [] less)) (λ less. ap (λ o. not (is_lt o)) (above i [] (omega arith) less)))) ∙
       ap (λ o. ok_or o (rank key keys)) (sym (place_none (λ k. bytes_eq k key) keys
-      (position_or_len_is (λ k. bytes_eq k key) keys (length keys) [] (omega arith) (unequal i below above) (λ less. absurd (omega arith)))))
+      (position_or_len_is (λ k. bytes_eq k key) keys (length keys) [] (omega arith) (unequal i below above)
+      (λ less. absurd (omega arith)))))
 
 pub rank-le : (key : List ℕ) (keys : List (List ℕ)) → rank key keys ≤ length keys
 rank-le key keys = prefix_len-le-length _ keys
@@ -148,7 +156,8 @@ no_place true i e = cc
 no_place false i e = refl
 
 none_passes : {X : Type 0} (p : X → Bool) (xs : List X) → position p xs ≡ None → (k : ℕ) (d : X) → k < length xs → p (get_or xs k d) ≡ false
-none_passes p xs e k d lt = fails_before_first p xs k d (let past : length xs ≤ position_or_len p xs = ltb-false _ _ (no_place _ (position_or_len p xs) e) in omega arith)
+none_passes p xs e k d lt = fails_before_first p xs k d (let past :
+    length xs ≤ position_or_len p xs = ltb-false _ _ (no_place _ (position_or_len p xs) e) in omega arith)
 
 module _ (key : List ℕ) where
   after : (k : List ℕ) (o : Ordering) → compare k key ≡ o → is_before k key ≡ false → bytes_eq k key ≡ false → compare k key ≡ Greater
@@ -156,32 +165,40 @@ module _ (key : List ℕ) where
   after k Equal e late unequal = let clash : false ≡ true = sym unequal ∙ same k key e in cc
   after k Greater e late unequal = e
 
-  insert_first : (k : List ℕ) (keys : List (List ℕ)) → is_before k key ≡ false → insert (k ∷ keys) (rank key (k ∷ keys)) key ≡ key ∷ k ∷ keys
+  insert_first : (k : List ℕ) (keys : List (List ℕ)) → is_before k key ≡ false →
+      insert (k ∷ keys) (rank key (k ∷ keys)) key ≡ key ∷ k ∷ keys
   insert_first k keys e = rw e refl
 
-  insert_next : (k : List ℕ) (keys : List (List ℕ)) → is_before k key ≡ true → insert (k ∷ keys) (rank key (k ∷ keys)) key ≡ k ∷ insert keys (rank key keys) key
+  insert_next : (k : List ℕ) (keys : List (List ℕ)) → is_before k key ≡ true →
+      insert (k ∷ keys) (rank key (k ∷ keys)) key ≡ k ∷ insert keys (rank key keys) key
   insert_next k keys e = rw e (ap (λ n. insert (k ∷ keys) n key) (let one : 1 + rank key keys ≡ suc (rank key keys) = omega arith in one))
 
-  below_insert : (k : List ℕ) (keys : List (List ℕ)) → is_before k key ≡ true → is_below k keys ≡ true → is_ascending (insert keys (rank key keys) key) ≡ true →
+  below_insert : (k : List ℕ) (keys : List (List ℕ)) → is_before k key ≡ true → is_below k keys ≡ true →
+      is_ascending (insert keys (rank key keys) key) ≡ true →
       is_below k (insert keys (rank key keys) key) ≡ true
   below_insert k [] before e up = both _ true before refl
-  below_insert k (next ∷ keys) before e up = elim (either (is_before next key)) as (λ _. is_below k (insert (next ∷ keys) (rank key (next ∷ keys)) key) ≡ true) [
-    | inl early ↦ rw (insert_next next keys early) (both _ _ (first _ _ e) (ap is_ascending (sym (insert_next next keys early)) ∙ up))
-    | inr other ↦ rw (insert_first next keys other) (both _ _ before (ap is_ascending (sym (insert_first next keys other)) ∙ up))
-  ]
+  below_insert k (next ∷ keys) before e up = elim (either (is_before next key)) as
+      (λ _. is_below k (insert (next ∷ keys) (rank key (next ∷ keys)) key) ≡ true) [
+        | inl early ↦ rw (insert_next next keys early) (both _ _ (first _ _ e) (ap is_ascending (sym (insert_next next keys early)) ∙ up))
+        | inr other ↦ rw (insert_first next keys other) (both _ _ before (ap is_ascending (sym (insert_first next keys other)) ∙ up))
+      ]
 
   not_before : (k : List ℕ) → is_before k key ≡ false → bytes_eq k key ≡ false → is_before key k ≡ true
   not_before k e unequal = ap is_lt (turned_back k key (after k (compare k key) refl e unequal))
 
   -- a new key at the place where it goes keeps the order
-  ascends_with : (keys : List (List ℕ)) → is_ascending keys ≡ true → ((i : ℕ) (d : List ℕ) → i < length keys → bytes_eq (get_or keys i d) key ≡ false) →
+  ascends_with : (keys : List (List ℕ)) → is_ascending keys ≡ true →
+      ((i : ℕ) (d : List ℕ) → i < length keys → bytes_eq (get_or keys i d) key ≡ false) →
       is_ascending (insert keys (rank key keys) key) ≡ true
   ascends_with [] up other = refl
-  ascends_with (k ∷ keys) up other = elim (either (is_before k key)) as (λ _. is_ascending (insert (k ∷ keys) (rank key (k ∷ keys)) key) ≡ true) [
-    | inl early ↦ rw (insert_next k keys early) (below_insert k keys early up (ascends_with keys (rest_ascends k keys up) (λ i d lt. other (suc i) d (omega arith))))
-    | inr late ↦ rw (insert_first k keys late) (both _ _ (not_before k late (other 0 [] (omega arith))) up)
-  ]
+  ascends_with (k ∷ keys) up other = elim (either (is_before k key)) as
+      (λ _. is_ascending (insert (k ∷ keys) (rank key (k ∷ keys)) key) ≡ true) [
+        | inl early ↦ rw (insert_next k keys early) (below_insert k keys early up
+            (ascends_with keys (rest_ascends k keys up) (λ i d lt. other (suc i) d (omega arith))))
+        | inr late ↦ rw (insert_first k keys late) (both _ _ (not_before k late (other 0 [] (omega arith))) up)
+      ]
 
 -- a new key at the place where it goes keeps the order
-pub insert_ascends : (key : List ℕ) (keys : List (List ℕ)) → is_ascending keys ≡ true → place_of key keys ≡ None → is_ascending (insert keys (rank key keys) key) ≡ true
+pub insert_ascends : (key : List ℕ) (keys : List (List ℕ)) → is_ascending keys ≡ true → place_of key keys ≡ None →
+    is_ascending (insert keys (rank key keys) key) ≡ true
 insert_ascends key keys up absent = ascends_with key keys up (none_passes (λ k. bytes_eq k key) keys absent)

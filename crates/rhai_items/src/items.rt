@@ -1,6 +1,8 @@
 //! Lists.
 
-ghost use Rattle.std.specs.Prelude.{◌≡◌, take, drop, [], ◌∷◌, ◌++◌, ◌<◌, ◌≤◌, length, slice_get, slice_set, insert, remove, ◌↔◌, IsTrue, IfOk, IfErr, MatchOption, OnOk, OnErr, OnSome};
+ghost use Rattle.std.specs.Prelude.{◌≡◌, take, drop, [], ◌∷◌, ◌++◌, ◌<◌, ◌≤◌, length, slice_get, slice_set};
+ghost use Rattle.std.specs.Prelude.{insert, remove, ◌↔◌, IsTrue, IfOk, IfErr, MatchOption, OnOk, OnErr};
+ghost use Rattle.std.specs.Prelude.{OnSome};
 ghost use Rattle.std.specs.Option.{option_copied};
 ghost use Rattle.std.specs.Borrow.{Lends, Array, sem};
 ghost use Rattle.rhai_items.specs.contracts.items.Items.{the_row};
@@ -64,7 +66,8 @@ impl<T> Items<T> {
 
     /// The items, to be changed in place.
     pub fn as_mut_slice(&mut self) -> &mut [T]
-        ensures* writes_back { sem 𝓛 (Lends (the_row T.row) (Array T.row 0) self.entry result (λ w. take (length self.old) (w ++ drop (length w) self.old))) }
+        ensures* writes_back { sem 𝓛 (Lends (the_row T.row) (Array T.row 0) self.entry result
+            (λ w. take (length self.old) (w ++ drop (length w) self.old))) }
         ensures value { result.now ≡ self.old }
     {
         self.items.as_mut_slice()
@@ -73,7 +76,8 @@ impl<T> Items<T> {
     /// The item at an index, to be changed in place.
     pub fn at_mut(&mut self, at: usize) -> &mut T
         requires { at < length self.old }
-        ensures* writes_back { sem 𝓛 (Lends (the_row T.row) T.row self.entry result (λ w. slice_set self.old at w)) }
+        ensures* writes_back { sem 𝓛 (Lends (the_row T.row) T.row self.entry result
+            (λ w. slice_set self.old at w)) }
         ensures value { slice_get self.old at ≡ Some result.now }
     {
         &mut self.items[at]
@@ -112,7 +116,8 @@ impl<T> Items<T> {
 
     /// Takes the last item.
     pub fn pop(&mut self) -> Option<T>
-        ensures { MatchOption result ((self.old ≡ []) × (self.new ≡ [])) (λ last. self.old ≡ self.new ++ last ∷ []) }
+        ensures { MatchOption result ((self.old ≡ []) × (self.new ≡ []))
+            (λ last. self.old ≡ self.new ++ last ∷ []) }
     {
         self.items.pop()
     }

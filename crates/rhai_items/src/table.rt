@@ -71,7 +71,8 @@ impl<T> Table<T> {
 
     /// The values, in the order of their keys, to be changed in place.
     pub fn values_mut(&mut self) -> &mut [T]
-        ensures* writes_back { sem 𝓛 (Lends (the_row T.row) (Array T.row 0) self.entry result (λ w. (self.old.0, take (length self.old.1) (w ++ drop (length w) self.old.1)))) }
+        ensures* writes_back { sem 𝓛 (Lends (the_row T.row) (Array T.row 0) self.entry result
+            (λ w. (self.old.0, take (length self.old.1) (w ++ drop (length w) self.old.1)))) }
         ensures value { result.now ≡ self.old.1 }
     {
         self.values.as_mut_slice()

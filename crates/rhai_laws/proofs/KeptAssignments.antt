@@ -121,7 +121,8 @@ module _ {H : Type 0} (a : Asked) where
 
     value_keeps : (r : Result (Dynamic H) (EvalAltResult H)) (u : Update H) (k : List (Frame H)) (l : Local H) → Stands u.place l →
         Keeps a (calm k l) (value_core s r u k l)
-    value_keeps (Ok v) u k l stands = through a (put_keeps a u.place v k l stands) (done_keeps (sized s.limits v u.target_at) k (put u.place v l))
+    value_keeps (Ok v) u k l stands = through a (put_keeps a u.place v k l stands)
+        (done_keeps (sized s.limits v u.target_at) k (put u.place v l))
     value_keeps (Err e) u k l stands = quiet a tt refl (λ t. t)
 
     answered_keeps : (attempt : Attempt) (reply : Reply H) (u : Update H) (k : List (Frame H)) (l : Local H) → Stands u.place l →

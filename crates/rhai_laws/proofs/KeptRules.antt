@@ -198,12 +198,14 @@ module _ {H : Type 0} (a : Asked) where
         Moves (Keeps a) (core (Fire call) k l) (fire_first s u x call rest k l)
     fire_first_keeps (value.Cell id) x call rest k l = quiet a tt refl (λ t. t)
     fire_first_keeps _ x call rest k l =
-        λ reply left. after a (calm k l) refl (λ t. t) (ended_keeps a (replied s.limits s.host_type reply left rest call.operation l.around.cells) k l)
+        λ reply left. after a (calm k l) refl (λ t. t) (ended_keeps a
+        (replied s.limits s.host_type reply left rest call.operation l.around.cells) k l)
 
     fire_keeps : (call : Call H) (args : List (Dynamic H)) (k : List (Frame H)) (l : Local H) →
         Moves (Keeps a) (core (Fire call) k l) (fire_move s call args k l)
     fire_keeps call [] k l =
-        λ reply left. after a (calm k l) refl (λ t. t) (ended_keeps a (replied s.limits s.host_type reply left [] call.operation l.around.cells) k l)
+        λ reply left. after a (calm k l) refl (λ t. t) (ended_keeps a
+        (replied s.limits s.host_type reply left [] call.operation l.around.cells) k l)
     fire_keeps call (x ∷ rest) k l = fire_first_keeps x.value x call rest k l
 
     operator_keeps : (builtin : Option (Result (Dynamic H) (EvalAltResult H))) (call : Call H) (k : List (Frame H)) (l : Local H) →

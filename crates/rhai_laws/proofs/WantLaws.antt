@@ -46,7 +46,8 @@ module _ {S H : Type 0} (rules : Rules S H) where
   had_memory (Err e) has at is = let same : e ≡ error.ErrorOutOfMemory at = cc in let no : true ≡ false = rw same at has in cc
 
   -- where memory was not wanting at the end, the machine takes the steps by itself
-  pub steps_with_memory : {p : Point S (Core H)} (r : Result (Dynamic H) (EvalAltResult H)) (k : List (Frame H)) (new : State S H) → HasMemory r →
+  pub steps_with_memory : {p : Point S (Core H)} (r : Result (Dynamic H) (EvalAltResult H)) (k : List (Frame H)) (new : State S H) →
+      HasMemory r →
       Goes rules p (at (ended r) k new) → Reaches (machine rules) (cut rules) p (at (ended r) k new)
   steps_with_memory r k new has steps = straight (machine rules) (cut rules) IsWanting wants steps (λ is. had_memory r has is.0 is.1)
 

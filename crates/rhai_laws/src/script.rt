@@ -2,7 +2,8 @@
 //! run: each function stands for the law that is its contract.
 
 ghost use Rattle.rhai_machine.specs.language.Setting.{Setting, over};
-ghost use Rattle.rhai_laws.specs.Laws.{GoesWithMemory, GoesUpToMemory, StepsKeep, NamesStay, NamesBegin, VariablesStay};
+ghost use Rattle.rhai_laws.specs.Laws.{GoesWithMemory, GoesUpToMemory, StepsKeep, NamesStay, NamesBegin};
+ghost use Rattle.rhai_laws.specs.Laws.{VariablesStay};
 
 use rhai_values::table::NativeTable;
 use std::marker::PhantomData;

@@ -37,7 +37,15 @@ module _ {S H : Type 0} (table : Table S H) (host : H → List ℕ) where
   abbrev update_fires : Dynamic H → Config S H (Core H)
   update_fires operand = record {
     core = core
-        (FireUpdate (record { attempt = InPlace; operator = Plus; at = column 14; place = InEntry 0; target = integer 1; operand = operand; target_at = column 12 }))
+        (FireUpdate (record {
+          attempt = InPlace;
+          operator = Plus;
+          at = column 14;
+          place = InEntry 0;
+          target = integer 1;
+          operand = operand;
+          target_at = column 12;
+        }))
         (RestOfList [] false ∷ [])
         (nothing_but (entry (codes "x") (integer 1) ∷ []));
     table = table.state;

@@ -20,7 +20,8 @@ module _ {S H Core : Type 0} (M : Machine S H Core) where
   Ended limit c t n qs = (a : Config S H Core) × Run M (below limit) (config c t n qs) a
 
   -- a refused charge unwinds to an end
-  unwinds_to_end : (R : Core → Type 0) (u : Unwinds M R) (limit : ℕ) {c : Core} → Settles M c → R c → (t : S) (n : ℕ) (qs : List (Request H)) → Ended limit c t n qs
+  unwinds_to_end : (R : Core → Type 0) (u : Unwinds M R) (limit : ℕ) {c : Core} → Settles M c → R c →
+      (t : S) (n : ℕ) (qs : List (Request H)) → Ended limit c t n qs
   unwinds_to_end R u limit (at_end is) r t n qs = (_, ended (rw is refl))
   unwinds_to_end R u limit {c} (by_step {d = d} is s) r t n qs =
       let passes : R d = subst (λ v. Passes R v) is (u.stays c r) in
@@ -42,13 +43,15 @@ module _ {S H Core : Type 0} (M : Machine S H Core) where
     abbrev EndsWithFewer : ℕ → Type 0
     EndsWithFewer k = (j : ℕ) → suc j ≡ k → EndsWith j
 
-    by_charge : (k : ℕ) (b : Bool) (at : Position) (d c : Core) (t : S) (n : ℕ) (qs : List (Request H)) → nat_lt n limit ≡ b → limit ≤ n + k → EndsWithFewer k
+    by_charge : (k : ℕ) (b : Bool) (at : Position) (d c : Core) (t : S) (n : ℕ) (qs : List (Request H)) → nat_lt n limit ≡ b →
+        limit ≤ n + k → EndsWithFewer k
         → (a : Config S H Core) × Run M (below limit) (charged M b at d (config c t n qs)) a
     by_charge zero true at d c t n qs is le fewer = let lt : n < limit = grind (arith, nat_tests) in absurd (omega arith)
     by_charge (suc k) true at d c t n qs is le fewer = fewer k refl d t (n + 1) qs (omega arith)
     by_charge k false at d c t n qs is le fewer = unwinds_to_end R u limit (settles (M.refuse at c)) (u.refuses at c) t n qs
 
-    in_steps : (k : ℕ) → EndsWithFewer k → {c : Core} → Settles M c → (t : S) (n : ℕ) (qs : List (Request H)) → limit ≤ n + k → Ended limit c t n qs
+    in_steps : (k : ℕ) → EndsWithFewer k → {c : Core} → Settles M c → (t : S) (n : ℕ) (qs : List (Request H)) → limit ≤ n + k →
+        Ended limit c t n qs
     in_steps k fewer (at_end is) t n qs le = (_, ended (rw is refl))
     in_steps k fewer (by_step is s) t n qs le = let end = in_steps k fewer s t n qs le in (end.0, next (rw is refl) end.1)
     in_steps k fewer {c} (at_charge {d = d} {at = at} is) t n qs le =
@@ -67,7 +70,8 @@ module _ {S H Core : Type 0} (M : Machine S H Core) where
     by_room (suc k) c t n qs le = in_steps (suc k) (λ j e d t n qs more. by_room k d t n qs (omega (arith, e, more))) (settles c) t n qs le
 
   -- the cut run always ends
-  pub ends : (R : Core → Type 0) → Unwinds M R → ((c : Core) → Settles M c) → (limit : ℕ) (c : Config S H Core) → (a : Config S H Core) × Run M (below limit) c a
+  pub ends : (R : Core → Type 0) → Unwinds M R → ((c : Core) → Settles M c) → (limit : ℕ) (c : Config S H Core) →
+      (a : Config S H Core) × Run M (below limit) c a
   ends R u settles limit c = by_room R u settles limit limit c.core c.table c.count c.calls (omega arith)
 
   pub always_ends_law : (R : Core → Type 0) → AlwaysEnds M R
@@ -80,7 +84,8 @@ module _ {S H Core : Type 0} (M : Machine S H Core) where
       (other.0, other.1, same_or_refused M R u (below m) (below n) (wider_below m n lt) run other.1)
 
   -- two limits, of steps told without the list of calls
-  pub limits_agree : (R : Core → Type 0) → Unwinds M R → ((c : Core) → Settles M c) → (m : ℕ) {p q : Point S Core} → Reaches M (below m) p q → M.move q.core ≡ Halt → LimitsAgree M R m p q
+  pub limits_agree : (R : Core → Type 0) → Unwinds M R → ((c : Core) → Settles M c) → (m : ℕ) {p q : Point S Core} →
+      Reaches M (below m) p q → M.move q.core ≡ Halt → LimitsAgree M R m p q
   limits_agree R u settles m {p} {q} steps done calls =
       let log = logged M (below m) steps done calls in
       (log.0, log.1, λ n lt. two_limits_law R u settles m n lt (with_calls p calls) (with_calls q log.0) log.1)

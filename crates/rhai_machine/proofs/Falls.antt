@@ -1,6 +1,7 @@
 -- Each move of the language without a charge makes a core smaller.
 use Rattle.std.proofs.Common.{arith}
-use Rattle.std.specs.Prelude.{◌<◌, ◌≤◌, ℕ, ◌+◌, nat_le, length, not, ◌&&◌, Bool, true, false, List, [], ◌∷◌, Option, Some, None, Result, Ok, Err, is_some}
+use Rattle.std.specs.Prelude.{◌<◌, ◌≤◌, ℕ, ◌+◌, nat_le, length, not, ◌&&◌, Bool, true, false, List, [], ◌∷◌, Option, Some, None, Result}
+use Rattle.std.specs.Prelude.{Ok, Err, is_some}
 use Rattle.rhai_tree.specs.declared.position.Position.{Position}
 use Rattle.rhai_tree.specs.declared.token.Token.{Token}
 use Rattle.rhai_tree.specs.declared.flags.ASTFlags.{ASTFlags}
@@ -23,16 +24,26 @@ use Rattle.rhai_machine.specs.machine.Settling.{Falls}
 use Rattle.rhai_machine.specs.language.Setting.{Setting}
 use Rattle.rhai_machine.specs.language.State.{Local}
 use Rattle.rhai_machine.specs.language.Values.{unit_value, flat, through, truth}
-use Rattle.rhai_machine.specs.language.Frames.{Operation, Attempt, InPlace, AsValue, Assignment, Update, Call, Control, Frame, Core, core, ended, Eval, Exec, Ask, Assign, AskUpdate, Argument, Question, Fire, QuestionUpdate, FireUpdate, OpenExpr, OpenStmt, Enter, Run, Store, WhileTurn, DoTurn, Back, Fail, StatementValue, DefineValue, IfCondition, RestOfList, RestoreList, Top, UnaryOperand, LeftOperand, RightOperand, AndPart, OrPart, CoalescePart, AssignValue, WhileCondition, WhileBody, DoCondition, DoBody, BreakValue, ReturnValue}
+use Rattle.rhai_machine.specs.language.Frames.{Operation, Attempt, InPlace, AsValue, Assignment, Update, Call, Control, Frame, Core, core}
+use Rattle.rhai_machine.specs.language.Frames.{ended, Eval, Exec, Ask, Assign, AskUpdate, Argument, Question, Fire, QuestionUpdate}
+use Rattle.rhai_machine.specs.language.Frames.{FireUpdate, OpenExpr, OpenStmt, Enter, Run, Store, WhileTurn, DoTurn, Back, Fail}
+use Rattle.rhai_machine.specs.language.Frames.{StatementValue, DefineValue, IfCondition, RestOfList, RestoreList, Top, UnaryOperand}
+use Rattle.rhai_machine.specs.language.Frames.{LeftOperand, RightOperand, AndPart, OrPart, CoalescePart, AssignValue, WhileCondition}
+use Rattle.rhai_machine.specs.language.Frames.{WhileBody, DoCondition, DoBody, BreakValue, ReturnValue}
 use Rattle.rhai_machine.specs.language.Places.{Place, Target, target_of, put}
-use Rattle.rhai_machine.specs.language.Assignment.{native_of, assignment_move, assigned_core, written_core, done, if_fast, says_missing, operation_of, left_in, update_core, assign_core, store_core, changed_core, fault_core, value_core, answered_core, call_update, fire_update}
+use Rattle.rhai_machine.specs.language.Assignment.{native_of, assignment_move, assigned_core, written_core, done, if_fast, says_missing}
+use Rattle.rhai_machine.specs.language.Assignment.{operation_of, left_in, update_core, assign_core, store_core, changed_core, fault_core}
+use Rattle.rhai_machine.specs.language.Assignment.{value_core, answered_core, call_update, fire_update}
 use Rattle.rhai_machine.specs.language.Loops.{is_endless, while_move, while_core, if_goes_on, goes_on, do_control, caught}
 use Rattle.rhai_machine.specs.language.Names.{read}
 use Rattle.rhai_tree.specs.Positions.{position_of}
 use Rattle.rhai_values.specs.Scope.{index_of}
-use Rattle.rhai_machine.specs.language.Expressions.{literal_of, argument_move, operands_move, and_core, and_next, or_core, or_next, coalesce_core, coalesce_seen, coalesce_next, expr_move}
-use Rattle.rhai_machine.specs.language.Calls.{operator_core, builtin_of, fire_first, fire_move, call_native, replied, applied, sized, placed_if_none}
-use Rattle.rhai_machine.specs.language.Statements.{enter_core, run_core, chosen_core, defined_core, define_core, break_core, return_move, returned_core, has_option, stmt_move}
+use Rattle.rhai_machine.specs.language.Expressions.{literal_of, argument_move, operands_move, and_core, and_next, or_core, or_next}
+use Rattle.rhai_machine.specs.language.Expressions.{coalesce_core, coalesce_seen, coalesce_next, expr_move}
+use Rattle.rhai_machine.specs.language.Calls.{operator_core, builtin_of, fire_first, fire_move, call_native, replied, applied, sized}
+use Rattle.rhai_machine.specs.language.Calls.{placed_if_none}
+use Rattle.rhai_machine.specs.language.Statements.{enter_core, run_core, chosen_core, defined_core, define_core, break_core, return_move}
+use Rattle.rhai_machine.specs.language.Statements.{returned_core, has_option, stmt_move}
 use Rattle.rhai_machine.specs.language.Unwinding.{up_core, down_core, topped, unary_core, left_core, right_core, operated, call_of}
 use Rattle.rhai_machine.specs.language.Language.{move_at, move}
 use Rattle.rhai_machine.specs.language.Runs.{at}
@@ -96,7 +107,8 @@ module _ {H : Type 0} where
   result_falls (Ok v) n m lt = omega (arith, lt)
   result_falls (Err e) n m lt = lt
 
-  enter_size : (stmts : List Stmt) (restoring : Bool) (k : List (Frame H)) → control_size (Enter stmts restoring) + stack_size k ≤ 8 + stack_size k
+  enter_size : (stmts : List Stmt) (restoring : Bool) (k : List (Frame H)) →
+      control_size (Enter stmts restoring) + stack_size k ≤ 8 + stack_size k
   enter_size [] restoring k = omega arith
   enter_size (stmt ∷ stmts) restoring k = omega arith
 
@@ -105,20 +117,24 @@ module _ {H : Type 0} where
   run_size (stmt ∷ stmts) restoring last = omega arith
 
   module _ (s : Setting H) where
-    enter_falls : (stmts : List Stmt) (restoring : Bool) (k : List (Frame H)) (l : Local H) → size (enter_core stmts restoring k l) < control_size (Enter stmts restoring) + stack_size k
+    enter_falls : (stmts : List Stmt) (restoring : Bool) (k : List (Frame H)) (l : Local H) →
+        size (enter_core stmts restoring k l) < control_size (Enter stmts restoring) + stack_size k
     enter_falls [] restoring k l = omega arith
     enter_falls (stmt ∷ stmts) true k l = omega arith
     enter_falls (stmt ∷ stmts) false k l = omega arith
 
-    run_falls : (stmts : List Stmt) (restoring : Bool) (last : Dynamic H) (k : List (Frame H)) (l : Local H) → size (run_core stmts restoring last k l) < control_size (Run stmts restoring last) + stack_size k
+    run_falls : (stmts : List Stmt) (restoring : Bool) (last : Dynamic H) (k : List (Frame H)) (l : Local H) →
+        size (run_core stmts restoring last k l) < control_size (Run stmts restoring last) + stack_size k
     run_falls [] restoring last k l = omega arith
     run_falls (stmt ∷ stmts) restoring last k l = omega arith
 
-    argument_falls : (literal : Option (Dynamic H)) (e : Expr) (k : List (Frame H)) (l : Local H) → Falls size (core (Argument e) k l) (argument_move literal e k l)
+    argument_falls : (literal : Option (Dynamic H)) (e : Expr) (k : List (Frame H)) (l : Local H) →
+        Falls size (core (Argument e) k l) (argument_move literal e k l)
     argument_falls (Some v) e k l = tt
     argument_falls None e k l = omega arith
 
-    operands_fall : (fast : Bool) (token : Option Token) (call : FnCallExpr) (args : List Expr) (pos : Position) (form : ExprLayer) (k : List (Frame H)) (l : Local H) →
+    operands_fall : (fast : Bool) (token : Option Token) (call : FnCallExpr) (args : List Expr) (pos : Position) (form : ExprLayer)
+        (k : List (Frame H)) (l : Local H) →
         Falls size (core (OpenExpr form) k l) (operands_move fast token call args pos k l)
     operands_fall true (Some token) call (operand ∷ []) pos form k l = omega arith
     operands_fall true (Some token) call (left ∷ right ∷ []) pos form k l = omega arith
@@ -132,121 +148,149 @@ module _ {H : Type 0} where
     or_falls [] k l = omega arith
     or_falls (part ∷ parts) k l = omega arith
 
-    coalesce_falls : (last : Dynamic H) (parts : List Expr) (k : List (Frame H)) (l : Local H) → size (coalesce_core last parts k l) < 8 + stack_size k
+    coalesce_falls : (last : Dynamic H) (parts : List Expr) (k : List (Frame H)) (l : Local H) →
+        size (coalesce_core last parts k l) < 8 + stack_size k
     coalesce_falls last [] k l = omega arith
     coalesce_falls last (part ∷ parts) k l = omega arith
 
-    expr_falls : (fast : Bool) (form : ExprLayer) (k : List (Frame H)) (l : Local H) → Falls size (core (OpenExpr form) k l) (expr_move fast form k l)
+    expr_falls : (fast : Bool) (form : ExprLayer) (k : List (Frame H)) (l : Local H) →
+        Falls size (core (OpenExpr form) k l) (expr_move fast form k l)
     expr_falls fast (layer.BoolConstant b pos) k l = omega arith
     expr_falls fast (layer.IntegerConstant n pos) k l = omega arith
     expr_falls fast (layer.Unit pos) k l = omega arith
-    expr_falls fast (layer.Variable offset name namespace pos) k l = result_falls (read l.around.cells name pos l.scope) (20 + stack_size k) (stack_size k) (omega arith)
-    expr_falls fast (layer.Expr::FnCall call pos) k l = operands_fall fast call.op_token call call.args pos (layer.Expr::FnCall call pos) k l
+    expr_falls fast (layer.Variable offset name namespace pos) k l =
+        result_falls (read l.around.cells name pos l.scope) (20 + stack_size k) (stack_size k) (omega arith)
+    expr_falls fast (layer.Expr::FnCall call pos) k l = operands_fall fast call.op_token call call.args pos (layer.Expr::FnCall call pos)
+        k l
     expr_falls fast (layer.Stmt block) k l = omega (arith, enter_size block.statements true k)
     expr_falls fast (layer.And parts pos) k l = grind (arith, and_falls parts k l)
     expr_falls fast (layer.Or parts pos) k l = grind (arith, or_falls parts k l)
     expr_falls fast (layer.Coalesce parts pos) k l = grind (arith, coalesce_falls unit_value parts k l)
     expr_falls fast _ k l = tt
 
-    define_falls : (shadows full : Bool) (ident : Ident) (value : Expr) (options : ASTFlags) (pos : Position) (k : List (Frame H)) (l : Local H) →
+    define_falls : (shadows full : Bool) (ident : Ident) (value : Expr) (options : ASTFlags) (pos : Position) (k : List (Frame H))
+        (l : Local H) →
         size (define_core s shadows full ident value options pos k l) < 20 + stack_size k
     define_falls true full ident value options pos k l = omega arith
     define_falls false true ident value options pos k l = omega arith
     define_falls false false ident value options pos k l = omega arith
 
-    assignment_falls : (target : ExprLayer) (op : OpAssignment) (rhs : Expr) (form : StmtLayer) (restoring : Bool) (k : List (Frame H)) (l : Local H) →
+    assignment_falls : (target : ExprLayer) (op : OpAssignment) (rhs : Expr) (form : StmtLayer) (restoring : Bool) (k : List (Frame H))
+        (l : Local H) →
         Falls size (core (OpenStmt form restoring) k l) (assignment_move target op rhs k l)
     assignment_falls (layer.Variable offset name namespace pos) op rhs form restoring k l = omega arith
     assignment_falls _ op rhs form restoring k l = tt
 
-    break_falls : (value : Option Expr) (is_break : Bool) (pos : Position) (k : List (Frame H)) (l : Local H) → size (break_core value is_break pos k l) < 20 + stack_size k
+    break_falls : (value : Option Expr) (is_break : Bool) (pos : Position) (k : List (Frame H)) (l : Local H) →
+        size (break_core value is_break pos k l) < 20 + stack_size k
     break_falls None is_break pos k l = omega arith
     break_falls (Some value) is_break pos k l = omega arith
 
-    return_falls : (throws : Bool) (value : Option Expr) (pos : Position) (form : StmtLayer) (restoring : Bool) (k : List (Frame H)) (l : Local H) →
+    return_falls : (throws : Bool) (value : Option Expr) (pos : Position) (form : StmtLayer) (restoring : Bool) (k : List (Frame H))
+        (l : Local H) →
         Falls size (core (OpenStmt form restoring) k l) (return_move throws value pos k l)
     return_falls true value pos form restoring k l = tt
     return_falls false None pos form restoring k l = omega arith
     return_falls false (Some value) pos form restoring k l = omega arith
 
-    stmt_falls : (form : StmtLayer) (restoring : Bool) (k : List (Frame H)) (l : Local H) → Falls size (core (OpenStmt form restoring) k l) (stmt_move s form restoring k l)
+    stmt_falls : (form : StmtLayer) (restoring : Bool) (k : List (Frame H)) (l : Local H) →
+        Falls size (core (OpenStmt form restoring) k l) (stmt_move s form restoring k l)
     stmt_falls (layer.Noop pos) restoring k l = omega arith
     stmt_falls (layer.Expr value) restoring k l = omega arith
     stmt_falls (layer.Block block) restoring k l = omega (arith, enter_size block.statements true k)
-    stmt_falls (layer.Assignment op lhs rhs) restoring k l = assignment_falls (out-Expr lhs) op rhs (layer.Assignment op lhs rhs) restoring k l
+    stmt_falls (layer.Assignment op lhs rhs) restoring k l =
+        assignment_falls (out-Expr lhs) op rhs (layer.Assignment op lhs rhs) restoring k l
     stmt_falls (layer.Var ident value None options pos) restoring k l =
-        define_falls (not s.offer.allow_shadowing && is_some (index_of ident.name l.scope)) (nat_le s.limits.max_variables (length l.scope)) ident value options pos k l
+        define_falls (not s.offer.allow_shadowing && is_some (index_of ident.name l.scope))
+        (nat_le s.limits.max_variables (length l.scope)) ident value options pos k l
     stmt_falls (layer.If test body branch pos) restoring k l = omega arith
     stmt_falls (layer.While test body pos) restoring k l = omega arith
     stmt_falls (layer.Do test body options pos) restoring k l = omega arith
     stmt_falls (layer.BreakLoop value options pos) restoring k l = break_falls value (has_option 2 options) pos k l
-    stmt_falls (layer.Return value options pos) restoring k l = return_falls (has_option 2 options) value pos (layer.Return value options pos) restoring k l
+    stmt_falls (layer.Return value options pos) restoring k l =
+        return_falls (has_option 2 options) value pos (layer.Return value options pos) restoring k l
     stmt_falls _ restoring k l = tt
 
     -- a native's reply comes back
-    native_falls : (call : Call H) (first : Option (Dynamic H)) (rest : List (Dynamic H)) (k : List (Frame H)) (l : Local H) → Falls size (core (Fire call) k l) (call_native s call first rest k l)
-    native_falls call first rest k l reply left = result_falls (replied s.limits s.host_type reply left rest call.operation l.around.cells) (11 + stack_size k) (stack_size k) (omega arith)
+    native_falls : (call : Call H) (first : Option (Dynamic H)) (rest : List (Dynamic H)) (k : List (Frame H)) (l : Local H) →
+        Falls size (core (Fire call) k l) (call_native s call first rest k l)
+    native_falls call first rest k l reply left = result_falls
+        (replied s.limits s.host_type reply left rest call.operation l.around.cells) (11 + stack_size k) (stack_size k) (omega arith)
 
     fire_first_falls : (u : Union H) (x : Dynamic H) (call : Call H) (rest : List (Dynamic H)) (k : List (Frame H)) (l : Local H) →
         Falls size (core (Fire call) k l) (fire_first s u x call rest k l)
     fire_first_falls (value.Cell id) x call rest k l = omega arith
     fire_first_falls _ x call rest k l = native_falls call (Some x) rest k l
 
-    fire_falls : (call : Call H) (args : List (Dynamic H)) (k : List (Frame H)) (l : Local H) → Falls size (core (Fire call) k l) (fire_move s call args k l)
+    fire_falls : (call : Call H) (args : List (Dynamic H)) (k : List (Frame H)) (l : Local H) →
+        Falls size (core (Fire call) k l) (fire_move s call args k l)
     fire_falls call [] k l = native_falls call None [] k l
     fire_falls call (x ∷ rest) k l = fire_first_falls x.value x call rest k l
 
-    operator_falls : (builtin : Option (Result (Dynamic H) (EvalAltResult H))) (call : Call H) (k : List (Frame H)) (l : Local H) → size (operator_core s builtin call k l) < 11 + stack_size k
+    operator_falls : (builtin : Option (Result (Dynamic H) (EvalAltResult H))) (call : Call H) (k : List (Frame H)) (l : Local H) →
+        size (operator_core s builtin call k l) < 11 + stack_size k
     operator_falls (Some r) call k l = result_falls (applied s.limits r call.operation.at) (11 + stack_size k) (stack_size k) (omega arith)
     operator_falls None call k l = omega arith
 
-    chosen_falls : (r : Result Bool (EvalAltResult H)) (body branch : StmtBlock) (k : List (Frame H)) (l : Local H) → size (chosen_core r body branch k l) < 11 + stack_size k
+    chosen_falls : (r : Result Bool (EvalAltResult H)) (body branch : StmtBlock) (k : List (Frame H)) (l : Local H) →
+        size (chosen_core r body branch k l) < 11 + stack_size k
     chosen_falls (Ok true) body branch k l = omega (arith, enter_size body.statements true k)
     chosen_falls (Ok false) body branch k l = omega (arith, enter_size branch.statements true k)
     chosen_falls (Err e) body branch k l = omega arith
 
-    defined_falls : (r : Result (Dynamic H) (EvalAltResult H)) (ident : Ident) (options : ASTFlags) (k : List (Frame H)) (l : Local H) → size (defined_core r ident options k l) < 11 + stack_size k
+    defined_falls : (r : Result (Dynamic H) (EvalAltResult H)) (ident : Ident) (options : ASTFlags) (k : List (Frame H)) (l : Local H) →
+        size (defined_core r ident options k l) < 11 + stack_size k
     defined_falls (Ok v) ident options k l = omega arith
     defined_falls (Err e) ident options k l = omega arith
 
-    operated_falls : (operation : Operation) (args : List (Dynamic H)) (k : List (Frame H)) (l : Local H) → size (operated s operation args k l) < 11 + stack_size k
+    operated_falls : (operation : Operation) (args : List (Dynamic H)) (k : List (Frame H)) (l : Local H) →
+        size (operated s operation args k l) < 11 + stack_size k
     operated_falls operation args k l = operator_falls (builtin_of operation.token args) (call_of s operation args) k l
 
-    unary_falls : (r : Result (Dynamic H) (EvalAltResult H)) (operation : Operation) (k : List (Frame H)) (l : Local H) → size (unary_core s r operation k l) < 11 + stack_size k
+    unary_falls : (r : Result (Dynamic H) (EvalAltResult H)) (operation : Operation) (k : List (Frame H)) (l : Local H) →
+        size (unary_core s r operation k l) < 11 + stack_size k
     unary_falls (Ok x) operation k l = operated_falls operation (x ∷ []) k l
     unary_falls (Err e) operation k l = omega arith
 
-    left_falls : (r : Result (Dynamic H) (EvalAltResult H)) (operation : Operation) (right : Expr) (k : List (Frame H)) (l : Local H) → size (left_core s r operation right k l) < 11 + stack_size k
+    left_falls : (r : Result (Dynamic H) (EvalAltResult H)) (operation : Operation) (right : Expr) (k : List (Frame H)) (l : Local H) →
+        size (left_core s r operation right k l) < 11 + stack_size k
     left_falls (Ok x) operation right k l = omega arith
     left_falls (Err e) operation right k l = omega arith
 
-    right_falls : (x : Dynamic H) (r : Result (Dynamic H) (EvalAltResult H)) (operation : Operation) (k : List (Frame H)) (l : Local H) → size (right_core s x r operation k l) < 11 + stack_size k
+    right_falls : (x : Dynamic H) (r : Result (Dynamic H) (EvalAltResult H)) (operation : Operation) (k : List (Frame H)) (l : Local H) →
+        size (right_core s x r operation k l) < 11 + stack_size k
     right_falls x (Ok y) operation k l = operated_falls operation (x ∷ y ∷ []) k l
     right_falls x (Err e) operation k l = omega arith
 
-    and_next_falls : (r : Result Bool (EvalAltResult H)) (parts : List Expr) (k : List (Frame H)) (l : Local H) → size (and_next r parts k l) < 11 + stack_size k
+    and_next_falls : (r : Result Bool (EvalAltResult H)) (parts : List Expr) (k : List (Frame H)) (l : Local H) →
+        size (and_next r parts k l) < 11 + stack_size k
     and_next_falls (Ok true) parts k l = grind (arith, and_falls parts k l)
     and_next_falls (Ok false) parts k l = omega arith
     and_next_falls (Err e) parts k l = omega arith
 
-    or_next_falls : (r : Result Bool (EvalAltResult H)) (parts : List Expr) (k : List (Frame H)) (l : Local H) → size (or_next r parts k l) < 11 + stack_size k
+    or_next_falls : (r : Result Bool (EvalAltResult H)) (parts : List Expr) (k : List (Frame H)) (l : Local H) →
+        size (or_next r parts k l) < 11 + stack_size k
     or_next_falls (Ok true) parts k l = omega arith
     or_next_falls (Ok false) parts k l = grind (arith, or_falls parts k l)
     or_next_falls (Err e) parts k l = omega arith
 
-    coalesce_seen_falls : (u : Union H) (v : Dynamic H) (parts : List Expr) (k : List (Frame H)) (l : Local H) → size (coalesce_seen u v parts k l) < 11 + stack_size k
+    coalesce_seen_falls : (u : Union H) (v : Dynamic H) (parts : List Expr) (k : List (Frame H)) (l : Local H) →
+        size (coalesce_seen u v parts k l) < 11 + stack_size k
     coalesce_seen_falls value.Unit v parts k l = grind (arith, coalesce_falls v parts k l)
     coalesce_seen_falls _ v parts k l = omega arith
 
-    coalesce_next_falls : (r : Result (Dynamic H) (EvalAltResult H)) (v : Dynamic H) (parts : List Expr) (k : List (Frame H)) (l : Local H) → size (coalesce_next r v parts k l) < 11 + stack_size k
+    coalesce_next_falls : (r : Result (Dynamic H) (EvalAltResult H)) (v : Dynamic H) (parts : List Expr) (k : List (Frame H))
+        (l : Local H) → size (coalesce_next r v parts k l) < 11 + stack_size k
     coalesce_next_falls (Ok seen) v parts k l = coalesce_seen_falls seen.value v parts k l
     coalesce_next_falls (Err e) v parts k l = omega arith
 
-    assigned_falls : (r : Result (Dynamic H) (EvalAltResult H)) (assignment : Assignment) (k : List (Frame H)) (l : Local H) → size (assigned_core r assignment k l) < 11 + stack_size k
+    assigned_falls : (r : Result (Dynamic H) (EvalAltResult H)) (assignment : Assignment) (k : List (Frame H)) (l : Local H) →
+        size (assigned_core r assignment k l) < 11 + stack_size k
     assigned_falls (Ok v) assignment k l = omega arith
     assigned_falls (Err e) assignment k l = omega arith
 
-    while_falls : (r : Result Bool (EvalAltResult H)) (test : Expr) (body : StmtBlock) (k : List (Frame H)) (l : Local H) → size (while_core r test body k l) < 11 + stack_size k
+    while_falls : (r : Result Bool (EvalAltResult H)) (test : Expr) (body : StmtBlock) (k : List (Frame H)) (l : Local H) →
+        size (while_core r test body k l) < 11 + stack_size k
     while_falls (Ok true) test body k l = omega (arith, enter_size body.statements true k)
     while_falls (Ok false) test body k l = omega arith
     while_falls (Err e) test body k l = omega arith
@@ -255,7 +299,8 @@ module _ {H : Type 0} where
     goes_on_size true turn small = small
     goes_on_size false turn small = omega arith
 
-    do_control_size : (r : Result Bool (EvalAltResult H)) (until : Bool) (turn : Control H) → control_size turn ≤ 10 → control_size (do_control r until turn) ≤ 10
+    do_control_size : (r : Result Bool (EvalAltResult H)) (until : Bool) (turn : Control H) → control_size turn ≤ 10 →
+        control_size (do_control r until turn) ≤ 10
     do_control_size (Ok holds) until turn small = goes_on_size (goes_on until holds) turn small
     do_control_size (Err e) until turn small = omega arith
 
@@ -264,7 +309,8 @@ module _ {H : Type 0} where
     caught_size turn small (error.LoopBreak v true at) = omega arith
     caught_size turn small _ = omega arith
 
-    returned_falls : (r : Result (Dynamic H) (EvalAltResult H)) (pos : Position) (k : List (Frame H)) (l : Local H) → size (returned_core r pos k l) < 11 + stack_size k
+    returned_falls : (r : Result (Dynamic H) (EvalAltResult H)) (pos : Position) (k : List (Frame H)) (l : Local H) →
+        size (returned_core r pos k l) < 11 + stack_size k
     returned_falls (Ok v) pos k l = omega arith
     returned_falls (Err e) pos k l = omega arith
 
@@ -275,7 +321,8 @@ module _ {H : Type 0} where
     while_turn_falls true [] test body k l = tt
     while_turn_falls true (stmt ∷ stmts) test body k l = omega arith
 
-    written_falls : (r : Result (Dynamic H) (EvalAltResult H)) (place : Place) (k : List (Frame H)) (l : Local H) → size (written_core r place k l) < 11 + stack_size k
+    written_falls : (r : Result (Dynamic H) (EvalAltResult H)) (place : Place) (k : List (Frame H)) (l : Local H) →
+        size (written_core r place k l) < 11 + stack_size k
     written_falls (Ok v) place k l = omega arith
     written_falls (Err e) place k l = omega arith
 
@@ -283,47 +330,60 @@ module _ {H : Type 0} where
     done_size (Ok v) = omega arith
     done_size (Err e) = omega arith
 
-    update_falls : (answer : Answer H) (u : Update H) (k : List (Frame H)) (l : Local H) → size (update_core s answer u k l) < 11 + stack_size k
+    update_falls : (answer : Answer H) (u : Update H) (k : List (Frame H)) (l : Local H) →
+        size (update_core s answer u k l) < 11 + stack_size k
     update_falls (Some r) u k l = written_falls (applied s.limits r u.at) u.place k l
     update_falls None u k l = omega arith
 
-    assign_falls : (op : Option Token) (assignment : Assignment) (target : Target H) (v : Dynamic H) (k : List (Frame H)) (l : Local H) → size (assign_core s op assignment target v k l) < 11 + stack_size k
+    assign_falls : (op : Option Token) (assignment : Assignment) (target : Target H) (v : Dynamic H) (k : List (Frame H)) (l : Local H) →
+        size (assign_core s op assignment target v k l) < 11 + stack_size k
     assign_falls None assignment target v k l = omega arith
-    assign_falls (Some token) assignment target v k l = update_falls (if_fast s.offer.fast_operators (op_assign_of token target.value v)) _ k l
+    assign_falls (Some token) assignment target v k l = update_falls (if_fast s.offer.fast_operators (op_assign_of token target.value v))
+        _ k l
 
-    store_falls : (r : Result (Target H) (EvalAltResult H)) (assignment : Assignment) (v : Dynamic H) (k : List (Frame H)) (l : Local H) → size (store_core s r assignment v k l) < 11 + stack_size k
+    store_falls : (r : Result (Target H) (EvalAltResult H)) (assignment : Assignment) (v : Dynamic H) (k : List (Frame H))
+        (l : Local H) → size (store_core s r assignment v k l) < 11 + stack_size k
     store_falls (Ok target) assignment v k l = assign_falls assignment.op.op assignment target v k l
     store_falls (Err e) assignment v k l = omega arith
 
-    changed_falls : (r : Result (Dynamic H) (EvalAltResult H)) (u : Update H) (k : List (Frame H)) (l : Local H) → size (changed_core s r u k l) < 11 + stack_size k
+    changed_falls : (r : Result (Dynamic H) (EvalAltResult H)) (u : Update H) (k : List (Frame H)) (l : Local H) →
+        size (changed_core s r u k l) < 11 + stack_size k
     changed_falls (Ok v) u k l = omega (arith, done_size (sized s.limits u.target u.target_at))
     changed_falls (Err e) u k l = omega arith
 
-    fault_falls : (missing : Bool) (e : EvalAltResult H) (u : Update H) (k : List (Frame H)) (l : Local H) → size (fault_core s missing e u k l) < 11 + stack_size k
+    fault_falls : (missing : Bool) (e : EvalAltResult H) (u : Update H) (k : List (Frame H)) (l : Local H) →
+        size (fault_core s missing e u k l) < 11 + stack_size k
     fault_falls true e u k l = omega arith
     fault_falls false e u k l = omega arith
 
-    value_falls : (r : Result (Dynamic H) (EvalAltResult H)) (u : Update H) (k : List (Frame H)) (l : Local H) → size (value_core s r u k l) < 11 + stack_size k
+    value_falls : (r : Result (Dynamic H) (EvalAltResult H)) (u : Update H) (k : List (Frame H)) (l : Local H) →
+        size (value_core s r u k l) < 11 + stack_size k
     value_falls (Ok v) u k l = omega (arith, done_size (sized s.limits v u.target_at))
     value_falls (Err e) u k l = omega arith
 
-    answered_falls : (attempt : Attempt) (reply : Reply H) (u : Update H) (k : List (Frame H)) (l : Local H) → size (answered_core s attempt reply u k l) < 11 + stack_size k
+    answered_falls : (attempt : Attempt) (reply : Reply H) (u : Update H) (k : List (Frame H)) (l : Local H) →
+        size (answered_core s attempt reply u k l) < 11 + stack_size k
     answered_falls InPlace Missing u k l = update_falls (op_assign_of u.operator u.target u.operand) (record u { attempt = AsValue }) k l
     answered_falls InPlace (Gives v) u k l = changed_falls (sized s.limits v u.at) u k l
     answered_falls InPlace (Faults e) u k l = fault_falls (says_missing (native_of InPlace u.operator) e) (placed_if_none u.at e) u k l
-    answered_falls AsValue reply u k l = value_falls (replied s.limits s.host_type reply (Some u.target) (u.operand ∷ []) (operation_of u) l.around.cells) u k l
+    answered_falls AsValue reply u k l = value_falls (replied s.limits s.host_type reply (Some u.target) (u.operand ∷ [])
+        (operation_of u) l.around.cells) u k l
 
     update_native_falls : (u : Update H) (k : List (Frame H)) (l : Local H) → Falls size (core (FireUpdate u) k l) (call_update s u k l)
-    update_native_falls u k l reply left = answered_falls u.attempt reply (record u { target = left_in u left }) k (put u.place (left_in u left) l)
+    update_native_falls u k l reply left = answered_falls u.attempt reply (record u { target = left_in u left }) k
+        (put u.place (left_in u left) l)
 
-    fire_update_falls : (v : Union H) (u : Update H) (k : List (Frame H)) (l : Local H) → Falls size (core (FireUpdate u) k l) (fire_update s v u k l)
+    fire_update_falls : (v : Union H) (u : Update H) (k : List (Frame H)) (l : Local H) →
+        Falls size (core (FireUpdate u) k l) (fire_update s v u k l)
     fire_update_falls (value.Cell id) u k l = omega arith
     fire_update_falls _ u k l = update_native_falls u k l
 
-    up_falls : (frame : Frame H) (v : Dynamic H) (k : List (Frame H)) (l : Local H) → size (up_core s frame v k l) < 7 + stack_size (frame ∷ k)
+    up_falls : (frame : Frame H) (v : Dynamic H) (k : List (Frame H)) (l : Local H) →
+        size (up_core s frame v k l) < 7 + stack_size (frame ∷ k)
     up_falls (StatementValue at) v k l = result_falls (flat l.around.cells v at) (7 + (4 + stack_size k)) (stack_size k) (omega arith)
     up_falls (DefineValue ident options value_at) v k l = grind (arith, defined_falls (flat l.around.cells v value_at) ident options k l)
-    up_falls (IfCondition test_at body branch) v k l = grind (arith, chosen_falls (truth s.host_type l.around.cells v test_at) body branch k l)
+    up_falls (IfCondition test_at body branch) v k l = grind
+        (arith, chosen_falls (truth s.host_type l.around.cells v test_at) body branch k l)
     up_falls (RestOfList rest restoring) v k l = omega (arith, run_size rest restoring v)
     up_falls (RestoreList saved) v k l = omega arith
     up_falls (Top map_exit) v k l = omega arith
@@ -334,15 +394,23 @@ module _ {H : Type 0} where
     up_falls (OrPart part_at rest) v k l = grind (arith, or_next_falls (truth s.host_type l.around.cells v part_at) rest k l)
     up_falls (CoalescePart part_at rest) v k l = grind (arith, coalesce_next_falls (through l.around.cells v part_at) v rest k l)
     up_falls (AssignValue assignment value_at) v k l = grind (arith, assigned_falls (flat l.around.cells v value_at) assignment k l)
-    up_falls (WhileCondition test body) v k l = grind (arith, while_falls (truth s.host_type l.around.cells v (position_of test)) test body k l)
+    up_falls (WhileCondition test body) v k l = grind (
+      arith,
+      while_falls (truth s.host_type l.around.cells v (position_of test)) test body k l,
+    )
     up_falls (WhileBody test body) v k l = omega arith
     up_falls (DoCondition test body options) v k l =
-        omega (arith, do_control_size (truth s.host_type l.around.cells v (position_of test)) (has_option 1 options) (DoTurn test body options) (omega arith))
+        omega (
+          arith,
+          do_control_size (truth s.host_type l.around.cells v (position_of test)) (has_option 1 options)
+              (DoTurn test body options) (omega arith),
+        )
     up_falls (DoBody test body options) v k l = omega arith
     up_falls (BreakValue is_break at) v k l = omega arith
     up_falls (ReturnValue value_at at) v k l = grind (arith, returned_falls (flat l.around.cells v value_at) at k l)
 
-    down_falls : (frame : Frame H) (e : EvalAltResult H) (k : List (Frame H)) (l : Local H) → size (down_core s frame e k l) < 10 + stack_size (frame ∷ k)
+    down_falls : (frame : Frame H) (e : EvalAltResult H) (k : List (Frame H)) (l : Local H) →
+        size (down_core s frame e k l) < 10 + stack_size (frame ∷ k)
     down_falls (StatementValue at) e k l = omega arith
     down_falls (DefineValue ident options value_at) e k l = omega arith
     down_falls (IfCondition test_at body branch) e k l = omega arith

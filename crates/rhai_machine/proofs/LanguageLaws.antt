@@ -25,16 +25,19 @@ use Rattle.rhai_machine.proofs.Ends.{settles_by, ends, two_limits_law, limits_ag
 
 module _ {S H : Type 0} (rules : Rules S H) where
   -- the error of a refused charge passes each frame
-  frame_passes : (frame : Frame H) (at : Position) (k : List (Frame H)) (l : Local H) → IsRefused (down_core rules.setting frame (error.ErrorTooManyOperations at) k l)
+  frame_passes : (frame : Frame H) (at : Position) (k : List (Frame H)) (l : Local H) →
+      IsRefused (down_core rules.setting frame (error.ErrorTooManyOperations at) k l)
   frame_passes (Top true) at k l = (at, refl)
   frame_passes (Top false) at k l = (at, refl)
   frame_passes _ at k l = (at, refl)
 
-  passes : (at : Position) (k : List (Frame H)) (l : Local H) → Passes IsRefused (move_at rules.setting (Fail (error.ErrorTooManyOperations at)) k l)
+  passes : (at : Position) (k : List (Frame H)) (l : Local H) →
+      Passes IsRefused (move_at rules.setting (Fail (error.ErrorTooManyOperations at)) k l)
   passes at [] l = tt
   passes at (frame ∷ k) l = frame_passes frame at k l
 
-  refused_passes : (c : Control H) (at : Position) → c ≡ Fail (error.ErrorTooManyOperations at) → (k : List (Frame H)) (l : Local H) → Passes IsRefused (move_at rules.setting c k l)
+  refused_passes : (c : Control H) (at : Position) → c ≡ Fail (error.ErrorTooManyOperations at) → (k : List (Frame H)) (l : Local H) →
+      Passes IsRefused (move_at rules.setting c k l)
   refused_passes c at is k l = rw is (passes at k l)
 
   pub unwinds : Unwinds (machine rules) IsRefused
@@ -54,13 +57,15 @@ module _ {S H : Type 0} (rules : Rules S H) where
   result_halts (Err e) l = refl
 
   -- a run that is told in steps from any start to how it ended, under two limits
-  pub limits_agree_from : {p : Point S (Core H)} (r : Result (Dynamic H) (EvalAltResult H)) (new : State S H) → Reaches (machine rules) (cut rules) p (at (ended r) [] new) →
+  pub limits_agree_from : {p : Point S (Core H)} (r : Result (Dynamic H) (EvalAltResult H)) (new : State S H) →
+      Reaches (machine rules) (cut rules) p (at (ended r) [] new) →
       LimitsAgree (machine rules) IsRefused (limit_under rules) p (at (ended r) [] new)
   limits_agree_from r new steps =
       limits_agree (machine rules) IsRefused (unwinds rules) settles (limit_under rules) steps (result_halts r new.local)
 
   -- the same from a control with nothing below it
-  pub script_limits_agree : (c : Control H) (old new : State S H) (r : Result (Dynamic H) (EvalAltResult H)) → Reaches (machine rules) (cut rules) (at c [] old) (at (ended r) [] new) →
+  pub script_limits_agree : (c : Control H) (old new : State S H) (r : Result (Dynamic H) (EvalAltResult H)) →
+      Reaches (machine rules) (cut rules) (at c [] old) (at (ended r) [] new) →
       LimitsAgree (machine rules) IsRefused (limit_under rules) (at c [] old) (at (ended r) [] new)
   script_limits_agree c old new r steps = limits_agree_from r new steps
 

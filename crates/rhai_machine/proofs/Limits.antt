@@ -3,7 +3,8 @@ use Rattle.std.proofs.Common.{refl, sym, ◌∙◌, subst, inl, inr, arith}
 use Rattle.std.proofs.lemmas.Bool.Decides.{nat_tests}
 use Rattle.std.specs.Prelude.{◌≡◌, ◌⊎◌, ◌<◌, ℕ, Bool, true, false, Some}
 use Rattle.rhai_tree.specs.declared.position.Position.{Position}
-use Rattle.rhai_machine.specs.machine.Machine.{Move, Halt, Go, Charge, Native, AskPure, Machine, Config, Run, ended, next, act, step, charged, below, always}
+use Rattle.rhai_machine.specs.machine.Machine.{Move, Halt, Go, Charge, Native, AskPure, Machine, Config, Run, ended, next, act, step}
+use Rattle.rhai_machine.specs.machine.Machine.{charged, below, always}
 use Rattle.rhai_machine.specs.machine.Unwinding.{Passes, Unwinds, Unwound}
 use Rattle.rhai_machine.specs.machine.Laws.{SameOrRefused, Together, none, also, PartsAt, OnlyUnwinds, Follows, WithoutLimit}
 use Rattle.rhai_machine.proofs.Runs.{one_end, calls_added, ends_alike}
@@ -31,7 +32,13 @@ module _ {S H Core : Type 0} (M : Machine S H Core) (R : Core → Type 0) (u : U
 
   unwound_through : (c d a : Config S H Core) → Unwound R c d → Unwound R d a → Unwound R c a
   unwound_through c d a first rest =
-      record { refused = rest.refused; table = rest.table ∙ first.table; count = rest.count ∙ first.count; calls = rest.calls ∙ first.calls }
+      record {
+        refused = rest.refused;
+        table = rest.table ∙ first.table;
+        count = rest.count ∙ first.count;
+        calls = rest.calls
+            ∙ first.calls;
+      }
 
   -- once a charge is refused, the run only unwinds
   pub only_unwinds : (allows : ℕ → Bool) {c a : Config S H Core} → R c.core → Run M allows c a → Unwound R c a
@@ -49,7 +56,8 @@ module _ {S H Core : Type 0} (M : Machine S H Core) (R : Core → Type 0) (u : U
       refused : lower c.count ≡ false
       left : record c { core = M.refuse position c.core } ≡ d
 
-    charge_alike : (x y : Bool) (at : Position) (e : Core) (c d : Config S H Core) → lower c.count ≡ x → (x ≡ true → y ≡ true) → Some (charged M x at e c) ≡ Some d
+    charge_alike : (x y : Bool) (at : Position) (e : Core) (c d : Config S H Core) → lower c.count ≡ x → (x ≡ true → y ≡ true) →
+        Some (charged M x at e c) ≡ Some d
         → (Some (charged M y at e c) ≡ Some d) ⊎ Refuses (Charge at e) c d
     charge_alike true true at e c d is le h = inl h
     charge_alike true false at e c d is le h = let no : false ≡ true = le refl in cc
@@ -63,17 +71,41 @@ module _ {S H Core : Type 0} (M : Machine S H Core) (R : Core → Type 0) (u : U
     step_alike (AskPure p f) c d h = inl h
 
     -- a step that is the same is put before
-    before : (c d a : Config S H Core) → step M lower c ≡ Some d → step M higher c ≡ Some d → Run M higher d a ⊎ PartsAt M R lower higher d a
+    before : (c d a : Config S H Core) → step M lower c ≡ Some d → step M higher c ≡ Some d →
+        Run M higher d a ⊎ PartsAt M R lower higher d a
         → Run M higher c a ⊎ PartsAt M R lower higher c a
     before c d a h k (inl run) = inl (next k run)
     before c d a h k (inr parts) =
-        inr (record { point = parts.point; position = parts.position; core = parts.core; together = also h k parts.together; charges = parts.charges; refused = parts.refused; goes_on = parts.goes_on; unwound = parts.unwound })
+        inr (record {
+          point = parts.point;
+          position = parts.position;
+          core = parts.core;
+          together = also h k parts.together;
+          charges = parts.charges;
+          refused = parts.refused;
+          goes_on = parts.goes_on;
+          unwound = parts.unwound;
+        })
 
     parts_here : (c d a : Config S H Core) → Refuses (M.move c.core) c d → Run M lower d a → PartsAt M R lower higher c a
     parts_here c d a off run =
         let rest = subst (λ x. Run M lower x a) (sym off.left) run in
         let unwound = only_unwinds lower (u.refuses off.position c.core) rest in
-        record { point = c; position = off.position; core = off.core; together = none; charges = off.charges; refused = off.refused; goes_on = rest; unwound = record { refused = unwound.refused; table = unwound.table; count = unwound.count; calls = unwound.calls } }
+        record {
+          point = c;
+          position = off.position;
+          core = off.core;
+          together = none;
+          charges = off.charges;
+          refused = off.refused;
+          goes_on = rest;
+          unwound = record {
+            refused = unwound.refused;
+            table = unwound.table;
+            count = unwound.count;
+            calls = unwound.calls;
+          };
+        }
 
     -- the run of a test is that of a wider one, or follows it up to the first charge that is refused
     pub follows : {c a : Config S H Core} → Run M lower c a → Run M higher c a ⊎ PartsAt M R lower higher c a

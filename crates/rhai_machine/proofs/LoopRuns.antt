@@ -4,9 +4,11 @@ use Rattle.std.specs.Prelude.{ℕ, true, false, List, [], ◌∷◌, ◌++◌, d
 use Rattle.rhai_tree.specs.declared.flags.ASTFlags.{ASTFlags}
 use Rattle.rhai_tree.specs.declared.expr.Stmt.{Stmt}
 use Rattle.rhai_machine.specs.machine.Machine.{Config}
-use Rattle.rhai_machine.specs.language.Frames.{Control, Frame, Core, core, Eval, Run as RunList, WhileTurn, DoTurn, RestOfList, RestoreList, DoCondition, DoBody}
+use Rattle.rhai_machine.specs.language.Frames.{Control, Frame, Core, core, Eval, Run as RunList, WhileTurn, DoTurn, RestOfList}
+use Rattle.rhai_machine.specs.language.Frames.{RestoreList, DoCondition, DoBody}
 use Rattle.rhai_machine.specs.samples.Runs.{Table, alone, nothing_but, entry, integer, unit}
-use Rattle.rhai_machine.specs.samples.Loops.{Loops, WaysOut, counted, broken, counted_test, counted_body, continued, continued_test, continued_body, waits_test}
+use Rattle.rhai_machine.specs.samples.Loops.{Loops, WaysOut, counted, broken, counted_test, counted_body, continued, continued_test}
+use Rattle.rhai_machine.specs.samples.Loops.{continued_body, waits_test}
 use Rattle.rhai_machine.specs.samples.Trees.{braces, unit_at}
 use Rattle.rhai_machine.specs.samples.Choices.{Choices}
 use Rattle.rhai_machine.proofs.SampleRuns.{opened, placed, by_steps, stretch}
@@ -35,7 +37,12 @@ module _ {S H : Type 0} (table : Table S H) (host : H → List ℕ) where
   -- where a loop does this in a script, over the variable `n`
   abbrev loop_at : Control H → List (Frame H) → List Stmt → ℕ → ℕ → Config S H (Core H)
   loop_at c k rest n count =
-      record { core = core c (k ++ RestOfList rest false ∷ []) (nothing_but (entry (codes "n") (integer n) ∷ [])); table = table.state; count = count; calls = [] }
+      record {
+        core = core c (k ++ RestOfList rest false ∷ []) (nothing_but (entry (codes "n") (integer n) ∷ []));
+        table = table.state;
+        count = count;
+        calls = [];
+      }
 
   -- where a turn of the `while` begins
   abbrev counts_at : ℕ → ℕ → Config S H (Core H)
@@ -50,7 +57,8 @@ module _ {S H : Type 0} (table : Table S H) (host : H → List ℕ) where
   chooses_at n count = record {
     core = core
         (RunList (drop 1 continued_body.statements) true unit)
-        (RestoreList (record { scope_length = 1; imports_length = 0; scope_level = 0 }) ∷ DoBody continued_test continued_body until ∷ RestOfList (drop 2 continued) false ∷ [])
+        (RestoreList (record { scope_length = 1; imports_length = 0; scope_level = 0 }) ∷ DoBody continued_test continued_body
+        until ∷ RestOfList (drop 2 continued) false ∷ [])
         (record (nothing_but (entry (codes "n") (integer n) ∷ [])) { scope_level = 1 });
     table = table.state;
     count = count;
@@ -59,7 +67,12 @@ module _ {S H : Type 0} (table : Table S H) (host : H → List ℕ) where
 
   -- where a turn of a `while` begins that is all of its script
   abbrev turn_at : Control H → ℕ → Config S H (Core H)
-  turn_at turn count = record { core = core turn (RestOfList [] false ∷ []) (nothing_but []); table = table.state; count = count; calls = [] }
+  turn_at turn count = record {
+    core = core turn (RestOfList [] false ∷ []) (nothing_but []);
+    table = table.state;
+    count = count;
+    calls = [];
+  }
 
   abbrev endless_at : ℕ → Config S H (Core H)
   endless_at count = turn_at (WhileTurn (unit_at 1) (braces 6 7 [])) count
@@ -92,7 +105,8 @@ module _ {S H : Type 0} (table : Table S H) (host : H → List ℕ) where
         (stretch _ _ 11 _ (chooses_at 4 30) (simp opened)
         (stretch _ _ 21 _ (continues_at 4 35) (simp opened)
         (stretch _ _ 11 _ (chooses_at 5 38) (simp opened)
-        (stretch _ _ 17 _ (loop_at (Eval continued_test) (DoCondition continued_test continued_body until ∷ []) (drop 2 continued) 5 42) (simp opened)
+        (stretch _ _ 17 _ (loop_at (Eval continued_test) (DoCondition continued_test continued_body until ∷ []) (drop 2 continued) 5 42)
+        (simp opened)
         (by_steps _ _ 30 (simp opened) refl))))))))))));
     goes_once = by_steps _ _ 30 (simp opened) refl;
     empty = stretch _ _ 4 _ (endless_at 1) (simp opened)

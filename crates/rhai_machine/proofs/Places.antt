@@ -12,7 +12,8 @@ use Rattle.rhai_values.specs.Cells.{value_of_cell}
 use Rattle.rhai_values.specs.Scope.{name_of, value_of, value_in, index_of, found, revalued}
 use Rattle.rhai_machine.specs.language.State.{Local}
 use Rattle.rhai_machine.specs.language.Values.{Cells}
-use Rattle.rhai_machine.specs.language.Places.{Place, InEntry, InCell, Target, target, is_constant, unless_constant, target_in_cell, target_at, target_found, target_of, put}
+use Rattle.rhai_machine.specs.language.Places.{Place, InEntry, InCell, Target, target, is_constant, unless_constant, target_in_cell}
+use Rattle.rhai_machine.specs.language.Places.{target_at, target_found, target_of, put}
 
 module _ {A : Type 0} where
   -- the last of two items at an index stays
@@ -33,7 +34,8 @@ module _ {A : Type 0} where
   get_set (z ∷ xs) (suc i) x y is = get_set xs i x y is
 
   -- what an item says of itself, where the new item says the same
-  map_set : {B : Type 0} (f : A → B) (xs : List A) (i : ℕ) (x y : A) → slice_get xs i ≡ Some x → f y ≡ f x → map f (slice_set xs i y) ≡ map f xs
+  map_set : {B : Type 0} (f : A → B) (xs : List A) (i : ℕ) (x y : A) → slice_get xs i ≡ Some x → f y ≡ f x →
+      map f (slice_set xs i y) ≡ map f xs
   map_set f [] i x y is same = refl
   map_set f (z ∷ xs) zero x y is same = let here : z ≡ x = cc in ap (λ w. w ∷ map f xs) (same ∙ ap f (sym here))
   map_set f (z ∷ xs) (suc i) x y is same = ap (λ ws. f z ∷ ws) (map_set f xs i x y is same)
@@ -43,12 +45,15 @@ module _ {H : Type 0} where
       revalued (revalued entries i there b) i (slice_get (revalued entries i there b) i) a ≡ revalued entries i there a
   revalued_twice entries i None a b is = rw is refl
   revalued_twice entries i (Some entry) a b is =
-      rw (get_set entries i entry (record entry { value = b }) is) (set_twice entries i (record entry { value = a }) (record entry { value = b }))
+      rw (get_set entries i entry (record entry { value = b }) is)
+      (set_twice entries i (record entry { value = a }) (record entry { value = b }))
 
   -- of two values that are written to a place the last one stays
   pub put_twice : (place : Place) (a b : Dynamic H) (l : Local H) → put place a (put place b l) ≡ put place a l
-  put_twice (InEntry i) a b l = ap (λ (scope : List (ScopeEntry H)). record l { scope = scope }) (revalued_twice l.scope i (slice_get l.scope i) a b refl)
-  put_twice (InCell n) a b l = ap (λ (cells : Cells H). record l { around = record l.around { cells = cells } }) (set_twice l.around.cells n (Some a) (Some b))
+  put_twice (InEntry i) a b l = ap (λ (scope : List (ScopeEntry H)). record l { scope = scope })
+      (revalued_twice l.scope i (slice_get l.scope i) a b refl)
+  put_twice (InCell n) a b l = ap (λ (cells : Cells H). record l { around = record l.around { cells = cells } })
+      (set_twice l.around.cells n (Some a) (Some b))
 
   revalued_names : (entries : List (ScopeEntry H)) (i : ℕ) (there : Option (ScopeEntry H)) (v : Dynamic H) → slice_get entries i ≡ there →
       map name_of (revalued entries i there v) ≡ map name_of entries
@@ -66,34 +71,40 @@ module _ {H : Type 0} where
   revalued_same entries i (Some entry) v is same = let here : entry.value ≡ v = cc in rw (← here) (set_same entries i entry is)
 
   entry_there : (i : ℕ) (v : Dynamic H) (l : Local H) → value_in l.scope (Some i) ≡ Some v → put (InEntry i) v l ≡ l
-  entry_there i v l is = ap (λ (scope : List (ScopeEntry H)). record l { scope = scope }) (revalued_same l.scope i (slice_get l.scope i) v refl is)
+  entry_there i v l is = ap (λ (scope : List (ScopeEntry H)). record l { scope = scope })
+      (revalued_same l.scope i (slice_get l.scope i) v refl is)
 
-  cell_same : (cells : Cells H) (n : ℕ) (there : Option (Option (Dynamic H))) (v : Dynamic H) → slice_get cells n ≡ there → option_flatten there ≡ Some v → slice_set cells n (Some v) ≡ cells
+  cell_same : (cells : Cells H) (n : ℕ) (there : Option (Option (Dynamic H))) (v : Dynamic H) → slice_get cells n ≡ there →
+      option_flatten there ≡ Some v → slice_set cells n (Some v) ≡ cells
   cell_same cells n None v is same = cc
   cell_same cells n (Some None) v is same = cc
   cell_same cells n (Some (Some w)) v is same = let here : w ≡ v = cc in rw (← here) (set_same cells n (Some w) is)
 
   cell_there : (n : ℕ) (v : Dynamic H) (l : Local H) → value_of_cell l.around.cells n ≡ Some v → put (InCell n) v l ≡ l
-  cell_there n v l is = ap (λ (cells : Cells H). record l { around = record l.around { cells = cells } }) (cell_same l.around.cells n (slice_get l.around.cells n) v refl is)
+  cell_there n v l is = ap (λ (cells : Cells H). record l { around = record l.around { cells = cells } })
+      (cell_same l.around.cells n (slice_get l.around.cells n) v refl is)
 
   not_constant : (b : Bool) (name : List ℕ) (pos : Position) (p t : Target H) → unless_constant b name pos p ≡ Ok t → p ≡ t
   not_constant true name pos p t is = cc
   not_constant false name pos p t is = cc
 
   module _ (name : List ℕ) (pos : Position) (l : Local H) (t : Target H) where
-    in_cell_there : (mode : AccessMode) (n : ℕ) (there : Option (Dynamic H)) → value_of_cell l.around.cells n ≡ there → target_in_cell name pos mode n there ≡ Ok t → put t.place t.value l ≡ l
+    in_cell_there : (mode : AccessMode) (n : ℕ) (there : Option (Dynamic H)) → value_of_cell l.around.cells n ≡ there →
+        target_in_cell name pos mode n there ≡ Ok t → put t.place t.value l ≡ l
     in_cell_there mode n (Some v) is ok =
         let same = not_constant (is_constant mode || is_constant v.mode) name pos (target (InCell n) v) t ok in
         rw (← same) (cell_there n v l is)
     in_cell_there mode n None is ok = cc
 
-    at_there : (i : ℕ) (u : Union H) (v : Dynamic H) → value_in l.scope (Some i) ≡ Some v → target_at l.around.cells name pos i u v ≡ Ok t → put t.place t.value l ≡ l
+    at_there : (i : ℕ) (u : Union H) (v : Dynamic H) → value_in l.scope (Some i) ≡ Some v →
+        target_at l.around.cells name pos i u v ≡ Ok t → put t.place t.value l ≡ l
     at_there i (value.Cell id) v is ok = in_cell_there v.mode id.number (value_of_cell l.around.cells id.number) refl ok
     at_there i _ v is ok =
         let same = not_constant (is_constant v.mode) name pos (target (InEntry i) v) t ok in
         rw (← same) (entry_there i v l is)
 
-    found_there : (index : Option ℕ) (there : Option (Dynamic H)) → value_in l.scope index ≡ there → target_found l.around.cells name pos index there ≡ Ok t → put t.place t.value l ≡ l
+    found_there : (index : Option ℕ) (there : Option (Dynamic H)) → value_in l.scope index ≡ there →
+        target_found l.around.cells name pos index there ≡ Ok t → put t.place t.value l ≡ l
     found_there (Some i) (Some v) is ok = at_there i v.value v is ok
     found_there (Some i) None is ok = cc
     found_there None there is ok = cc

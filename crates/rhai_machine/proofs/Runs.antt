@@ -4,7 +4,8 @@ use Rattle.std.proofs.lemmas.Bool.Decides.{nat_tests}
 use Rattle.std.specs.Prelude.{◌≡◌, ◌≤◌, ◌<◌, ◌+◌, ℕ, Bool, true, false, List, [], ◌∷◌, ◌++◌, Some, None, nat_lt}
 use Rattle.rhai_tree.specs.declared.position.Position.{Position}
 use Rattle.rhai_values.specs.Native.{Request}
-use Rattle.rhai_machine.specs.machine.Machine.{Move, Halt, Go, Charge, Native, AskPure, Machine, Config, Run, ended, next, act, charged, below, always}
+use Rattle.rhai_machine.specs.machine.Machine.{Move, Halt, Go, Charge, Native, AskPure, Machine, Config, Run, ended, next, act, charged}
+use Rattle.rhai_machine.specs.machine.Machine.{below, always}
 use Rattle.rhai_machine.specs.machine.Laws.{Begins, OneEnd, CallsAreAdded, ChargesAreAdded, StaysWithin, IsEnough}
 
 -- what begins a beginning begins the whole
@@ -58,7 +59,8 @@ module _ {S H Core : Type 0} (M : Machine S H Core) where
   charges_added allows {c} {a} (next {d = d} h r) =
       omega (arith, step_count allows (M.move c.core) c d h, charges_added allows r)
 
-  charge_within : (limit : ℕ) (b : Bool) (at : Position) (d : Core) (c : Config S H Core) → nat_lt c.count limit ≡ b → c.count ≤ limit → (charged M b at d c).count ≤ limit
+  charge_within : (limit : ℕ) (b : Bool) (at : Position) (d : Core) (c : Config S H Core) → nat_lt c.count limit ≡ b → c.count ≤ limit →
+      (charged M b at d c).count ≤ limit
   charge_within limit true at d c is le = let lt : c.count < limit = grind (arith, nat_tests) in omega (arith, lt)
   charge_within limit false at d c is le = le
 
@@ -85,7 +87,8 @@ module _ {S H Core : Type 0} (M : Machine S H Core) where
   ends_alike m n (AskPure p f) c h = cc
 
   -- a step without a limit after which the count is within one is a step below it
-  step_below : (limit : ℕ) (v : Move H Core) (c d : Config S H Core) → act M always v c ≡ Some d → d.count ≤ limit → act M (below limit) v c ≡ Some d
+  step_below : (limit : ℕ) (v : Move H Core) (c d : Config S H Core) → act M always v c ≡ Some d → d.count ≤ limit →
+      act M (below limit) v c ≡ Some d
   step_below limit Halt c d h le = cc
   step_below limit (Go e) c d h le = h
   step_below limit (Charge at e) c d h le =

@@ -20,7 +20,26 @@ use Rattle.rhai_values.specs.declared.base.value.FnPtrKind.TheFolds.{fold_out-Dy
 use Rattle.rhai_values.specs.declared.base.value.Union.TheVariants.{outs-Unit, outs-Str}
 
 -- what the forms of a tree open to
-pub ruleset opened = (stmt.outs-Expr, stmt.outs-Block, stmt.outs-Assignment, stmt.outs-Var, stmt.outs-If, stmt.outs-While, stmt.outs-Do, stmt.outs-BreakLoop, stmt.outs-Return, expr.outs-BoolConstant, expr.outs-IntegerConstant, expr.outs-Unit, expr.outs-Variable, expr.outs-FnCall, expr.outs-Stmt, expr.outs-And, expr.outs-Or, expr.outs-Coalesce)
+pub ruleset opened = (
+  stmt.outs-Expr,
+  stmt.outs-Block,
+  stmt.outs-Assignment,
+  stmt.outs-Var,
+  stmt.outs-If,
+  stmt.outs-While,
+  stmt.outs-Do,
+  stmt.outs-BreakLoop,
+  stmt.outs-Return,
+  expr.outs-BoolConstant,
+  expr.outs-IntegerConstant,
+  expr.outs-Unit,
+  expr.outs-Variable,
+  expr.outs-FnCall,
+  expr.outs-Stmt,
+  expr.outs-And,
+  expr.outs-Or,
+  expr.outs-Coalesce,
+)
 
 -- and where they start, for a charge that is refused
 pub ruleset placed = (opened, fold_out-Expr, fold_out-FnCallExpr)
@@ -87,14 +106,22 @@ module _ {S H : Type 0} (table : Table S H) (host : H → List ℕ) where
 
   -- the condition of its `if` holds
   abbrev scopes_chosen : Config S H (Core H)
-  scopes_chosen = record { core = core (Enter (value (op 43 Plus (var 41 (codes "x") ∷ int 45 2 ∷ [])) ∷ []) true) (RestOfList [] false ∷ []) (nothing_but with_x); table = table.state; count = 9; calls = [] }
+  scopes_chosen = record {
+    core = core (Enter (value (op 43 Plus (var 41 (codes "x") ∷ int 45 2 ∷ [])) ∷ []) true)
+        (RestOfList [] false ∷ []) (nothing_but with_x);
+    table = table.state;
+    count = 9;
+    calls = [];
+  }
 
   pub blocks : Blocks table host
   blocks = record {
     restored = stretch _ _ 8 _ (scopes_at (drop 1 scopes) 2) (simp opened)
-        (stretch _ _ 14 _ (scopes_at (drop 2 scopes) 5) (simp opened) (stretch _ _ 12 _ scopes_chosen (simp opened) (by_steps _ _ 30 (simp opened) refl)));
+        (stretch _ _ 14 _ (scopes_at (drop 2 scopes) 5) (simp opened)
+        (stretch _ _ 12 _ scopes_chosen (simp opened) (by_steps _ _ 30 (simp opened) refl)));
     cut = stretch _ _ 8 _ (scopes_at (drop 1 scopes) 2) (simp opened)
-        (stretch _ _ 14 _ (scopes_at (drop 2 scopes) 5) (simp opened) (stretch _ _ 12 _ scopes_chosen (simp opened) (by_steps _ _ 30 (simp placed) refl)));
+        (stretch _ _ 14 _ (scopes_at (drop 2 scopes) 5) (simp opened)
+        (stretch _ _ 12 _ scopes_chosen (simp opened) (by_steps _ _ 30 (simp placed) refl)));
     inside = by_steps _ _ 30 (simp opened) refl;
     outside = by_steps _ _ 30 (simp opened) refl;
     as_value = by_steps _ _ 30 (simp opened) refl;

@@ -29,13 +29,22 @@ use Rattle.rhai_tree.specs.declared.expr.OpAssignment.{OpAssignment}
 use Rattle.rhai_values.specs.declared.base.value.AccessMode.TheVariants.{ReadWrite}
 use Rattle.rhai_values.specs.Modes.{with_mode}
 use Rattle.rhai_values.specs.Native.{Reply, Missing, Gives, Faults, Named, request}
-use Rattle.rhai_machine.specs.language.Frames.{Operation, Call, Attempt, InPlace, AsValue, Assignment, Update, Control, Frame, Core, core, Eval, Exec, Ask, Assign, AskUpdate, Argument, Question, Fire, QuestionUpdate, FireUpdate, OpenExpr, OpenStmt, Enter, Run, Store, WhileTurn, DoTurn, Back, Fail, StatementValue, DefineValue, IfCondition, RestOfList, RestoreList, Top, UnaryOperand, LeftOperand, RightOperand, AndPart, OrPart, CoalescePart, AssignValue, WhileCondition, WhileBody, DoCondition, DoBody, BreakValue, ReturnValue}
+use Rattle.rhai_machine.specs.language.Frames.{Operation, Call, Attempt, InPlace, AsValue, Assignment, Update, Control, Frame, Core, core}
+use Rattle.rhai_machine.specs.language.Frames.{Eval, Exec, Ask, Assign, AskUpdate, Argument, Question, Fire, QuestionUpdate, FireUpdate}
+use Rattle.rhai_machine.specs.language.Frames.{OpenExpr, OpenStmt, Enter, Run, Store, WhileTurn, DoTurn, Back, Fail, StatementValue}
+use Rattle.rhai_machine.specs.language.Frames.{DefineValue, IfCondition, RestOfList, RestoreList, Top, UnaryOperand, LeftOperand}
+use Rattle.rhai_machine.specs.language.Frames.{RightOperand, AndPart, OrPart, CoalescePart, AssignValue, WhileCondition, WhileBody}
+use Rattle.rhai_machine.specs.language.Frames.{DoCondition, DoBody, BreakValue, ReturnValue}
 use Rattle.rhai_machine.specs.language.Places.{Place, InEntry, InCell, Target, put, target_of, while_lent}
-use Rattle.rhai_machine.specs.language.Assignment.{assignment_move, assigned_core, written_core, done, if_fast, left_in, update_core, assign_core, store_core, changed_core, fault_core, value_core, answered_core, lent_core, call_update, fire_update, native_of, operation_of, says_missing}
+use Rattle.rhai_machine.specs.language.Assignment.{assignment_move, assigned_core, written_core, done, if_fast, left_in, update_core}
+use Rattle.rhai_machine.specs.language.Assignment.{assign_core, store_core, changed_core, fault_core, value_core, answered_core}
+use Rattle.rhai_machine.specs.language.Assignment.{lent_core, call_update, fire_update, native_of, operation_of, says_missing}
 use Rattle.rhai_machine.specs.language.Loops.{is_endless, while_move, while_core}
-use Rattle.rhai_machine.specs.language.Expressions.{literal_of, argument_move, operands_move, expr_move, and_core, and_next, or_core, or_next, coalesce_core, coalesce_seen, coalesce_next}
+use Rattle.rhai_machine.specs.language.Expressions.{literal_of, argument_move, operands_move, expr_move, and_core, and_next, or_core}
+use Rattle.rhai_machine.specs.language.Expressions.{or_next, coalesce_core, coalesce_seen, coalesce_next}
 use Rattle.rhai_machine.specs.language.Calls.{operator_core, builtin_of, fire_first, fire_move, replied, applied, sized, placed_if_none}
-use Rattle.rhai_machine.specs.language.Statements.{has_option, enter_core, run_core, chosen_core, defined_core, define_core, stmt_move, break_core, return_move, returned_core}
+use Rattle.rhai_machine.specs.language.Statements.{has_option, enter_core, run_core, chosen_core, defined_core, define_core, stmt_move}
+use Rattle.rhai_machine.specs.language.Statements.{break_core, return_move, returned_core}
 use Rattle.rhai_machine.specs.language.Unwinding.{up_core, down_core, unary_core, left_core, right_core, operated, call_of}
 use Rattle.rhai_machine.specs.language.Language.{move_at, move, machine}
 use Rattle.rhai_machine.specs.language.Runs.{at, Steps}
@@ -55,20 +64,24 @@ module _ {H : Type 0} (t : Option (Dynamic H)) where
   in_move (AskPure q f) = AskPure q (λ pure. in_core (f pure))
 
   module _ (s : Setting H) where
-    enter_same : (stmts : List Stmt) (restoring : Bool) (k : List (Frame H)) (l : Local H) → enter_core stmts restoring k (with_local l) ≡ in_core (enter_core stmts restoring k l)
+    enter_same : (stmts : List Stmt) (restoring : Bool) (k : List (Frame H)) (l : Local H) →
+        enter_core stmts restoring k (with_local l) ≡ in_core (enter_core stmts restoring k l)
     enter_same [] restoring k l = refl
     enter_same (stmt ∷ stmts) true k l = refl
     enter_same (stmt ∷ stmts) false k l = refl
 
-    run_same : (stmts : List Stmt) (restoring : Bool) (last : Dynamic H) (k : List (Frame H)) (l : Local H) → run_core stmts restoring last k (with_local l) ≡ in_core (run_core stmts restoring last k l)
+    run_same : (stmts : List Stmt) (restoring : Bool) (last : Dynamic H) (k : List (Frame H)) (l : Local H) →
+        run_core stmts restoring last k (with_local l) ≡ in_core (run_core stmts restoring last k l)
     run_same [] restoring last k l = refl
     run_same (stmt ∷ stmts) restoring last k l = refl
 
-    argument_same : (literal : Option (Dynamic H)) (e : Expr) (k : List (Frame H)) (l : Local H) → argument_move literal e k (with_local l) ≡ in_move (argument_move literal e k l)
+    argument_same : (literal : Option (Dynamic H)) (e : Expr) (k : List (Frame H)) (l : Local H) →
+        argument_move literal e k (with_local l) ≡ in_move (argument_move literal e k l)
     argument_same (Some v) e k l = refl
     argument_same None e k l = refl
 
-    operands_same : (fast : Bool) (token : Option Token) (call : FnCallExpr) (args : List Expr) (pos : Position) (k : List (Frame H)) (l : Local H) →
+    operands_same : (fast : Bool) (token : Option Token) (call : FnCallExpr) (args : List Expr) (pos : Position) (k : List (Frame H))
+        (l : Local H) →
         operands_move fast token call args pos k (with_local l) ≡ in_move (operands_move fast token call args pos k l)
     operands_same true (Some token) call (operand ∷ []) pos k l = refl
     operands_same true (Some token) call (left ∷ right ∷ []) pos k l = refl
@@ -78,7 +91,8 @@ module _ {H : Type 0} (t : Option (Dynamic H)) where
     and_same [] k l = refl
     and_same (part ∷ parts) k l = refl
 
-    and_next_same : (r : Result Bool (EvalAltResult H)) (parts : List Expr) (k : List (Frame H)) (l : Local H) → and_next r parts k (with_local l) ≡ in_core (and_next r parts k l)
+    and_next_same : (r : Result Bool (EvalAltResult H)) (parts : List Expr) (k : List (Frame H)) (l : Local H) →
+        and_next r parts k (with_local l) ≡ in_core (and_next r parts k l)
     and_next_same (Ok true) parts k l = and_same parts k l
     and_next_same (Ok false) parts k l = refl
     and_next_same (Err e) parts k l = refl
@@ -87,20 +101,24 @@ module _ {H : Type 0} (t : Option (Dynamic H)) where
     or_same [] k l = refl
     or_same (part ∷ parts) k l = refl
 
-    or_next_same : (r : Result Bool (EvalAltResult H)) (parts : List Expr) (k : List (Frame H)) (l : Local H) → or_next r parts k (with_local l) ≡ in_core (or_next r parts k l)
+    or_next_same : (r : Result Bool (EvalAltResult H)) (parts : List Expr) (k : List (Frame H)) (l : Local H) →
+        or_next r parts k (with_local l) ≡ in_core (or_next r parts k l)
     or_next_same (Ok true) parts k l = refl
     or_next_same (Ok false) parts k l = or_same parts k l
     or_next_same (Err e) parts k l = refl
 
-    coalesce_same : (last : Dynamic H) (parts : List Expr) (k : List (Frame H)) (l : Local H) → coalesce_core last parts k (with_local l) ≡ in_core (coalesce_core last parts k l)
+    coalesce_same : (last : Dynamic H) (parts : List Expr) (k : List (Frame H)) (l : Local H) →
+        coalesce_core last parts k (with_local l) ≡ in_core (coalesce_core last parts k l)
     coalesce_same last [] k l = refl
     coalesce_same last (part ∷ parts) k l = refl
 
-    coalesce_seen_same : (u : Union H) (v : Dynamic H) (parts : List Expr) (k : List (Frame H)) (l : Local H) → coalesce_seen u v parts k (with_local l) ≡ in_core (coalesce_seen u v parts k l)
+    coalesce_seen_same : (u : Union H) (v : Dynamic H) (parts : List Expr) (k : List (Frame H)) (l : Local H) →
+        coalesce_seen u v parts k (with_local l) ≡ in_core (coalesce_seen u v parts k l)
     coalesce_seen_same value.Unit v parts k l = coalesce_same v parts k l
     coalesce_seen_same _ v parts k l = refl
 
-    coalesce_next_same : (r : Result (Dynamic H) (EvalAltResult H)) (v : Dynamic H) (parts : List Expr) (k : List (Frame H)) (l : Local H) → coalesce_next r v parts k (with_local l) ≡ in_core (coalesce_next r v parts k l)
+    coalesce_next_same : (r : Result (Dynamic H) (EvalAltResult H)) (v : Dynamic H) (parts : List Expr) (k : List (Frame H))
+        (l : Local H) → coalesce_next r v parts k (with_local l) ≡ in_core (coalesce_next r v parts k l)
     coalesce_next_same (Ok seen) v parts k l = coalesce_seen_same seen.value v parts k l
     coalesce_next_same (Err e) v parts k l = refl
 
@@ -109,86 +127,115 @@ module _ {H : Type 0} (t : Option (Dynamic H)) where
     put_same (InEntry index) v l = refl
     put_same (InCell number) v l = refl
 
-    assignment_same : (form : ExprLayer) (op : OpAssignment) (rhs : Expr) (k : List (Frame H)) (l : Local H) → assignment_move form op rhs k (with_local l) ≡ in_move (assignment_move form op rhs k l)
+    assignment_same : (form : ExprLayer) (op : OpAssignment) (rhs : Expr) (k : List (Frame H)) (l : Local H) →
+        assignment_move form op rhs k (with_local l) ≡ in_move (assignment_move form op rhs k l)
     assignment_same (layer.Variable offset name namespace pos) op rhs k l = refl
     assignment_same _ op rhs k l = refl
 
-    assigned_same : (r : Result (Dynamic H) (EvalAltResult H)) (assignment : Assignment) (k : List (Frame H)) (l : Local H) → assigned_core r assignment k (with_local l) ≡ in_core (assigned_core r assignment k l)
+    assigned_same : (r : Result (Dynamic H) (EvalAltResult H)) (assignment : Assignment) (k : List (Frame H)) (l : Local H) →
+        assigned_core r assignment k (with_local l) ≡ in_core (assigned_core r assignment k l)
     assigned_same (Ok v) assignment k l = refl
     assigned_same (Err e) assignment k l = refl
 
-    written_same : (r : Result (Dynamic H) (EvalAltResult H)) (place : Place) (k : List (Frame H)) (l : Local H) → written_core r place k (with_local l) ≡ in_core (written_core r place k l)
+    written_same : (r : Result (Dynamic H) (EvalAltResult H)) (place : Place) (k : List (Frame H)) (l : Local H) →
+        written_core r place k (with_local l) ≡ in_core (written_core r place k l)
     written_same (Ok v) place k l = ap (core (Back unit_value) k) (put_same place v l)
     written_same (Err e) place k l = refl
 
-    update_same : (builtin : Answer H) (u : Update H) (k : List (Frame H)) (l : Local H) → update_core s builtin u k (with_local l) ≡ in_core (update_core s builtin u k l)
+    update_same : (builtin : Answer H) (u : Update H) (k : List (Frame H)) (l : Local H) →
+        update_core s builtin u k (with_local l) ≡ in_core (update_core s builtin u k l)
     update_same (Some r) u k l = written_same (applied s.limits r u.at) u.place k l
     update_same None u k l = refl
 
-    assign_same : (op : Option Token) (assignment : Assignment) (target : Target H) (v : Dynamic H) (k : List (Frame H)) (l : Local H) → assign_core s op assignment target v k (with_local l) ≡ in_core (assign_core s op assignment target v k l)
+    assign_same : (op : Option Token) (assignment : Assignment) (target : Target H) (v : Dynamic H) (k : List (Frame H)) (l : Local H) →
+        assign_core s op assignment target v k (with_local l) ≡ in_core (assign_core s op assignment target v k l)
     assign_same None assignment target v k l = ap (core (Back unit_value) k) (put_same target.place (with_mode ReadWrite v) l)
     assign_same (Some token) assignment target v k l =
         update_same (if_fast s.offer.fast_operators (op_assign_of token target.value v))
-        (record { attempt = InPlace; operator = token; at = assignment.op.position; place = target.place; target = target.value; operand = v; target_at = assignment.at }) k l
+        (record {
+          attempt = InPlace;
+          operator = token;
+          at = assignment.op.position;
+          place = target.place;
+          target = target.value;
+          operand = v;
+          target_at = assignment.at;
+        }) k l
 
-    store_same : (r : Result (Target H) (EvalAltResult H)) (assignment : Assignment) (v : Dynamic H) (k : List (Frame H)) (l : Local H) → store_core s r assignment v k (with_local l) ≡ in_core (store_core s r assignment v k l)
+    store_same : (r : Result (Target H) (EvalAltResult H)) (assignment : Assignment) (v : Dynamic H) (k : List (Frame H)) (l : Local H) →
+        store_core s r assignment v k (with_local l) ≡ in_core (store_core s r assignment v k l)
     store_same (Ok target) assignment v k l = assign_same assignment.op.op assignment target v k l
     store_same (Err e) assignment v k l = refl
 
-    changed_same : (r : Result (Dynamic H) (EvalAltResult H)) (u : Update H) (k : List (Frame H)) (l : Local H) → changed_core s r u k (with_local l) ≡ in_core (changed_core s r u k l)
+    changed_same : (r : Result (Dynamic H) (EvalAltResult H)) (u : Update H) (k : List (Frame H)) (l : Local H) →
+        changed_core s r u k (with_local l) ≡ in_core (changed_core s r u k l)
     changed_same (Ok v) u k l = refl
     changed_same (Err e) u k l = refl
 
-    fault_same : (missing : Bool) (e : EvalAltResult H) (u : Update H) (k : List (Frame H)) (l : Local H) → fault_core s missing e u k (with_local l) ≡ in_core (fault_core s missing e u k l)
+    fault_same : (missing : Bool) (e : EvalAltResult H) (u : Update H) (k : List (Frame H)) (l : Local H) →
+        fault_core s missing e u k (with_local l) ≡ in_core (fault_core s missing e u k l)
     fault_same true e u k l = refl
     fault_same false e u k l = refl
 
-    value_same : (r : Result (Dynamic H) (EvalAltResult H)) (u : Update H) (k : List (Frame H)) (l : Local H) → value_core s r u k (with_local l) ≡ in_core (value_core s r u k l)
+    value_same : (r : Result (Dynamic H) (EvalAltResult H)) (u : Update H) (k : List (Frame H)) (l : Local H) →
+        value_core s r u k (with_local l) ≡ in_core (value_core s r u k l)
     value_same (Ok v) u k l = ap (core (done (sized s.limits v u.target_at)) k) (put_same u.place v l)
     value_same (Err e) u k l = refl
 
-    answered_same : (attempt : Attempt) (reply : Reply H) (u : Update H) (k : List (Frame H)) (l : Local H) → answered_core s attempt reply u k (with_local l) ≡ in_core (answered_core s attempt reply u k l)
+    answered_same : (attempt : Attempt) (reply : Reply H) (u : Update H) (k : List (Frame H)) (l : Local H) →
+        answered_core s attempt reply u k (with_local l) ≡ in_core (answered_core s attempt reply u k l)
     answered_same InPlace Missing u k l = update_same (op_assign_of u.operator u.target u.operand) (record u { attempt = AsValue }) k l
     answered_same InPlace (Gives v) u k l = changed_same (sized s.limits v u.at) u k l
     answered_same InPlace (Faults e) u k l = fault_same (says_missing (native_of InPlace u.operator) e) (placed_if_none u.at e) u k l
-    answered_same AsValue reply u k l = value_same (replied s.limits s.host_type reply (Some u.target) (u.operand ∷ []) (operation_of u) l.around.cells) u k l
+    answered_same AsValue reply u k l = value_same (replied s.limits s.host_type reply (Some u.target) (u.operand ∷ []) (operation_of u)
+        l.around.cells) u k l
 
-    lent_same : (reply : Reply H) (v : Dynamic H) (u : Update H) (k : List (Frame H)) (l : Local H) → lent_core s reply v u k (with_local l) ≡ in_core (lent_core s reply v u k l)
+    lent_same : (reply : Reply H) (v : Dynamic H) (u : Update H) (k : List (Frame H)) (l : Local H) →
+        lent_core s reply v u k (with_local l) ≡ in_core (lent_core s reply v u k l)
     lent_same reply v u k l =
-        ap (answered_core s u.attempt reply (record u { target = v }) k) (put_same u.place v l) ∙ answered_same u.attempt reply (record u { target = v }) k (put u.place v l)
+        ap (answered_core s u.attempt reply (record u { target = v }) k) (put_same u.place v l)
+        ∙ answered_same u.attempt reply (record u { target = v }) k (put u.place v l)
 
     call_update_same : (u : Update H) (k : List (Frame H)) (l : Local H) → call_update s u k (with_local l) ≡ in_move (call_update s u k l)
-    call_update_same u k l = ap (Native (request (while_lent u.place l.around.cells) (Named (native_of u.attempt u.operator)) (Some u.target) (u.operand ∷ []) u.at)) (fun_ext (λ reply. fun_ext (λ left. lent_same reply (left_in u left) u k l)))
+    call_update_same u k l = ap (Native (request (while_lent u.place l.around.cells) (Named (native_of u.attempt u.operator))
+        (Some u.target) (u.operand ∷ []) u.at)) (fun_ext (λ reply. fun_ext (λ left. lent_same reply (left_in u left) u k l)))
 
-    fire_update_same : (value : Union H) (u : Update H) (k : List (Frame H)) (l : Local H) → fire_update s value u k (with_local l) ≡ in_move (fire_update s value u k l)
+    fire_update_same : (value : Union H) (u : Update H) (k : List (Frame H)) (l : Local H) →
+        fire_update s value u k (with_local l) ≡ in_move (fire_update s value u k l)
     fire_update_same (value.Cell id) u k l = refl
     fire_update_same _ u k l = call_update_same u k l
 
     -- loops, and the ways out of them
-    while_same : (endless : Bool) (stmts : List Stmt) (test : Expr) (body : StmtBlock) (k : List (Frame H)) (l : Local H) → while_move endless stmts test body k (with_local l) ≡ in_move (while_move endless stmts test body k l)
+    while_same : (endless : Bool) (stmts : List Stmt) (test : Expr) (body : StmtBlock) (k : List (Frame H)) (l : Local H) →
+        while_move endless stmts test body k (with_local l) ≡ in_move (while_move endless stmts test body k l)
     while_same false stmts test body k l = refl
     while_same true [] test body k l = refl
     while_same true (stmt ∷ stmts) test body k l = refl
 
-    while_core_same : (r : Result Bool (EvalAltResult H)) (test : Expr) (body : StmtBlock) (k : List (Frame H)) (l : Local H) → while_core r test body k (with_local l) ≡ in_core (while_core r test body k l)
+    while_core_same : (r : Result Bool (EvalAltResult H)) (test : Expr) (body : StmtBlock) (k : List (Frame H)) (l : Local H) →
+        while_core r test body k (with_local l) ≡ in_core (while_core r test body k l)
     while_core_same (Ok true) test body k l = refl
     while_core_same (Ok false) test body k l = refl
     while_core_same (Err e) test body k l = refl
 
-    break_same : (value : Option Expr) (is_break : Bool) (pos : Position) (k : List (Frame H)) (l : Local H) → break_core value is_break pos k (with_local l) ≡ in_core (break_core value is_break pos k l)
+    break_same : (value : Option Expr) (is_break : Bool) (pos : Position) (k : List (Frame H)) (l : Local H) →
+        break_core value is_break pos k (with_local l) ≡ in_core (break_core value is_break pos k l)
     break_same None is_break pos k l = refl
     break_same (Some value) is_break pos k l = refl
 
-    return_same : (throws : Bool) (value : Option Expr) (pos : Position) (k : List (Frame H)) (l : Local H) → return_move throws value pos k (with_local l) ≡ in_move (return_move throws value pos k l)
+    return_same : (throws : Bool) (value : Option Expr) (pos : Position) (k : List (Frame H)) (l : Local H) →
+        return_move throws value pos k (with_local l) ≡ in_move (return_move throws value pos k l)
     return_same true value pos k l = refl
     return_same false None pos k l = refl
     return_same false (Some value) pos k l = refl
 
-    returned_same : (r : Result (Dynamic H) (EvalAltResult H)) (pos : Position) (k : List (Frame H)) (l : Local H) → returned_core r pos k (with_local l) ≡ in_core (returned_core r pos k l)
+    returned_same : (r : Result (Dynamic H) (EvalAltResult H)) (pos : Position) (k : List (Frame H)) (l : Local H) →
+        returned_core r pos k (with_local l) ≡ in_core (returned_core r pos k l)
     returned_same (Ok v) pos k l = refl
     returned_same (Err e) pos k l = refl
 
-    expr_same : (fast : Bool) (form : ExprLayer) (k : List (Frame H)) (l : Local H) → expr_move fast form k (with_local l) ≡ in_move (expr_move fast form k l)
+    expr_same : (fast : Bool) (form : ExprLayer) (k : List (Frame H)) (l : Local H) →
+        expr_move fast form k (with_local l) ≡ in_move (expr_move fast form k l)
     expr_same fast (layer.BoolConstant b pos) k l = refl
     expr_same fast (layer.IntegerConstant n pos) k l = refl
     expr_same fast (layer.Unit pos) k l = refl
@@ -200,19 +247,23 @@ module _ {H : Type 0} (t : Option (Dynamic H)) where
     expr_same fast (layer.Coalesce parts pos) k l = ap Go (coalesce_same unit_value parts k l)
     expr_same fast _ k l = refl
 
-    define_same : (shadows full : Bool) (ident : Ident) (value : Expr) (options : ASTFlags) (pos : Position) (k : List (Frame H)) (l : Local H) →
-        define_core s shadows full ident value options pos k (with_local l) ≡ in_core (define_core s shadows full ident value options pos k l)
+    define_same : (shadows full : Bool) (ident : Ident) (value : Expr) (options : ASTFlags) (pos : Position) (k : List (Frame H))
+        (l : Local H) →
+        define_core s shadows full ident value options pos k (with_local l) ≡ in_core
+        (define_core s shadows full ident value options pos k l)
     define_same true full ident value options pos k l = refl
     define_same false true ident value options pos k l = refl
     define_same false false ident value options pos k l = refl
 
-    stmt_same : (form : StmtLayer) (restoring : Bool) (k : List (Frame H)) (l : Local H) → stmt_move s form restoring k (with_local l) ≡ in_move (stmt_move s form restoring k l)
+    stmt_same : (form : StmtLayer) (restoring : Bool) (k : List (Frame H)) (l : Local H) →
+        stmt_move s form restoring k (with_local l) ≡ in_move (stmt_move s form restoring k l)
     stmt_same (layer.Noop pos) restoring k l = refl
     stmt_same (layer.Expr value) restoring k l = refl
     stmt_same (layer.Block block) restoring k l = refl
     stmt_same (layer.Assignment op lhs rhs) restoring k l = assignment_same (out-Expr lhs) op rhs k l
     stmt_same (layer.Var ident value None options pos) restoring k l =
-        ap Go (define_same (not s.offer.allow_shadowing && is_some (index_of ident.name l.scope)) (nat_le s.limits.max_variables (length l.scope)) ident value options pos k l)
+        ap Go (define_same (not s.offer.allow_shadowing && is_some (index_of ident.name l.scope))
+        (nat_le s.limits.max_variables (length l.scope)) ident value options pos k l)
     stmt_same (layer.If test body branch pos) restoring k l = refl
     stmt_same (layer.While test body pos) restoring k l = refl
     stmt_same (layer.Do test body options pos) restoring k l = refl
@@ -225,7 +276,8 @@ module _ {H : Type 0} (t : Option (Dynamic H)) where
     fire_first_same (value.Cell id) x call rest k l = refl
     fire_first_same _ x call rest k l = refl
 
-    fire_same : (call : Call H) (args : List (Dynamic H)) (k : List (Frame H)) (l : Local H) → fire_move s call args k (with_local l) ≡ in_move (fire_move s call args k l)
+    fire_same : (call : Call H) (args : List (Dynamic H)) (k : List (Frame H)) (l : Local H) →
+        fire_move s call args k (with_local l) ≡ in_move (fire_move s call args k l)
     fire_same call [] k l = refl
     fire_same call (x ∷ rest) k l = fire_first_same x.value x call rest k l
 
@@ -234,31 +286,38 @@ module _ {H : Type 0} (t : Option (Dynamic H)) where
     operator_same (Some r) call k l = refl
     operator_same None call k l = refl
 
-    operated_same : (operation : Operation) (args : List (Dynamic H)) (k : List (Frame H)) (l : Local H) → operated s operation args k (with_local l) ≡ in_core (operated s operation args k l)
+    operated_same : (operation : Operation) (args : List (Dynamic H)) (k : List (Frame H)) (l : Local H) →
+        operated s operation args k (with_local l) ≡ in_core (operated s operation args k l)
     operated_same operation args k l = operator_same (builtin_of operation.token args) (call_of s operation args) k l
 
-    chosen_same : (r : Result Bool (EvalAltResult H)) (body branch : StmtBlock) (k : List (Frame H)) (l : Local H) → chosen_core r body branch k (with_local l) ≡ in_core (chosen_core r body branch k l)
+    chosen_same : (r : Result Bool (EvalAltResult H)) (body branch : StmtBlock) (k : List (Frame H)) (l : Local H) →
+        chosen_core r body branch k (with_local l) ≡ in_core (chosen_core r body branch k l)
     chosen_same (Ok true) body branch k l = refl
     chosen_same (Ok false) body branch k l = refl
     chosen_same (Err e) body branch k l = refl
 
-    defined_same : (r : Result (Dynamic H) (EvalAltResult H)) (ident : Ident) (options : ASTFlags) (k : List (Frame H)) (l : Local H) → defined_core r ident options k (with_local l) ≡ in_core (defined_core r ident options k l)
+    defined_same : (r : Result (Dynamic H) (EvalAltResult H)) (ident : Ident) (options : ASTFlags) (k : List (Frame H)) (l : Local H) →
+        defined_core r ident options k (with_local l) ≡ in_core (defined_core r ident options k l)
     defined_same (Ok v) ident options k l = refl
     defined_same (Err e) ident options k l = refl
 
-    unary_same : (r : Result (Dynamic H) (EvalAltResult H)) (operation : Operation) (k : List (Frame H)) (l : Local H) → unary_core s r operation k (with_local l) ≡ in_core (unary_core s r operation k l)
+    unary_same : (r : Result (Dynamic H) (EvalAltResult H)) (operation : Operation) (k : List (Frame H)) (l : Local H) →
+        unary_core s r operation k (with_local l) ≡ in_core (unary_core s r operation k l)
     unary_same (Ok x) operation k l = operated_same operation (x ∷ []) k l
     unary_same (Err e) operation k l = refl
 
-    left_same : (r : Result (Dynamic H) (EvalAltResult H)) (operation : Operation) (right : Expr) (k : List (Frame H)) (l : Local H) → left_core s r operation right k (with_local l) ≡ in_core (left_core s r operation right k l)
+    left_same : (r : Result (Dynamic H) (EvalAltResult H)) (operation : Operation) (right : Expr) (k : List (Frame H)) (l : Local H) →
+        left_core s r operation right k (with_local l) ≡ in_core (left_core s r operation right k l)
     left_same (Ok x) operation right k l = refl
     left_same (Err e) operation right k l = refl
 
-    right_same : (x : Dynamic H) (r : Result (Dynamic H) (EvalAltResult H)) (operation : Operation) (k : List (Frame H)) (l : Local H) → right_core s x r operation k (with_local l) ≡ in_core (right_core s x r operation k l)
+    right_same : (x : Dynamic H) (r : Result (Dynamic H) (EvalAltResult H)) (operation : Operation) (k : List (Frame H)) (l : Local H) →
+        right_core s x r operation k (with_local l) ≡ in_core (right_core s x r operation k l)
     right_same x (Ok y) operation k l = operated_same operation (x ∷ y ∷ []) k l
     right_same x (Err e) operation k l = refl
 
-    up_same : (frame : Frame H) (v : Dynamic H) (k : List (Frame H)) (l : Local H) → up_core s frame v k (with_local l) ≡ in_core (up_core s frame v k l)
+    up_same : (frame : Frame H) (v : Dynamic H) (k : List (Frame H)) (l : Local H) →
+        up_core s frame v k (with_local l) ≡ in_core (up_core s frame v k l)
     up_same (StatementValue at) v k l = refl
     up_same (DefineValue ident options value_at) v k l = defined_same (flat l.around.cells v value_at) ident options k l
     up_same (IfCondition test_at body branch) v k l = chosen_same (truth s.host_type l.around.cells v test_at) body branch k l
@@ -279,7 +338,8 @@ module _ {H : Type 0} (t : Option (Dynamic H)) where
     up_same (BreakValue is_break pos) v k l = refl
     up_same (ReturnValue value_at pos) v k l = returned_same (flat l.around.cells v value_at) pos k l
 
-    down_same : (frame : Frame H) (e : EvalAltResult H) (k : List (Frame H)) (l : Local H) → down_core s frame e k (with_local l) ≡ in_core (down_core s frame e k l)
+    down_same : (frame : Frame H) (e : EvalAltResult H) (k : List (Frame H)) (l : Local H) →
+        down_core s frame e k (with_local l) ≡ in_core (down_core s frame e k l)
     down_same (Top map_exit) e k l = refl
     down_same (RestoreList saved) e k l = refl
     down_same (WhileBody test body) e k l = refl
@@ -297,7 +357,8 @@ module _ {H : Type 0} (t : Option (Dynamic H)) where
     move_same (Fire call) k l = fire_same call call.args k l
     move_same (QuestionUpdate u) k l = refl
     move_same (FireUpdate u) k l = fire_update_same u.target.value u k l
-    move_same (Store assignment v) k l = ap Go (store_same (target_of l.around.cells assignment.name assignment.at l.scope) assignment v k l)
+    move_same (Store assignment v) k l = ap Go (store_same (target_of l.around.cells assignment.name assignment.at l.scope) assignment v
+        k l)
     move_same (WhileTurn test body) k l = while_same (is_endless (out-Expr test)) body.statements test body k l
     move_same (DoTurn test body options) k l = refl
     move_same (OpenExpr form) k l = expr_same s.offer.fast_operators form k l
@@ -313,24 +374,30 @@ module _ {S H : Type 0} (t : Option (Dynamic H)) (rules : Rules S H) where
   abbrev in_point : Point S (Core H) → Point S (Core H)
   in_point p = record p { core = in_core t p.core }
 
-  paid_same : (lets : Bool) (pos : Position) (d : Core H) (p : Point S (Core H)) → paid (machine rules) lets pos (in_core t d) (in_point p) ≡ in_point (paid (machine rules) lets pos d p)
+  paid_same : (lets : Bool) (pos : Position) (d : Core H) (p : Point S (Core H)) →
+      paid (machine rules) lets pos (in_core t d) (in_point p) ≡ in_point (paid (machine rules) lets pos d p)
   paid_same true pos d p = refl
   paid_same false pos d p = refl
 
-  moved_same : (allows : ℕ → Bool) (m : Move H (Core H)) (p : Point S (Core H)) → moved (machine rules) allows (in_move t m) (in_point p) ≡ in_point (moved (machine rules) allows m p)
+  moved_same : (allows : ℕ → Bool) (m : Move H (Core H)) (p : Point S (Core H)) →
+      moved (machine rules) allows (in_move t m) (in_point p) ≡ in_point (moved (machine rules) allows m p)
   moved_same allows Halt p = refl
   moved_same allows (Go d) p = refl
   moved_same allows (Charge pos d) p = paid_same (allows p.count) pos d p
   moved_same allows (Native q f) p = refl
   moved_same allows (AskPure q f) p = refl
 
-  after_same : (allows : ℕ → Bool) (p : Point S (Core H)) → after (machine rules) allows (in_point p) ≡ in_point (after (machine rules) allows p)
+  after_same : (allows : ℕ → Bool) (p : Point S (Core H)) → after (machine rules) allows (in_point p) ≡ in_point
+      (after (machine rules) allows p)
   unfolding after
-  after_same allows p = ap (λ m. moved (machine rules) allows m (in_point p)) (move_same t rules.setting p.core.control p.core.stack p.core.local) ∙ moved_same allows (move rules.setting p.core) p
+  after_same allows p = ap (λ m. moved (machine rules) allows m (in_point p))
+      (move_same t rules.setting p.core.control p.core.stack p.core.local) ∙ moved_same allows (move rules.setting p.core) p
 
-  goes_same : (allows : ℕ → Bool) {p q : Point S (Core H)} → Leads (machine rules) allows p q → Leads (machine rules) allows (in_point p) (in_point q)
+  goes_same : (allows : ℕ → Bool) {p q : Point S (Core H)} → Leads (machine rules) allows p q →
+      Leads (machine rules) allows (in_point p) (in_point q)
   goes_same allows here = here
-  goes_same allows {p} {q} (next r) = next (subst (λ x. Leads (machine rules) allows x (in_point q)) (sym (after_same allows p)) (goes_same allows r))
+  goes_same allows {p} {q} (next r) = next (subst (λ x. Leads (machine rules) allows x (in_point q)) (sym (after_same allows p))
+      (goes_same allows r))
   goes_same allows (wanting r) = wanting (goes_same allows r)
   goes_same allows {p} (starved is e first state r) =
       starved (move_same t rules.setting p.core.control p.core.stack p.core.local ∙ ap (in_move t) is) e first state (goes_same allows r)

@@ -4,7 +4,8 @@
 ghost use Rattle.rhai_machine.specs.machine.Laws.{OneEnd};
 ghost use Rattle.rhai_machine.specs.language.Setting.{Setting, over};
 ghost use Rattle.rhai_machine.specs.language.Language.{machine};
-ghost use Rattle.rhai_machine.specs.language.Laws.{IsNeverCaught, CutFollows, CutOrSame, CutEnds, HigherLimit, HigherLimitOfSteps};
+ghost use Rattle.rhai_machine.specs.language.Laws.{IsNeverCaught, CutFollows, CutOrSame, CutEnds};
+ghost use Rattle.rhai_machine.specs.language.Laws.{HigherLimit, HigherLimitOfSteps};
 
 use rhai_values::table::NativeTable;
 use std::marker::PhantomData;

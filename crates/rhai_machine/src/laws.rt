@@ -2,7 +2,9 @@
 //! each function stands for the law that is its contract.
 
 ghost use Rattle.rhai_machine.specs.machine.Machine.{Machine};
-ghost use Rattle.rhai_machine.specs.machine.Laws.{OneEnd, HasLog, CallsAreAdded, ChargesAreAdded, StaysWithin, IsEnough, OnlyUnwinds, Follows, WithoutLimit, AlwaysEnds, TwoLimits, TwoLimitsOfSteps, SizeSettles};
+ghost use Rattle.rhai_machine.specs.machine.Laws.{OneEnd, HasLog, CallsAreAdded, ChargesAreAdded};
+ghost use Rattle.rhai_machine.specs.machine.Laws.{StaysWithin, IsEnough, OnlyUnwinds, Follows, WithoutLimit};
+ghost use Rattle.rhai_machine.specs.machine.Laws.{AlwaysEnds, TwoLimits, TwoLimitsOfSteps, SizeSettles};
 
 use std::marker::PhantomData;
 

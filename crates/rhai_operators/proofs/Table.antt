@@ -19,12 +19,14 @@ module _ {H : Type 0} where
   beside_truth op m (value.Bool n) other = absurd (other n refl)
   beside_truth op m _ other = refl
 
-  pub beside_character : (op : Token) (m : ℕ) (y : Union H) → ((n : ℕ) → y ≡ value.Char n → ⊥) → ((n : List ℕ) → y ≡ value.Str n → ⊥) → by_types op (value.Char m) y
+  pub beside_character : (op : Token) (m : ℕ) (y : Union H) → ((n : ℕ) → y ≡ value.Char n → ⊥) → ((n : List ℕ) → y ≡ value.Str n → ⊥) →
+      by_types op (value.Char m) y
   beside_character op m (value.Char n) other text = absurd (other n refl)
   beside_character op m (value.Str n) other text = absurd (text n refl)
   beside_character op m _ other text = refl
 
-  pub beside_text : (op : Token) (m : List ℕ) (y : Union H) → ((n : ℕ) → y ≡ value.Char n → ⊥) → ((n : List ℕ) → y ≡ value.Str n → ⊥) → by_types op (value.Str m) y
+  pub beside_text : (op : Token) (m : List ℕ) (y : Union H) → ((n : ℕ) → y ≡ value.Char n → ⊥) → ((n : List ℕ) → y ≡ value.Str n → ⊥) →
+      by_types op (value.Str m) y
   beside_text op m (value.Char n) other text = absurd (other n refl)
   beside_text op m (value.Str n) other text = absurd (text n refl)
   beside_text op m _ other text = refl

@@ -67,7 +67,8 @@ module _ {H : Type 0} where
   IsUnplaced (Some (Ok v)) = ⊤
   IsUnplaced (Some (Err e)) = position_of e ≡ none
 
--- the result is the answer that is wanted, unless memory was wanting; there is one exactly where one is wanted, and no want of memory where it takes none
+-- the result is the answer that is wanted, unless memory was wanting; there is one exactly where one is wanted, and no want of memory
+-- where it takes none
 pub record IsAnswer {H : Type 0} (result wanted : Answer H) : Type 0 where
   pub value : HasMemory result → result ≡ wanted
   pub found : is_some result ≡ is_some wanted

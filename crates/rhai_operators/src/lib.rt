@@ -10,8 +10,6 @@ mod answer;
 mod compare;
 mod integers;
 mod rows;
-#[cfg(test)]
-mod tests;
 mod texts;
 
 use crate::answer::answer;

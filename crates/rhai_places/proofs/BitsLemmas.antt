@@ -1,5 +1,6 @@
 -- Binary digits, and the numbers that they make, by their bits.
-use Rattle.std.proofs.Common.{◌≡◌, ℕ, zero, suc, ◌+◌, ◌-◌, ◌*◌, ◌/◌, ◌%◌, ◌^◌, ◌<◌, ◌≤◌, Bool, true, false, ◌==◌, if◌then◌else◌, List, [], ◌∷◌, refl, sym, ap, pow-suc, ◌∙◌, length, drop, get_or, arith, length-drop}
+use Rattle.std.proofs.Common.{◌≡◌, ℕ, zero, suc, ◌+◌, ◌-◌, ◌*◌, ◌/◌, ◌%◌, ◌^◌, ◌<◌, ◌≤◌, Bool, true, false, ◌==◌, if◌then◌else◌, List, []}
+use Rattle.std.proofs.Common.{◌∷◌, refl, sym, ap, pow-suc, ◌∙◌, length, drop, get_or, arith, length-drop}
 use Rattle.std.proofs.Common.{inl, inr, set, bit_and, bit_or}
 use Rattle.std.proofs.Math.Nat.{div-div-eq-div-mul}
 use Rattle.std.proofs.lemmas.Bool.{cases_eq, ne_eqb, eq-eqb}
@@ -12,7 +13,8 @@ use Rattle.std.proofs.lemmas.Int.{of_z-to_z, to_z-of_z, to_z_pos}
 use Rattle.std.proofs.Math.Facts.{Fits-of_z}
 use Rattle.std.proofs.Math.Pow.{pow_mono}
 use Rattle.std.specs.List.{slice_range}
-use Rattle.std.proofs.lemmas.Nat.Bits.{bit_at-zero, bit_at-suc, bit_at_lowest, bit_at-lt, bit_at_and, bit_at_ones, bit_at_set_same, bit_at_set_other, bit_at_clear_same, bit_at_clear_other, same_from_bits_below}
+use Rattle.std.proofs.lemmas.Nat.Bits.{bit_at-zero, bit_at-suc, bit_at_lowest, bit_at-lt, bit_at_and, bit_at_ones, bit_at_set_same}
+use Rattle.std.proofs.lemmas.Nat.Bits.{bit_at_set_other, bit_at_clear_same, bit_at_clear_other, same_from_bits_below}
 use Rattle.rhai_places.specs.Bits.{digits, number, bits, integer, field, field_of}
 
 one_or_none : (x : ℕ) → x < 2 → (if x == 1 then 1 else 0) ≡ x
@@ -41,13 +43,17 @@ bit_at-number [] i = bit_at-zero i
 bit_at-number (true ∷ rest) zero = bit_at_lowest _ ∙ (let odd : (1 + 2 * number rest) % 2 ≡ 1 = omega arith in odd)
 bit_at-number (false ∷ rest) zero = bit_at_lowest _ ∙ (let even : (0 + 2 * number rest) % 2 ≡ 0 = omega arith in even)
 bit_at-number (true ∷ rest) (suc i) =
-    bit_at-suc (1 + 2 * number rest) i ∙ ap (λ m. bit_at m i) (let half : (1 + 2 * number rest) / 2 ≡ number rest = omega arith in half) ∙ bit_at-number rest i
+    bit_at-suc (1 + 2 * number rest) i ∙ ap (λ m. bit_at m i) (let half : (1 + 2 * number rest) / 2 ≡ number rest = omega arith in half)
+    ∙ bit_at-number rest i
 bit_at-number (false ∷ rest) (suc i) =
-    bit_at-suc (0 + 2 * number rest) i ∙ ap (λ m. bit_at m i) (let half : (0 + 2 * number rest) / 2 ≡ number rest = omega arith in half) ∙ bit_at-number rest i
+    bit_at-suc (0 + 2 * number rest) i ∙ ap (λ m. bit_at m i) (let half : (0 + 2 * number rest) / 2 ≡ number rest = omega arith in half)
+    ∙ bit_at-number rest i
 
 -- a number of so many bits is what digits make that are its bits
-pub number_is : (k n : ℕ) (some : List Bool) → length some ≡ k → n < 2 ^ k → ((i : ℕ) → i < k → bit_at n i ≡ (if get_or some i false then 1 else 0)) → n ≡ number some
-number_is k n some len lt same = same_from_bits_below k n (number some) lt (let less = number-lt some in rw len at less) (λ i below. same i below ∙ sym (bit_at-number some i))
+pub number_is : (k n : ℕ) (some : List Bool) → length some ≡ k → n < 2 ^ k →
+    ((i : ℕ) → i < k → bit_at n i ≡ (if get_or some i false then 1 else 0)) → n ≡ number some
+number_is k n some len lt same = same_from_bits_below k n (number some) lt (let less = number-lt some in rw len at less)
+    (λ i below. same i below ∙ sym (bit_at-number some i))
 
 -- all digits of a number make it
 pub number-digits : (k n : ℕ) → n < 2 ^ k → number (digits k n) ≡ n
@@ -75,16 +81,22 @@ module _ (u at : ℕ) (fits : u < 2 ^ 64) (within : at < 64) where
 
   pub set_on : bit_or u (1 * 2 ^ at % 2 ^ 64) ≡ number (set (digits 64 u) at true)
   set_on = number_is 64 _ (set (digits 64 u) at true) (length-set (digits 64 u) at true ∙ length-digits 64 u) set_on_fits
-      (λ i below. elim (cases_eq i at) as (λ _. bit_at (bit_or u (1 * 2 ^ at % 2 ^ 64)) i ≡ (if get_or (set (digits 64 u) at true) i false then 1 else 0)) [
-        | inl e ↦ rw e (bit_at_set_same w64 u at within ∙ ap (λ b. if b then 1 else 0) (sym (get_or-set_same (digits 64 u) at true false (rw (length-digits 64 u) within))))
-        | inr ne ↦ bit_at_set_other w64 u at within i ne ∙ digit_is 64 u i below ∙ ap (λ b. if b then 1 else 0) (sym (get_or-set_other (digits 64 u) at i true false ne))
+      (λ i below. elim (cases_eq i at) as (λ _. bit_at (bit_or u (1 * 2 ^ at % 2 ^ 64))
+      i ≡ (if get_or (set (digits 64 u) at true) i false then 1 else 0)) [
+        | inl e ↦ rw e (bit_at_set_same w64 u at within ∙ ap (λ b. if b then 1 else 0)
+            (sym (get_or-set_same (digits 64 u) at true false (rw (length-digits 64 u) within))))
+        | inr ne ↦ bit_at_set_other w64 u at within i ne ∙ digit_is 64 u i below
+            ∙ ap (λ b. if b then 1 else 0) (sym (get_or-set_other (digits 64 u) at i true false ne))
       ])
 
   pub set_off : bit_and u (bit_not w64 (1 * 2 ^ at % 2 ^ 64)) ≡ number (set (digits 64 u) at false)
   set_off = number_is 64 _ (set (digits 64 u) at false) (length-set (digits 64 u) at false ∙ length-digits 64 u) set_off_fits
-      (λ i below. elim (cases_eq i at) as (λ _. bit_at (bit_and u (bit_not w64 (1 * 2 ^ at % 2 ^ 64))) i ≡ (if get_or (set (digits 64 u) at false) i false then 1 else 0)) [
-        | inl e ↦ rw e (bit_at_clear_same w64 u at within ∙ ap (λ b. if b then 1 else 0) (sym (get_or-set_same (digits 64 u) at false false (rw (length-digits 64 u) within))))
-        | inr ne ↦ bit_at_clear_other w64 u at within i below ne ∙ digit_is 64 u i below ∙ ap (λ b. if b then 1 else 0) (sym (get_or-set_other (digits 64 u) at i false false ne))
+      (λ i below. elim (cases_eq i at) as (λ _. bit_at (bit_and u (bit_not w64 (1 * 2 ^ at % 2 ^ 64)))
+      i ≡ (if get_or (set (digits 64 u) at false) i false then 1 else 0)) [
+        | inl e ↦ rw e (bit_at_clear_same w64 u at within ∙ ap (λ b. if b then 1 else 0)
+            (sym (get_or-set_same (digits 64 u) at false false (rw (length-digits 64 u) within))))
+        | inr ne ↦ bit_at_clear_other w64 u at within i below ne ∙ digit_is 64 u i below
+            ∙ ap (λ b. if b then 1 else 0) (sym (get_or-set_other (digits 64 u) at i false false ne))
       ])
 
 bit_at-shifted : (u s i : ℕ) → bit_at (u / 2 ^ s) i ≡ bit_at u (s + i)

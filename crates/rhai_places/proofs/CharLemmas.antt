@@ -1,8 +1,10 @@
 -- A text cut between two of its characters.
-use Rattle.std.proofs.Common.{◌≡◌, ℕ, zero, suc, ◌+◌, ◌-◌, ◌<◌, ◌≤◌, Bool, true, false, ◌&&◌, List, [], ◌∷◌, ◌++◌, refl, sym, ap, ◌∙◌, length, take, drop, set, get_or, arith, add-one, length-append, append-nil, take-append-drop}
+use Rattle.std.proofs.Common.{◌≡◌, ℕ, zero, suc, ◌+◌, ◌-◌, ◌<◌, ◌≤◌, Bool, true, false, ◌&&◌, List, [], ◌∷◌, ◌++◌, refl, sym, ap, ◌∙◌}
+use Rattle.std.proofs.Common.{length, take, drop, set, get_or, arith, add-one, length-append, append-nil, take-append-drop}
 use Rattle.std.proofs.Math.Seq.{take-suc, take-append_seam, drop-append_seam}
 use Rattle.std.proofs.lemmas.List.{take_all, drop-drop}
-use Rattle.std.proofs.lemmas.Str.{encodes-chars, scalars-chars, chars-encodes, encodes-append, IsCharBoundary-at_seam, length-encode, length-le-encodes}
+use Rattle.std.proofs.lemmas.Str.{encodes-chars, scalars-chars, chars-encodes, encodes-append, IsCharBoundary-at_seam, length-encode}
+use Rattle.std.proofs.lemmas.Str.{length-le-encodes}
 use Rattle.rhai_places.specs.Characters.{with_char, with_slice}
 use Rattle.std.specs.Char.{encode_utf8, len_utf8}
 use Rattle.std.specs.Str.{chars, encode_utf8_all, all_scalars, IsUtf8, IsCharBoundary}
@@ -28,26 +30,31 @@ set-split (x ∷ cs) (suc at) c lt = ap (λ rest. x ∷ rest) (set-split cs at c
 module _ (text : List ℕ) (utf8 : IsUtf8 text) where
   -- the text is its first characters and then the others
   seam : (n : ℕ) → text ≡ encode_utf8_all (take n (chars text)) ++ encode_utf8_all (drop n (chars text))
-  seam n = sym (encodes-chars text utf8) ∙ ap encode_utf8_all (sym (take-append-drop n (chars text))) ∙ encodes-append (take n (chars text)) (drop n (chars text))
+  seam n = sym (encodes-chars text utf8) ∙ ap encode_utf8_all (sym (take-append-drop n (chars text)))
+      ∙ encodes-append (take n (chars text)) (drop n (chars text))
 
   pub front_is : (n : ℕ) → take (length (encode_utf8_all (take n (chars text)))) text ≡ encode_utf8_all (take n (chars text))
-  front_is n = ap (take (length (encode_utf8_all (take n (chars text))))) (seam n) ∙ take-append_seam (encode_utf8_all (take n (chars text))) (encode_utf8_all (drop n (chars text)))
+  front_is n = ap (take (length (encode_utf8_all (take n (chars text))))) (seam n)
+      ∙ take-append_seam (encode_utf8_all (take n (chars text))) (encode_utf8_all (drop n (chars text)))
 
   pub back_is : (n : ℕ) → drop (length (encode_utf8_all (take n (chars text)))) text ≡ encode_utf8_all (drop n (chars text))
-  back_is n = ap (drop (length (encode_utf8_all (take n (chars text))))) (seam n) ∙ drop-append_seam (encode_utf8_all (take n (chars text))) (encode_utf8_all (drop n (chars text)))
+  back_is n = ap (drop (length (encode_utf8_all (take n (chars text))))) (seam n)
+      ∙ drop-append_seam (encode_utf8_all (take n (chars text))) (encode_utf8_all (drop n (chars text)))
 
   pub boundary_is : (n : ℕ) → IsCharBoundary text (length (encode_utf8_all (take n (chars text))))
   boundary_is n = IsCharBoundary-at_seam text (encode_utf8_all (take n (chars text))) (encode_utf8_all (drop n (chars text))) (seam n)
       (drop n (chars text), (scalars-drop n (chars text) (scalars-chars text utf8), refl))
 
   pub within : (n : ℕ) → length (encode_utf8_all (take n (chars text))) ≤ length text
-  within n = let e = ap length (seam n) ∙ length-append (encode_utf8_all (take n (chars text))) (encode_utf8_all (drop n (chars text))) in omega (arith, e)
+  within n = let e = ap length (seam n) ∙ length-append (encode_utf8_all (take n (chars text)))
+      (encode_utf8_all (drop n (chars text))) in omega (arith, e)
 
   -- one character further
   pub one_more : (n c : ℕ) → (n < length (chars text)) × (c ≡ get_or (chars text) n c) →
       length (encode_utf8_all (take n (chars text))) + len_utf8 c ≡ length (encode_utf8_all (take (n + 1) (chars text)))
   one_more n c h =
-      rw add-one (sym (ap (λ cs. length (encode_utf8_all cs)) (take-suc (chars text) n c h.0 ∙ ap (λ x. take n (chars text) ++ (x ∷ [])) (sym h.1))
+      rw add-one (sym (ap (λ cs. length (encode_utf8_all cs))
+      (take-suc (chars text) n c h.0 ∙ ap (λ x. take n (chars text) ++ (x ∷ [])) (sym h.1))
       ∙ ap length (encodes-append (take n (chars text)) (c ∷ []))
       ∙ length-append (encode_utf8_all (take n (chars text))) (encode_utf8_all (c ∷ []))
       ∙ ap (λ m. length (encode_utf8_all (take n (chars text))) + m) (ap length (append-nil (encode_utf8 c)) ∙ length-encode c)))
@@ -66,18 +73,22 @@ module _ (text : List ℕ) (utf8 : IsUtf8 text) where
   pub boundary_at : (n offset : ℕ) → offset ≡ length (encode_utf8_all (take n (chars text))) → IsCharBoundary text offset
   boundary_at n offset e = rw e (boundary_is n)
 
-  pub front_at : (n offset : ℕ) → offset ≡ length (encode_utf8_all (take n (chars text))) → take offset text ≡ encode_utf8_all (take n (chars text))
+  pub front_at : (n offset : ℕ) → offset ≡ length (encode_utf8_all (take n (chars text))) →
+      take offset text ≡ encode_utf8_all (take n (chars text))
   front_at n offset e = ap (λ m. take m text) e ∙ front_is n
 
-  pub back_at : (n offset : ℕ) → offset ≡ length (encode_utf8_all (take n (chars text))) → drop offset text ≡ encode_utf8_all (drop n (chars text))
+  pub back_at : (n offset : ℕ) → offset ≡ length (encode_utf8_all (take n (chars text))) →
+      drop offset text ≡ encode_utf8_all (drop n (chars text))
   back_at n offset e = ap (λ m. drop m text) e ∙ back_is n
 
   -- two cuts at the end
-  pub at_end : (m n : ℕ) → length (chars text) ≤ m → length (chars text) ≤ n → length (encode_utf8_all (take m (chars text))) ≡ length (encode_utf8_all (take n (chars text)))
+  pub at_end : (m n : ℕ) → length (chars text) ≤ m → length (chars text) ≤ n →
+      length (encode_utf8_all (take m (chars text))) ≡ length (encode_utf8_all (take n (chars text)))
   at_end m n le more = ap length (all m le ∙ sym (all n more))
 
   -- what stands from a cut on, as characters
-  pub rest_chars : (n offset : ℕ) (rest : List ℕ) → rest ≡ drop offset text → drop offset text ≡ encode_utf8_all (drop n (chars text)) → chars rest ≡ drop n (chars text)
+  pub rest_chars : (n offset : ℕ) (rest : List ℕ) → rest ≡ drop offset text → drop offset text ≡ encode_utf8_all (drop n (chars text)) →
+      chars rest ≡ drop n (chars text)
   rest_chars n offset rest is cut =
       ap chars (is ∙ cut) ∙ chars-encodes (drop n (chars text)) (scalars-drop n (chars text) (scalars-chars text utf8))
 
@@ -85,7 +96,8 @@ module _ (text : List ℕ) (utf8 : IsUtf8 text) where
   pub char_put : (at c : ℕ) → at < length (chars text) →
       encode_utf8_all (take at (chars text)) ++ encode_utf8 c ++ encode_utf8_all (drop (at + 1) (chars text)) ≡ with_char text at c
   char_put at c lt =
-      ap (λ one. encode_utf8_all (take at (chars text)) ++ one ++ encode_utf8_all (drop (at + 1) (chars text))) (sym (append-nil (encode_utf8 c)))
+      ap (λ one. encode_utf8_all (take at (chars text)) ++ one ++ encode_utf8_all (drop (at + 1) (chars text)))
+      (sym (append-nil (encode_utf8 c)))
       ∙ ap (λ front. front ++ encode_utf8_all (drop (at + 1) (chars text))) (sym (encodes-append (take at (chars text)) (c ∷ [])))
       ∙ sym (encodes-append (take at (chars text) ++ (c ∷ [])) (drop (at + 1) (chars text)))
       ∙ ap encode_utf8_all (sym (set-split (chars text) at c lt))
@@ -94,6 +106,7 @@ module _ (text : List ℕ) (utf8 : IsUtf8 text) where
   pub slice_put : (start end : ℕ) (new : List ℕ) → IsUtf8 new →
       encode_utf8_all (take start (chars text)) ++ new ++ encode_utf8_all (drop end (chars text)) ≡ with_slice text start end new
   slice_put start end new utf8_new =
-      ap (λ middle. encode_utf8_all (take start (chars text)) ++ middle ++ encode_utf8_all (drop end (chars text))) (sym (encodes-chars new utf8_new))
+      ap (λ middle. encode_utf8_all (take start (chars text)) ++ middle ++ encode_utf8_all (drop end (chars text)))
+      (sym (encodes-chars new utf8_new))
       ∙ ap (λ front. front ++ encode_utf8_all (drop end (chars text))) (sym (encodes-append (take start (chars text)) (chars new)))
       ∙ sym (encodes-append (take start (chars text) ++ chars new) (drop end (chars text)))

@@ -33,9 +33,12 @@ module _ {H : Type 0} where
   map_is : (keys : List (List ℕ)) (values : List (Dynamic H)) → out-Union H (value.Map (keys, values)) ≡ layer.Map (keys, values)
   map_is keys values = search (rules, outs-Map)
 
-  read_in : (kind : UnionLayer H) (source v : Dynamic H) (at : Spot) → IsPlace kind at → value_in (out-Union H (with_value_in source.value kind at v)) at ≡ Some v
-  read_in (layer.Array items) source v (spot.Item i) h = ap (λ k. value_in k (spot.Item i)) (array_is (slice_set items i v)) ∙ set_read items i v h
-  read_in (layer.Map entries) source v (spot.Value i) h = ap (λ k. value_in k (spot.Value i)) (map_is entries.0 (slice_set entries.1 i v)) ∙ set_read entries.1 i v h
+  read_in : (kind : UnionLayer H) (source v : Dynamic H) (at : Spot) → IsPlace kind at →
+      value_in (out-Union H (with_value_in source.value kind at v)) at ≡ Some v
+  read_in (layer.Array items) source v (spot.Item i) h = ap (λ k. value_in k (spot.Item i)) (array_is (slice_set items i v))
+      ∙ set_read items i v h
+  read_in (layer.Map entries) source v (spot.Value i) h = ap (λ k. value_in k (spot.Value i))
+      (map_is entries.0 (slice_set entries.1 i v)) ∙ set_read entries.1 i v h
   read_in kind source v (spot.Item i) h = absurd h
   read_in kind source v (spot.Value i) h = absurd h
   read_in kind source v at h = absurd h
@@ -44,7 +47,8 @@ module _ {H : Type 0} where
   pub written : (source v : Dynamic H) (at : Spot) → IsPlace (layer_of source) at → value_at (with_value source at v) at ≡ Some v
   written source v at h = read_in (layer_of source) source v at h
 
-  array_stays : (items : List (Dynamic H)) (i : ℕ) (v : Dynamic H) (other : Spot) → (spot.Item i ≡ other → ⊥) → value_in (layer.Array (slice_set items i v)) other ≡ value_in (layer.Array items) other
+  array_stays : (items : List (Dynamic H)) (i : ℕ) (v : Dynamic H) (other : Spot) → (spot.Item i ≡ other → ⊥) →
+      value_in (layer.Array (slice_set items i v)) other ≡ value_in (layer.Array items) other
   array_stays items i v (spot.Item j) ne = set_stays items i j v (λ e. ne (ap (λ n. spot.Item n) e))
   array_stays items i v other ne = refl
 
@@ -53,13 +57,17 @@ module _ {H : Type 0} where
   map_stays keys values i v (spot.Value j) ne = set_stays values i j v (λ e. ne (ap (λ n. spot.Value n) e))
   map_stays keys values i v other ne = refl
 
-  stays_in : (kind : UnionLayer H) (source v : Dynamic H) (at other : Spot) → IsPlace kind at → (at ≡ other → ⊥) → seen source kind at other v
-  stays_in (layer.Array items) source v (spot.Item i) other h ne = ap (λ k. value_in k other) (array_is (slice_set items i v)) ∙ array_stays items i v other ne
-  stays_in (layer.Map entries) source v (spot.Value i) other h ne = ap (λ k. value_in k other) (map_is entries.0 (slice_set entries.1 i v)) ∙ map_stays entries.0 entries.1 i v other ne
+  stays_in : (kind : UnionLayer H) (source v : Dynamic H) (at other : Spot) → IsPlace kind at → (at ≡ other → ⊥) →
+      seen source kind at other v
+  stays_in (layer.Array items) source v (spot.Item i) other h ne =
+      ap (λ k. value_in k other) (array_is (slice_set items i v)) ∙ array_stays items i v other ne
+  stays_in (layer.Map entries) source v (spot.Value i) other h ne =
+      ap (λ k. value_in k other) (map_is entries.0 (slice_set entries.1 i v)) ∙ map_stays entries.0 entries.1 i v other ne
   stays_in kind source v (spot.Item i) other h ne = absurd h
   stays_in kind source v (spot.Value i) other h ne = absurd h
   stays_in kind source v at other h ne = absurd h
 
   -- what stands at another place stays
-  pub stays : (source v : Dynamic H) (at other : Spot) → IsPlace (layer_of source) at → (at ≡ other → ⊥) → value_at (with_value source at v) other ≡ value_at source other
+  pub stays : (source v : Dynamic H) (at other : Spot) → IsPlace (layer_of source) at → (at ≡ other → ⊥) →
+      value_at (with_value source at v) other ≡ value_at source other
   stays source v at other h ne = stays_in (layer_of source) source v at other h ne

@@ -1,5 +1,6 @@
 -- The 64 bits of an integer, from the lowest.
-use Rattle.std.specs.Prelude.{ℕ, zero, suc, ◌+◌, ◌-◌, ◌*◌, ◌/◌, ◌%◌, ◌==◌, ℤ, pos, Bool, false, if◌then◌else◌, List, [], ◌∷◌, length, take, slice_index_or, slice_range, slice_set}
+use Rattle.std.specs.Prelude.{ℕ, zero, suc, ◌+◌, ◌-◌, ◌*◌, ◌/◌, ◌%◌, ◌==◌, ℤ, pos, Bool, false, if◌then◌else◌, List, [], ◌∷◌, length}
+use Rattle.std.specs.Prelude.{take, slice_index_or, slice_range, slice_set}
 use Rattle.std.specs.List.{replace_range}
 use Rattle.std.specs.Int.{w64, cast_unsigned, cast_signed}
 

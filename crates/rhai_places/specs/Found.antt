@@ -53,7 +53,8 @@ module _ {H : Type 0} where
     abbrev pub without_key : Dynamic H → Dynamic H → Result (Dynamic H × Spot) (EvalAltResult H)
     without_key source index =
         if how.add_if_not_found then Ok (with_key source (layer_of source) (layer_of index))
-        else (if how.fail_on_invalid_map_property then Err (error.ErrorPropertyNotFound (text_of (layer_of index)) how.idx_pos) else Ok (source, spot.Missing))
+        else (if how.fail_on_invalid_map_property then Err (error.ErrorPropertyNotFound (text_of (layer_of index)) how.idx_pos) else Ok
+        (source, spot.Missing))
 
     module _ (host_name : H → List ℕ) (cells : List (Option (Dynamic H))) where
       abbrev pub settled : Dynamic H → Dynamic H → Result Spot Refusal → Result (Dynamic H × Spot) (EvalAltResult H)

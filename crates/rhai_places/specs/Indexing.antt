@@ -1,5 +1,6 @@
 -- What an index finds in a value: arrays, blobs, maps, the bits of integers, and the characters of texts.
-use Rattle.std.specs.Prelude.{ℕ, suc, ◌+◌, ◌-◌, min, max, ℤ, pos, negsuc, nat_lt, nat_le, ◌==◌, if◌then◌else◌, List, length, Option, Some, None, option_map, Result, Ok, Err, ok_or}
+use Rattle.std.specs.Prelude.{ℕ, suc, ◌+◌, ◌-◌, min, max, ℤ, pos, negsuc, nat_lt, nat_le, ◌==◌, if◌then◌else◌, List, length, Option, Some}
+use Rattle.std.specs.Prelude.{None, option_map, Result, Ok, Err, ok_or}
 use Rattle.std.specs.Ordering.{int_eq}
 use Rattle.std.specs.Str.{chars}
 use Rattle.rhai_items.specs.Lookup.{place_of}

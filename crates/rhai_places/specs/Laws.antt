@@ -8,4 +8,5 @@ use Rattle.rhai_places.specs.Parts.{IsPlace, value_at, with_value}
 module _ (H : Type 0) where
   pub record PlaceLaws : Type 0 where
     pub written : (source v : Dynamic H) (at : Spot) → IsPlace (layer_of source) at → value_at (with_value source at v) at ≡ Some v
-    pub stays : (source v : Dynamic H) (at other : Spot) → IsPlace (layer_of source) at → (at ≡ other → ⊥) → value_at (with_value source at v) other ≡ value_at source other
+    pub stays : (source v : Dynamic H) (at other : Spot) → IsPlace (layer_of source) at → (at ≡ other → ⊥) →
+        value_at (with_value source at v) other ≡ value_at source other

@@ -55,4 +55,5 @@ module _ {H : Type 0} where
   -- why a part was not put back: it is of another type, unless no memory was left
   abbrev pub IsNotPut : (host_name : H → List ℕ) → (source : Dynamic H) → Spot → (part : Dynamic H) → Position → EvalAltResult H → Type 0
   IsNotPut host_name source at part position e =
-      is_out_of_memory e ≡ false → (put_back source at part ≡ None) × (e ≡ mismatch (wanted at) (own_type_name host_name part.value) position)
+      is_out_of_memory e ≡ false → (put_back source at part ≡ None) ×
+      (e ≡ mismatch (wanted at) (own_type_name host_name part.value) position)

@@ -31,4 +31,5 @@ module _ {H : Type 0} where
     refused (refusal.StringBounds bounds) = error.ErrorStringBounds bounds how.idx_pos
     refused refusal.WantsInteger = mismatch (codes "i64") (type_name_of host_name cells index) how.idx_pos
     refused refusal.WantsText = mismatch (codes "string") (type_name_of host_name cells index) how.idx_pos
-    refused refusal.NotIndexed = error.ErrorIndexingType (indexing_text (type_name_of host_name cells source) (type_name_of host_name cells index)) how.op_pos
+    refused refusal.NotIndexed = error.ErrorIndexingType (indexing_text (type_name_of host_name cells source)
+        (type_name_of host_name cells index)) how.op_pos

@@ -85,7 +85,8 @@ module _ (H : Type 0) where
     pub one : located (text (codes "hello")) (layer.InclusiveRange (pos 2) (pos 2)) ≡ Ok (spot.Slice 2 3)
     pub backwards : located (text (codes "hello")) (layer.ExclusiveRange (pos 3) (pos 1)) ≡ Ok (spot.Slice 3 3)
     pub cut : located (text (codes "hello")) (layer.InclusiveRange (pos 1) (pos 9)) ≡ Ok (spot.Slice 1 5)
-    pub start_before : located (text (codes "hello")) (layer.ExclusiveRange (negsuc 8) (pos 2)) ≡ Err (refusal.StringBounds (bounds 5 (negsuc 8)))
+    pub start_before : located (text (codes "hello")) (layer.ExclusiveRange (negsuc 8) (pos 2)) ≡ Err
+        (refusal.StringBounds (bounds 5 (negsuc 8)))
     pub end_before : located (text (codes "hello")) (layer.InclusiveRange (pos 1) (negsuc 8)) ≡ Ok (spot.Slice 1 1)
     pub of_empty : located (text []) (layer.ExclusiveRange (negsuc 2) (pos 5)) ≡ Ok (spot.Slice 0 0)
     pub there : located map (text (codes "a")) ≡ Ok (spot.Value 0)

@@ -1,7 +1,8 @@
 //! What an index leads to, as a target. Ports upstream's `get_indexed_mut` but for its charge and
 //! the indexers of a host's types. The contracts cite specs/Found.antt and specs/Lends.antt.
 
-ghost use Rattle.std.specs.Prelude.{◌≡◌, ◌<◌, length, Ok, Some, None, IsOk, IfOk, IfErr, OnOk, OnErr, MatchResult, true};
+ghost use Rattle.std.specs.Prelude.{◌≡◌, ◌<◌, length, Ok, Some, None, IsOk, IfOk, IfErr, OnOk, OnErr};
+ghost use Rattle.std.specs.Prelude.{MatchResult, true};
 ghost use Rattle.std.specs.Borrow.{sem};
 ghost use Rattle.std.specs.Option.{option_copied};
 ghost use Rattle.rhai_items.specs.Lookup.{place_of, rank, with_entry};
@@ -12,7 +13,8 @@ ghost use Rattle.rhai_values.specs.Layers.{layer_of};
 ghost use Rattle.rhai_values.specs.declared.base.error.EvalAltResult.TheVariants as error;
 ghost use Rattle.rhai_values.specs.declared.base.value.Union.TheVariants as value;
 ghost use Rattle.rhai_places.specs.declared.spot.Spot.TheVariants as spot;
-ghost use Rattle.rhai_places.specs.Found.{found, indexed, spot_takes_memory, takes_memory, text_of, through, with_key, IsFound, IsKeyless, IsMissed, IsText};
+ghost use Rattle.rhai_places.specs.Found.{found, indexed, spot_takes_memory, takes_memory, text_of, through};
+ghost use Rattle.rhai_places.specs.Found.{with_key, IsFound, IsKeyless, IsMissed, IsText};
 ghost use Rattle.rhai_places.specs.Indexing.{located};
 ghost use Rattle.rhai_places.specs.Lends.{lends_found, lends_spot};
 ghost use Rattle.rhai_places.specs.Parts.{IsThere, is_slice};
@@ -52,10 +54,14 @@ pub fn get_indexed_mut<'t, H: Host>(
     index: &Dynamic<H>,
     how: Access,
 ) -> Result<Target<'t, H>, EvalAltResult<H>>
-    ensures* writes_back { sem 𝓛 (lends_found H.row source.entry (found how H.name_of (cells_of cells.now) source.entry.now index.now) result) }
-    ensures found { MatchResult result (λ t. IsFound (found how H.name_of (cells_of cells.now) source.old index.now) t.at.now t.part) (λ e. IsMissed (found how H.name_of (cells_of cells.now) source.old index.now) e) }
+    ensures* writes_back { sem 𝓛 (lends_found H.row source.entry
+        (found how H.name_of (cells_of cells.now) source.entry.now index.now) result) }
+    ensures found { MatchResult result (λ t. IsFound (found how H.name_of (cells_of cells.now) source.old
+        index.now) t.at.now t.part) (λ e. IsMissed (found how H.name_of (cells_of cells.now) source.old
+        index.now) e) }
     ensures fit { IfOk result (λ t. IsFit t.part t.at.now) }
-    ensures memory { IfErr result (λ e. is_out_of_memory e ≡ true → takes_memory how source.old (through (cells_of cells.now) index.now) ≡ true) }
+    ensures memory { IfErr result (λ e. is_out_of_memory e ≡ true →
+        takes_memory how source.old (through (cells_of cells.now) index.now) ≡ true) }
 {
     match value_of_index(cells, index) {
         Some(index) => get_by_value(source, alloc, cells, index, how),
@@ -81,10 +87,14 @@ fn get_by_value<'t, H: Host>(
     index: &Dynamic<H>,
     how: Access,
 ) -> Result<Target<'t, H>, EvalAltResult<H>>
-    ensures* writes_back { sem 𝓛 (lends_found H.row source.entry (indexed how H.name_of (cells_of cells.now) source.entry.now index.now) result) }
-    ensures found { MatchResult result (λ t. IsFound (indexed how H.name_of (cells_of cells.now) source.old index.now) t.at.now t.part) (λ e. IsMissed (indexed how H.name_of (cells_of cells.now) source.old index.now) e) }
+    ensures* writes_back { sem 𝓛 (lends_found H.row source.entry
+        (indexed how H.name_of (cells_of cells.now) source.entry.now index.now) result) }
+    ensures found { MatchResult result (λ t. IsFound (indexed how H.name_of (cells_of cells.now) source.old
+        index.now) t.at.now t.part) (λ e. IsMissed (indexed how H.name_of (cells_of cells.now) source.old
+        index.now) e) }
     ensures fit { IfOk result (λ t. IsFit t.part t.at.now) }
-    ensures memory { IfErr result (λ e. is_out_of_memory e ≡ true → spot_takes_memory how (located (layer_of source.old) (layer_of index.now)) ≡ true) }
+    ensures memory { IfErr result (λ e. is_out_of_memory e ≡ true →
+        spot_takes_memory how (located (layer_of source.old) (layer_of index.now)) ≡ true) }
 {
     match locate(source, index) {
         Ok(Spot::Missing) if how.add_if_not_found => get_added(source, index, how),
@@ -101,8 +111,10 @@ fn get_added<'t, H: Host>(
     how: Access,
 ) -> Result<Target<'t, H>, EvalAltResult<H>>
     requires { IsKeyless (layer_of source.old) (layer_of index.now) }
-    ensures* writes_back { sem 𝓛 (lends_found H.row source.entry (Ok (with_key source.entry.now (layer_of source.entry.now) (layer_of index.now))) result) }
-    ensures found { MatchResult result (λ t. IsFound (Ok (with_key source.old (layer_of source.old) (layer_of index.now))) t.at.now t.part) (λ e. is_out_of_memory e ≡ true) }
+    ensures* writes_back { sem 𝓛 (lends_found H.row source.entry
+        (Ok (with_key source.entry.now (layer_of source.entry.now) (layer_of index.now))) result) }
+    ensures found { MatchResult result (λ t. IsFound (Ok (with_key source.old (layer_of source.old)
+        (layer_of index.now))) t.at.now t.part) (λ e. is_out_of_memory e ≡ true) }
     ensures fit { IfOk result (λ t. IsFit t.part t.at.now) }
 {
     let Ok(at) = add_key(source, index) else {
@@ -114,7 +126,8 @@ fn get_added<'t, H: Host>(
 /// Inserts `()` under a key that a map does not have. Answers the place of the key.
 fn add_key<H: Host>(source: &mut Dynamic<H>, index: &Dynamic<H>) -> Result<usize, AllocError>
     requires { IsKeyless (layer_of source.old) (layer_of index.now) }
-    ensures ok { IfOk result (λ at. with_key source.old (layer_of source.old) (layer_of index.now) ≡ (source.new, spot.Value at)) }
+    ensures ok { IfOk result (λ at. with_key source.old (layer_of source.old) (layer_of index.now)
+        ≡ (source.new, spot.Value at)) }
     ensures there { IfOk result (λ at. IsThere (layer_of source.new) (spot.Value at)) }
     ensures err { OnErr result (source.new ≡ source.old) }
 {
@@ -163,7 +176,8 @@ fn open_spot<'t, H: Host>(
 ) -> Result<Target<'t, H>, EvalAltResult<H>>
     requires { IsThere (layer_of source.old) spot }
     ensures* writes_back { sem 𝓛 (lends_spot H.row source.entry spot result) }
-    ensures found { MatchResult result (λ t. (place_at source.old spot ≡ Some t.at.now) × (t.part ≡ part_of_spot source.old spot)) (λ e. is_out_of_memory e ≡ true) }
+    ensures found { MatchResult result (λ t. (place_at source.old spot ≡ Some t.at.now) ×
+        (t.part ≡ part_of_spot source.old spot)) (λ e. is_out_of_memory e ≡ true) }
     ensures fit { IfOk result (λ t. IsFit t.part t.at.now) }
     ensures memory { OnErr result (is_slice spot ≡ true) }
 {

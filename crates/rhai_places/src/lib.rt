@@ -14,5 +14,3 @@ pub mod put;
 pub mod samples;
 pub mod spot;
 pub mod target;
-#[cfg(test)]
-mod tests;

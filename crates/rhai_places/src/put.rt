@@ -6,7 +6,8 @@ ghost use Rattle.rhai_values.specs.Layers.{layer_of};
 ghost use Rattle.rhai_values.specs.declared.base.value.FnPtrKind.TheOpen as layer;
 ghost use Rattle.rhai_places.specs.declared.spot.Spot.TheVariants as spot;
 ghost use Rattle.rhai_places.specs.Parts.{IsPart};
-ghost use Rattle.rhai_places.specs.PutBack.{IsNotPut, is_of_text, low_byte as low_byte_of, put, put_back, wanted as wanted_by};
+ghost use Rattle.rhai_places.specs.PutBack.{IsNotPut, is_of_text, low_byte as low_byte_of, put, put_back};
+ghost use Rattle.rhai_places.specs.PutBack.{wanted as wanted_by};
 
 use crate::bits::{with_bit, with_field};
 use crate::chars::{with_char, with_slice};

@@ -85,7 +85,8 @@ impl<'t, H> Target<'t, H> {
 }
 
 impl<'t, H: Host> Target<'t, H> {
-    ghost use Rattle.rhai_places.specs.Targets.{is_of_a_text, is_place, propagated, taken, IsFit, IsNotPropagated};
+    ghost use Rattle.rhai_places.specs.Targets.{is_of_a_text, is_place, propagated, taken, IsFit};
+    ghost use Rattle.rhai_places.specs.Targets.{IsNotPropagated};
 
     /// The value of the target: a copy of a place, a temporary or a part as it is.
     ///
@@ -121,10 +122,13 @@ impl<'t, H: Host> Target<'t, H> {
     ) -> Result<(), EvalAltResult<H>>
         ensures same_reference { self.new.at.ghost_name ≡ self.old.at.ghost_name }
         ensures part { self.new.part ≡ self.old.part }
-        ensures ok { IsFit self.old.part self.old.at.now → OnOk result (propagated self.old.part self.old.at.now ≡ Some self.new.at.now) }
+        ensures ok { IsFit self.old.part self.old.at.now →
+            OnOk result (propagated self.old.part self.old.at.now ≡ Some self.new.at.now) }
         ensures err { OnErr result (self.new.at.now ≡ self.old.at.now) }
-        ensures refused { IfErr result (λ e. IsNotPropagated H.name_of self.old.part self.old.at.now position e) }
-        ensures memory { IsSome (propagated self.old.part self.old.at.now) → is_of_a_text self.old.part ≡ false → IsOk result }
+        ensures refused { IfErr result (λ e. IsNotPropagated H.name_of self.old.part self.old.at.now
+            position e) }
+        ensures memory { IsSome (propagated self.old.part self.old.at.now) →
+            is_of_a_text self.old.part ≡ false → IsOk result }
     {
         match &self.part {
             Part::Of(spot, part) => {

@@ -26,7 +26,8 @@ passed r h = let out = err_from_is_err_and r h.1 in out.1 ∙ ap Err out.2
 
 module _ {S H : Type 0} (rules : Rules S H) where
   -- a step whose move is known
-  pub step_by : (p q : Point S (Core H)) (m : Move H (Core H)) → move rules.setting p.core ≡ m → Goes rules (moved (machine rules) (cut rules) m p) q → Goes rules p q
+  pub step_by : (p q : Point S (Core H)) (m : Move H (Core H)) → move rules.setting p.core ≡ m →
+      Goes rules (moved (machine rules) (cut rules) m p) q → Goes rules p q
   unfolding after
   step_by p q m e r = next (subst (λ (x : Move H (Core H)). Goes rules (moved (machine rules) (cut rules) x p) q) (sym e) r)
 
@@ -42,16 +43,19 @@ module _ {S H : Type 0} (rules : Rules S H) where
   or_wants c k s e go = go refl
 
   -- an answer that may be want of memory in its place
-  pub told : (r x : Result (Dynamic H) (EvalAltResult H)) → Answers r x → (k : List (Frame H)) (s : State S H) → Goes rules (at (ended x) k s) (at (ended r) k s)
+  pub told : (r x : Result (Dynamic H) (EvalAltResult H)) → Answers r x → (k : List (Frame H)) (s : State S H) →
+      Goes rules (at (ended x) k s) (at (ended r) k s)
   told (Ok v) x a k s = rw (← a tt) here
   told (Err e) x a k s = or_wants (ended x) k s e (λ m. rw (← a m) here)
 
   -- an error that is told
-  pub faulted : (e x : EvalAltResult H) → (is_out_of_memory e ≡ false → e ≡ x) → (k : List (Frame H)) (s : State S H) → Goes rules (at (Fail x) k s) (at (Fail e) k s)
+  pub faulted : (e x : EvalAltResult H) → (is_out_of_memory e ≡ false → e ≡ x) → (k : List (Frame H)) (s : State S H) →
+      Goes rules (at (Fail x) k s) (at (Fail e) k s)
   faulted e x a k s = or_wants (Fail x) k s e (λ m. rw (a m) here)
 
   module _ (t : S) (old new : GlobalRuntimeState H) (scope : Scope H) (this : Option (Dynamic H)) (c d : Control H) (pos : Position)
-      (charges : (k : List (Frame H)) → move rules.setting (at {S = S} c k (state_of t old scope this)).core ≡ Charge pos (core d k (state_of t old scope this).local)) where
+      (charges : (k : List (Frame H)) → move rules.setting (at {S = S} c k (state_of t old scope this)).core ≡ Charge pos
+      (core d k (state_of t old scope this).local)) where
     -- a charge that is let through
     pub charged : old.num_operations < limit_under rules → new ≡ record old { num_operations = old.num_operations + 1 } →
         (k : List (Frame H)) → Goes rules (at c k (state_of t old scope this)) (at d k (state_of t new scope this))

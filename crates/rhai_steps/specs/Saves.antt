@@ -11,7 +11,11 @@ saved_in saved = record { scope_length = saved.scope_length; imports_length = sa
 
 -- what is kept of a state and a scope
 abbrev pub saved_now : {H : Type 0} → GlobalRuntimeState H → Scope H → machine.Saved
-saved_now global scope = record { scope_length = length (entries_of scope); imports_length = length global.imports; scope_level = global.scope_level }
+saved_now global scope = record {
+  scope_length = length (entries_of scope);
+  imports_length = length global.imports;
+  scope_level = global.scope_level;
+}
 
 -- the state that is left
 abbrev pub left_global : {H : Type 0} → Saved → GlobalRuntimeState H → GlobalRuntimeState H

@@ -30,7 +30,8 @@ pub fn track_operation<H: Host>(
     pos: Position,
 ) -> Result<(), EvalAltResult<H>>
     ensures room { OnOk result (global.old.num_operations < limit_of limits.now.max_operations) }
-    ensures charged { OnOk result (global.new ≡ record global.old { num_operations = global.old.num_operations + 1 }) }
+    ensures charged { OnOk result (global.new ≡ record global.old
+        { num_operations = global.old.num_operations + 1 }) }
     ensures full { IfErr result (λ _. limit_of limits.now.max_operations ≤ global.old.num_operations) }
     ensures refused { IfErr result (λ e. e ≡ error.ErrorTooManyOperations pos) }
     ensures same { IfErr result (λ _. global.new ≡ global.old) }
@@ -50,7 +51,8 @@ pub fn literal_arg<H: Host>(
     pos: Position,
 ) -> Result<Dynamic<H>, EvalAltResult<H>>
     ensures room { OnOk result (global.old.num_operations < limit_of limits.now.max_operations) }
-    ensures charged { OnOk result (global.new ≡ record global.old { num_operations = global.old.num_operations + 1 }) }
+    ensures charged { OnOk result (global.new ≡ record global.old
+        { num_operations = global.old.num_operations + 1 }) }
     ensures value { IfOk result (λ v. v ≡ value) }
     ensures full { IfErr result (λ _. limit_of limits.now.max_operations ≤ global.old.num_operations) }
     ensures refused { IfErr result (λ e. e ≡ error.ErrorTooManyOperations pos) }

@@ -1,6 +1,7 @@
 //! Built-in operators and natives: what a call does without going down the tree.
 
-ghost use Rattle.std.specs.Prelude.{◌≡◌, ◌<◌, ◌≤◌, ◌+◌, ◌∷◌, ◌++◌, [], Some, IfOk, IfErr, IfSome, OnOk, is_some, true, false, codes};
+ghost use Rattle.std.specs.Prelude.{◌≡◌, ◌<◌, ◌≤◌, ◌+◌, ◌∷◌, ◌++◌, [], Some, IfOk, IfErr, IfSome, OnOk};
+ghost use Rattle.std.specs.Prelude.{is_some, true, false, codes};
 ghost use Rattle.std.specs.String.{string_bytes};
 ghost use Rattle.rhai_values.specs.Errors.{is_out_of_memory};
 ghost use Rattle.rhai_values.specs.Cells.{cells_of};
@@ -9,7 +10,10 @@ ghost use Rattle.rhai_values.specs.Native.{Missing, reply_of};
 ghost use Rattle.rhai_operators.specs.Answers.{HasMemory};
 ghost use Rattle.rhai_machine.specs.language.State.{Answers, HasMemory as WithMemory};
 ghost use Rattle.rhai_machine.specs.language.Values.{is_handle as handle_at};
-ghost use Rattle.rhai_machine.specs.language.Calls.{applied as applied_at, builtin_of as builtin_for, call_at, operation_at, not_found as not_found_at, placed_if_none, replied as replied_at, signature as signature_of, sized as sized_at, types_of};
+ghost use Rattle.rhai_machine.specs.language.Calls.{applied as applied_at, builtin_of as builtin_for};
+ghost use Rattle.rhai_machine.specs.language.Calls.{call_at, operation_at, not_found as not_found_at};
+ghost use Rattle.rhai_machine.specs.language.Calls.{placed_if_none, replied as replied_at};
+ghost use Rattle.rhai_machine.specs.language.Calls.{signature as signature_of, sized as sized_at, types_of};
 
 use crate::errors::data_too_large;
 use rhai_items::{Items, Shared, Text};
@@ -49,7 +53,8 @@ fn signature<H: Host>(
     first: &Dynamic<H>,
     rest: &[Dynamic<H>],
 ) -> Result<Shared<Text>, AllocError>
-    ensures { IfOk result (λ text. text ≡ signature_of name.now (types_of H.name_of (cells_of cells.now) (first.now ∷ rest.now))) }
+    ensures { IfOk result (λ text. text ≡ signature_of name.now
+        (types_of H.name_of (cells_of cells.now) (first.now ∷ rest.now))) }
 {
     let mut text = open_signature(alloc, name, first.type_name(cells))?;
     'others: for value in rest {
@@ -70,7 +75,8 @@ fn not_found<H: Host>(
     rest: &[Dynamic<H>],
     pos: Position,
 ) -> EvalAltResult<H>
-    ensures { is_out_of_memory result ≡ false → result ≡ not_found_at H.name_of (cells_of cells.now) name.now (first.now ∷ rest.now) pos }
+    ensures { is_out_of_memory result ≡ false → result ≡ not_found_at H.name_of (cells_of cells.now)
+        name.now (first.now ∷ rest.now) pos }
 {
     match signature(alloc, cells, name, first, rest) {
         Ok(text) => EvalAltResult::ErrorFunctionNotFound(text, pos),
@@ -154,7 +160,8 @@ fn missing<H: Host>(
     rest: &[Dynamic<H>],
     pos: Position,
 ) -> Result<Dynamic<H>, EvalAltResult<H>>
-    ensures { Answers result (replied_at limits.now H.name_of Missing (Some first.now) rest.now (operation_at name.now token pos) (cells_of cells.now)) }
+    ensures { Answers result (replied_at limits.now H.name_of Missing (Some first.now) rest.now
+        (operation_at name.now token pos) (cells_of cells.now)) }
 {
     match builtin(alloc, token, first, rest) {
         Some(outcome) => applied(alloc, limits, outcome, pos),
@@ -174,7 +181,9 @@ pub fn replied<H: Host>(
     rest: &[Dynamic<H>],
     pos: Position,
 ) -> Result<Dynamic<H>, EvalAltResult<H>>
-    ensures told { IfSome (reply_of answer) (λ reply. Answers result (replied_at limits.now H.name_of reply (Some first.now) rest.now (operation_at name.now token pos) (cells_of cells.now))) }
+    ensures told { IfSome (reply_of answer) (λ reply. Answers result
+        (replied_at limits.now H.name_of reply (Some first.now) rest.now (operation_at name.now token pos)
+        (cells_of cells.now))) }
     ensures memory { WithMemory result → is_some (reply_of answer) ≡ true }
 {
     match answer {

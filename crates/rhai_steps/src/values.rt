@@ -6,7 +6,9 @@ ghost use Rattle.rhai_values.specs.Cells.{cells_of, value_of_cell};
 ghost use Rattle.rhai_values.specs.Copy.{copy_of, plain};
 ghost use Rattle.rhai_values.specs.declared.base.value.Union.TheVariants as kind;
 ghost use Rattle.rhai_machine.specs.language.State.{Answers};
-ghost use Rattle.rhai_machine.specs.language.Values.{bool_value as truth_of, copied, flat, is_handle, is_truth, through, truth, truth_union, unit_value as unit, used};
+ghost use Rattle.rhai_machine.specs.language.Values.{bool_value as truth_of, copied, flat, is_handle};
+ghost use Rattle.rhai_machine.specs.language.Values.{is_truth, through, truth, truth_union};
+ghost use Rattle.rhai_machine.specs.language.Values.{unit_value as unit, used};
 ghost use Rattle.rhai_machine.specs.language.Expressions.{literal_of};
 ghost use Rattle.rhai_steps.specs.Values.{unit_seen};
 
@@ -103,7 +105,8 @@ fn plain_truth<H: Host>(
     value: &Dynamic<H>,
     pos: Position,
 ) -> Result<bool, EvalAltResult<H>>
-    ensures exact { Answers result (truth_union H.name_of (cells_of cells.now) value.now.value value.now pos) }
+    ensures exact { Answers result (truth_union H.name_of (cells_of cells.now) value.now.value value.now
+        pos) }
     ensures memory { IfErr result (λ _. is_truth value.now.value ≡ false) }
 {
     match &value.value {

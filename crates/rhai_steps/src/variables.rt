@@ -1,6 +1,7 @@
 //! Variables, and what a restoring list takes back.
 
-ghost use Rattle.std.specs.Prelude.{◌≡◌, ℕ, List, Ok, Err, Some, None, false, IsTrue, ◌++◌, ◌∷◌, [], true, not, ◌&&◌, is_some, take, IfOk, IfErr, OnOk, OnErr};
+ghost use Rattle.std.specs.Prelude.{◌≡◌, ℕ, List, Ok, Err, Some, None, false, IsTrue, ◌++◌, ◌∷◌, [], true};
+ghost use Rattle.std.specs.Prelude.{not, ◌&&◌, is_some, take, IfOk, IfErr, OnOk, OnErr};
 ghost use Rattle.rhai_values.specs.Cells.{cells_of};
 ghost use Rattle.rhai_values.specs.Errors.{is_out_of_memory};
 ghost use Rattle.rhai_values.specs.declared.base.error.EvalAltResult.TheVariants as error;
@@ -52,7 +53,8 @@ fn copy_variable<H: Host>(
     name: &Shared<Text>,
     pos: Position,
 ) -> Result<Dynamic<H>, EvalAltResult<H>>
-    ensures { Answers result (copied (looked_up (cells_of cells.now) name.now pos value.now.value value.now)) }
+    ensures { Answers result (copied (looked_up (cells_of cells.now) name.now pos value.now.value
+        value.now)) }
 {
     match &value.value {
         Union::Cell(id) => match cells.get(*id) {
@@ -65,8 +67,11 @@ fn copy_variable<H: Host>(
 
 /// Whether a value is the handle of a cell that is held.
 fn is_held<H: Host>(cells: &CellStore<H>, value: &Dynamic<H>) -> bool
-    ensures held { IsTrue result → (name : List ℕ) → (pos : _) → looked_up (cells_of cells.now) name pos value.now.value value.now ≡ Err (error.ErrorDataRace name pos) }
-    ensures free { result ≡ false → (name : List ℕ) → (pos : _) → looked_up (cells_of cells.now) name pos value.now.value value.now ≡ Ok value.now }
+    ensures held { IsTrue result → (name : List ℕ) → (pos : _) →
+        looked_up (cells_of cells.now) name pos value.now.value value.now
+        ≡ Err (error.ErrorDataRace name pos) }
+    ensures free { result ≡ false → (name : List ℕ) → (pos : _) →
+        looked_up (cells_of cells.now) name pos value.now.value value.now ≡ Ok value.now }
 {
     match &value.value {
         Union::Cell(id) => cells.get(*id).is_none(),
@@ -93,7 +98,8 @@ pub fn may_declare<H: Host>(
     name: &Shared<Text>,
     pos: Position,
 ) -> Result<(), EvalAltResult<H>>
-    ensures { Answers result (declarable name.now pos (is_taken allow_shadowing name.now (entries_of scope.now)) (is_full limits.now (entries_of scope.now))) }
+    ensures { Answers result (declarable name.now pos (is_taken allow_shadowing name.now
+        (entries_of scope.now)) (is_full limits.now (entries_of scope.now))) }
 {
     if refuses_name(allow_shadowing, scope, name) {
         return Err(variable_exists(name, pos));
@@ -111,9 +117,11 @@ pub fn find_variable<'s, H: Host>(
     name: &Shared<Text>,
     pos: Position,
 ) -> Result<Target<'s, H>, EvalAltResult<H>>
-    ensures found { IfOk result (λ target. variable_of (cells_of cells.now) name.now pos (found name.now (entries_of scope.old)) ≡ Ok target.at.now) }
+    ensures found { IfOk result (λ target. variable_of (cells_of cells.now) name.now pos
+        (found name.now (entries_of scope.old)) ≡ Ok target.at.now) }
     ensures place { IfOk result (λ target. target.part ≡ part.Whole) }
-    ensures missed { IfErr result (λ e. is_out_of_memory e ≡ false → variable_of (cells_of cells.now) name.now pos (found name.now (entries_of scope.old)) ≡ Err e) }
+    ensures missed { IfErr result (λ e. is_out_of_memory e ≡ false →
+        variable_of (cells_of cells.now) name.now pos (found name.now (entries_of scope.old)) ≡ Err e) }
 {
     let Some(index) = scope.search(name.get().as_str()) else {
         return Err(variable_not_found(name, pos));
@@ -147,7 +155,8 @@ pub fn define_variable<H: Host>(
     pos: Position,
 ) -> Result<Dynamic<H>, EvalAltResult<H>>
     ensures defined { IfOk result (λ v. v ≡ unit) }
-    ensures pushed { OnOk result (entries_of scope.new ≡ entries_of scope.old ++ new_entry ident.now.name mode value ∷ []) }
+    ensures pushed { OnOk result (entries_of scope.new ≡ entries_of scope.old
+        ++ new_entry ident.now.name mode value ∷ []) }
     ensures refused { IfErr result (λ e. is_out_of_memory e ≡ true) }
     ensures same { OnErr result (entries_of scope.new ≡ entries_of scope.old) }
 {

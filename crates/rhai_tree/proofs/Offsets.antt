@@ -1,5 +1,6 @@
 -- Where the newest of a name stands, as names are added at the end or put below.
-use Rattle.std.proofs.Common.{◌≡◌, ◌<◌, ◌≤◌, arith, ℕ, zero, suc, ◌+◌, Bool, true, false, IsTrue, List, [], ◌∷◌, ◌++◌, length, take, get_or, refl, sym, ap, ◌∙◌, add-one, length-append}
+use Rattle.std.proofs.Common.{◌≡◌, ◌<◌, ◌≤◌, arith, ℕ, zero, suc, ◌+◌, Bool, true, false, IsTrue, List, [], ◌∷◌, ◌++◌, length, take}
+use Rattle.std.proofs.Common.{get_or, refl, sym, ap, ◌∙◌, add-one, length-append}
 use Rattle.std.specs.Str.{bytes_eq}
 use Rattle.std.proofs.lemmas.Bool.{eqb-true, eq-eqb}
 use Rattle.std.proofs.Math.Seq.{take-suc}
@@ -15,7 +16,8 @@ moved offset true = 1
 moved zero false = zero
 moved (suc offset) false = suc (suc offset)
 
-moved_on : (o : ℕ) (newer here : Bool) (count : ℕ) → further (moved o newer) here (suc (suc count)) ≡ moved (further o here (suc count)) newer
+moved_on : (o : ℕ) (newer here : Bool) (count : ℕ) → further (moved o newer) here (suc (suc count)) ≡ moved (further o here (suc count))
+    newer
 moved_on o true here count = refl
 moved_on (suc o) false here count = refl
 moved_on zero false true count = refl
@@ -56,11 +58,13 @@ above : (base : List Name) (name : Name) (names : List Name) (k : ℕ) → offse
 above [] name names k e = e
 above (n ∷ base) name names k e = kept _ k _ (bytes_eq n name) (above base name names k e)
 
-pub stands_above : (base : List Name) (name : Name) (k : ℕ) (names : List Name) → IsTrue (stands name k names) → IsTrue (stands name k (base ++ names))
+pub stands_above : (base : List Name) (name : Name) (k : ℕ) (names : List Name) → IsTrue (stands name k names) →
+    IsTrue (stands name k (base ++ names))
 stands_above base name zero names e = cc
 stands_above base name (suc k) names e = eq-eqb _ _ (above base name names k (eqb-true _ _ e))
 
-good_above : (base : List Name) (offset : Option NonZeroUsize) (name : Name) (names : List Name) → is_good offset name names ≡ true → is_good offset name (base ++ names) ≡ true
+good_above : (base : List Name) (offset : Option NonZeroUsize) (name : Name) (names : List Name) → is_good offset name names ≡ true →
+    is_good offset name (base ++ names) ≡ true
 good_above base None name names e = refl
 good_above base (Some offset) name names e = stands_above base name (non_zero_usize_get offset) names e
 

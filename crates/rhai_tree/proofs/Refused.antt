@@ -1,11 +1,14 @@
 -- A fault of a part is a fault of what holds the part.
-use Rattle.std.proofs.Common.{◌≡◌, ◌≢◌, Bool, true, false, ◌||◌, IsTrue, List, [], ◌∷◌, ◌++◌, refl, sym, ap, ◌∙◌, subst, length, ◌<◌, ℕ, suc, arith, Result, Ok, Err, drop, map, get_or}
+use Rattle.std.proofs.Common.{◌≡◌, ◌≢◌, Bool, true, false, ◌||◌, IsTrue, List, [], ◌∷◌, ◌++◌, refl, sym, ap, ◌∙◌, subst, length, ◌<◌, ℕ}
+use Rattle.std.proofs.Common.{suc, arith, Result, Ok, Err, drop, map, get_or}
 use Rattle.std.specs.List.{Contains}
 use Rattle.std.proofs.lemmas.List.Elements.{Contains-append_right}
 use Rattle.std.specs.Result.{IsErr, IsErrAnd, IfErr}
 use Rattle.std.proofs.Math.Seq.{drop-cons}
 use Rattle.rhai_tree.specs.declared.check.CheckFault.{CheckFault}
-use Rattle.rhai_tree.specs.declared.check.CheckFault.TheVariants.{BadOffset, BadImportOffset, BadChain, BadAssignment, BadSwitch, BadMapKey, BadCatch, LoopControlOutside, ExportNotGlobal, EvalCall, NotAnExpression, QualifiedMethod, NoMemory, NotYet}
+use Rattle.rhai_tree.specs.declared.check.CheckFault.TheVariants.{BadOffset, BadImportOffset, BadChain, BadAssignment, BadSwitch}
+use Rattle.rhai_tree.specs.declared.check.CheckFault.TheVariants.{BadMapKey, BadCatch, LoopControlOutside, ExportNotGlobal, EvalCall}
+use Rattle.rhai_tree.specs.declared.check.CheckFault.TheVariants.{NotAnExpression, QualifiedMethod, NoMemory, NotYet}
 use Rattle.rhai_tree.specs.declared.expr.Expr.{Expr}
 use Rattle.rhai_tree.specs.declared.expr.Stmt.{Stmt}
 use Rattle.rhai_tree.specs.Context.{Context}
@@ -64,8 +67,10 @@ pub refuses_expr : (exprs : List Expr) (i : ℕ) (x : Expr) (c : Context) (e : C
 refuses_expr exprs i x c e lt is same declares h =
     let here : drop i exprs ≡ x ∷ drop (suc i) exprs = drop-cons exprs i x lt ∙ ap (λ y. y ∷ drop (suc i) exprs) (sym is) in
     let rest = λ (fs : List Expr). faults_in_all (map seen_expr fs) c in
-    let whole : faults_in_all (map seen_expr exprs) c ≡ (seen_expr x).value c ++ faults_in_all (map seen_expr (drop (suc i) exprs)) c = same ∙ ap rest here in
-    let first = refuses_first ((seen_expr x).value c) (faults_in_all (map seen_expr (drop (suc i) exprs)) c) (declares_expr x) (any_of (map declares_expr (drop (suc i) exprs))) e h in
+    let whole : faults_in_all (map seen_expr exprs) c ≡ (seen_expr x).value c ++ faults_in_all (map seen_expr (drop (suc i) exprs)) c =
+    same ∙ ap rest here in
+    let first = refuses_first ((seen_expr x).value c) (faults_in_all (map seen_expr (drop (suc i) exprs)) c) (declares_expr x)
+    (any_of (map declares_expr (drop (suc i) exprs))) e h in
     refuses_more _ _ (any_of (map declares_expr (drop i exprs))) _ e (λ k. k) declares (rw (whole, here) first)
 
 pub refuses_stmt : (stmts : List Stmt) (i : ℕ) (x : Stmt) (c d : Context) (e : CheckFault) → i < length stmts → x ≡ get_or stmts i x
@@ -76,8 +81,10 @@ pub refuses_stmt : (stmts : List Stmt) (i : ℕ) (x : Stmt) (c d : Context) (e :
 refuses_stmt stmts i x c d e lt is same declares h =
     let here : drop i stmts ≡ x ∷ drop (suc i) stmts = drop-cons stmts i x lt ∙ ap (λ y. y ∷ drop (suc i) stmts) (sym is) in
     let rest = λ (fs : List Stmt). (faults_in_list (map seen_stmt fs) d).0 in
-    let whole : (faults_in_list (map seen_stmt stmts) c).0 ≡ (seen_stmt x d).0 ++ (faults_in_list (map seen_stmt (drop (suc i) stmts)) (seen_stmt x d).1).0 = ap (λ p. p.0) same ∙ ap rest here in
-    let first = refuses_first (seen_stmt x d).0 (faults_in_list (map seen_stmt (drop (suc i) stmts)) (seen_stmt x d).1).0 (declares_stmt x) (any_of (map declares_stmt (drop (suc i) stmts))) e h in
+    let whole : (faults_in_list (map seen_stmt stmts) c).0 ≡ (seen_stmt x d).0 ++
+    (faults_in_list (map seen_stmt (drop (suc i) stmts)) (seen_stmt x d).1).0 = ap (λ p. p.0) same ∙ ap rest here in
+    let first = refuses_first (seen_stmt x d).0 (faults_in_list (map seen_stmt (drop (suc i) stmts)) (seen_stmt x d).1).0
+    (declares_stmt x) (any_of (map declares_stmt (drop (suc i) stmts))) e h in
     refuses_more _ _ (any_of (map declares_stmt (drop i stmts))) _ e (λ k. k) declares (rw (whole, here) first)
 
 -- the first fault is one of them

@@ -3,7 +3,8 @@ use Rattle.std.specs.Prelude.{Bool, true, false, List, [], ◌∷◌, ◌++◌}
 use Rattle.rhai_tree.specs.declared.check.place.Place.{Place}
 use Rattle.rhai_tree.specs.Names.{Name}
 
--- the names declared so far in the frame and its imports, oldest first, and whether the form stands in a loop of its function, and in the tree's top list
+-- the names declared so far in the frame and its imports, oldest first, and whether the form stands in a loop of its function, and in
+-- the tree's top list
 pub record Context : Type 0 where
   pub names : List Name
   pub imports : List Name

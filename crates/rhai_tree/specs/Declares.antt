@@ -40,16 +40,20 @@ stmt_step (layer.Return expr options pos) = in_option expr
 stmt_step _ = false
 
 abbrev pub declares_expr : Expr → Bool
-declares_expr = fold-Expr Bool Bool (Unit {0}) Bool (Unit {0}) Bool expr_step stmt_step (λ conditional. tt) (λ call. any_of call.args) (λ entry. tt) (λ block. any_of block.statements)
+declares_expr = fold-Expr Bool Bool (Unit {0}) Bool (Unit {0}) Bool expr_step stmt_step (λ conditional. tt) (λ call. any_of call.args)
+    (λ entry. tt) (λ block. any_of block.statements)
 
 abbrev pub declares_call : FnCallExpr → Bool
-declares_call = fold-FnCallExpr Bool Bool (Unit {0}) Bool (Unit {0}) Bool expr_step stmt_step (λ conditional. tt) (λ call. any_of call.args) (λ entry. tt) (λ block. any_of block.statements)
+declares_call = fold-FnCallExpr Bool Bool (Unit {0}) Bool (Unit {0}) Bool expr_step stmt_step (λ conditional. tt)
+    (λ call. any_of call.args) (λ entry. tt) (λ block. any_of block.statements)
 
 abbrev pub declares_block : StmtBlock → Bool
-declares_block = fold-StmtBlock Bool Bool (Unit {0}) Bool (Unit {0}) Bool expr_step stmt_step (λ conditional. tt) (λ call. any_of call.args) (λ entry. tt) (λ block. any_of block.statements)
+declares_block = fold-StmtBlock Bool Bool (Unit {0}) Bool (Unit {0}) Bool expr_step stmt_step (λ conditional. tt)
+    (λ call. any_of call.args) (λ entry. tt) (λ block. any_of block.statements)
 
 abbrev pub declares_stmt : Stmt → Bool
-declares_stmt = fold-Stmt Bool Bool (Unit {0}) Bool (Unit {0}) Bool expr_step stmt_step (λ conditional. tt) (λ call. any_of call.args) (λ entry. tt) (λ block. any_of block.statements)
+declares_stmt = fold-Stmt Bool Bool (Unit {0}) Bool (Unit {0}) Bool expr_step stmt_step (λ conditional. tt) (λ call. any_of call.args)
+    (λ entry. tt) (λ block. any_of block.statements)
 
 -- the check of functions may need memory where there are some
 abbrev pub has_functions : List ScriptFuncDef → Bool

@@ -1,7 +1,9 @@
 -- The faults of a tree.
 use Rattle.rhai_tree.specs.declared.position.Position.{Position}
 use Rattle.rhai_tree.specs.declared.check.CheckFault.{CheckFault}
-use Rattle.rhai_tree.specs.declared.check.CheckFault.TheVariants.{BadOffset, BadImportOffset, BadChain, BadAssignment, BadSwitch, BadMapKey, BadCatch, LoopControlOutside, ExportNotGlobal, EvalCall, NotAnExpression, QualifiedMethod, NoMemory, NotYet}
+use Rattle.rhai_tree.specs.declared.check.CheckFault.TheVariants.{BadOffset, BadImportOffset, BadChain, BadAssignment, BadSwitch}
+use Rattle.rhai_tree.specs.declared.check.CheckFault.TheVariants.{BadMapKey, BadCatch, LoopControlOutside, ExportNotGlobal, EvalCall}
+use Rattle.rhai_tree.specs.declared.check.CheckFault.TheVariants.{NotAnExpression, QualifiedMethod, NoMemory, NotYet}
 use Rattle.rhai_tree.specs.Position.{none}
 
 -- where a fault stands; want of memory stands nowhere

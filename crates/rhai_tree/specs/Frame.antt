@@ -1,4 +1,5 @@
--- What a run may rely on in a part of a checked tree: it has forms that are there alone, and each offset is that of the newest variable of its name in the scope, whose names are taken oldest first.
+-- What a run may rely on in a part of a checked tree: it has forms that are there alone, and each offset is that of the newest variable
+-- of its name in the scope, whose names are taken oldest first.
 use Rattle.std.specs.Prelude.{Bool, true, false, ◌&&◌, not, IsTrue, List, [], ◌∷◌, ◌++◌, length, map, Option, Some, None}
 use Rattle.rhai_tree.specs.declared.expr.Expr.{Expr}
 use Rattle.rhai_tree.specs.declared.expr.FnCallExpr.{FnCallExpr}
@@ -110,19 +111,23 @@ stmt_step (layer.Export name alias pos) names = (false, names)
 stmt_step (layer.Share variables) names = (false, names)
 
 abbrev pub tests_of : Expr → Tests
-tests_of = fold-Expr Tests Verdict (Unit {0}) Test (Unit {0}) Test expr_step stmt_step (λ conditional. tt) call_step (λ entry. tt) block_step
+tests_of = fold-Expr Tests Verdict (Unit {0}) Test (Unit {0}) Test expr_step stmt_step (λ conditional. tt) call_step (λ entry. tt)
+    block_step
 
 abbrev pub resolves_expr : Expr → Test
 resolves_expr e = (tests_of e).value
 
 abbrev pub resolves_call : FnCallExpr → Test
-resolves_call = fold-FnCallExpr Tests Verdict (Unit {0}) Test (Unit {0}) Test expr_step stmt_step (λ conditional. tt) call_step (λ entry. tt) block_step
+resolves_call = fold-FnCallExpr Tests Verdict (Unit {0}) Test (Unit {0}) Test expr_step stmt_step (λ conditional. tt) call_step
+    (λ entry. tt) block_step
 
 abbrev pub resolves_block : StmtBlock → Test
-resolves_block = fold-StmtBlock Tests Verdict (Unit {0}) Test (Unit {0}) Test expr_step stmt_step (λ conditional. tt) call_step (λ entry. tt) block_step
+resolves_block = fold-StmtBlock Tests Verdict (Unit {0}) Test (Unit {0}) Test expr_step stmt_step (λ conditional. tt) call_step
+    (λ entry. tt) block_step
 
 abbrev pub resolves_stmt : Stmt → Verdict
-resolves_stmt = fold-Stmt Tests Verdict (Unit {0}) Test (Unit {0}) Test expr_step stmt_step (λ conditional. tt) call_step (λ entry. tt) block_step
+resolves_stmt = fold-Stmt Tests Verdict (Unit {0}) Test (Unit {0}) Test expr_step stmt_step (λ conditional. tt) call_step (λ entry. tt)
+    block_step
 
 abbrev pub resolves_body : ScriptFuncPayload → Test
 resolves_body (Statements block) = resolves_block block

@@ -1,7 +1,9 @@
 -- What the checker may answer where it does not pass a part.
 use Rattle.std.specs.Prelude.{◌≡◌, Bool, IsTrue, List, [], ◌∷◌}
 use Rattle.rhai_tree.specs.declared.check.CheckFault.{CheckFault}
-use Rattle.rhai_tree.specs.declared.check.CheckFault.TheVariants.{BadOffset, BadImportOffset, BadChain, BadAssignment, BadSwitch, BadMapKey, BadCatch, LoopControlOutside, ExportNotGlobal, EvalCall, NotAnExpression, QualifiedMethod, NoMemory, NotYet}
+use Rattle.rhai_tree.specs.declared.check.CheckFault.TheVariants.{BadOffset, BadImportOffset, BadChain, BadAssignment, BadSwitch}
+use Rattle.rhai_tree.specs.declared.check.CheckFault.TheVariants.{BadMapKey, BadCatch, LoopControlOutside, ExportNotGlobal, EvalCall}
+use Rattle.rhai_tree.specs.declared.check.CheckFault.TheVariants.{NotAnExpression, QualifiedMethod, NoMemory, NotYet}
 
 -- the first of some faults
 abbrev pub IsFirst : List CheckFault → CheckFault → Type 0

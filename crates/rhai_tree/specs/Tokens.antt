@@ -1,7 +1,10 @@
 -- Operators as they are written.
 use Rattle.std.specs.Prelude.{ℕ, List, codes}
 use Rattle.rhai_tree.specs.declared.token.Token.{Token}
-use Rattle.rhai_tree.specs.declared.token.Token.TheVariants.{Plus, Minus, UnaryMinus, Multiply, Divide, Modulo, PowerOf, LeftShift, RightShift, Ampersand, Pipe, XOr, Bang, EqualsTo, NotEqualsTo, LessThan, LessThanEqualsTo, GreaterThan, GreaterThanEqualsTo, ExclusiveRange, InclusiveRange}
+use Rattle.rhai_tree.specs.declared.token.Token.TheVariants.{Plus, Minus, UnaryMinus, Multiply, Divide, Modulo, PowerOf, LeftShift}
+use Rattle.rhai_tree.specs.declared.token.Token.TheVariants.{RightShift, Ampersand, Pipe, XOr, Bang, EqualsTo, NotEqualsTo, LessThan}
+use Rattle.rhai_tree.specs.declared.token.Token.TheVariants.{LessThanEqualsTo, GreaterThan, GreaterThanEqualsTo, ExclusiveRange}
+use Rattle.rhai_tree.specs.declared.token.Token.TheVariants.{InclusiveRange}
 
 -- the text of an operator; a minus reads alike with one operand and with two
 abbrev pub syntax_of : Token → List ℕ

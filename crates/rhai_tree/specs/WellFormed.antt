@@ -147,16 +147,20 @@ stmt_step (layer.Export name alias pos) c = (NotYet pos ∷ [], c)
 stmt_step (layer.Share variables) c = (NotYet (first_shared variables) ∷ [], c)
 
 abbrev pub seen_expr : Expr → Seen
-seen_expr = fold-Expr Seen SeenStmt (Unit {0}) SeenCall (Unit {0}) Seen expr_step stmt_step (λ conditional. tt) call_step (λ entry. tt) block_step
+seen_expr = fold-Expr Seen SeenStmt (Unit {0}) SeenCall (Unit {0}) Seen expr_step stmt_step (λ conditional. tt) call_step (λ entry. tt)
+    block_step
 
 abbrev pub seen_call : FnCallExpr → SeenCall
-seen_call = fold-FnCallExpr Seen SeenStmt (Unit {0}) SeenCall (Unit {0}) Seen expr_step stmt_step (λ conditional. tt) call_step (λ entry. tt) block_step
+seen_call = fold-FnCallExpr Seen SeenStmt (Unit {0}) SeenCall (Unit {0}) Seen expr_step stmt_step (λ conditional. tt) call_step
+    (λ entry. tt) block_step
 
 abbrev pub seen_block : StmtBlock → Seen
-seen_block = fold-StmtBlock Seen SeenStmt (Unit {0}) SeenCall (Unit {0}) Seen expr_step stmt_step (λ conditional. tt) call_step (λ entry. tt) block_step
+seen_block = fold-StmtBlock Seen SeenStmt (Unit {0}) SeenCall (Unit {0}) Seen expr_step stmt_step (λ conditional. tt) call_step
+    (λ entry. tt) block_step
 
 abbrev pub seen_stmt : Stmt → SeenStmt
-seen_stmt = fold-Stmt Seen SeenStmt (Unit {0}) SeenCall (Unit {0}) Seen expr_step stmt_step (λ conditional. tt) call_step (λ entry. tt) block_step
+seen_stmt = fold-Stmt Seen SeenStmt (Unit {0}) SeenCall (Unit {0}) Seen expr_step stmt_step (λ conditional. tt) call_step (λ entry. tt)
+    block_step
 
 -- the faults of the statements of a tree
 abbrev pub faults_in_statements : List Stmt → List CheckFault

@@ -92,9 +92,12 @@ pub fn check_tree(
 ) -> Result<CheckedTree, CheckFault>
     ensures passed { IfOk result (λ tree. tree ≡ (statements, functions)) }
     ensures formed { OnOk result (IsFormedTree statements functions) }
-    ensures refused { IfErr result (λ fault. fault ≢ CheckFault.NoMemory → Stands fault statements functions) }
-    ensures unformed { IfErr result (λ fault. fault ≢ CheckFault.NoMemory → ¬ IsFormedTree statements functions) }
-    ensures memory { IfErr result (λ fault. fault ≡ CheckFault.NoMemory → IsTrue (needs_memory statements functions)) }
+    ensures refused { IfErr result (λ fault. fault ≢ CheckFault.NoMemory →
+        Stands fault statements functions) }
+    ensures unformed { IfErr result (λ fault. fault ≢ CheckFault.NoMemory →
+        ¬ IsFormedTree statements functions) }
+    ensures memory { IfErr result (λ fault. fault ≡ CheckFault.NoMemory →
+        IsTrue (needs_memory statements functions)) }
 {
     let mut names = Items::new(alloc);
     check_statements(&mut names, Place::TOP, statements.as_slice())?;
@@ -107,12 +110,10 @@ pub fn check_tree(
 pub fn check_function(alloc: Global, def: ScriptFuncDef) -> Result<CheckedFn, CheckFault>
     ensures passed { IfOk result (λ function. function ≡ def) }
     ensures formed { OnOk result (IsFormedFunction def) }
-    ensures refused { IfErr result (λ fault. fault ≢ CheckFault.NoMemory → Contains (faults_in_function def) fault) }
+    ensures refused { IfErr result (λ fault. fault ≢ CheckFault.NoMemory →
+        Contains (faults_in_function def) fault) }
     ensures unformed { IfErr result (λ fault. fault ≢ CheckFault.NoMemory → ¬ IsFormedFunction def) }
 {
     check_def(alloc, &def)?;
     Ok(CheckedFn::new(def))
 }
-
-#[cfg(test)]
-mod tests;

@@ -1,5 +1,6 @@
 -- Tests of lists, one item further.
-use Rattle.std.proofs.Common.{◌≡◌, ℕ, zero, suc, ◌+◌, ◌<◌, Bool, true, false, ◌&&◌, List, [], ◌∷◌, map, refl, sym, ap, ◌∙◌, length, take, get_or, arith, add-one}
+use Rattle.std.proofs.Common.{◌≡◌, ℕ, zero, suc, ◌+◌, ◌<◌, Bool, true, false, ◌&&◌, List, [], ◌∷◌, map, refl, sym, ap, ◌∙◌, length, take}
+use Rattle.std.proofs.Common.{get_or, arith, add-one}
 use Rattle.rhai_values.specs.Hashable.{all_of}
 use Rattle.rhai_values.specs.LiteralEquals.{each}
 
@@ -23,12 +24,14 @@ refuses_first true b e = cc
 refuses_first false b e = refl
 
 module _ {A : Type 0} (f : A → Bool) where
-  all_at : (xs : List A) (i : ℕ) (d : A) → i < length xs → all_of (map f (take i xs)) ≡ true → f (get_or xs i d) ≡ true → all_of (map f (take (suc i) xs)) ≡ true
+  all_at : (xs : List A) (i : ℕ) (d : A) → i < length xs → all_of (map f (take i xs)) ≡ true → f (get_or xs i d) ≡ true →
+      all_of (map f (take (suc i) xs)) ≡ true
   all_at [] i d lt all here = absurd (omega arith)
   all_at (x ∷ xs) zero d lt all here = both (f x) true here refl
   all_at (x ∷ xs) (suc i) d lt all here = both (f x) _ (first (f x) _ all) (all_at xs i d (omega arith) (second (f x) _ all) here)
 
-  pub all_more : (xs : List A) (i : ℕ) (x : A) → i < length xs → x ≡ get_or xs i x → all_of (map f (take i xs)) ≡ true → true ≡ f x → all_of (map f (take (i + 1) xs)) ≡ true
+  pub all_more : (xs : List A) (i : ℕ) (x : A) → i < length xs → x ≡ get_or xs i x → all_of (map f (take i xs)) ≡ true → true ≡ f x →
+      all_of (map f (take (i + 1) xs)) ≡ true
   all_more xs i x lt is all here = rw add-one (all_at xs i x lt all (ap f (sym is) ∙ sym here))
 
   not_at : (xs : List A) (i : ℕ) (d : A) → i < length xs → false ≡ f (get_or xs i d) → false ≡ all_of (map f xs)
@@ -40,7 +43,8 @@ module _ {A : Type 0} (f : A → Bool) where
   all_not xs i x lt is here = not_at xs i x lt (here ∙ ap f is)
 
 module _ {A B : Type 0} (f : A → B → Bool) where
-  each_at : (xs : List A) (ys : List B) (i : ℕ) (x : A) (y : B) → i < length xs → i < length ys → each (map f (take i xs)) (take i ys) ≡ true →
+  each_at : (xs : List A) (ys : List B) (i : ℕ) (x : A) (y : B) → i < length xs → i < length ys →
+      each (map f (take i xs)) (take i ys) ≡ true →
       f (get_or xs i x) (get_or ys i y) ≡ true → each (map f (take (suc i) xs)) (take (suc i) ys) ≡ true
   each_at [] ys i x y lt below each_here here = absurd (omega arith)
   each_at (a ∷ xs) [] i x y lt below each_here here = absurd (omega arith)
@@ -48,17 +52,21 @@ module _ {A B : Type 0} (f : A → B → Bool) where
   each_at (a ∷ xs) (b ∷ ys) (suc i) x y lt below each_here here =
       both (f a b) _ (first (f a b) _ each_here) (each_at xs ys i x y (omega arith) (omega arith) (second (f a b) _ each_here) here)
 
-  pub each_more : (xs : List A) (ys : List B) (i : ℕ) (x : A) (y : B) → i < length xs → i < length ys → x ≡ get_or xs i x → y ≡ get_or ys i y →
+  pub each_more : (xs : List A) (ys : List B) (i : ℕ) (x : A) (y : B) → i < length xs → i < length ys → x ≡ get_or xs i x →
+      y ≡ get_or ys i y →
       each (map f (take i xs)) (take i ys) ≡ true → true ≡ f x y → each (map f (take (i + 1) xs)) (take (i + 1) ys) ≡ true
-  each_more xs ys i x y lt below is-x is-y before here = rw add-one (each_at xs ys i x y lt below before ((λ k. f (sym is-x k) (sym is-y k)) ∙ sym here))
+  each_more xs ys i x y lt below is-x is-y before here = rw add-one
+      (each_at xs ys i x y lt below before ((λ k. f (sym is-x k) (sym is-y k)) ∙ sym here))
 
-  each_not_at : (xs : List A) (ys : List B) (i : ℕ) (x : A) (y : B) → i < length xs → i < length ys → false ≡ f (get_or xs i x) (get_or ys i y) → false ≡ each (map f xs) ys
+  each_not_at : (xs : List A) (ys : List B) (i : ℕ) (x : A) (y : B) → i < length xs → i < length ys →
+      false ≡ f (get_or xs i x) (get_or ys i y) → false ≡ each (map f xs) ys
   each_not_at [] ys i x y lt below here = absurd (omega arith)
   each_not_at (a ∷ xs) [] i x y lt below here = absurd (omega arith)
   each_not_at (a ∷ xs) (b ∷ ys) zero x y lt below here = refuses_first (f a b) _ here
   each_not_at (a ∷ xs) (b ∷ ys) (suc i) x y lt below here = refuses (f a b) _ (each_not_at xs ys i x y (omega arith) (omega arith) here)
 
-  pub each_not : (xs : List A) (ys : List B) (i : ℕ) (x : A) (y : B) → i < length xs → i < length ys → x ≡ get_or xs i x → y ≡ get_or ys i y →
+  pub each_not : (xs : List A) (ys : List B) (i : ℕ) (x : A) (y : B) → i < length xs → i < length ys → x ≡ get_or xs i x →
+      y ≡ get_or ys i y →
       false ≡ f x y → false ≡ each (map f xs) ys
   each_not xs ys i x y lt below is-x is-y here = each_not_at xs ys i x y lt below (here ∙ (λ k. f (is-x k) (is-y k)))
 

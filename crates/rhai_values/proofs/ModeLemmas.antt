@@ -1,5 +1,6 @@
 -- Setting a mode, read at the lists of items.
-use Rattle.std.proofs.Common.{◌≡◌, ℕ, zero, suc, ◌+◌, ◌<◌, List, [], ◌∷◌, ◌++◌, map, refl, ap, length, take, drop, get_or, arith, add-one, ◌∙◌}
+use Rattle.std.proofs.Common.{◌≡◌, ℕ, zero, suc, ◌+◌, ◌<◌, List, [], ◌∷◌, ◌++◌, map, refl, ap, length, take, drop, get_or, arith, add-one}
+use Rattle.std.proofs.Common.{◌∙◌}
 use Rattle.std.proofs.lemmas.List.{length-map}
 use Rattle.std.proofs.Math.ListN.{set}
 use Rattle.std.proofs.Math.Seq.{take-append_seam}
@@ -24,18 +25,26 @@ module _ {H : Type 0} (mode : AccessMode) where
   mode-Array xs = λ i. Array' tt (block.more_of-Union-Array-0-1 (moded_row xs i).0 (moded_row xs i).1 block.end_of-Union-Array-0-1)
 
   moded_entries : (keys : List (List ℕ)) (xs : List (Dynamic H)) →
-      ◌≡◌ {A = PlacedEntries H} (block.shape-the_row-Dynamic-3 H (keys, xs), row_with_mode mode (block.hidden-the_row-Dynamic-3 H (keys, xs)))
+      ◌≡◌ {A = PlacedEntries H} (
+        block.shape-the_row-Dynamic-3 H (keys, xs),
+        row_with_mode mode (block.hidden-the_row-Dynamic-3 H (keys, xs)),
+      )
       (block.shape-the_row-Dynamic-3 H (keys, map (with_mode mode) xs), block.hidden-the_row-Dynamic-3 H (keys, map (with_mode mode) xs))
   unfolding block.shape-the_row-Dynamic-3 block.hidden-the_row-Dynamic-3 hidden
   moded_entries keys [] = refl
   moded_entries keys (x ∷ xs) =
-      λ i. ((keys, tt ∷ (moded_entries keys xs i).0.1), block.more_of-Dynamic (union_with_mode mode x.value) mode (moded_entries keys xs i).1)
+      λ i. (
+        (keys, tt ∷ (moded_entries keys xs i).0.1),
+        block.more_of-Dynamic (union_with_mode mode x.value) mode
+            (moded_entries keys xs i).1,
+      )
 
   pub mode-Map : (entries : List (List ℕ) × List (Dynamic H)) →
       union_with_mode mode (Map entries) ≡ Map {X1 = H} (entries.0, map (with_mode mode) entries.1)
   unfolding block.shape-the_row-Union-Map-0-1-4 block.hidden-the_row-Union-Map-0-1-4 hidden
   mode-Map entries =
-      λ i. Map' tt (block.more_of-Union-Map-0-1 (moded_entries entries.0 entries.1 i).0 (moded_entries entries.0 entries.1 i).1 block.end_of-Union-Map-0-1)
+      λ i. Map' tt (block.more_of-Union-Map-0-1 (moded_entries entries.0 entries.1 i).0 (moded_entries entries.0 entries.1 i).1
+      block.end_of-Union-Map-0-1)
 
 -- what a list that was lent, borrowed and changed leaves in its owner
 pub lent_map : {A : Type 0} (f : A → A) (xs lent borrowed now : List A) → lent ≡ xs → borrowed ≡ lent → now ≡ map f borrowed →

@@ -39,7 +39,8 @@ module _ {A : Type 0} (f : A → DataSizes) where
   pub held_more : (xs : List A) (i : ℕ) (x : A) (held : DataSizes) → i < length xs → x ≡ get_or xs i x →
       held ≡ saturated (total_of (map f (take i xs))) → joined held (saturated (f x)) ≡ saturated (total_of (map f (take (i + 1) xs)))
   held_more xs i x held lt is e =
-      rw add-one (ap (λ h. joined h (saturated (f x))) e ∙ joined-saturated _ (f x) ∙ ap (λ y. saturated (plus (total_of (map f (take i xs))) (f y))) is ∙ ap saturated (total-take xs i x lt))
+      rw add-one (ap (λ h. joined h (saturated (f x))) e ∙ joined-saturated _ (f x)
+      ∙ ap (λ y. saturated (plus (total_of (map f (take i xs))) (f y))) is ∙ ap saturated (total-take xs i x lt))
 
 -- what is counted of a list and what its items hold, stopping on the way
 pub held_with : (a b : DataSizes) → joined (saturated a) b ≡ saturated (plus b a)
@@ -48,19 +49,24 @@ held_with a b = same_sizes _ _ (stops_left _ _ _) (stops_left _ _ _) (stops_left
 module _ {H : Type 0} where
   -- what a value holds, by its kind
   abbrev total_union : Union H → DataSizes
-  total_union = fold-Union H Unit DataSizes DataSizes Unit Unit Unit Unit Unit (λ _. tt) union_total (λ d. d.value) (λ _. tt) (λ _. tt) (λ _. tt) (λ _. tt) (λ _. tt)
+  total_union = fold-Union H Unit DataSizes DataSizes Unit Unit Unit Unit Unit (λ _. tt) union_total (λ d. d.value) (λ _. tt) (λ _. tt)
+      (λ _. tt) (λ _. tt) (λ _. tt)
 
   total-value : (d : Dynamic H) → total d ≡ total_union d.value
-  total-value d = fold_out-Dynamic H Unit DataSizes DataSizes Unit Unit Unit Unit Unit (λ _. tt) union_total (λ x. x.value) (λ _. tt) (λ _. tt) (λ _. tt) (λ _. tt) (λ _. tt) d
+  total-value d = fold_out-Dynamic H Unit DataSizes DataSizes Unit Unit Unit Unit Unit (λ _. tt) union_total (λ x. x.value) (λ _. tt)
+      (λ _. tt) (λ _. tt) (λ _. tt) (λ _. tt) d
 
   total-Array : (items : List (Dynamic H)) → total_union (value.Array items) ≡ plus (sizes (length items) 0 0) (total_of (map total items))
   total-Array items = ap total_union (sym (rolls-Array items)) ∙ rw fold-roll-Union (simp length-map)
 
-  total-Map : (entries : List (List ℕ) × List (Dynamic H)) → total_union (value.Map entries) ≡ plus (sizes 0 (length entries.1) 0) (total_of (map total entries.1))
+  total-Map : (entries : List (List ℕ) × List (Dynamic H)) →
+      total_union (value.Map entries) ≡ plus (sizes 0 (length entries.1) 0) (total_of (map total entries.1))
   total-Map entries = ap total_union (sym (rolls-Map entries)) ∙ rw fold-roll-Union (simp length-map)
 
-  pub total-of-Array : (d : Dynamic H) (items : List (Dynamic H)) → d.value ≡ value.Array items → total d ≡ plus (sizes (length items) 0 0) (total_of (map total items))
+  pub total-of-Array : (d : Dynamic H) (items : List (Dynamic H)) → d.value ≡ value.Array items →
+      total d ≡ plus (sizes (length items) 0 0) (total_of (map total items))
   total-of-Array d items e = total-value d ∙ ap total_union e ∙ total-Array items
 
-  pub total-of-Map : (d : Dynamic H) (entries : List (List ℕ) × List (Dynamic H)) → d.value ≡ value.Map entries → total d ≡ plus (sizes 0 (length entries.1) 0) (total_of (map total entries.1))
+  pub total-of-Map : (d : Dynamic H) (entries : List (List ℕ) × List (Dynamic H)) → d.value ≡ value.Map entries →
+      total d ≡ plus (sizes 0 (length entries.1) 0) (total_of (map total entries.1))
   total-of-Map d entries e = total-value d ∙ ap total_union e ∙ total-Map entries

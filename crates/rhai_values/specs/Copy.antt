@@ -3,10 +3,15 @@ use Rattle.rhai_values.specs.declared.base.value.AccessMode.TheVariants.{ReadWri
 use Rattle.rhai_values.specs.declared.base.value.Dynamic.{Dynamic}
 use Rattle.rhai_values.specs.declared.base.value.FnPtr.{FnPtr, FnPtr' as Pointer'}
 use Rattle.rhai_values.specs.declared.base.value.FnPtrKind.TheBlock.{Row_of-Dynamic as Row, end_of-Dynamic as end, more_of-Dynamic as more}
-use Rattle.rhai_values.specs.declared.base.value.FnPtrKind.TheBlock.{Row_of-Union-Array-0-1 as Array_row, end_of-Union-Array-0-1 as array_end, more_of-Union-Array-0-1 as array_more}
-use Rattle.rhai_values.specs.declared.base.value.FnPtrKind.TheBlock.{Row_of-Union-Map-0-1 as Map_row, end_of-Union-Map-0-1 as map_end, more_of-Union-Map-0-1 as map_more}
-use Rattle.rhai_values.specs.declared.base.value.FnPtrKind.TheBlock.{Row_of-FnPtr as Pointer_row, end_of-FnPtr as pointer_end, more_of-FnPtr as pointer_more}
-use Rattle.rhai_values.specs.declared.base.value.Union.{Union, Unit, Bool, Int, Char, Str, ExclusiveRange, InclusiveRange, Array', Blob, Map', FnPtr', Host, Cell}
+use Rattle.rhai_values.specs.declared.base.value.FnPtrKind.TheBlock.{Row_of-Union-Array-0-1 as Array_row}
+use Rattle.rhai_values.specs.declared.base.value.FnPtrKind.TheBlock.{end_of-Union-Array-0-1 as array_end}
+use Rattle.rhai_values.specs.declared.base.value.FnPtrKind.TheBlock.{more_of-Union-Array-0-1 as array_more}
+use Rattle.rhai_values.specs.declared.base.value.FnPtrKind.TheBlock.{Row_of-Union-Map-0-1 as Map_row, end_of-Union-Map-0-1 as map_end}
+use Rattle.rhai_values.specs.declared.base.value.FnPtrKind.TheBlock.{more_of-Union-Map-0-1 as map_more}
+use Rattle.rhai_values.specs.declared.base.value.FnPtrKind.TheBlock.{Row_of-FnPtr as Pointer_row, end_of-FnPtr as pointer_end}
+use Rattle.rhai_values.specs.declared.base.value.FnPtrKind.TheBlock.{more_of-FnPtr as pointer_more}
+use Rattle.rhai_values.specs.declared.base.value.Union.{Union, Unit, Bool, Int, Char, Str, ExclusiveRange, InclusiveRange, Array', Blob}
+use Rattle.rhai_values.specs.declared.base.value.Union.{Map', FnPtr', Host, Cell}
 
 module _ {H : Type 0} where
   -- A copy, case by case. What is behind a pointer of its own stands in a row of one, and items stand in a row as long as their list.

@@ -1,5 +1,6 @@
 -- How much data a value holds, and the limits on it.
-use Rattle.std.specs.Prelude.{ℕ, ◌+◌, ◌-◌, ◌^◌, min, nat_lt, Bool, true, false, ◌&&◌, if◌then◌else◌, List, [], ◌∷◌, length, Option, Some, None, option_map, codes}
+use Rattle.std.specs.Prelude.{ℕ, ◌+◌, ◌-◌, ◌^◌, min, nat_lt, Bool, true, false, ◌&&◌, if◌then◌else◌, List, [], ◌∷◌, length, Option, Some}
+use Rattle.std.specs.Prelude.{None, option_map, codes}
 use Rattle.rhai_values.specs.declared.base.size.DataSizes.{DataSizes}
 use Rattle.rhai_values.specs.declared.base.size.SizeFault.{SizeFault}
 use Rattle.rhai_values.specs.declared.base.size.SizeFault.TheVariants as fault
@@ -30,7 +31,8 @@ union_total _ = sizes 0 0 0
 
 -- the exact sums of a value
 abbrev pub total : {H : Type 0} → Dynamic H → DataSizes
-total {H} = fold-Dynamic H Unit DataSizes DataSizes Unit Unit Unit Unit Unit (λ _. tt) union_total (λ d. d.value) (λ _. tt) (λ _. tt) (λ _. tt) (λ _. tt) (λ _. tt)
+total {H} = fold-Dynamic H Unit DataSizes DataSizes Unit Unit Unit Unit Unit (λ _. tt) union_total (λ d. d.value) (λ _. tt) (λ _. tt)
+    (λ _. tt) (λ _. tt) (λ _. tt)
 
 -- a sum that stops at the greatest machine number
 abbrev pub saturated_number : ℕ → ℕ

@@ -19,4 +19,5 @@ is_hashable_kind _ = true
 
 -- `()`, truth values, integers, characters, texts, ranges, blobs, and arrays and maps of such values
 abbrev pub is_hashable : {H : Type 0} → Dynamic H → Bool
-is_hashable {H} = fold-Dynamic H Unit Bool Bool Unit Unit Unit Unit Unit (λ _. tt) is_hashable_kind (λ d. d.value) (λ _. tt) (λ _. tt) (λ _. tt) (λ _. tt) (λ _. tt)
+is_hashable {H} = fold-Dynamic H Unit Bool Bool Unit Unit Unit Unit Unit (λ _. tt) is_hashable_kind (λ d. d.value) (λ _. tt) (λ _. tt)
+    (λ _. tt) (λ _. tt) (λ _. tt)

@@ -9,4 +9,5 @@ use Rattle.rhai_values.specs.Scope.{revalued}
 
 -- the entry that is lent ends with the value that it was changed to
 abbrev pub lends_value : (H : RattleType) → MutBor (Scope H.Denot) → ℕ → MutBor (Dynamic H.Denot) → Fml
-lends_value H s at r = Lends (scope.the_row H) (dynamic.the_row H) s r (λ value. record s.now { entries = revalued s.now.entries at (slice_get s.now.entries at) value })
+lends_value H s at r = Lends (scope.the_row H) (dynamic.the_row H) s r
+    (λ value. record s.now { entries = revalued s.now.entries at (slice_get s.now.entries at) value })

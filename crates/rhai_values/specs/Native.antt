@@ -16,7 +16,8 @@ pub data Key : Type 0 where
   Named : List ℕ → Key
   Numbered : ℕ → Key
 
--- a call of a native: the cells of the moment, None where a cell is held; the native; the first argument and the others; where the call stands
+-- a call of a native: the cells of the moment, None where a cell is held; the native; the first argument and the others; where the call
+-- stands
 pub record Request (H : Type 0) : Type 0 where
   pub cells : List (Option (Dynamic H))
   pub key : Key

@@ -1,7 +1,8 @@
 -- The names of the types of values, as scripts see them.
 use Rattle.std.specs.Prelude.{ℕ, List, [], Option, Some, None, codes}
 use Rattle.rhai_values.specs.declared.base.value.Dynamic.{Dynamic}
-use Rattle.rhai_values.specs.declared.base.value.Union.{Union, Unit, Bool, Int, Char, Str, ExclusiveRange, InclusiveRange, Array', Blob, Map', FnPtr', Host, Cell}
+use Rattle.rhai_values.specs.declared.base.value.Union.{Union, Unit, Bool, Int, Char, Str, ExclusiveRange, InclusiveRange, Array', Blob}
+use Rattle.rhai_values.specs.declared.base.value.Union.{Map', FnPtr', Host, Cell}
 use Rattle.rhai_values.specs.Cells.{value_of_cell}
 
 module _ {H : Type 0} (host_name : H → List ℕ) where

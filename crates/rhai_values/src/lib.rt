@@ -8,5 +8,3 @@ pub mod cells;
 pub mod limits;
 pub mod state;
 pub mod table;
-#[cfg(test)]
-mod tests;

@@ -58,7 +58,8 @@ impl<H: Drop> GlobalRuntimeState<H> {
     /// Imports a module under a name. Where there is no memory the state stays. Ports upstream's
     /// `GlobalRuntimeState::push_import`.
     pub fn push_import(&mut self, name: String, module: Shared<Module<H>>) -> Result<(), AllocError>
-        ensures ok { OnOk result (self.new ≡ with_imports self.old (self.old.imports ++ import_as (string_bytes name) «module» ∷ [])) }
+        ensures ok { OnOk result (self.new ≡ with_imports self.old
+            (self.old.imports ++ import_as (string_bytes name) «module» ∷ [])) }
         ensures err { OnErr result (self.new ≡ self.old) }
     {
         let name = Shared::new(self.imports.allocator(), Text::from_string(name))?;

@@ -22,7 +22,8 @@ pub enum Answer<H> {
 /// arguments and the cells, want of memory aside: the law that each implementation proves once.
 pub trait NativeTable<H> {
     ghost use Rattle.rhai_values.specs.Cells.{cells_of};
-    ghost use Rattle.rhai_values.specs.Native.{Natives, OfName, OfNumber, Named, Numbered, Obeys, HasNoHandle, Lawful, reply_of, request, was, left_by};
+    ghost use Rattle.rhai_values.specs.Native.{Natives, OfName, OfNumber, Named, Numbered, Obeys};
+    ghost use Rattle.rhai_values.specs.Native.{HasNoHandle, Lawful, reply_of, request, was, left_by};
 
     /// The state of the table as far as it shows.
     ghost State: { Type 0 };
@@ -42,7 +43,9 @@ pub trait NativeTable<H> {
         position: Position,
     ) -> Answer<H>
         requires { HasNoHandle (was first) }
-        ensures obeys { Obeys (natives.gives (state self.old) (request (cells_of cells.now) (Named name.now) (was first.entry) rest.now position)) (reply_of result) (left_by first.exit) (state self.new) }
+        ensures obeys { Obeys (natives.gives (state self.old)
+            (request (cells_of cells.now) (Named name.now) (was first.entry) rest.now position))
+            (reply_of result) (left_by first.exit) (state self.new) }
         ensures no_handle { HasNoHandle (left_by first.exit) };
 
     /// Calls a native by its number. Asked: the first argument is no bare handle of a cell.
@@ -55,7 +58,9 @@ pub trait NativeTable<H> {
         position: Position,
     ) -> Answer<H>
         requires { HasNoHandle (was first) }
-        ensures obeys { Obeys (natives.gives (state self.old) (request (cells_of cells.now) (Numbered id.number) (was first.entry) rest.now position)) (reply_of result) (left_by first.exit) (state self.new) }
+        ensures obeys { Obeys (natives.gives (state self.old)
+            (request (cells_of cells.now) (Numbered id.number) (was first.entry) rest.now position))
+            (reply_of result) (left_by first.exit) (state self.new) }
         ensures no_handle { HasNoHandle (left_by first.exit) };
 
     /// Whether a native of a name, by the type of its first argument (the empty text where there

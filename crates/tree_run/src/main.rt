@@ -2,11 +2,7 @@
 //! what each came to.
 #![tactic(auto)]
 
-mod command;
-#[cfg(test)]
-mod tests;
-
-use crate::command::{NOT_WRITTEN, print_usage, run};
+use rhai_bench::command::{NOT_WRITTEN, print_usage, run};
 use std::process::ExitCode;
 use std::rt::Env;
 use std::{env, io};

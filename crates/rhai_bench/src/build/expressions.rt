@@ -6,13 +6,12 @@ ghost use Rattle.rhai_tree.specs.declared.expr.Expr.TheVariants as expr;
 ghost use Rattle.rhai_bench.specs.Build.{IsVariable, operator_at};
 
 use crate::build::{at, list, no_namespace, shared};
-use rhai_tree::expr::{Expr, FnCallExpr};
-use rhai_tree::token::Token;
+use rhai_eval::base::{Expr, FnCallExpr, Token};
 use std::alloc::{AllocError, Global};
 use std::num::NonZeroUsize;
 
 /// An integer.
-pub fn int(value: i64, column: u16) -> Expr
+pub(crate) fn int(value: i64, column: u16) -> Expr
     requires { column ≢ 0 }
     ensures { result ≡ expr.IntegerConstant value (place 1 column) }
 {
@@ -20,7 +19,7 @@ pub fn int(value: i64, column: u16) -> Expr
 }
 
 /// A truth value.
-pub fn truth(value: bool, column: u16) -> Expr
+pub(crate) fn truth(value: bool, column: u16) -> Expr
     requires { column ≢ 0 }
     ensures { result ≡ expr.BoolConstant value (place 1 column) }
 {
@@ -28,7 +27,7 @@ pub fn truth(value: bool, column: u16) -> Expr
 }
 
 /// The value `()`.
-pub fn unit(column: u16) -> Expr
+pub(crate) fn unit(column: u16) -> Expr
     requires { column ≢ 0 }
     ensures { result ≡ expr.Unit (place 1 column) }
 {
@@ -36,7 +35,12 @@ pub fn unit(column: u16) -> Expr
 }
 
 /// A variable. Its offset counts from the end of the scope; zero is none, and the name is searched.
-pub fn variable(alloc: Global, name: &str, offset: usize, column: u16) -> Result<Expr, AllocError>
+pub(crate) fn variable(
+    alloc: Global,
+    name: &str,
+    offset: usize,
+    column: u16,
+) -> Result<Expr, AllocError>
     requires { column ≢ 0 }
     ensures { IfOk result (IsVariable name.now offset column) }
 {
@@ -49,7 +53,7 @@ pub fn variable(alloc: Global, name: &str, offset: usize, column: u16) -> Result
 }
 
 /// A call that was written as an operator.
-pub fn operator<const N: usize>(
+pub(crate) fn operator<const N: usize>(
     alloc: Global,
     token: Token,
     name: &str,
@@ -70,7 +74,11 @@ pub fn operator<const N: usize>(
 }
 
 /// Operands of `&&`.
-pub fn and<const N: usize>(alloc: Global, column: u16, parts: [Expr; N]) -> Result<Expr, AllocError>
+pub(crate) fn and<const N: usize>(
+    alloc: Global,
+    column: u16,
+    parts: [Expr; N],
+) -> Result<Expr, AllocError>
     requires { column ≢ 0 }
     ensures { IfOk result (λ e. e ≡ expr.And parts.entry (place 1 column)) }
 {
@@ -78,7 +86,11 @@ pub fn and<const N: usize>(alloc: Global, column: u16, parts: [Expr; N]) -> Resu
 }
 
 /// Operands of `||`.
-pub fn or<const N: usize>(alloc: Global, column: u16, parts: [Expr; N]) -> Result<Expr, AllocError>
+pub(crate) fn or<const N: usize>(
+    alloc: Global,
+    column: u16,
+    parts: [Expr; N],
+) -> Result<Expr, AllocError>
     requires { column ≢ 0 }
     ensures { IfOk result (λ e. e ≡ expr.Or parts.entry (place 1 column)) }
 {
@@ -86,7 +98,7 @@ pub fn or<const N: usize>(alloc: Global, column: u16, parts: [Expr; N]) -> Resul
 }
 
 /// Operands of `??`.
-pub fn coalesce<const N: usize>(
+pub(crate) fn coalesce<const N: usize>(
     alloc: Global,
     column: u16,
     parts: [Expr; N],

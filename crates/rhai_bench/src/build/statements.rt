@@ -4,19 +4,18 @@ ghost use Rattle.std.specs.Prelude.{◌≡◌, ◌≢◌, IfOk, Option, None, So
 ghost use Rattle.rhai_tree.specs.Position.{at as place, none as nowhere};
 ghost use Rattle.rhai_tree.specs.declared.expr.Expr.TheVariants as expr;
 ghost use Rattle.rhai_tree.specs.declared.expr.Stmt.TheVariants as stmt;
-ghost use Rattle.rhai_bench.specs.Build.{absent_block, assigned_by, block_at, break_option, constant_option, negated_option, no_options};
+ghost use Rattle.rhai_bench.specs.Build.{absent_block, assigned_by, block_at, break_option, constant_option};
+ghost use Rattle.rhai_bench.specs.Build.{negated_option, no_options};
 
 use crate::build::{at, list};
 use bitflags::Flags;
-use rhai_items::Items;
-use rhai_tree::expr::{Expr, Ident, OpAssignment, Stmt, StmtBlock};
-use rhai_tree::flags::ASTFlags;
-use rhai_tree::position::Position;
-use rhai_tree::token::Token;
+use rhai_eval::base::{
+    ASTFlags, Expr, Ident, Items, OpAssignment, Position, Stmt, StmtBlock, Token,
+};
 use std::alloc::{AllocError, Global};
 
 /// Statements between two braces.
-pub fn block<const N: usize>(
+pub(crate) fn block<const N: usize>(
     alloc: Global,
     statements: [Stmt; N],
     opening: u16,
@@ -34,7 +33,7 @@ pub fn block<const N: usize>(
 }
 
 /// A block that the text does not have.
-pub fn no_block(alloc: Global) -> StmtBlock
+pub(crate) fn no_block(alloc: Global) -> StmtBlock
     ensures { result ≡ absent_block }
 {
     StmtBlock {
@@ -45,7 +44,7 @@ pub fn no_block(alloc: Global) -> StmtBlock
 }
 
 /// A declaration of a variable.
-pub fn let_stmt(name: Ident, value: Expr, column: u16) -> Stmt
+pub(crate) fn let_stmt(name: Ident, value: Expr, column: u16) -> Stmt
     requires { column ≢ 0 }
     ensures { result ≡ stmt.Var name value None no_options (place 1 column) }
 {
@@ -53,7 +52,7 @@ pub fn let_stmt(name: Ident, value: Expr, column: u16) -> Stmt
 }
 
 /// A declaration of a constant.
-pub fn const_stmt(name: Ident, value: Expr, column: u16) -> Stmt
+pub(crate) fn const_stmt(name: Ident, value: Expr, column: u16) -> Stmt
     requires { column ≢ 0 }
     ensures { result ≡ stmt.Var name value None constant_option (place 1 column) }
 {
@@ -61,7 +60,7 @@ pub fn const_stmt(name: Ident, value: Expr, column: u16) -> Stmt
 }
 
 /// An assignment, by an operator where there is one.
-pub fn assign(op: Option<Token>, column: u16, left: Expr, right: Expr) -> Stmt
+pub(crate) fn assign(op: Option<Token>, column: u16, left: Expr, right: Expr) -> Stmt
     requires { column ≢ 0 }
     ensures { result ≡ stmt.Assignment (assigned_by op column) left right }
 {
@@ -70,7 +69,7 @@ pub fn assign(op: Option<Token>, column: u16, left: Expr, right: Expr) -> Stmt
 }
 
 /// An `if`. Where the text has no `else`, its branch is `no_block`.
-pub fn if_stmt(condition: Expr, body: StmtBlock, branch: StmtBlock, column: u16) -> Stmt
+pub(crate) fn if_stmt(condition: Expr, body: StmtBlock, branch: StmtBlock, column: u16) -> Stmt
     requires { column ≢ 0 }
     ensures { result ≡ stmt.If condition body branch (place 1 column) }
 {
@@ -78,7 +77,7 @@ pub fn if_stmt(condition: Expr, body: StmtBlock, branch: StmtBlock, column: u16)
 }
 
 /// A `while`.
-pub fn while_stmt(condition: Expr, body: StmtBlock, column: u16) -> Stmt
+pub(crate) fn while_stmt(condition: Expr, body: StmtBlock, column: u16) -> Stmt
     requires { column ≢ 0 }
     ensures { result ≡ stmt.While condition body (place 1 column) }
 {
@@ -86,7 +85,7 @@ pub fn while_stmt(condition: Expr, body: StmtBlock, column: u16) -> Stmt
 }
 
 /// A `loop`, which has no condition.
-pub fn loop_stmt(body: StmtBlock, column: u16) -> Stmt
+pub(crate) fn loop_stmt(body: StmtBlock, column: u16) -> Stmt
     requires { column ≢ 0 }
     ensures { result ≡ stmt.While (expr.Unit nowhere) body (place 1 column) }
 {
@@ -94,7 +93,7 @@ pub fn loop_stmt(body: StmtBlock, column: u16) -> Stmt
 }
 
 /// A `do` with a `while` after its body.
-pub fn do_while(body: StmtBlock, condition: Expr, column: u16) -> Stmt
+pub(crate) fn do_while(body: StmtBlock, condition: Expr, column: u16) -> Stmt
     requires { column ≢ 0 }
     ensures { result ≡ stmt.Do condition body no_options (place 1 column) }
 {
@@ -102,7 +101,7 @@ pub fn do_while(body: StmtBlock, condition: Expr, column: u16) -> Stmt
 }
 
 /// A `do` with an `until` after its body.
-pub fn do_until(body: StmtBlock, condition: Expr, column: u16) -> Stmt
+pub(crate) fn do_until(body: StmtBlock, condition: Expr, column: u16) -> Stmt
     requires { column ≢ 0 }
     ensures { result ≡ stmt.Do condition body negated_option (place 1 column) }
 {
@@ -110,7 +109,7 @@ pub fn do_until(body: StmtBlock, condition: Expr, column: u16) -> Stmt
 }
 
 /// A `break`, with its value if it has one.
-pub fn break_stmt(value: Option<Expr>, column: u16) -> Stmt
+pub(crate) fn break_stmt(value: Option<Expr>, column: u16) -> Stmt
     requires { column ≢ 0 }
     ensures { result ≡ stmt.BreakLoop value break_option (place 1 column) }
 {
@@ -118,7 +117,7 @@ pub fn break_stmt(value: Option<Expr>, column: u16) -> Stmt
 }
 
 /// A `continue`.
-pub fn continue_stmt(column: u16) -> Stmt
+pub(crate) fn continue_stmt(column: u16) -> Stmt
     requires { column ≢ 0 }
     ensures { result ≡ stmt.BreakLoop None no_options (place 1 column) }
 {
@@ -126,7 +125,7 @@ pub fn continue_stmt(column: u16) -> Stmt
 }
 
 /// A `return`, with its value if it has one.
-pub fn return_stmt(value: Option<Expr>, column: u16) -> Stmt
+pub(crate) fn return_stmt(value: Option<Expr>, column: u16) -> Stmt
     requires { column ≢ 0 }
     ensures { result ≡ stmt.Return value no_options (place 1 column) }
 {

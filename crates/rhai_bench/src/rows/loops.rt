@@ -7,9 +7,7 @@ use crate::build::statements::{
 };
 use crate::build::{ident, list};
 use crate::script::Script;
-use rhai_items::Items;
-use rhai_tree::expr::{Expr, Stmt};
-use rhai_tree::token::Token;
+use rhai_eval::base::{Expr, Items, Stmt, Token};
 use std::alloc::{AllocError, Global};
 
 /// A loop without an end, which the limit of operations ends.
@@ -21,19 +19,19 @@ pub fn endless(alloc: Global) -> Result<Items<Script>, AllocError> {
 }
 
 /// A `continue` that starts the next turn without a test of the condition.
-pub fn continued(alloc: Global) -> Result<Items<Script>, AllocError> {
+pub(crate) fn continued(alloc: Global) -> Result<Items<Script>, AllocError> {
     list(alloc, [Script::new(alloc, continued_until(alloc)?)])
 }
 
 /// Three turns: twenty-five operations are one too few.
-pub fn turns_under_limits(alloc: Global) -> Result<Items<Script>, AllocError> {
+pub(crate) fn turns_under_limits(alloc: Global) -> Result<Items<Script>, AllocError> {
     let passed = Script::new(alloc, three_turns(alloc)?);
     let refused = Script::with_max_operations(alloc, three_turns(alloc)?, 25);
     list(alloc, [passed, refused])
 }
 
 /// A loop's value, a `return` at the top, and operands that are not reached or of a wrong type.
-pub fn left_early(alloc: Global) -> Result<Items<Script>, AllocError> {
+pub(crate) fn left_early(alloc: Global) -> Result<Items<Script>, AllocError> {
     let broken = Script::new(alloc, value_of_a_loop(alloc)?);
     let returned = Script::new(alloc, return_at_the_top(alloc)?);
     let either = Script::new(alloc, true_or_integer(alloc)?);

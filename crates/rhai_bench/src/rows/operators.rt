@@ -4,20 +4,18 @@ use crate::build::expressions::{coalesce, int, operator, truth, unit, variable};
 use crate::build::list;
 use crate::build::statements::{block, if_stmt, no_block};
 use crate::script::Script;
-use rhai_items::Items;
-use rhai_tree::expr::Stmt;
-use rhai_tree::token::Token;
+use rhai_eval::base::{Items, Stmt, Token};
 use std::alloc::{AllocError, Global};
 
 /// The sum of two integers: three operations are too few, four are enough.
-pub fn sum_under_limits(alloc: Global) -> Result<Items<Script>, AllocError> {
+pub(crate) fn sum_under_limits(alloc: Global) -> Result<Items<Script>, AllocError> {
     let refused = Script::with_max_operations(alloc, sum(alloc)?, 3);
     let passed = Script::with_max_operations(alloc, sum(alloc)?, 4);
     list(alloc, [refused, passed])
 }
 
 /// Operands and a condition of a wrong type, and a name that means nothing.
-pub fn refused_operands(alloc: Global) -> Result<Items<Script>, AllocError> {
+pub(crate) fn refused_operands(alloc: Global) -> Result<Items<Script>, AllocError> {
     let operands = Script::new(alloc, sum_of_two_types(alloc)?);
     let name = Script::new(alloc, sum_with_unknown_name(alloc)?);
     let condition = Script::new(alloc, integer_as_condition(alloc)?);

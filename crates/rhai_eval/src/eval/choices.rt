@@ -31,7 +31,8 @@ impl<H: Host> Engine<H> {
         requires fast { self.now.fast_operators ≡ true }
         ensures counts { OnOk result (run.old.global.num_operations ≤ run.new.global.num_operations) }
         ensures names { OnOk result (names run.new ≡ names run.old) }
-        ensures runs { (pos : _) → Runs (under H.name_of self.now T.natives) (OpenExpr (layer.And parts.now pos))
+        ensures runs { (pos : _) → Runs (under H.name_of self.now T.natives)
+            (OpenExpr (layer.And parts.now pos))
             (state_in (T.state table.old) run.old) result (state_in (T.state table.new) run.new) }
     {
         'each_part: for part in parts {
@@ -57,7 +58,8 @@ impl<H: Host> Engine<H> {
         requires fast { self.now.fast_operators ≡ true }
         ensures counts { OnOk result (run.old.global.num_operations ≤ run.new.global.num_operations) }
         ensures names { OnOk result (names run.new ≡ names run.old) }
-        ensures runs { (pos : _) → Runs (under H.name_of self.now T.natives) (OpenExpr (layer.Or parts.now pos))
+        ensures runs { (pos : _) → Runs (under H.name_of self.now T.natives)
+            (OpenExpr (layer.Or parts.now pos))
             (state_in (T.state table.old) run.old) result (state_in (T.state table.new) run.new) }
     {
         'each_part: for part in parts {
@@ -84,7 +86,8 @@ impl<H: Host> Engine<H> {
         requires fast { self.now.fast_operators ≡ true }
         ensures counts { OnOk result (run.old.global.num_operations ≤ run.new.global.num_operations) }
         ensures names { OnOk result (names run.new ≡ names run.old) }
-        ensures runs { (pos : _) → Runs (under H.name_of self.now T.natives) (OpenExpr (layer.Coalesce parts.now pos))
+        ensures runs { (pos : _) → Runs (under H.name_of self.now T.natives)
+            (OpenExpr (layer.Coalesce parts.now pos))
             (state_in (T.state table.old) run.old) result (state_in (T.state table.new) run.new) }
     {
         let mut last = unit_value();

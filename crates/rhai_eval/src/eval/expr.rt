@@ -52,7 +52,8 @@ impl<H: Host> Engine<H> {
     ) -> Result<Target<'s, H>, EvalAltResult<H>>
         requires variable { is_variable (out-Expr expr.now) ≡ true }
         ensures found { IfOk result (λ target.
-            searched (out-Expr expr.now) (cells_of global.old.cells) (entries_of scope.old) ≡ Some (Ok target.at.now)) }
+            searched (out-Expr expr.now) (cells_of global.old.cells) (entries_of scope.old)
+            ≡ Some (Ok target.at.now)) }
         ensures place { IfOk result (λ target. target.part ≡ part.Whole) }
         ensures missed { IfErr result (λ e. is_out_of_memory e ≡ false →
             searched (out-Expr expr.now) (cells_of global.old.cells) (entries_of scope.old) ≡ Some (Err e)) }
@@ -109,7 +110,8 @@ impl<H: Host> Engine<H> {
         ensures names { OnOk result (names run.new ≡ names run.old) }
         ensures runs { Runs (under H.name_of self.now T.natives) (Eval expr.now)
             (state_in (T.state table.old) run.old) result (state_in (T.state table.new) run.new) }
-        ensures memory { IfErr result (λ error. is_out_of_memory error ≡ true → IsTrue (asks_expr expr.now).0) }
+        ensures memory { IfErr result (λ error. is_out_of_memory error ≡ true →
+            IsTrue (asks_expr expr.now).0) }
         ensures plain { IfOk result (λ value. is_handle value.value ≡ true → IsTrue (asks_expr expr.now).0) }
         ensures truth { IfOk result (λ value. is_truth value.value ≡ false → IsTrue (asks_expr expr.now).1) }
     {

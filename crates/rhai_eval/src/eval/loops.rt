@@ -8,7 +8,8 @@ ghost use Rattle.rhai_tree.specs.Frame.{tests_of, option_resolves, resolves_expr
 ghost use Rattle.rhai_tree.specs.declared.expr.Expr.{out-Expr};
 ghost use Rattle.rhai_tree.specs.declared.expr.Expr.TheOpen as layer;
 ghost use Rattle.rhai_machine.specs.language.Loops.{is_endless as without_end};
-ghost use Rattle.rhai_machine.specs.language.Frames.{Eval, Enter, OpenStmt, WhileTurn, WhileBody, DoTurn, DoCondition};
+ghost use Rattle.rhai_machine.specs.language.Frames.{Eval, Enter, OpenStmt, WhileTurn, WhileBody, DoTurn};
+ghost use Rattle.rhai_machine.specs.language.Frames.{DoCondition};
 ghost use Rattle.rhai_machine.specs.language.Runs.{at, Goes, Steps, Runs};
 ghost use Rattle.rhai_steps.specs.Loops.{after_turn};
 ghost use Rattle.rhai_eval.specs.States.{names, state_in, under};
@@ -69,7 +70,8 @@ impl<H: Host> Engine<H> {
         requires fast { self.now.fast_operators ≡ true }
         ensures charges { OnOk result (run.old.global.num_operations < run.new.global.num_operations) }
         ensures names { OnOk result (names run.new ≡ names run.old) }
-        ensures runs { Steps (under H.name_of self.now T.natives) (WhileTurn test.now body.now) (state_in (T.state table.old) run.old)
+        ensures runs { Steps (under H.name_of self.now T.natives) (WhileTurn test.now body.now)
+            (state_in (T.state table.old) run.old)
             (after_turn result (WhileTurn test.now body.now)) (state_in (T.state table.new) run.new) }
     {
         if is_endless(test) {
@@ -99,7 +101,8 @@ impl<H: Host> Engine<H> {
         requires fast { self.now.fast_operators ≡ true }
         ensures charges { OnOk result (run.old.global.num_operations < run.new.global.num_operations) }
         ensures names { OnOk result (names run.new ≡ names run.old) }
-        ensures runs { Steps (under H.name_of self.now T.natives) (WhileTurn test.now body.now) (state_in (T.state table.old) run.old)
+        ensures runs { Steps (under H.name_of self.now T.natives) (WhileTurn test.now body.now)
+            (state_in (T.state table.old) run.old)
             (after_turn result (WhileTurn test.now body.now)) (state_in (T.state table.new) run.new) }
     {
         if body.statements.is_empty() {
@@ -126,7 +129,8 @@ impl<H: Host> Engine<H> {
             run.old.global.num_operations < run.new.global.num_operations) }
         ensures names { OnOk result (names run.new ≡ names run.old) }
         ensures runs { (k : _) → Goes (under H.name_of self.now T.natives)
-            (at (Enter body.now.statements true) (WhileBody test.now body.now ∷ k) (state_in (T.state table.old) run.old))
+            (at (Enter body.now.statements true) (WhileBody test.now body.now ∷ k)
+            (state_in (T.state table.old) run.old))
             (at (after_turn result (WhileTurn test.now body.now)) k (state_in (T.state table.new) run.new)) }
     {
         let statements = body.statements.as_slice();
@@ -177,7 +181,8 @@ impl<H: Host> Engine<H> {
         requires fast { self.now.fast_operators ≡ true }
         ensures charges { OnOk result (run.old.global.num_operations < run.new.global.num_operations) }
         ensures names { OnOk result (names run.new ≡ names run.old) }
-        ensures runs { Steps (under H.name_of self.now T.natives) (DoTurn test.now body.now options) (state_in (T.state table.old) run.old)
+        ensures runs { Steps (under H.name_of self.now T.natives) (DoTurn test.now body.now options)
+            (state_in (T.state table.old) run.old)
             (after_turn result (DoTurn test.now body.now options)) (state_in (T.state table.new) run.new) }
     {
         let statements = body.statements.as_slice();
@@ -204,7 +209,8 @@ impl<H: Host> Engine<H> {
         ensures charges { OnOk result (run.old.global.num_operations < run.new.global.num_operations) }
         ensures names { OnOk result (names run.new ≡ names run.old) }
         ensures runs { (body : _) (k : _) → Goes (under H.name_of self.now T.natives)
-            (at (Eval test.now) (DoCondition test.now body options ∷ k) (state_in (T.state table.old) run.old))
+            (at (Eval test.now) (DoCondition test.now body options ∷ k)
+            (state_in (T.state table.old) run.old))
             (at (after_turn result (DoTurn test.now body options)) k (state_in (T.state table.new) run.new)) }
     {
         let value = self.run_expr(alloc, run, table, test)?;
@@ -227,7 +233,8 @@ impl<H: Host> Engine<H> {
         requires fast { self.now.fast_operators ≡ true }
         ensures counts { OnOk result (run.old.global.num_operations ≤ run.new.global.num_operations) }
         ensures names { OnOk result (names run.new ≡ names run.old) }
-        ensures runs { (restoring : _) → Runs (under H.name_of self.now T.natives) (OpenStmt (layer.BreakLoop value.now options pos) restoring)
+        ensures runs { (restoring : _) → Runs (under H.name_of self.now T.natives)
+            (OpenStmt (layer.BreakLoop value.now options pos) restoring)
             (state_in (T.state table.old) run.old) result (state_in (T.state table.new) run.new) }
     {
         match value {
@@ -251,7 +258,8 @@ impl<H: Host> Engine<H> {
         requires fast { self.now.fast_operators ≡ true }
         ensures counts { OnOk result (run.old.global.num_operations ≤ run.new.global.num_operations) }
         ensures names { OnOk result (names run.new ≡ names run.old) }
-        ensures runs { (restoring : _) → Runs (under H.name_of self.now T.natives) (OpenStmt (layer.BreakLoop (Some value.now) options pos) restoring)
+        ensures runs { (restoring : _) → Runs (under H.name_of self.now T.natives)
+            (OpenStmt (layer.BreakLoop (Some value.now) options pos) restoring)
             (state_in (T.state table.old) run.old) result (state_in (T.state table.new) run.new) }
     {
         let value = self.run_expr(alloc, run, table, value)?;
@@ -273,7 +281,8 @@ impl<H: Host> Engine<H> {
         ensures counts { OnOk result (run.old.global.num_operations ≤ run.new.global.num_operations) }
         ensures names { OnOk result (names run.new ≡ names run.old) }
         ensures runs { (options : _) (restoring : _) → is_throw options ≡ false →
-            Runs (under H.name_of self.now T.natives) (OpenStmt (layer.Return value.now options pos) restoring)
+            Runs (under H.name_of self.now T.natives) (OpenStmt (layer.Return value.now options pos)
+            restoring)
             (state_in (T.state table.old) run.old) result (state_in (T.state table.new) run.new) }
     {
         match value {
@@ -297,7 +306,8 @@ impl<H: Host> Engine<H> {
         ensures counts { OnOk result (run.old.global.num_operations ≤ run.new.global.num_operations) }
         ensures names { OnOk result (names run.new ≡ names run.old) }
         ensures runs { (options : _) (restoring : _) → is_throw options ≡ false →
-            Runs (under H.name_of self.now T.natives) (OpenStmt (layer.Return (Some value.now) options pos) restoring)
+            Runs (under H.name_of self.now T.natives) (OpenStmt (layer.Return (Some value.now) options pos)
+            restoring)
             (state_in (T.state table.old) run.old) result (state_in (T.state table.new) run.new) }
     {
         let place = value.position();

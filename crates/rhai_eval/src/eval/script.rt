@@ -5,7 +5,8 @@ ghost use Rattle.rhai_tree.specs.Names.{Begins};
 ghost use Rattle.rhai_values.specs.Errors.{is_out_of_memory};
 ghost use Rattle.rhai_values.specs.Scope.{names_in};
 ghost use Rattle.rhai_machine.specs.language.Memory.{UpToMemory};
-ghost use Rattle.rhai_machine.specs.language.Script.{EndsAsMachine, AgreesWithHigherLimits, start_of_script, end_of_script};
+ghost use Rattle.rhai_machine.specs.language.Script.{EndsAsMachine, AgreesWithHigherLimits, start_of_script};
+ghost use Rattle.rhai_machine.specs.language.Script.{end_of_script};
 ghost use Rattle.rhai_steps.specs.States.{state_of};
 ghost use Rattle.rhai_laws.specs.Kept.{Kept};
 ghost use Rattle.rhai_eval.specs.Memory.{may_ask};
@@ -44,11 +45,13 @@ impl<H: Host> Engine<H> {
         ensures ends { EndsAsMachine (under H.name_of self.now T.natives) tree.now.0 map_exit_to_return_value
             (state_of (T.state table.old) global.old scope.old None) result
             (state_of (T.state table.new) global.new scope.new None) }
-        ensures two_limits { AgreesWithHigherLimits (under H.name_of self.now T.natives) tree.now.0 map_exit_to_return_value
+        ensures two_limits { AgreesWithHigherLimits (under H.name_of self.now T.natives) tree.now.0
+            map_exit_to_return_value
             (state_of (T.state table.old) global.old scope.old None) result
             (state_of (T.state table.new) global.new scope.new None) }
         ensures up_to { UpToMemory (under H.name_of self.now T.natives)
-            (start_of_script tree.now.0 map_exit_to_return_value (state_of (T.state table.old) global.old scope.old None))
+            (start_of_script tree.now.0 map_exit_to_return_value
+            (state_of (T.state table.old) global.old scope.old None))
             (end_of_script result (state_of (T.state table.new) global.new scope.new None)) }
         ensures memory { IfErr result (λ error. is_out_of_memory error ≡ true → IsTrue (may_ask tree.now.0)) }
         ensures kept { Kept (under H.name_of self.now T.natives)

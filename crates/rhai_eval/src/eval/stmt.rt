@@ -1,7 +1,9 @@
 //! Statements. Ports upstream's `eval/stmt.rs`; the contracts speak of the machine's runs.
 
-ghost use Rattle.std.specs.Prelude.{◌≡◌, ◌<◌, ◌≤◌, ◌++◌, ◌∷◌, [], ◌||◌, OnOk, IfErr, IsTrue, true, None, length, map};
-ghost use Rattle.rhai_tree.specs.Frame.{tests_of, target_resolves, resolves_expr, resolves_stmt, resolves_block, all_resolve};
+ghost use Rattle.std.specs.Prelude.{◌≡◌, ◌<◌, ◌≤◌, ◌++◌, ◌∷◌, [], ◌||◌, OnOk, IfErr, IsTrue, true, None};
+ghost use Rattle.std.specs.Prelude.{length, map};
+ghost use Rattle.rhai_tree.specs.Frame.{tests_of, target_resolves, resolves_expr, resolves_stmt};
+ghost use Rattle.rhai_tree.specs.Frame.{resolves_block, all_resolve};
 ghost use Rattle.rhai_tree.specs.Names.{Begins};
 ghost use Rattle.rhai_tree.specs.declared.expr.Expr.TheOpen as layer;
 ghost use Rattle.rhai_values.specs.Errors.{is_out_of_memory};
@@ -168,7 +170,8 @@ impl<H: Host> Engine<H> {
         ensures names { OnOk result (names run.new ≡ names run.old) }
         ensures runs { Runs (under H.name_of self.now T.natives) (OpenStmt (layer.Expr expr.now) restoring)
             (state_in (T.state table.old) run.old) result (state_in (T.state table.new) run.new) }
-        ensures memory { IfErr result (λ error. is_out_of_memory error ≡ true → IsTrue (asks_expr expr.now).0) }
+        ensures memory { IfErr result (λ error. is_out_of_memory error ≡ true →
+            IsTrue (asks_expr expr.now).0) }
     {
         let value = self.run_expr(alloc, run, table, expr)?;
         flatten(alloc, &run.global.cells, value, expr.position())
@@ -191,7 +194,8 @@ impl<H: Host> Engine<H> {
         requires fast { self.now.fast_operators ≡ true }
         ensures counts { OnOk result (run.old.global.num_operations ≤ run.new.global.num_operations) }
         ensures names { OnOk result (names run.new ≡ names run.old) }
-        ensures runs { Runs (under H.name_of self.now T.natives) (OpenStmt (layer.Assignment op lhs.now rhs.now) restoring)
+        ensures runs { Runs (under H.name_of self.now T.natives)
+            (OpenStmt (layer.Assignment op lhs.now rhs.now) restoring)
             (state_in (T.state table.old) run.old) result (state_in (T.state table.new) run.new) }
     {
         let Expr::Variable { name, pos, .. } = lhs else {
@@ -231,7 +235,8 @@ impl<H: Host> Engine<H> {
         requires fast { self.now.fast_operators ≡ true }
         ensures counts { OnOk result (run.old.global.num_operations ≤ run.new.global.num_operations) }
         ensures names { OnOk result (names run.new ≡ names run.old) }
-        ensures runs { Runs (under H.name_of self.now T.natives) (OpenStmt (layer.If test.now body.now branch.now pos) restoring)
+        ensures runs { Runs (under H.name_of self.now T.natives)
+            (OpenStmt (layer.If test.now body.now branch.now pos) restoring)
             (state_in (T.state table.old) run.old) result (state_in (T.state table.new) run.new) }
         ensures memory { IfErr result (λ error. is_out_of_memory error ≡ true →
             IsTrue ((asks_expr test.now).1 || (asks_block body.now || asks_block branch.now))) }
@@ -258,7 +263,8 @@ impl<H: Host> Engine<H> {
         requires fast { self.now.fast_operators ≡ true }
         ensures counts { OnOk result (run.old.global.num_operations ≤ run.new.global.num_operations) }
         ensures names { OnOk result (names run.new ≡ names run.old ++ ident.now.name ∷ []) }
-        ensures runs { Runs (under H.name_of self.now T.natives) (OpenStmt (layer.Var ident.now value.now None options pos) restoring)
+        ensures runs { Runs (under H.name_of self.now T.natives)
+            (OpenStmt (layer.Var ident.now value.now None options pos) restoring)
             (state_in (T.state table.old) run.old) result (state_in (T.state table.new) run.new) }
     {
         may_declare(
@@ -290,7 +296,8 @@ impl<H: Host> Engine<H> {
         ensures restores { OnOk result (IsTrue restoring → names run.new ≡ names run.old) }
         ensures runs { Runs (under H.name_of self.now T.natives) (Enter statements.now restoring)
             (state_in (T.state table.old) run.old) result (state_in (T.state table.new) run.new) }
-        ensures memory { IfErr result (λ error. is_out_of_memory error ≡ true → IsTrue (may_ask statements.now)) }
+        ensures memory { IfErr result (λ error. is_out_of_memory error ≡ true →
+            IsTrue (may_ask statements.now)) }
     {
         if statements.is_empty() {
             return Ok(unit_value());
@@ -319,7 +326,8 @@ impl<H: Host> Engine<H> {
         ensures counts { OnOk result (run.old.global.num_operations ≤ run.new.global.num_operations) }
         ensures runs { Runs (under H.name_of self.now T.natives) (Run statements.now restoring unit)
             (state_in (T.state table.old) run.old) result (state_in (T.state table.new) run.new) }
-        ensures memory { IfErr result (λ error. is_out_of_memory error ≡ true → IsTrue (may_ask statements.now)) }
+        ensures memory { IfErr result (λ error. is_out_of_memory error ≡ true →
+            IsTrue (may_ask statements.now)) }
     {
         let mut last = unit_value();
         'each_stmt: for stmt in statements {

@@ -32,7 +32,8 @@ impl<T> Table<T> {
     /// The value at a place in the order of the keys, to be changed in place.
     pub fn value_mut(&mut self, at: usize) -> &mut T
         requires { at < length self.old.1 }
-        ensures* writes_back { sem 𝓛 (Lends (the_row T.row) T.row self.entry result (λ w. (self.old.0, slice_set self.old.1 at w))) }
+        ensures* writes_back { sem 𝓛 (Lends (the_row T.row) T.row self.entry result
+            (λ w. (self.old.0, slice_set self.old.1 at w))) }
         ensures value { slice_get self.old.1 at ≡ Some result.now }
     {
         self.values.at_mut(at)

@@ -23,7 +23,8 @@ use Rattle.rhai_machine.specs.language.Setting.{Setting}
 use Rattle.rhai_machine.specs.language.State.{Local}
 use Rattle.rhai_machine.specs.language.Values.{unit_value}
 use Rattle.rhai_machine.specs.language.Places.{Place, Target, put, while_lent}
-use Rattle.rhai_machine.specs.language.Frames.{Operation, Attempt, InPlace, AsValue, Assignment, Update, Frame, Control, Core, core, Eval, Assign, AskUpdate, FireUpdate, Back, Fail, AssignValue}
+use Rattle.rhai_machine.specs.language.Frames.{Operation, Attempt, InPlace, AsValue, Assignment, Update, Frame, Control, Core, core, Eval}
+use Rattle.rhai_machine.specs.language.Frames.{Assign, AskUpdate, FireUpdate, Back, Fail, AssignValue}
 use Rattle.rhai_machine.specs.language.Calls.{operation_at, placed_if_none, sized, applied, replied}
 
 -- the native of an attempt: in `x += y` first the one named `+=`, and then the one named `+`
@@ -83,7 +84,15 @@ module _ {H : Type 0} where
     assign_core None assignment target v k l = core (Back unit_value) k (put target.place (with_mode ReadWrite v) l)
     assign_core (Some token) assignment target v k l =
         update_core (if_fast s.offer.fast_operators (op_assign_of token target.value v))
-        (record { attempt = InPlace; operator = token; at = assignment.op.position; place = target.place; target = target.value; operand = v; target_at = assignment.at })
+        (record {
+          attempt = InPlace;
+          operator = token;
+          at = assignment.op.position;
+          place = target.place;
+          target = target.value;
+          operand = v;
+          target_at = assignment.at;
+        })
         k l
 
     -- the variable, once it is charged: it has to be there, free and no constant
@@ -94,7 +103,8 @@ module _ {H : Type 0} where
     -- the native of an update is asked whether it is pure, which a target that may be written has no use for, and then called
     abbrev pub question_update : Update H → List (Frame H) → Local H → Move H (Core H)
     question_update u k l =
-        AskPure (OfName (native_of u.attempt u.operator) (type_name_of s.host_type l.around.cells u.target) 2) (λ pure. core (FireUpdate u) k l)
+        AskPure (OfName (native_of u.attempt u.operator) (type_name_of s.host_type l.around.cells u.target) 2)
+        (λ pure. core (FireUpdate u) k l)
 
     -- the native `op=` changed the target, and its value is only measured
     abbrev pub changed_core : Result (Dynamic H) (EvalAltResult H) → Update H → List (Frame H) → Local H → Core H
@@ -116,7 +126,8 @@ module _ {H : Type 0} where
     answered_core InPlace Missing u k l = update_core (op_assign_of u.operator u.target u.operand) (record u { attempt = AsValue }) k l
     answered_core InPlace (Gives v) u k l = changed_core (sized s.limits v u.at) u k l
     answered_core InPlace (Faults e) u k l = fault_core (says_missing (native_of InPlace u.operator) e) (placed_if_none u.at e) u k l
-    answered_core AsValue reply u k l = value_core (replied s.limits s.host_type reply (Some u.target) (u.operand ∷ []) (operation_of u) l.around.cells) u k l
+    answered_core AsValue reply u k l = value_core (replied s.limits s.host_type reply (Some u.target) (u.operand ∷ []) (operation_of u)
+        l.around.cells) u k l
 
     -- the target is lent to the native, which may change it, and is written back whatever the answer
     abbrev pub lent_core : Reply H → Dynamic H → Update H → List (Frame H) → Local H → Core H

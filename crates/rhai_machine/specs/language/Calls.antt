@@ -81,7 +81,8 @@ module _ {H : Type 0} where
 
     module _ (host : H → List ℕ) where
       -- where no native has the name: the built-in, or there is no such function
-      abbrev pub missing : Option (Result (Dynamic H) (EvalAltResult H)) → Operation → List (Dynamic H) → Cells H → Result (Dynamic H) (EvalAltResult H)
+      abbrev pub missing : Option (Result (Dynamic H) (EvalAltResult H)) → Operation → List (Dynamic H) → Cells H →
+          Result (Dynamic H) (EvalAltResult H)
       missing (Some r) operation args cells = applied r operation.at
       missing None operation args cells = Err (not_found host cells operation.name args operation.at)
 
@@ -92,7 +93,8 @@ module _ {H : Type 0} where
 
       -- what a native answered, at the call
       abbrev pub replied : Reply H → Option (Dynamic H) → List (Dynamic H) → Operation → Cells H → Result (Dynamic H) (EvalAltResult H)
-      replied Missing first rest operation cells = missing (builtin_of operation.token (args_left first rest)) operation (args_left first rest) cells
+      replied Missing first rest operation cells = missing (builtin_of operation.token (args_left first rest)) operation
+          (args_left first rest) cells
       replied (Gives v) first rest operation cells = sized v operation.at
       replied (Faults e) first rest operation cells = Err (placed_if_none operation.at e)
 
@@ -105,7 +107,8 @@ module _ {H : Type 0} where
     -- the native of a call is asked whether it is pure, which an operator has no use for, and then called
     abbrev pub question_move : Call H → List (Frame H) → Local H → Move H (Core H)
     question_move call k l =
-        AskPure (OfName call.operation.name (first_type s.host_type l.around.cells call.args) (length call.args)) (λ pure. core (Fire call) k l)
+        AskPure (OfName call.operation.name (first_type s.host_type l.around.cells call.args) (length call.args))
+        (λ pure. core (Fire call) k l)
 
     abbrev pub call_native : Call H → Option (Dynamic H) → List (Dynamic H) → List (Frame H) → Local H → Move H (Core H)
     call_native call first rest k l =

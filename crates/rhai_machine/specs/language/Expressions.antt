@@ -16,7 +16,8 @@ use Rattle.rhai_machine.specs.machine.Machine.{Move, Halt, Go, Charge}
 use Rattle.rhai_machine.specs.language.State.{Local}
 use Rattle.rhai_machine.specs.language.Values.{unit_value, bool_value}
 use Rattle.rhai_machine.specs.language.Names.{read}
-use Rattle.rhai_machine.specs.language.Frames.{Frame, Core, core, ended, Eval, Argument, Enter, Back, Fail, UnaryOperand, LeftOperand, AndPart, OrPart, CoalescePart}
+use Rattle.rhai_machine.specs.language.Frames.{Frame, Core, core, ended, Eval, Argument, Enter, Back, Fail, UnaryOperand, LeftOperand}
+use Rattle.rhai_machine.specs.language.Frames.{AndPart, OrPart, CoalescePart}
 
 module _ {H : Type 0} where
   -- the value of a literal, read-write

@@ -36,7 +36,8 @@ pub data Attempt : Type 0 where
   InPlace : Attempt
   AsValue : Attempt
 
--- an assignment by an operator, its target found: the operator and where it stands, the place and the value there, the value on the right, and where the target stands in the script
+-- an assignment by an operator, its target found: the operator and where it stands, the place and the value there, the value on the
+-- right, and where the target stands in the script
 pub record Update (H : Type 0) : Type 0 where
   pub attempt : Attempt
   pub operator : Token

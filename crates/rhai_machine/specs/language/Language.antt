@@ -8,7 +8,9 @@ use Rattle.rhai_values.specs.declared.base.error.EvalAltResult.TheVariants as er
 use Rattle.rhai_machine.specs.machine.Machine.{Move, Halt, Go, Charge, Machine}
 use Rattle.rhai_machine.specs.language.Setting.{Setting, Rules}
 use Rattle.rhai_machine.specs.language.State.{Local}
-use Rattle.rhai_machine.specs.language.Frames.{Control, Frame, Core, core, Eval, Exec, Ask, Assign, AskUpdate, Argument, Question, Fire, QuestionUpdate, FireUpdate, OpenExpr, OpenStmt, Enter, Run, Store, WhileTurn, DoTurn, Back, Fail, DoBody}
+use Rattle.rhai_machine.specs.language.Frames.{Control, Frame, Core, core, Eval, Exec, Ask, Assign, AskUpdate, Argument, Question, Fire}
+use Rattle.rhai_machine.specs.language.Frames.{QuestionUpdate, FireUpdate, OpenExpr, OpenStmt, Enter, Run, Store, WhileTurn, DoTurn, Back}
+use Rattle.rhai_machine.specs.language.Frames.{Fail, DoBody}
 use Rattle.rhai_machine.specs.language.Expressions.{literal_of, argument_move, expr_move}
 use Rattle.rhai_machine.specs.language.Calls.{question_move, fire_move}
 use Rattle.rhai_machine.specs.language.Places.{target_of}

@@ -16,7 +16,8 @@ use Rattle.rhai_machine.specs.language.Runs.{at}
 module _ {S H : Type 0} (rules : Rules S H) where
   -- an error of a refused charge is caught by nothing: the run ends with it, and with table, count and calls as they were
   abbrev pub IsNeverCaught : Type 0
-  IsNeverCaught = (allows : ℕ → Bool) (c a : Config S H (Core H)) → IsRefused c.core → Run (machine rules) allows c a → Unwound IsRefused c a
+  IsNeverCaught = (allows : ℕ → Bool) (c a : Config S H (Core H)) → IsRefused c.core → Run (machine rules) allows c a →
+      Unwound IsRefused c a
 
   -- the cut run is the run without a limit, or follows it up to the first charge that is refused
   abbrev pub CutFollows : Type 0
@@ -25,7 +26,8 @@ module _ {S H : Type 0} (rules : Rules S H) where
 
   -- where the run without a limit ends too, the cut run has the same end, or it refused a charge
   abbrev pub CutOrSame : Type 0
-  CutOrSame = (limit : ℕ) (c a b : Config S H (Core H)) → Run (machine rules) (below limit) c a → Run (machine rules) always c b → SameOrRefused IsRefused a b
+  CutOrSame = (limit : ℕ) (c a b : Config S H (Core H)) → Run (machine rules) (below limit) c a → Run (machine rules) always c b →
+      SameOrRefused IsRefused a b
 
   -- the cut run always ends
   abbrev pub CutEnds : Type 0
@@ -38,5 +40,6 @@ module _ {S H : Type 0} (rules : Rules S H) where
 
   -- the same, of what an evaluator tells of a run from a control with nothing below it to how it ended
   abbrev pub HigherLimitOfSteps : Type 0
-  HigherLimitOfSteps = (c : Control H) (old new : State S H) (r : Result (Dynamic H) (EvalAltResult H)) → Reaches (machine rules) (cut rules) (at c [] old) (at (ended r) [] new)
+  HigherLimitOfSteps = (c : Control H) (old new : State S H) (r : Result (Dynamic H) (EvalAltResult H)) →
+      Reaches (machine rules) (cut rules) (at c [] old) (at (ended r) [] new)
       → LimitsAgree (machine rules) IsRefused (limit_under rules) (at c [] old) (at (ended r) [] new)

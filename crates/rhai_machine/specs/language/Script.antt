@@ -22,12 +22,15 @@ module _ {S H : Type 0} where
   end_of_script result new = at (ended result) [] new
 
   -- the script ends as the cut machine does, want of memory aside
-  abbrev pub EndsAsMachine : Rules S H → List Stmt → (map_exit : Bool) → State S H → Result (Dynamic H) (EvalAltResult H) → State S H → Type 0
+  abbrev pub EndsAsMachine : Rules S H → List Stmt → (map_exit : Bool) → State S H → Result (Dynamic H) (EvalAltResult H) → State S H →
+      Type 0
   EndsAsMachine rules statements map_exit old result new =
       HasMemory result → Reaches (machine rules) (cut rules) (start_of_script statements map_exit old) (end_of_script result new)
 
   -- Two limits, want of memory aside: under each higher limit, any whole number, the script ends too, and at the same end, or
   -- here a charge was refused, and the calls of natives so far begin those under the higher limit.
-  abbrev pub AgreesWithHigherLimits : Rules S H → List Stmt → (map_exit : Bool) → State S H → Result (Dynamic H) (EvalAltResult H) → State S H → Type 0
+  abbrev pub AgreesWithHigherLimits : Rules S H → List Stmt → (map_exit : Bool) → State S H → Result (Dynamic H) (EvalAltResult H) →
+      State S H → Type 0
   AgreesWithHigherLimits rules statements map_exit old result new =
-      HasMemory result → LimitsAgree (machine rules) IsRefused (limit_under rules) (start_of_script statements map_exit old) (end_of_script result new)
+      HasMemory result → LimitsAgree (machine rules) IsRefused (limit_under rules) (start_of_script statements map_exit old)
+      (end_of_script result new)

@@ -7,7 +7,8 @@ use Rattle.rhai_values.specs.declared.base.scope.ScopeEntry.{ScopeEntry}
 use Rattle.rhai_values.specs.declared.base.error.EvalAltResult.{EvalAltResult}
 use Rattle.rhai_values.specs.Errors.{is_out_of_memory}
 
--- the surroundings of the variables: libraries, imports, constants and their tables, how deep the calls are, the modules loaded, the source's name, and the cells with their held marks
+-- the surroundings of the variables: libraries, imports, constants and their tables, how deep the calls are, the modules loaded, the
+-- source's name, and the cells with their held marks
 pub record Surroundings (H : Type 0) : Type 0 where
   pub lib : List (Module H)
   pub imports : List (Import H)

@@ -1,5 +1,6 @@
 -- The rules of statements and of their lists.
-use Rattle.std.specs.Prelude.{ℕ, ◌+◌, ◌^◌, ◌-◌, Bool, true, false, not, ◌&&◌, List, [], ◌∷◌, ◌++◌, Option, Some, None, Result, Ok, Err, length, is_some, min, nat_le, nat_eq, if◌then◌else◌, bit_and, take}
+use Rattle.std.specs.Prelude.{ℕ, ◌+◌, ◌^◌, ◌-◌, Bool, true, false, not, ◌&&◌, List, [], ◌∷◌, ◌++◌, Option, Some, None, Result, Ok, Err}
+use Rattle.std.specs.Prelude.{length, is_some, min, nat_le, nat_eq, if◌then◌else◌, bit_and, take}
 use Rattle.rhai_tree.specs.declared.position.Position.{Position}
 use Rattle.rhai_tree.specs.declared.flags.ASTFlags.{ASTFlags}
 use Rattle.rhai_tree.specs.declared.expr.Ident.{Ident}
@@ -19,7 +20,8 @@ use Rattle.rhai_machine.specs.machine.Machine.{Move, Halt, Go}
 use Rattle.rhai_machine.specs.language.Setting.{Setting}
 use Rattle.rhai_machine.specs.language.State.{Local}
 use Rattle.rhai_machine.specs.language.Values.{unit_value}
-use Rattle.rhai_machine.specs.language.Frames.{Saved, Frame, Core, core, Eval, Exec, Enter, Run, WhileTurn, DoTurn, Back, Fail, StatementValue, DefineValue, IfCondition, RestOfList, RestoreList, BreakValue, ReturnValue}
+use Rattle.rhai_machine.specs.language.Frames.{Saved, Frame, Core, core, Eval, Exec, Enter, Run, WhileTurn, DoTurn, Back, Fail}
+use Rattle.rhai_machine.specs.language.Frames.{StatementValue, DefineValue, IfCondition, RestOfList, RestoreList, BreakValue, ReturnValue}
 use Rattle.rhai_machine.specs.language.Assignment.{assignment_move}
 
 -- an option is among the options
@@ -41,7 +43,8 @@ module _ {H : Type 0} where
 
   abbrev pub enter_core : List Stmt → Bool → List (Frame H) → Local H → Core H
   enter_core [] restoring k l = core (Back unit_value) k l
-  enter_core (stmt ∷ stmts) true k l = core (Run (stmt ∷ stmts) true unit_value) (RestoreList (saved_by l) ∷ k) (record l { scope_level = deeper l.scope_level })
+  enter_core (stmt ∷ stmts) true k l = core (Run (stmt ∷ stmts) true unit_value) (RestoreList (saved_by l) ∷ k)
+      (record l { scope_level = deeper l.scope_level })
   enter_core (stmt ∷ stmts) false k l = core (Run (stmt ∷ stmts) false unit_value) k l
 
   -- the statements of a list, one after the other; the last one's value is the list's
@@ -65,7 +68,8 @@ module _ {H : Type 0} where
 
   -- a new variable with its value
   abbrev pub defined_core : Result (Dynamic H) (EvalAltResult H) → Ident → ASTFlags → List (Frame H) → Local H → Core H
-  defined_core (Ok v) ident options k l = core (Back unit_value) k (record l { scope = l.scope ++ new_entry ident.name (mode_of options) v ∷ [] })
+  defined_core (Ok v) ident options k l = core (Back unit_value) k
+      (record l { scope = l.scope ++ new_entry ident.name (mode_of options) v ∷ [] })
   defined_core (Err e) ident options k l = core (Fail e) k l
 
   -- a `break` or a `continue` is an error on its way to its loop, with its value as it is
@@ -97,7 +101,8 @@ module _ {H : Type 0} where
     stmt_move (layer.Block block) restoring k l = Go (core (Enter block.statements true) k l)
     stmt_move (layer.Assignment op lhs rhs) restoring k l = assignment_move (out-Expr lhs) op rhs k l
     stmt_move (layer.Var ident value None options pos) restoring k l =
-        Go (define_core (not s.offer.allow_shadowing && is_some (index_of ident.name l.scope)) (nat_le s.limits.max_variables (length l.scope)) ident value options pos k l)
+        Go (define_core (not s.offer.allow_shadowing && is_some (index_of ident.name l.scope))
+        (nat_le s.limits.max_variables (length l.scope)) ident value options pos k l)
     stmt_move (layer.If test body branch pos) restoring k l = Go (core (Eval test) (IfCondition (position_of test) body branch ∷ k) l)
     stmt_move (layer.While test body pos) restoring k l = Go (core (WhileTurn test body) k l)
     stmt_move (layer.Do test body options pos) restoring k l = Go (core (DoTurn test body options) k l)

@@ -8,7 +8,10 @@ use Rattle.rhai_values.specs.declared.base.error.EvalAltResult.TheVariants as er
 use Rattle.rhai_machine.specs.language.Setting.{Setting}
 use Rattle.rhai_machine.specs.language.State.{Local}
 use Rattle.rhai_machine.specs.language.Values.{flat, through, truth}
-use Rattle.rhai_machine.specs.language.Frames.{Operation, Call, Frame, Core, core, ended, Eval, Argument, Run, WhileTurn, DoTurn, Back, Fail, StatementValue, DefineValue, IfCondition, RestOfList, RestoreList, Top, UnaryOperand, LeftOperand, RightOperand, AndPart, OrPart, CoalescePart, AssignValue, WhileCondition, WhileBody, DoCondition, DoBody, BreakValue, ReturnValue}
+use Rattle.rhai_machine.specs.language.Frames.{Operation, Call, Frame, Core, core, ended, Eval, Argument, Run, WhileTurn, DoTurn, Back}
+use Rattle.rhai_machine.specs.language.Frames.{Fail, StatementValue, DefineValue, IfCondition, RestOfList, RestoreList, Top, UnaryOperand}
+use Rattle.rhai_machine.specs.language.Frames.{LeftOperand, RightOperand, AndPart, OrPart, CoalescePart, AssignValue, WhileCondition}
+use Rattle.rhai_machine.specs.language.Frames.{WhileBody, DoCondition, DoBody, BreakValue, ReturnValue}
 use Rattle.rhai_machine.specs.language.Expressions.{and_next, or_next, coalesce_next}
 use Rattle.rhai_machine.specs.language.Calls.{builtin_of, operator_core}
 use Rattle.rhai_machine.specs.language.Statements.{has_option, chosen_core, defined_core, restored_by, returned_core}

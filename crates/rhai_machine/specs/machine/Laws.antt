@@ -38,12 +38,14 @@ module _ {S H Core : Type 0} (M : Machine S H Core) where
 
   -- steps told without the list of calls are a run with it
   abbrev pub HasLog : Type 0
-  HasLog = (allows : ℕ → Bool) (p q : Point S Core) → Reaches M allows p q → M.move q.core ≡ Halt → (calls : List (Request H)) → Logged M allows p q calls
+  HasLog = (allows : ℕ → Bool) (p q : Point S Core) → Reaches M allows p q → M.move q.core ≡ Halt → (calls : List (Request H)) →
+      Logged M allows p q calls
 
   -- steps that are the same under two tests
   pub data Together (lower higher : ℕ → Bool) : Config S H Core → Config S H Core → Type 0 where
     none : {c : Config S H Core} → Together lower higher c c
-    also : {c d e : Config S H Core} → step M lower c ≡ Some d → step M higher c ≡ Some d → Together lower higher d e → Together lower higher c e
+    also : {c d e : Config S H Core} → step M lower c ≡ Some d → step M higher c ≡ Some d → Together lower higher d e →
+        Together lower higher c e
 
   module _ (R : Core → Type 0) where
     -- once a charge is refused, the run only unwinds
@@ -64,7 +66,8 @@ module _ {S H Core : Type 0} (M : Machine S H Core) where
 
     -- the cut run is the run without a limit, or follows it up to the first charge that is refused
     abbrev pub Follows : Type 0
-    Follows = Unwinds M R → (limit : ℕ) (c a : Config S H Core) → Run M (below limit) c a → Run M always c a ⊎ PartsAt (below limit) always c a
+    Follows = Unwinds M R → (limit : ℕ) (c a : Config S H Core) → Run M (below limit) c a →
+        Run M always c a ⊎ PartsAt (below limit) always c a
 
     -- where the run without a limit has an end too, the cut run has the same, or it refused a charge
     abbrev pub WithoutLimit : Type 0
@@ -72,7 +75,8 @@ module _ {S H Core : Type 0} (M : Machine S H Core) where
 
     -- the cut run always ends
     abbrev pub AlwaysEnds : Type 0
-    AlwaysEnds = Unwinds M R → ((c : Core) → Settles M c) → (limit : ℕ) (c : Config S H Core) → (a : Config S H Core) × Run M (below limit) c a
+    AlwaysEnds = Unwinds M R → ((c : Core) → Settles M c) → (limit : ℕ) (c : Config S H Core) →
+        (a : Config S H Core) × Run M (below limit) c a
 
     -- under a higher limit the run ends too, and at the same end, or the lower limit refused a charge
     abbrev pub TwoLimits : Type 0
@@ -87,7 +91,8 @@ module _ {S H Core : Type 0} (M : Machine S H Core) where
 
     -- two limits, of steps told without the list of calls
     abbrev pub TwoLimitsOfSteps : Type 0
-    TwoLimitsOfSteps = Unwinds M R → ((c : Core) → Settles M c) → (m : ℕ) (p q : Point S Core) → Reaches M (below m) p q → M.move q.core ≡ Halt → LimitsAgree m p q
+    TwoLimitsOfSteps = Unwinds M R → ((c : Core) → Settles M c) → (m : ℕ) (p q : Point S Core) → Reaches M (below m) p q →
+        M.move q.core ≡ Halt → LimitsAgree m p q
 
   -- where a size falls at each move without a charge, no run goes on for ever without one
   abbrev pub SizeSettles : Type 0

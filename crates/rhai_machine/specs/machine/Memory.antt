@@ -14,7 +14,8 @@ module _ {S H Core : Type 0} (M : Machine S H Core) where
   out_of_memory at p = record p { core = M.want at p.core }
 
   -- a native that finds no memory counts as one that fails, whatever it did to its first argument and to the table's state
-  abbrev pub starved_at : Position → (Reply H → Option (Dynamic H) → Core) → EvalAltResult H → Option (Dynamic H) → S → Point S Core → Point S Core
+  abbrev pub starved_at : Position → (Reply H → Option (Dynamic H) → Core) → EvalAltResult H → Option (Dynamic H) → S → Point S Core →
+      Point S Core
   starved_at at f e first state p = record p { core = M.want at (f (Faults e) first); table = state }
 
 module _ {S H Core : Type 0} (M : Machine S H Core) (allows : ℕ → Bool) where
@@ -23,7 +24,8 @@ module _ {S H Core : Type 0} (M : Machine S H Core) (allows : ℕ → Bool) wher
     here : {p : Point S Core} → Leads p p
     next : {p q : Point S Core} → Leads (after M allows p) q → Leads p q
     wanting : {p q : Point S Core} {at : Position} → Leads (out_of_memory M at p) q → Leads p q
-    starved : {p q : Point S Core} {call : Request H} {f : Reply H → Option (Dynamic H) → Core} {at : Position} → M.move p.core ≡ Native call f →
+    starved : {p q : Point S Core} {call : Request H} {f : Reply H → Option (Dynamic H) → Core} {at : Position} →
+        M.move p.core ≡ Native call f →
         (e : EvalAltResult H) (first : Option (Dynamic H)) (state : S) → Leads (starved_at M at f e first state p) q → Leads p q
 
   -- The machine by itself comes to a point. There memory runs out, within a native or before anything else is done, and from
@@ -38,7 +40,8 @@ module _ {S H Core : Type 0} (M : Machine S H Core) (allows : ℕ → Bool) wher
 
 infixr 5 ◌⨾◌
 -- one piece of a run after another
-pub ◌⨾◌ : {S H Core : Type 0} {M : Machine S H Core} {allows : ℕ → Bool} {a b c : Point S Core} → Leads M allows a b → Leads M allows b c → Leads M allows a c
+pub ◌⨾◌ : {S H Core : Type 0} {M : Machine S H Core} {allows : ℕ → Bool} {a b c : Point S Core} → Leads M allows a b →
+    Leads M allows b c → Leads M allows a c
 here ⨾ q = q
 next p ⨾ q = next (p ⨾ q)
 wanting p ⨾ q = wanting (p ⨾ q)

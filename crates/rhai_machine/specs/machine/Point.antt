@@ -49,6 +49,7 @@ module _ {S H Core : Type 0} (M : Machine S H Core) (allows : ℕ → Bool) wher
 
 infixr 5 ◌⨾◌
 -- one piece of a run after another
-pub ◌⨾◌ : {S H Core : Type 0} {M : Machine S H Core} {allows : ℕ → Bool} {a b c : Point S Core} → Reaches M allows a b → Reaches M allows b c → Reaches M allows a c
+pub ◌⨾◌ : {S H Core : Type 0} {M : Machine S H Core} {allows : ℕ → Bool} {a b c : Point S Core} → Reaches M allows a b →
+    Reaches M allows b c → Reaches M allows a c
 here ⨾ q = q
 next p ⨾ q = next (p ⨾ q)

@@ -11,7 +11,8 @@ module _ {S H Core : Type 0} (M : Machine S H Core) where
     at_end : {c : Core} → M.move c ≡ Halt → Settles c
     at_charge : {c d : Core} {at : Position} → M.move c ≡ Charge at d → Settles c
     by_step : {c d : Core} → M.move c ≡ Go d → Settles d → Settles c
-    by_call : {c : Core} {q : Request H} {f : Reply H → Option (Dynamic H) → Core} → M.move c ≡ Native q f → ((reply : Reply H) (first : Option (Dynamic H)) → Settles (f reply first)) → Settles c
+    by_call : {c : Core} {q : Request H} {f : Reply H → Option (Dynamic H) → Core} → M.move c ≡ Native q f →
+        ((reply : Reply H) (first : Option (Dynamic H)) → Settles (f reply first)) → Settles c
     by_question : {c : Core} {p : Purity} {f : Bool → Core} → M.move c ≡ AskPure p f → ((answer : Bool) → Settles (f answer)) → Settles c
 
 -- a size of cores falls at a move without a charge

@@ -62,6 +62,7 @@ pub record Samples (H : Type 0) (at : Position) : Type 0 where
   -- an endless run is cut
   pub cut : Ends {H = H} 3 (Spin at) (stands (Fail at 0) 0 3 [])
   -- calls change the table and are written down, the newest first; none is made after a refused charge
-  pub called : Ends {H = H} 1 (Ring at 7 (Pay at (Ring at 8 (Pay at (Ring at 9 Done))))) (stands (Fail at 0) 2 1 (ring at 8 ∷ ring at 7 ∷ []))
+  pub called : Ends {H = H} 1 (Ring at 7 (Pay at (Ring at 8 (Pay at (Ring at 9 Done)))))
+      (stands (Fail at 0) 2 1 (ring at 8 ∷ ring at 7 ∷ []))
   -- a question changes nothing
   pub asked : Ends {H = H} 1 (IfPure 7 (Pay at Done)) (stands Done 0 1 [])

@@ -7,11 +7,14 @@ use Rattle.rhai_values.specs.declared.base.value.AccessMode.TheVariants.{ReadOnl
 use Rattle.rhai_values.specs.declared.base.value.Dynamic.{Dynamic}
 use Rattle.rhai_values.specs.declared.base.value.Union.TheVariants as value_of
 use Rattle.rhai_values.specs.declared.base.error.EvalAltResult.{EvalAltResult}
-use Rattle.rhai_values.specs.declared.base.error.EvalAltResult.TheVariants.{ErrorTooManyOperations, ErrorVariableNotFound, ErrorAssignmentToConstant, ErrorArithmetic, ErrorDataRace, ErrorDataTooLarge, ErrorFunctionNotFound}
+use Rattle.rhai_values.specs.declared.base.error.EvalAltResult.TheVariants.{ErrorTooManyOperations, ErrorVariableNotFound}
+use Rattle.rhai_values.specs.declared.base.error.EvalAltResult.TheVariants.{ErrorAssignmentToConstant, ErrorArithmetic, ErrorDataRace}
+use Rattle.rhai_values.specs.declared.base.error.EvalAltResult.TheVariants.{ErrorDataTooLarge, ErrorFunctionNotFound}
 use Rattle.rhai_values.specs.Native.{Request, Missing, Gives, Faults, Named, request}
 use Rattle.rhai_machine.specs.language.Setting.{Setting}
 use Rattle.rhai_machine.specs.samples.Trees.{column, int, bool, var, value, braces, block, let_, const_, assign}
-use Rattle.rhai_machine.specs.samples.Runs.{Table, Replies, Answers, EndsFrom, Returns, Fails, Ends, EndsCalling, usual, limited, integer, truth, unit, entry, nothing_but}
+use Rattle.rhai_machine.specs.samples.Runs.{Table, Replies, Answers, EndsFrom, Returns, Fails, Ends, EndsCalling, usual, limited, integer}
+use Rattle.rhai_machine.specs.samples.Runs.{truth, unit, entry, nothing_but}
 use Rattle.rhai_machine.specs.samples.Called.{abc, short_texts}
 use Rattle.rhai_machine.specs.samples.Handles.{one_cell}
 
@@ -25,7 +28,8 @@ hidden = let_ 1 (codes "x") (int 9 1) ∷ block (braces 12 25 (let_ 14 (codes "x
 
 -- `let x = 1; { x = 2; } x`
 abbrev pub reached : List Stmt
-reached = let_ 1 (codes "x") (int 9 1) ∷ block (braces 12 21 (assign 16 None (var 14 (codes "x")) (int 18 2) ∷ [])) ∷ value (var 23 (codes "x")) ∷ []
+reached = let_ 1 (codes "x") (int 9 1) ∷ block (braces 12 21 (assign 16 None (var 14 (codes "x")) (int 18 2) ∷ [])) ∷ value
+    (var 23 (codes "x")) ∷ []
 
 -- `const C = 1; C = 2;`
 abbrev pub to_constant : List Stmt
@@ -81,7 +85,8 @@ module _ {S H : Type 0} (table : Table S H) (host : H → List ℕ) where
 
   -- over a cell with this value the script comes to this result, and the cell has that value
   abbrev pub Changes : Option (Dynamic H) → List Stmt → Result (Dynamic H) (EvalAltResult H) → (count : ℕ) → Option (Dynamic H) → Type 0
-  Changes before script result count after = Ends table (usual host) (one_cell table host before []) script result count (one_cell table host after [])
+  Changes before script result count after = Ends table (usual host) (one_cell table host before []) script result count
+      (one_cell table host after [])
 
   pub record Assignments : Type 0 where
     -- the statement is charged, then its value, then the variable
@@ -91,14 +96,17 @@ module _ {S H : Type 0} (table : Table S H) (host : H → List ℕ) where
     pub in_block : Returns table (usual host) hidden (integer 1) 7 (entry (codes "x") (integer 1) ∷ [])
     pub from_block : Returns table (usual host) reached (integer 2) 8 (entry (codes "x") (integer 2) ∷ [])
     -- a constant is refused, and stays
-    pub constant : Fails table (usual host) to_constant (ErrorAssignmentToConstant (codes "C") (column 14)) 5 (entry (codes "C") (record { value = value_of.Int (pos 1); mode = ReadOnly }) ∷ [])
+    pub constant : Fails table (usual host) to_constant (ErrorAssignmentToConstant (codes "C") (column 14)) 5
+        (entry (codes "C") (record { value = value_of.Int (pos 1); mode = ReadOnly }) ∷ [])
     -- the value comes before the variable
     pub unknown : Fails table (usual host) to_unknown (ErrorVariableNotFound (codes "y") (column 1)) 3 []
     pub value_first : Fails table (usual host) of_unknown (ErrorVariableNotFound (codes "z") (column 5)) 2 []
     -- an operator's error stands at the operator, and nothing is written
-    pub too_great : Fails table (usual host) overflows (ErrorArithmetic (codes "integer overflow") (column 14)) 5 (entry (codes "x") (integer 1) ∷ [])
+    pub too_great : Fails table (usual host) overflows (ErrorArithmetic (codes "integer overflow") (column 14)) 5
+        (entry (codes "x") (integer 1) ∷ [])
     -- a result that is too large is not written
-    pub too_long : Ends table (short_texts table host 5) (nothing_but (entry (codes "s") abc ∷ [])) doubled (Err (ErrorDataTooLarge (codes "Length of string") (column 3))) 3 (nothing_but (entry (codes "s") abc ∷ []))
+    pub too_long : Ends table (short_texts table host 5) (nothing_but (entry (codes "s") abc ∷ [])) doubled
+        (Err (ErrorDataTooLarge (codes "Length of string") (column 3))) 3 (nothing_but (entry (codes "s") abc ∷ []))
     -- a handle is assigned through
     pub in_cell : Changes (Some (integer 5)) through_handle (Ok unit) 3 (Some (integer 7))
     pub locked : Changes (Some constant_five) through_handle (Err (ErrorAssignmentToConstant (codes "h") (column 1))) 3 (Some constant_five)
@@ -106,27 +114,40 @@ module _ {S H : Type 0} (table : Table S H) (host : H → List ℕ) where
 
   pub record Updates : Type 0 where
     -- where there is neither native, two calls are charged
-    pub missing : Replies table Missing → EndsFrom table 0 (usual host) mixed_update (Err (ErrorFunctionNotFound (codes "+ (i64, bool)") (column 14))) 7 (entry (codes "x") (integer 1) ∷ [])
+    pub missing : Replies table Missing → EndsFrom table 0 (usual host) mixed_update
+        (Err (ErrorFunctionNotFound (codes "+ (i64, bool)") (column 14))) 7 (entry (codes "x") (integer 1) ∷ [])
         (update_called (codes "+") (truth true) ∷ update_called (codes "+=") (truth true) ∷ [])
     -- the second charge is refused before its native is called
-    pub refused : Replies table Missing → EndsFrom table 0 (limited host 6) mixed_update (Err (ErrorTooManyOperations (column 14))) 6 (entry (codes "x") (integer 1) ∷ []) (update_called (codes "+=") (truth true) ∷ [])
+    pub refused : Replies table Missing → EndsFrom table 0 (limited host 6) mixed_update (Err (ErrorTooManyOperations (column 14))) 6
+        (entry (codes "x") (integer 1) ∷ []) (update_called (codes "+=") (truth true) ∷ [])
     -- the native of `+=` changes the variable, and its answer is dropped
     pub in_place : Answers table (update_called (codes "+=") (truth true)) (Gives (integer 3)) (integer 9)
-        → EndsFrom table 0 (usual host) mixed_update (Ok unit) 6 (entry (codes "x") (integer 9) ∷ []) (update_called (codes "+=") (truth true) ∷ [])
+        → EndsFrom table 0 (usual host) mixed_update (Ok unit) 6 (entry (codes "x") (integer 9) ∷ []) (update_called (codes "+=")
+        (truth true) ∷ [])
     -- what it changed stays after its fault
     pub faults : Answers table (update_called (codes "+=") (truth true)) (Faults (ErrorArithmetic (codes "no") none)) (integer 9)
-        → EndsFrom table 0 (usual host) mixed_update (Err (ErrorArithmetic (codes "no") (column 14))) 6 (entry (codes "x") (integer 9) ∷ []) (update_called (codes "+=") (truth true) ∷ [])
+        → EndsFrom table 0 (usual host) mixed_update (Err (ErrorArithmetic (codes "no") (column 14))) 6
+        (entry (codes "x") (integer 9) ∷ []) (update_called (codes "+=") (truth true) ∷ [])
     -- the native of `+` gives the variable's value, also where the first one says that there is no such function
-    pub by_value : Answers table (update_called (codes "+=") (truth true)) Missing (integer 1) → Answers table (update_called (codes "+") (truth true)) (Gives (integer 7)) (integer 9)
-        → EndsFrom table 0 (usual host) mixed_update (Ok unit) 7 (entry (codes "x") (integer 7) ∷ []) (update_called (codes "+") (truth true) ∷ update_called (codes "+=") (truth true) ∷ [])
-    pub by_fault : Answers table (update_called (codes "+=") (truth true)) (Faults (ErrorFunctionNotFound (codes "+= (a, b)") none)) (integer 1) → Answers table (update_called (codes "+") (truth true)) (Gives (integer 7)) (integer 9)
-        → EndsFrom table 0 (usual host) mixed_update (Ok unit) 7 (entry (codes "x") (integer 7) ∷ []) (update_called (codes "+") (truth true) ∷ update_called (codes "+=") (truth true) ∷ [])
+    pub by_value : Answers table (update_called (codes "+=") (truth true)) Missing (integer 1) →
+        Answers table (update_called (codes "+") (truth true)) (Gives (integer 7)) (integer 9)
+        → EndsFrom table 0 (usual host) mixed_update (Ok unit) 7 (entry (codes "x") (integer 7) ∷ [])
+        (update_called (codes "+") (truth true) ∷ update_called (codes "+=") (truth true) ∷ [])
+    pub by_fault : Answers table (update_called (codes "+=") (truth true)) (Faults (ErrorFunctionNotFound (codes "+= (a, b)") none))
+        (integer 1) → Answers table (update_called (codes "+") (truth true)) (Gives (integer 7)) (integer 9)
+        → EndsFrom table 0 (usual host) mixed_update (Ok unit) 7 (entry (codes "x") (integer 7) ∷ [])
+        (update_called (codes "+") (truth true) ∷ update_called (codes "+=") (truth true) ∷ [])
     -- the answer is measured at the operator, and the variable where it stands
     pub answer_long : Answers table (update_called (codes "+=") (truth true)) (Gives abc) (integer 9)
-        → EndsFrom table 0 (short_texts table host 2) mixed_update (Err (ErrorDataTooLarge (codes "Length of string") (column 14))) 6 (entry (codes "x") (integer 9) ∷ []) (update_called (codes "+=") (truth true) ∷ [])
+        → EndsFrom table 0 (short_texts table host 2) mixed_update (Err (ErrorDataTooLarge (codes "Length of string") (column 14))) 6
+        (entry (codes "x") (integer 9) ∷ []) (update_called (codes "+=") (truth true) ∷ [])
     pub target_long : Answers table (update_called (codes "+=") (truth true)) (Gives unit) abc
-        → EndsFrom table 0 (short_texts table host 2) mixed_update (Err (ErrorDataTooLarge (codes "Length of string") (column 12))) 6 (entry (codes "x") abc ∷ []) (update_called (codes "+=") (truth true) ∷ [])
+        → EndsFrom table 0 (short_texts table host 2) mixed_update (Err (ErrorDataTooLarge (codes "Length of string") (column 12))) 6
+        (entry (codes "x") abc ∷ []) (update_called (codes "+=") (truth true) ∷ [])
     -- a cell is held while a native has its value
-    pub lent : Answers table lent_called (Gives unit) (integer 9) → EndsCalling table (usual host) (one_cell table host (Some (integer 5)) []) lends_cell (Ok unit) 4 (one_cell table host (Some (integer 9)) []) (lent_called ∷ [])
+    pub lent : Answers table lent_called (Gives unit) (integer 9) →
+        EndsCalling table (usual host) (one_cell table host (Some (integer 5)) []) lends_cell (Ok unit) 4
+        (one_cell table host (Some (integer 9)) []) (lent_called ∷ [])
     -- without fast operators the native comes before the built-in
-    pub slow : Replies table Missing → EndsFrom table 0 slow_operators plain_update (Ok unit) 6 (entry (codes "x") (integer 3) ∷ []) (update_called (codes "+=") (integer 2) ∷ [])
+    pub slow : Replies table Missing → EndsFrom table 0 slow_operators plain_update (Ok unit) 6 (entry (codes "x") (integer 3) ∷ [])
+        (update_called (codes "+=") (integer 2) ∷ [])

@@ -3,7 +3,8 @@ use Rattle.std.specs.Prelude.{ℕ, true, List, [], ◌∷◌, Some, Ok, Err, cod
 use Rattle.rhai_tree.specs.declared.expr.Stmt.{Stmt}
 use Rattle.rhai_tree.specs.declared.token.Token.TheVariants.{Plus}
 use Rattle.rhai_tree.specs.Position.{none}
-use Rattle.rhai_values.specs.declared.base.error.EvalAltResult.TheVariants.{ErrorTooManyOperations, ErrorFunctionNotFound, ErrorArithmetic, ErrorDataTooLarge}
+use Rattle.rhai_values.specs.declared.base.error.EvalAltResult.TheVariants.{ErrorTooManyOperations, ErrorFunctionNotFound}
+use Rattle.rhai_values.specs.declared.base.error.EvalAltResult.TheVariants.{ErrorArithmetic, ErrorDataTooLarge}
 use Rattle.rhai_values.specs.declared.base.value.AccessMode.TheVariants.{ReadWrite}
 use Rattle.rhai_values.specs.declared.base.value.Dynamic.{Dynamic}
 use Rattle.rhai_values.specs.declared.base.value.Union.TheVariants.{Str}
@@ -31,14 +32,18 @@ module _ {S H : Type 0} (table : Table S H) (host : H → List ℕ) where
 
   pub record Called : Type 0 where
     -- where there is no such native the error names the operator and its operands' types
-    pub missing : Replies table Missing → EndsFrom table 0 (usual host) mixed_sum (Err (ErrorFunctionNotFound (codes "+ (i64, bool)") (column 3))) 5 [] plus_called
+    pub missing : Replies table Missing → EndsFrom table 0 (usual host) mixed_sum
+        (Err (ErrorFunctionNotFound (codes "+ (i64, bool)") (column 3))) 5 [] plus_called
     -- what a native gives is the value
     pub gives : Replies table (Gives (integer 7)) → EndsFrom table 0 (usual host) mixed_sum (Ok (integer 7)) 5 [] plus_called
     -- a fault without a position stands at the operator, and one with a position where it says
-    pub faults : Replies table (Faults (ErrorArithmetic (codes "no") none)) → EndsFrom table 0 (usual host) mixed_sum (Err (ErrorArithmetic (codes "no") (column 3))) 5 [] plus_called
-    pub placed : Replies table (Faults (ErrorArithmetic (codes "no") (column 9))) → EndsFrom table 0 (usual host) mixed_sum (Err (ErrorArithmetic (codes "no") (column 9))) 5 [] plus_called
+    pub faults : Replies table (Faults (ErrorArithmetic (codes "no") none)) →
+        EndsFrom table 0 (usual host) mixed_sum (Err (ErrorArithmetic (codes "no") (column 3))) 5 [] plus_called
+    pub placed : Replies table (Faults (ErrorArithmetic (codes "no") (column 9))) →
+        EndsFrom table 0 (usual host) mixed_sum (Err (ErrorArithmetic (codes "no") (column 9))) 5 [] plus_called
     -- a value is measured where the call stands
     pub fits : Replies table (Gives abc) → EndsFrom table 0 (short_texts 3) mixed_sum (Ok abc) 5 [] plus_called
-    pub too_long : Replies table (Gives abc) → EndsFrom table 0 (short_texts 2) mixed_sum (Err (ErrorDataTooLarge (codes "Length of string") (column 3))) 5 [] plus_called
+    pub too_long : Replies table (Gives abc) → EndsFrom table 0 (short_texts 2) mixed_sum
+        (Err (ErrorDataTooLarge (codes "Length of string") (column 3))) 5 [] plus_called
     -- the call is charged before the native, which is then not called
     pub refused : Fails table (limited host 4) mixed_sum (ErrorTooManyOperations (column 3)) 4 []

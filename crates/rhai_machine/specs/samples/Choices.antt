@@ -41,7 +41,8 @@ module _ {S H : Type 0} (table : Table S H) (host : H → List ℕ) where
     pub or_goes_on : Returns table (usual host) second_holds (truth true) 4 []
     pub and_stops : Returns table (usual host) first_fails (truth false) 3 []
     -- each part is a truth value
-    pub mismatched : Fails table (usual host) no_truth_value (ErrorMismatchDataType (record { wanted = codes "bool"; found = codes "i64" }) (column 1)) 3 []
+    pub mismatched : Fails table (usual host) no_truth_value
+        (ErrorMismatchDataType (record { wanted = codes "bool"; found = codes "i64" }) (column 1)) 3 []
     -- an operator without parts
     pub all_of_none : Returns table (usual host) (value (all_of 1 []) ∷ []) (truth true) 2 []
     pub any_of_none : Returns table (usual host) (value (any_of 1 []) ∷ []) (truth false) 2 []
@@ -49,4 +50,5 @@ module _ {S H : Type 0} (table : Table S H) (host : H → List ℕ) where
     pub coalesces : Returns table (usual host) second_there (integer 5) 4 []
     pub all_unit : Returns table (usual host) none_there unit 4 []
     -- it comes as it is: a handle is looked through, and stays a handle
-    pub as_it_is : Ends table (usual host) (one_cell table host (Some (integer 5)) []) handle_there (Ok handle) 4 (one_cell table host (Some (integer 5)) [])
+    pub as_it_is : Ends table (usual host) (one_cell table host (Some (integer 5)) []) handle_there (Ok handle) 4
+        (one_cell table host (Some (integer 5)) [])

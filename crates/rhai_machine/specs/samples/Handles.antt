@@ -51,7 +51,8 @@ module _ {S H : Type 0} (table : Table S H) (host : H → List ℕ) where
   -- over the cell the script comes to this result, and leaves this count and these further variables
   abbrev pub EndsOver : Option (Dynamic H) → List Stmt → Result (Dynamic H) (EvalAltResult H) → (count : ℕ) → List (ScopeEntry H) → Type 0
   EndsOver cell script result count others =
-      Run (machine (under (usual host) table)) (below (limit_of 0)) (alone_in table (one_cell cell []) (Enter script false) 0 []) (alone_in table (one_cell cell others) (ended result) count [])
+      Run (machine (under (usual host) table)) (below (limit_of 0)) (alone_in table (one_cell cell []) (Enter script false) 0 [])
+      (alone_in table (one_cell cell others) (ended result) count [])
 
   pub record Handles : Type 0 where
     -- the value of a statement, the operands of an operator and the value of a `let` are the cell's value

@@ -5,7 +5,8 @@ use Rattle.rhai_tree.specs.declared.expr.Stmt.{Stmt}
 use Rattle.rhai_tree.specs.declared.expr.StmtBlock.{StmtBlock}
 use Rattle.rhai_tree.specs.declared.token.Token.TheVariants.{Plus, Bang, LessThan, GreaterThanEqualsTo}
 use Rattle.rhai_values.specs.declared.base.error.EvalAltResult.TheVariants.{ErrorTooManyOperations}
-use Rattle.rhai_machine.specs.samples.Trees.{column, int, bool, var, op, value, braces, inner, let_, if_, no_else, assign, while_, loop_, do_while, do_until, break_, continue_, return_}
+use Rattle.rhai_machine.specs.samples.Trees.{column, int, bool, var, op, value, braces, inner, let_, if_, no_else, assign, while_, loop_}
+use Rattle.rhai_machine.specs.samples.Trees.{do_while, do_until, break_, continue_, return_}
 use Rattle.rhai_machine.specs.samples.Runs.{Table, Returns, Fails, Ends, usual, limited, integer, unit, entry, nothing_but}
 use Rattle.rhai_machine.specs.samples.Handles.{one_cell, handle}
 
@@ -97,8 +98,10 @@ module _ {S H : Type 0} (table : Table S H) (host : H → List ℕ) where
     -- it ends the innermost loop
     pub inner_loop : Returns table (usual host) innermost (integer 1) 5 []
     -- its value comes as it is, a handle too
-    pub as_it_is : Ends table (usual host) (one_cell table host (Some (integer 5)) []) broken_handle (Ok handle) 3 (one_cell table host (Some (integer 5)) [])
+    pub as_it_is : Ends table (usual host) (one_cell table host (Some (integer 5)) []) broken_handle (Ok handle) 3
+        (one_cell table host (Some (integer 5)) [])
     -- `return` gives the script its value, and nothing after it is run
     pub returns : Ends table (usual host) (nothing_but []) returned (Ok (integer 5)) 2 (nothing_but [])
     -- it passes through a loop, and its value is flattened
-    pub flattened : Ends table (usual host) (one_cell table host (Some (integer 5)) []) returned_handle (Ok (integer 5)) 3 (one_cell table host (Some (integer 5)) [])
+    pub flattened : Ends table (usual host) (one_cell table host (Some (integer 5)) []) returned_handle (Ok (integer 5)) 3
+        (one_cell table host (Some (integer 5)) [])

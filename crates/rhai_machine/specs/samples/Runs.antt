@@ -84,7 +84,16 @@ module _ {H : Type 0} where
     scope = scope;
     this = None;
     scope_level = 0;
-    around = record { lib = []; imports = []; constants = 0; constant_tables = []; level = 0; num_modules_loaded = 0; source = None; cells = [] };
+    around = record {
+      lib = [];
+      imports = [];
+      constants = 0;
+      constant_tables = [];
+      level = 0;
+      num_modules_loaded = 0;
+      source = None;
+      cells = [];
+    };
   }
 
 module _ {S H : Type 0} (table : Table S H) where
@@ -96,9 +105,11 @@ module _ {S H : Type 0} (table : Table S H) where
   alone control scope count calls = alone_in (nothing_but scope) control count calls
 
   -- from a count the script comes to this result, and leaves this count, these variables and these calls
-  abbrev pub EndsFrom : ℕ → Setting H → List Stmt → Result (Dynamic H) (EvalAltResult H) → ℕ → List (ScopeEntry H) → List (Request H) → Type 0
+  abbrev pub EndsFrom : ℕ → Setting H → List Stmt → Result (Dynamic H) (EvalAltResult H) → ℕ → List (ScopeEntry H) → List (Request H) →
+      Type 0
   EndsFrom start s script result count scope calls =
-      Run (machine (under s table)) (below (limit_of s.limits.max_operations)) (alone (Enter script false) [] start []) (alone (ended result) scope count calls)
+      Run (machine (under s table)) (below (limit_of s.limits.max_operations)) (alone (Enter script false) [] start [])
+      (alone (ended result) scope count calls)
 
   -- the script returns this value and calls no native
   abbrev pub Returns : Setting H → List Stmt → Dynamic H → (count : ℕ) → List (ScopeEntry H) → Type 0
@@ -109,7 +120,8 @@ module _ {S H : Type 0} (table : Table S H) where
   Fails s script e count scope = EndsFrom 0 s script (Err e) count scope []
 
   -- as a whole script, over the frame of its end, it comes to this result and makes these calls
-  abbrev pub EndsCalling : Setting H → Local H → List Stmt → Result (Dynamic H) (EvalAltResult H) → (count : ℕ) → Local H → List (Request H) → Type 0
+  abbrev pub EndsCalling : Setting H → Local H → List Stmt → Result (Dynamic H) (EvalAltResult H) → (count : ℕ) → Local H →
+      List (Request H) → Type 0
   EndsCalling s before script result count after calls =
       Run (machine (under s table)) (below (limit_of s.limits.max_operations))
       (record { core = core (Enter script false) (Top false ∷ []) before; table = table.state; count = 0; calls = [] })

@@ -31,7 +31,13 @@ var c name = expr.Variable None name unqualified (column c)
 
 -- an operator at its own column, with its operands
 abbrev pub op : (at : ℕ) → Token → List Expr → Expr
-op c token operands = expr.FnCall (record { namespace = unqualified; name = syntax_of token; args = operands; op_token = Some token; capture_parent_scope = false }) (column c)
+op c token operands = expr.FnCall (record {
+  namespace = unqualified;
+  name = syntax_of token;
+  args = operands;
+  op_token = Some token;
+  capture_parent_scope = false;
+}) (column c)
 
 abbrev pub unit_at : (at : ℕ) → Expr
 unit_at c = expr.Unit (column c)

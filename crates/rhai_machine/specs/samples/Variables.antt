@@ -4,7 +4,9 @@ use Rattle.rhai_tree.specs.declared.expr.Stmt.{Stmt}
 use Rattle.rhai_tree.specs.declared.token.Token.TheVariants.{Plus, EqualsTo}
 use Rattle.rhai_values.specs.declared.base.value.AccessMode.TheVariants.{ReadOnly}
 use Rattle.rhai_values.specs.declared.base.value.Union.TheVariants as value_of
-use Rattle.rhai_values.specs.declared.base.error.EvalAltResult.TheVariants.{ErrorTooManyOperations, ErrorTooManyVariables, ErrorVariableExists, ErrorVariableNotFound, ErrorMismatchDataType}
+use Rattle.rhai_values.specs.declared.base.error.EvalAltResult.TheVariants.{ErrorTooManyOperations, ErrorTooManyVariables}
+use Rattle.rhai_values.specs.declared.base.error.EvalAltResult.TheVariants.{ErrorVariableExists, ErrorVariableNotFound}
+use Rattle.rhai_values.specs.declared.base.error.EvalAltResult.TheVariants.{ErrorMismatchDataType}
 use Rattle.rhai_machine.specs.language.Setting.{Setting}
 use Rattle.rhai_machine.specs.samples.Trees.{column, int, var, op, value, braces, block, inner, let_, const_, if_, no_else}
 use Rattle.rhai_machine.specs.samples.Runs.{usual_limits, Table, Returns, Fails, usual, limited, integer, unit, entry}
@@ -64,7 +66,8 @@ module _ {S H : Type 0} (table : Table S H) (host : H → List ℕ) where
     -- a block takes back its variables after an error too
     pub inside : Fails table (usual host) fails_inside (ErrorVariableNotFound (codes "y") (column 14)) 5 []
     -- those of the script itself stay
-    pub outside : Fails table (usual host) fails_outside (ErrorVariableNotFound (codes "y") (column 12)) 4 (entry (codes "x") (integer 1) ∷ [])
+    pub outside : Fails table (usual host) fails_outside (ErrorVariableNotFound (codes "y") (column 12)) 4
+        (entry (codes "x") (integer 1) ∷ [])
     -- a block is an expression too
     pub as_value : Returns table (usual host) inner_block unit 4 (entry (codes "x") (integer 1) ∷ [])
     -- an empty one gives `()`
@@ -86,6 +89,8 @@ module _ {S H : Type 0} (table : Table S H) (host : H → List ℕ) where
     -- so is one variable too many
     pub full : Fails table one_variable two_variables (ErrorTooManyVariables (column 12)) 3 (entry (codes "x") (integer 1) ∷ [])
     -- a constant is kept as one, and its value is read as one that may be written
-    pub kept : Returns table (usual host) constant (integer 1) 4 (entry (codes "x") (record { value = value_of.Int (pos 1); mode = ReadOnly }) ∷ [])
+    pub kept : Returns table (usual host) constant (integer 1) 4
+        (entry (codes "x") (record { value = value_of.Int (pos 1); mode = ReadOnly }) ∷ [])
     -- a condition is a truth value
-    pub condition : Fails table (usual host) no_truth (ErrorMismatchDataType (record { wanted = codes "bool"; found = codes "i64" }) (column 4)) 2 []
+    pub condition : Fails table (usual host) no_truth (ErrorMismatchDataType (record { wanted = codes "bool"; found = codes "i64" })
+        (column 4)) 2 []

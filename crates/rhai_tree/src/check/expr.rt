@@ -4,10 +4,12 @@ ghost use Rattle.std.specs.Prelude.{◌≡◌, ◌++◌, [], ◌∷◌, IsTrue, 
 ghost use Rattle.rhai_tree.specs.Context.{around};
 ghost use Rattle.rhai_tree.specs.Declares.{any_of, in_option, declares_expr, declares_call};
 ghost use Rattle.rhai_tree.specs.Forms.{is_unqualified, is_eval_call, is_operator_call};
-ghost use Rattle.rhai_tree.specs.Frame.{tests_of, resolves_expr, resolves_call, target_resolves, option_resolves, all_resolve_exprs};
+ghost use Rattle.rhai_tree.specs.Frame.{tests_of, resolves_expr, resolves_call, target_resolves};
+ghost use Rattle.rhai_tree.specs.Frame.{option_resolves, all_resolve_exprs};
 ghost use Rattle.rhai_tree.specs.Names.{Name, is_good};
 ghost use Rattle.rhai_tree.specs.Refusals.{Refuses};
-ghost use Rattle.rhai_tree.specs.WellFormed.{seen_expr, seen_call, target_faults, faults_in_option, faults_in_all, variable_faults};
+ghost use Rattle.rhai_tree.specs.WellFormed.{seen_expr, seen_call, target_faults, faults_in_option};
+ghost use Rattle.rhai_tree.specs.WellFormed.{faults_in_all, variable_faults};
 
 use crate::check::CheckFault;
 use crate::check::names::is_good;
@@ -21,7 +23,8 @@ use std::num::NonZeroUsize;
 /// Whether a call is written as an operator with one or two operands, without a path, and leaves
 /// the caller's scope alone.
 fn is_operator_call(call: &FnCallExpr) -> bool
-    ensures { result ≡ is_operator_call call.now.namespace call.now.op_token call.now.capture_parent_scope (length call.now.args) }
+    ensures { result ≡ is_operator_call call.now.namespace call.now.op_token call.now.capture_parent_scope
+        (length call.now.args) }
 {
     let count = call.args.len();
     call.namespace.path.len() == 0
@@ -39,8 +42,10 @@ pub(crate) fn check_expr(
 ) -> Result<(), CheckFault>
     ensures same { OnOk result (names.new ≡ names.old) }
     ensures exact { OnOk result ((seen_expr expr.now).value (around names.old place) ≡ []) }
-    ensures resolved { OnOk result ((base : List Name) → IsTrue (resolves_expr expr.now (base ++ names.old))) }
-    ensures refused { IfErr result (λ fault. Refuses ((seen_expr expr.now).value (around names.old place)) (declares_expr expr.now) fault) }
+    ensures resolved { OnOk result ((base : List Name) → IsTrue
+        (resolves_expr expr.now (base ++ names.old))) }
+    ensures refused { IfErr result (λ fault. Refuses ((seen_expr expr.now).value (around names.old place))
+        (declares_expr expr.now) fault) }
 {
     match expr {
         Expr::BoolConstant(_, _) => Ok(()),
@@ -88,8 +93,10 @@ pub(crate) fn check_exprs(
 ) -> Result<(), CheckFault>
     ensures same { OnOk result (names.new ≡ names.old) }
     ensures exact { OnOk result (faults_in_all (map seen_expr exprs.now) (around names.old place) ≡ []) }
-    ensures resolved { OnOk result ((base : List Name) → IsTrue (all_resolve_exprs (map tests_of exprs.now) (base ++ names.old))) }
-    ensures refused { IfErr result (λ fault. Refuses (faults_in_all (map seen_expr exprs.now) (around names.old place)) (any_of (map declares_expr exprs.now)) fault) }
+    ensures resolved { OnOk result ((base : List Name) → IsTrue
+        (all_resolve_exprs (map tests_of exprs.now) (base ++ names.old))) }
+    ensures refused { IfErr result (λ fault. Refuses (faults_in_all (map seen_expr exprs.now)
+        (around names.old place)) (any_of (map declares_expr exprs.now)) fault) }
 {
     'each: for expr in exprs {
         check_expr(names, place, expr)?;
@@ -105,9 +112,12 @@ pub(crate) fn check_option(
     expr: &Option<Expr>,
 ) -> Result<(), CheckFault>
     ensures same { OnOk result (names.new ≡ names.old) }
-    ensures exact { OnOk result (faults_in_option (option_map seen_expr expr.now) (around names.old place) ≡ []) }
-    ensures resolved { OnOk result ((base : List Name) → IsTrue (option_resolves (option_map tests_of expr.now) (base ++ names.old))) }
-    ensures refused { IfErr result (λ fault. Refuses (faults_in_option (option_map seen_expr expr.now) (around names.old place)) (in_option (option_map declares_expr expr.now)) fault) }
+    ensures exact { OnOk result (faults_in_option (option_map seen_expr expr.now) (around names.old place)
+        ≡ []) }
+    ensures resolved { OnOk result ((base : List Name) → IsTrue
+        (option_resolves (option_map tests_of expr.now) (base ++ names.old))) }
+    ensures refused { IfErr result (λ fault. Refuses (faults_in_option (option_map seen_expr expr.now)
+        (around names.old place)) (in_option (option_map declares_expr expr.now)) fault) }
 {
     match expr {
         None => Ok(()),
@@ -135,8 +145,10 @@ pub(crate) fn check_target(
 ) -> Result<(), CheckFault>
     ensures same { OnOk result (names.new ≡ names.old) }
     ensures exact { OnOk result (target_faults (seen_expr lhs.now) (around names.old place) ≡ []) }
-    ensures resolved { OnOk result ((base : List Name) → IsTrue (target_resolves (tests_of lhs.now) (base ++ names.old))) }
-    ensures refused { IfErr result (λ fault. Refuses (target_faults (seen_expr lhs.now) (around names.old place)) (declares_expr lhs.now) fault) }
+    ensures resolved { OnOk result ((base : List Name) → IsTrue
+        (target_resolves (tests_of lhs.now) (base ++ names.old))) }
+    ensures refused { IfErr result (λ fault. Refuses (target_faults (seen_expr lhs.now)
+        (around names.old place)) (declares_expr lhs.now) fault) }
 {
     if is_place(lhs) {
         check_expr(names, place, lhs)
@@ -162,8 +174,10 @@ fn check_call(
 ) -> Result<(), CheckFault>
     ensures same { OnOk result (names.new ≡ names.old) }
     ensures exact { OnOk result ((seen_call call.now).value pos (around names.old place) ≡ []) }
-    ensures resolved { OnOk result ((base : List Name) → IsTrue (resolves_call call.now (base ++ names.old))) }
-    ensures refused { IfErr result (λ fault. Refuses ((seen_call call.now).value pos (around names.old place)) (declares_call call.now) fault) }
+    ensures resolved { OnOk result ((base : List Name) → IsTrue
+        (resolves_call call.now (base ++ names.old))) }
+    ensures refused { IfErr result (λ fault. Refuses ((seen_call call.now).value pos
+        (around names.old place)) (declares_call call.now) fault) }
 {
     if is_eval_call(call) {
         Err(CheckFault::EvalCall(pos))

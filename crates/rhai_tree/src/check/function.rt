@@ -4,7 +4,8 @@ ghost use Rattle.std.specs.Prelude.{◌≡◌, ◌++◌, [], ◌∷◌, true, If
 ghost use Rattle.rhai_tree.specs.Declares.{has_functions};
 ghost use Rattle.rhai_tree.specs.Frame.{ResolvesFunction};
 ghost use Rattle.rhai_tree.specs.Refusals.{Refuses};
-ghost use Rattle.rhai_tree.specs.WellFormed.{faults_in_function, faults_in_functions, IsFormedFunction, AreFormed};
+ghost use Rattle.rhai_tree.specs.WellFormed.{faults_in_function, faults_in_functions, IsFormedFunction};
+ghost use Rattle.rhai_tree.specs.WellFormed.{AreFormed};
 
 use crate::check::CheckFault;
 use crate::check::names::declare;

@@ -27,8 +27,10 @@ pub(crate) fn check_block(
 ) -> Result<(), CheckFault>
     ensures same { OnOk result (names.new ≡ names.old) }
     ensures exact { OnOk result ((seen_block block.now).value (around names.old place) ≡ []) }
-    ensures resolved { OnOk result ((base : List Name) → IsTrue (resolves_block block.now (base ++ names.old))) }
-    ensures refused { IfErr result (λ fault. Refuses ((seen_block block.now).value (around names.old place)) (declares_block block.now) fault) }
+    ensures resolved { OnOk result ((base : List Name) → IsTrue
+        (resolves_block block.now (base ++ names.old))) }
+    ensures refused { IfErr result (λ fault. Refuses ((seen_block block.now).value (around names.old place))
+        (declares_block block.now) fault) }
 {
     let start = names.len();
     check_statements(names, place.inside(), block.statements.as_slice())?;
@@ -44,9 +46,12 @@ pub(crate) fn check_statements(
     statements: &[Stmt],
 ) -> Result<(), CheckFault>
     ensures begins { OnOk result (Begins names.old names.new) }
-    ensures exact { OnOk result (faults_in_list (map seen_stmt statements.now) (around names.old place) ≡ ([], around names.new place)) }
-    ensures resolved { OnOk result ((base : List Name) → all_resolve (map resolves_stmt statements.now) (base ++ names.old) ≡ (true, base ++ names.new)) }
-    ensures refused { IfErr result (λ fault. Refuses (faults_in_list (map seen_stmt statements.now) (around names.old place)).0 (any_of (map declares_stmt statements.now)) fault) }
+    ensures exact { OnOk result (faults_in_list (map seen_stmt statements.now) (around names.old place)
+        ≡ ([], around names.new place)) }
+    ensures resolved { OnOk result ((base : List Name) → all_resolve (map resolves_stmt statements.now)
+        (base ++ names.old) ≡ (true, base ++ names.new)) }
+    ensures refused { IfErr result (λ fault. Refuses (faults_in_list (map seen_stmt statements.now)
+        (around names.old place)).0 (any_of (map declares_stmt statements.now)) fault) }
 {
     'each: for statement in statements {
         check_stmt(names, place, statement)?;
@@ -59,8 +64,10 @@ pub(crate) fn check_statements(
 fn check_stmt(names: &mut Items<Shared<Text>>, place: Place, stmt: &Stmt) -> Result<(), CheckFault>
     ensures begins { OnOk result (Begins names.old names.new) }
     ensures exact { OnOk result (seen_stmt stmt.now (around names.old place) ≡ ([], around names.new place)) }
-    ensures resolved { OnOk result ((base : List Name) → resolves_stmt stmt.now (base ++ names.old) ≡ (true, base ++ names.new)) }
-    ensures refused { IfErr result (λ fault. Refuses (seen_stmt stmt.now (around names.old place)).0 (declares_stmt stmt.now) fault) }
+    ensures resolved { OnOk result ((base : List Name) → resolves_stmt stmt.now (base ++ names.old)
+        ≡ (true, base ++ names.new)) }
+    ensures refused { IfErr result (λ fault. Refuses (seen_stmt stmt.now (around names.old place)).0
+        (declares_stmt stmt.now) fault) }
 {
     match stmt {
         Stmt::Noop(_) => Ok(()),

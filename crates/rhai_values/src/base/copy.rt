@@ -1,7 +1,8 @@
 //! Copies of values.
 
 ghost use Rattle.std.specs.Prelude.{◌≡◌, IfOk, map};
-ghost use Rattle.rhai_values.specs.Copy.{copy_of, copy_union as copy_of_union, copy_pointer as copy_of_pointer};
+ghost use Rattle.rhai_values.specs.Copy.{copy_of, copy_union as copy_of_union};
+ghost use Rattle.rhai_values.specs.Copy.{copy_pointer as copy_of_pointer};
 
 use crate::base::value::{AccessMode, Dynamic, FnPtr, FnPtrKind, Host, Union};
 use rhai_items::{Boxed, Items, Table};

@@ -1,7 +1,8 @@
 //! Why a run stopped.
 
 ghost use Rattle.std.specs.Prelude.{◌≡◌};
-ghost use Rattle.rhai_values.specs.Errors.{at_position, error_name, is_catchable, is_pseudo, is_system, position_of};
+ghost use Rattle.rhai_values.specs.Errors.{at_position, error_name, is_catchable, is_pseudo, is_system};
+ghost use Rattle.rhai_values.specs.Errors.{position_of};
 
 use crate::base::value::Dynamic;
 use rhai_items::{Boxed, Shared, Text};

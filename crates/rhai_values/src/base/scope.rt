@@ -1,6 +1,7 @@
 //! The variables of a run.
 
-ghost use Rattle.std.specs.Prelude.{◌≡◌, ◌<◌, ◌↔◌, [], ◌∷◌, ◌++◌, take, length, slice_get, is_some, Some, string_bytes, IsTrue, OnOk, OnErr};
+ghost use Rattle.std.specs.Prelude.{◌≡◌, ◌<◌, ◌↔◌, [], ◌∷◌, ◌++◌, take, length, slice_get, is_some, Some};
+ghost use Rattle.std.specs.Prelude.{string_bytes, IsTrue, OnOk, OnErr};
 ghost use Rattle.std.specs.Option.{option_map};
 ghost use Rattle.std.specs.Borrow.{sem};
 ghost use Rattle.rhai_values.specs.Lends.{lends_value};
@@ -107,7 +108,8 @@ impl<H> Scope<H> {
     pub fn replace_value(&mut self, index: usize, value: Dynamic<H>) -> Dynamic<H>
         requires { index < length (entries_of self.old) }
         ensures before { option_map value_of (slice_get (entries_of self.old) index) ≡ Some result }
-        ensures after { entries_of self.new ≡ revalued (entries_of self.old) index (slice_get (entries_of self.old) index) value }
+        ensures after { entries_of self.new ≡ revalued (entries_of self.old) index
+            (slice_get (entries_of self.old) index) value }
     {
         let entry = self.entries.at_mut(index);
         replace(&mut entry.value, value)
@@ -123,7 +125,8 @@ impl<H: Drop> Scope<H> {
         mode: AccessMode,
         value: Dynamic<H>,
     ) -> Result<(), AllocError>
-        ensures ok { OnOk result (entries_of self.new ≡ entries_of self.old ++ new_entry (string_bytes name) mode value ∷ []) }
+        ensures ok { OnOk result (entries_of self.new ≡ entries_of self.old
+            ++ new_entry (string_bytes name) mode value ∷ []) }
         ensures err { OnErr result (entries_of self.new ≡ entries_of self.old) }
     {
         let name = Shared::new(self.entries.allocator(), Text::from_string(name))?;
@@ -138,7 +141,8 @@ impl<H: Drop> Scope<H> {
         mode: AccessMode,
         mut value: Dynamic<H>,
     ) -> Result<(), AllocError>
-        ensures ok { OnOk result (entries_of self.new ≡ entries_of self.old ++ new_entry name mode value ∷ []) }
+        ensures ok { OnOk result (entries_of self.new ≡ entries_of self.old ++ new_entry name mode value
+            ∷ []) }
         ensures err { OnErr result (entries_of self.new ≡ entries_of self.old) }
     {
         value.set_access_mode(mode);

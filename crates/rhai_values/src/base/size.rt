@@ -1,7 +1,8 @@
 //! How much data a value holds, and the limits on it.
 
 ghost use Rattle.std.specs.Prelude.{◌≡◌, map, false};
-ghost use Rattle.rhai_values.specs.DataSize.{sizes, saturated, joined, total, total_of, data_sizes, holds_data, exceeded, fault_text};
+ghost use Rattle.rhai_values.specs.DataSize.{sizes, saturated, joined, total, total_of, data_sizes};
+ghost use Rattle.rhai_values.specs.DataSize.{holds_data, exceeded, fault_text};
 
 use crate::base::value::{Dynamic, Union};
 

@@ -21,13 +21,17 @@ pub returns-then-is_bare_handle-clause-runs : goal.returns-then-is_bare_handle-c
 unfolding Steps
 returns-then-is_bare_handle-clause-runs g c offer scope this k =
     let rules = rules_of c.args.limits.now g.H.Host.name_of offer g.T.NativeTable.natives in
-    asks rules _ c.args.global.now c.track_operation.new.global scope this _ c.in_ok-track_operation.ensures.room c.in_ok-track_operation.ensures.charged k
-    ⨾ fires_handle rules _ c.args.first.now c.args.rest.now k _ (sym c.is_bare_handle.ensures ∙ c.if-is_bare_handle.true) _ c.data_race_of.ensures
+    asks rules _ c.args.global.now c.track_operation.new.global scope this _ c.in_ok-track_operation.ensures.room
+    c.in_ok-track_operation.ensures.charged k
+    ⨾ fires_handle rules _ c.args.first.now c.args.rest.now k _ (sym c.is_bare_handle.ensures ∙ c.if-is_bare_handle.true) _
+    c.data_race_of.ensures
 
 pub returns-clause-runs : goal.returns-clause-runs
 unfolding Steps
 returns-clause-runs g c offer scope this k =
     let rules = rules_of c.args.limits.now g.H.Host.name_of offer g.T.NativeTable.natives in
-    asks rules _ c.args.global.now c.track_operation.new.global scope this _ c.in_ok-track_operation.ensures.room c.in_ok-track_operation.ensures.charged k
-    ⨾ fires_told rules _ c.args.first.now c.args.rest.now k _ (sym c.is_bare_handle.ensures ∙ c.if-is_bare_handle.false) _ (Some c.call-answer.new.first.0) _ _
+    asks rules _ c.args.global.now c.track_operation.new.global scope this _ c.in_ok-track_operation.ensures.room
+    c.in_ok-track_operation.ensures.charged k
+    ⨾ fires_told rules _ c.args.first.now c.args.rest.now k _ (sym c.is_bare_handle.ensures ∙ c.if-is_bare_handle.false) _
+    (Some c.call-answer.new.first.0) _ _
     (rw (c.as_str.ensures, c.get.ensures) at c.call-answer.ensures.obeys) c.replied.ensures.told c.replied.ensures.memory

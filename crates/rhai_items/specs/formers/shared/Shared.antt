@@ -1,4 +1,5 @@
--- How `Shared` stores its value, so that a type may hold itself behind a counted pointer: the shape says nothing, and the one place is the value.
+-- How `Shared` stores its value, so that a type may hold itself behind a counted pointer: the shape says nothing, and the one place is
+-- the value.
 use mathlib.Core.Path.{refl}
 use mathlib.Core.Former.{Former, this, const, pair, via}
 use base.Stored.{gnil}

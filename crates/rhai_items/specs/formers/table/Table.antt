@@ -1,4 +1,5 @@
--- How `Table` stores its values, so that a type may hold maps of itself: the shape is the keys and a list, each of whose places holds one value.
+-- How `Table` stores its values, so that a type may hold maps of itself: the shape is the keys and a list, each of whose places holds
+-- one value.
 use mathlib.Core.Path.{◌≡◌, refl, sym, ap, ◌∙◌}
 use mathlib.Core.HLevel.{×_prop}
 use mathlib.Core.Bool.{Bool-set}
@@ -40,15 +41,18 @@ stored = via (the_former this) Inside (λ X a. (a.keys, a.values)) (λ X v. reco
 module _ (R S : RattleType) (h : R.Denot → S.Denot) where
   -- at two types of one layout the two lie alike in memory
   pub the_places : Alike R S h → Alike (C.the_row R) (C.the_row S) ((the_former this).map R.Denot S.Denot h)
-  the_places a = view_places stored (the_former this) view (λ X Y k u. refl) (λ X u. refl) R.Denot S.Denot h (C.the_row R).coded (C.the_row S).coded
+  the_places a = view_places stored (the_former this) view (λ X Y k u. refl) (λ X u. refl) R.Denot S.Denot h (C.the_row R).coded
+      (C.the_row S).coded
       (invariant R.Denot) (invariant S.Denot) (λ u. ×_prop (Bool-set _ _) (ℕ_set _ _)) (λ u. ×_prop (Bool-set _ _) (ℕ_set _ _))
       (λ u e. (e.0, e.1 ∙ sym (length-map u.values h))) (λ u e. (e.0, e.1 ∙ length-map u.values h))
       (over (I.the_row R)) (over (I.the_row S))
-      (struct_places (I.the_type R) (I.the_type S) ((λ k. k), ((items.the_former this).map R.Denot S.Denot h, tt)) _ (λ d. refl) refl (stays (list.the_row (shared.the_row text.the_row)), (laid _ _ _ (items.the_places R S h a), tt)))
+      (struct_places (I.the_type R) (I.the_type S) ((λ k. k), ((items.the_former this).map R.Denot S.Denot h, tt)) _ (λ d. refl) refl
+      (stays (list.the_row (shared.the_row text.the_row)), (laid _ _ _ (items.the_places R S h a), tt)))
 
   -- and so do their codes
   pub the_codes_placed : Recodes R S h → Recodes (C.the_row R) (C.the_row S) ((the_former this).map R.Denot S.Denot h)
-  the_codes_placed e d = ap (gcons ((coded_list (coded_list coded_ℕ)).code d.0)) (sym (code_map R.coded.code S.coded.code h (λ x. sym (e x)) d.1))
+  the_codes_placed e d = ap (gcons ((coded_list (coded_list coded_ℕ)).code d.0))
+      (sym (code_map R.coded.code S.coded.code h (λ x. sym (e x)) d.1))
 
 abbrev pub the_items : (X : Type 0) → List (List ℕ) × List X → List X
 the_items X d = d.1

@@ -27,7 +27,8 @@ returns c =
     let grows : 2 ^ s ≤ 2 ^ e = pow_mono c.requires.ordered in
     let some : 0 < 2 ^ s = pow_pos s in
     let mask : c.ones.result - c.ones-2.result ≡ 2 ^ e - 2 ^ s = rw (c.ones.ensures, c.ones-2.ensures) (omega arith) in
-    stored _ _ (c.cast_signed.ensures ∙ ap (λ m. cast_signed w64 (bit_or (bit_and u (bit_not w64 m)) (bit_and (v * 2 ^ s % 2 ^ 64) m))) mask)
+    stored _ _ (c.cast_signed.ensures ∙ ap (λ m. cast_signed w64 (bit_or (bit_and u (bit_not w64 m)) (bit_and (v * 2 ^ s % 2 ^ 64) m)))
+    mask)
     (merged-fits u v s e c.requires.ordered c.requires.within c.cast_unsigned-2.type_inv)
     ∙ ap (cast_signed w64) (merged_is u v s e c.requires.ordered c.requires.within c.cast_unsigned-2.type_inv)
     ∙ (λ i. integer (replace_range (digits 64 (read c.args.number u c.ranges.number c.cast_unsigned-2.ensures i)) s e

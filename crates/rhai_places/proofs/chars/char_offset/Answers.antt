@@ -15,10 +15,13 @@ whole c =
 reached : (c : Then-passed-count) → c.loop-c.offset ≡ length (encode_utf8_all (take c.args.count (chars c.args.text.now)))
 reached c = c.loop-c.invariant.reached ∙ ap (λ n. length (encode_utf8_all (take n (chars c.args.text.now)))) c.if-passed-count.true
 
-turned : (c : After-len_utf8-offset) → (length c.loop-c.yielded < length (chars c.args.text.now)) × (c.in-Some.c ≡ get_or (chars c.args.text.now) (length c.loop-c.yielded) c.in-Some.c)
-turned c = YieldsList-turn (YieldsList-from_chars c.args.text.now c.utf8.text cc) c.loop-c.yielded _ c.loop-c.yielded_by _ _ c.in-Some.c c.in-Some.is c.next.ensures.steps
+turned : (c : After-len_utf8-offset) → (length c.loop-c.yielded < length (chars c.args.text.now)) ×
+    (c.in-Some.c ≡ get_or (chars c.args.text.now) (length c.loop-c.yielded) c.in-Some.c)
+turned c = YieldsList-turn (YieldsList-from_chars c.args.text.now c.utf8.text cc) c.loop-c.yielded _ c.loop-c.yielded_by _ _ c.in-Some.c
+    c.in-Some.is c.next.ensures.steps
 
-further : (c : After-len_utf8-offset) → c.loop-c.offset + c.len_utf8-offset.result ≡ length (encode_utf8_all (take (c.loop-c.passed + 1) (chars c.args.text.now)))
+further : (c : After-len_utf8-offset) → c.loop-c.offset + c.len_utf8-offset.result ≡ length
+    (encode_utf8_all (take (c.loop-c.passed + 1) (chars c.args.text.now)))
 further c =
     (λ i. c.loop-c.invariant.reached i + c.len_utf8-offset.ensures.value i)
     ∙ one_more c.args.text.now c.utf8.text c.loop-c.passed c.in-Some.c
@@ -26,7 +29,8 @@ further c =
 
 ended : (c : In-None) → c.loop-c.offset ≡ length (encode_utf8_all (take c.args.count (chars c.args.text.now)))
 ended c =
-    let t = YieldsList-end (YieldsList-from_chars c.args.text.now c.utf8.text cc) c.loop-c.yielded _ c.loop-c.yielded_by _ _ c.in-None.is c.next.ensures.steps in
+    let t = YieldsList-end (YieldsList-from_chars c.args.text.now c.utf8.text cc) c.loop-c.yielded _ c.loop-c.yielded_by _ _ c.in-None.is
+    c.next.ensures.steps in
     c.loop-c.invariant.reached ∙ at_end c.args.text.now c.utf8.text c.loop-c.passed c.args.count (omega (arith, t.1)) (omega (arith, t.1))
 
 pub returns-then-count-end-clause-front : goal.returns-then-count-end-clause-front
@@ -46,7 +50,8 @@ returns-then-passed-count-clause-back c = back_at c.args.text.now c.utf8.text c.
 
 pub overflow_add-offset : goal.overflow_add-offset
 overflow_add-offset c =
-    let le : length (encode_utf8_all (take (c.loop-c.passed + 1) (chars c.args.text.now))) ≤ length c.args.text.now = within c.args.text.now c.utf8.text (c.loop-c.passed + 1) in
+    let le : length (encode_utf8_all (take (c.loop-c.passed + 1) (chars c.args.text.now))) ≤ length c.args.text.now =
+    within c.args.text.now c.utf8.text (c.loop-c.passed + 1) in
     omega (arith, further c, le)
 
 pub loop-c-preserved : goal.loop-c-preserved

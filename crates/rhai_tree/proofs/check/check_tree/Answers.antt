@@ -7,7 +7,8 @@ use Rattle.rhai_tree.proofs.check.check_tree.Goals as goal
 
 pub returns-in_err-functions-clause-refused : goal.returns-in_err-functions-clause-refused
 returns-in_err-functions-clause-refused c =
-    later_stands _ (faults_in_statements c.args.statements) (faults_in_functions c.args.functions) _ _ c.from_residual-in_err-functions.ensures c.in_err-functions.ensures.refused
+    later_stands _ (faults_in_statements c.args.statements) (faults_in_functions c.args.functions) _ _
+    c.from_residual-in_err-functions.ensures c.in_err-functions.ensures.refused
 
 pub new-requires-clause-resolves : goal.new-requires-clause-resolves
 new-requires-clause-resolves c base =

@@ -13,9 +13,11 @@ modes::set_union_mode-returns-in-Array g t c =
 pub modes::set_union_mode-returns-in-Map : goal.modes::set_union_mode-returns-in-Map
 modes::set_union_mode-returns-in-Map g t c =
     let values = lent_map (with_mode c.args.mode) c.in-Map.entries.1 c.get_mut-in-Map.result.now.1 _ _
-    (ap (λ (entries : List (List ℕ) × List (Dynamic g.row.H.Denot)). entries.1) c.get_mut-in-Map.ensures.value) c.values_mut.ensures.value c.set_modes-in-Map.ensures in
+    (ap (λ (entries : List (List ℕ) × List (Dynamic g.row.H.Denot)). entries.1) c.get_mut-in-Map.ensures.value)
+    c.values_mut.ensures.value c.set_modes-in-Map.ensures in
     rw (c.in-Map.is, mode-Map) (λ i. Map {X1 = g.row.H.Denot} ((c.get_mut-in-Map.ensures.value i).0, values i))
 
 pub modes::set_modes-loop-i-preserved : goal.modes::set_modes-loop-i-preserved
 modes::set_modes-loop-i-preserved g t c =
-    one_more_changed (with_mode c.args.mode) c.args.items.now c.loop-i.items c.loop-i.i _ _ c.loop-i.invariant c.loop-i-test.true c.set_access_mode.ensures
+    one_more_changed (with_mode c.args.mode) c.args.items.now c.loop-i.items c.loop-i.i _ _ c.loop-i.invariant c.loop-i-test.true
+    c.set_access_mode.ensures

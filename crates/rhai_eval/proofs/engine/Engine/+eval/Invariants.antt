@@ -95,7 +95,8 @@ decreases-return_with g l = 8 * left l.self.now l.run.now + 2
 abbrev pub invariant-run_statements-each_stmt : goal.invariant-run_statements-each_stmt
 invariant-run_statements-each_stmt g l = record {
   counts : l.fn.run.global.num_operations ≤ l.run.global.num_operations;
-  resolves : all_resolve (map resolves_stmt (drop l.stmt-index l.statements)) (names l.run) ≡ all_resolve (map resolves_stmt l.statements) (names l.fn.run);
+  resolves : all_resolve (map resolves_stmt (drop l.stmt-index l.statements)) (names l.run) ≡ all_resolve
+      (map resolves_stmt l.statements) (names l.fn.run);
   steps : Steps (under g.H.Host.name_of l.self g.T.NativeTable.natives)
       (Run l.statements l.restoring unit_value) (state_in (g.T.NativeTable.state l.fn.table) l.fn.run)
       (Run (drop l.stmt-index l.statements) l.restoring l.last) (state_in (g.T.NativeTable.state l.table) l.run);
@@ -106,8 +107,10 @@ invariant-run_and-each_part g l = record {
   counts : l.fn.run.global.num_operations ≤ l.run.global.num_operations;
   names : names l.run ≡ names l.fn.run;
   steps : (k : List (Frame g.row.H.Denot)) → Goes (under g.H.Host.name_of l.self g.T.NativeTable.natives)
-      (with_core (and_core l.parts k (state_in (g.T.NativeTable.state l.fn.table) l.fn.run).local) (state_in (g.T.NativeTable.state l.fn.table) l.fn.run))
-      (with_core (and_core (drop l.part-index l.parts) k (state_in (g.T.NativeTable.state l.table) l.run).local) (state_in (g.T.NativeTable.state l.table) l.run));
+      (with_core (and_core l.parts k (state_in (g.T.NativeTable.state l.fn.table) l.fn.run).local)
+      (state_in (g.T.NativeTable.state l.fn.table) l.fn.run))
+      (with_core (and_core (drop l.part-index l.parts) k (state_in (g.T.NativeTable.state l.table) l.run).local)
+      (state_in (g.T.NativeTable.state l.table) l.run));
 }
 
 abbrev pub invariant-run_or-each_part : goal.invariant-run_or-each_part
@@ -115,8 +118,10 @@ invariant-run_or-each_part g l = record {
   counts : l.fn.run.global.num_operations ≤ l.run.global.num_operations;
   names : names l.run ≡ names l.fn.run;
   steps : (k : List (Frame g.row.H.Denot)) → Goes (under g.H.Host.name_of l.self g.T.NativeTable.natives)
-      (with_core (or_core l.parts k (state_in (g.T.NativeTable.state l.fn.table) l.fn.run).local) (state_in (g.T.NativeTable.state l.fn.table) l.fn.run))
-      (with_core (or_core (drop l.part-index l.parts) k (state_in (g.T.NativeTable.state l.table) l.run).local) (state_in (g.T.NativeTable.state l.table) l.run));
+      (with_core (or_core l.parts k (state_in (g.T.NativeTable.state l.fn.table) l.fn.run).local)
+      (state_in (g.T.NativeTable.state l.fn.table) l.fn.run))
+      (with_core (or_core (drop l.part-index l.parts) k (state_in (g.T.NativeTable.state l.table) l.run).local)
+      (state_in (g.T.NativeTable.state l.table) l.run));
 }
 
 abbrev pub invariant-run_coalesce-each_part : goal.invariant-run_coalesce-each_part
@@ -124,15 +129,18 @@ invariant-run_coalesce-each_part g l = record {
   counts : l.fn.run.global.num_operations ≤ l.run.global.num_operations;
   names : names l.run ≡ names l.fn.run;
   steps : (k : List (Frame g.row.H.Denot)) → Goes (under g.H.Host.name_of l.self g.T.NativeTable.natives)
-      (with_core (coalesce_core unit_value l.parts k (state_in (g.T.NativeTable.state l.fn.table) l.fn.run).local) (state_in (g.T.NativeTable.state l.fn.table) l.fn.run))
-      (with_core (coalesce_core l.last (drop l.part-index l.parts) k (state_in (g.T.NativeTable.state l.table) l.run).local) (state_in (g.T.NativeTable.state l.table) l.run));
+      (with_core (coalesce_core unit_value l.parts k (state_in (g.T.NativeTable.state l.fn.table) l.fn.run).local)
+      (state_in (g.T.NativeTable.state l.fn.table) l.fn.run))
+      (with_core (coalesce_core l.last (drop l.part-index l.parts) k (state_in (g.T.NativeTable.state l.table) l.run).local)
+      (state_in (g.T.NativeTable.state l.table) l.run));
 }
 
 abbrev pub invariant-run_while-turns : goal.invariant-run_while-turns
 invariant-run_while-turns g l = record {
   counts : l.fn.run.global.num_operations ≤ l.run.global.num_operations;
   names : names l.run ≡ names l.fn.run;
-  steps : Steps (under g.H.Host.name_of l.self g.T.NativeTable.natives) (WhileTurn l.test l.body) (state_in (g.T.NativeTable.state l.fn.table) l.fn.run) (WhileTurn l.test l.body) (state_in (g.T.NativeTable.state l.table) l.run);
+  steps : Steps (under g.H.Host.name_of l.self g.T.NativeTable.natives) (WhileTurn l.test l.body)
+      (state_in (g.T.NativeTable.state l.fn.table) l.fn.run) (WhileTurn l.test l.body) (state_in (g.T.NativeTable.state l.table) l.run);
 }
 
 abbrev pub decreases-run_while-turns : goal.decreases-run_while-turns
@@ -142,7 +150,9 @@ abbrev pub invariant-run_do-turns : goal.invariant-run_do-turns
 invariant-run_do-turns g l = record {
   counts : l.fn.run.global.num_operations ≤ l.run.global.num_operations;
   names : names l.run ≡ names l.fn.run;
-  steps : Steps (under g.H.Host.name_of l.self g.T.NativeTable.natives) (DoTurn l.test l.body l.options) (state_in (g.T.NativeTable.state l.fn.table) l.fn.run) (DoTurn l.test l.body l.options) (state_in (g.T.NativeTable.state l.table) l.run);
+  steps : Steps (under g.H.Host.name_of l.self g.T.NativeTable.natives) (DoTurn l.test l.body l.options)
+      (state_in (g.T.NativeTable.state l.fn.table) l.fn.run) (DoTurn l.test l.body l.options)
+      (state_in (g.T.NativeTable.state l.table) l.run);
 }
 
 abbrev pub decreases-run_do-turns : goal.decreases-run_do-turns

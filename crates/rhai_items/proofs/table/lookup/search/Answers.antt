@@ -25,4 +25,5 @@ loop-low-preserved c = record {
 }
 
 pub returns : goal.returns
-returns c = missed c.args.keys.now c.args.key.now c.loop-low.low (omega arith) c.loop-low.invariant.below (λ k d le. c.loop-low.invariant.above k d (omega arith))
+returns c = missed c.args.keys.now c.args.key.now c.loop-low.low (omega arith) c.loop-low.invariant.below
+    (λ k d le. c.loop-low.invariant.above k d (omega arith))

@@ -11,12 +11,15 @@ each-preserved c =
     let same : bytes_eq c.other-item.result c.args.name.now ≡ c.eq.result = cc in
     elim c.if-eq.branch [
       | then-eq w ↦
-          let tested : moved (offset_of c.args.name.now (take c.each.other-index c.args.names.now)) (bytes_eq c.other-item.result c.args.name.now) ≡ 1 = ap (moved _) (same ∙ w.if-eq.true) in
+          let tested : moved (offset_of c.args.name.now (take c.each.other-index c.args.names.now))
+          (bytes_eq c.other-item.result c.args.name.now) ≡ 1 = ap (moved _) (same ∙ w.if-eq.true) in
           record { offset = w.offset-is ∙ sym (next ∙ tested); within = omega arith }
       | else-eq+then-offset-gt0 w ↦
-          let tested : moved (offset_of c.args.name.now (take c.each.other-index c.args.names.now)) (bytes_eq c.other-item.result c.args.name.now) ≡ moved c.each.offset false = cc in
+          let tested : moved (offset_of c.args.name.now (take c.each.other-index c.args.names.now))
+          (bytes_eq c.other-item.result c.args.name.now) ≡ moved c.each.offset false = cc in
           record { offset = w.offset-is ∙ sym (next ∙ tested ∙ moved_up c.each.offset (omega arith)); within = omega arith }
       | else-eq+else-offset-gt0 w ↦
-          let tested : moved (offset_of c.args.name.now (take c.each.other-index c.args.names.now)) (bytes_eq c.other-item.result c.args.name.now) ≡ moved c.each.offset false = cc in
+          let tested : moved (offset_of c.args.name.now (take c.each.other-index c.args.names.now))
+          (bytes_eq c.other-item.result c.args.name.now) ≡ moved c.each.offset false = cc in
           record { offset = w.offset-is ∙ sym (next ∙ tested ∙ moved_none c.each.offset (omega arith)); within = omega arith }
     ]

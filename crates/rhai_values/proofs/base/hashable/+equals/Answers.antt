@@ -8,8 +8,10 @@ all_equal-returns-then-literals-values g t c = each_uneven equals c.args.literal
 
 pub all_equal-returns-then-not-literal_equals : goal.all_equal-returns-then-not-literal_equals
 all_equal-returns-then-not-literal_equals g t c =
-    each_not equals c.args.literals.now c.args.values.now c.loop-i.i _ _ c.loop-i-test.true (omega arith) c.index-literals-i.is c.index-values-i.is c.if-not-literal_equals.ensures
+    each_not equals c.args.literals.now c.args.values.now c.loop-i.i _ _ c.loop-i-test.true (omega arith) c.index-literals-i.is
+    c.index-values-i.is c.if-not-literal_equals.ensures
 
 pub all_equal-loop-i-preserved : goal.all_equal-loop-i-preserved
 all_equal-loop-i-preserved g t c =
-    each_more equals c.args.literals.now c.args.values.now c.loop-i.i _ _ c.loop-i-test.true (omega arith) c.index-literals-i.is c.index-values-i.is c.loop-i.invariant c.if-not-literal_equals.ensures
+    each_more equals c.args.literals.now c.args.values.now c.loop-i.i _ _ c.loop-i-test.true (omega arith) c.index-literals-i.is
+    c.index-values-i.is c.loop-i.invariant c.if-not-literal_equals.ensures

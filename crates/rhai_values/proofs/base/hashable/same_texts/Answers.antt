@@ -8,8 +8,10 @@ returns-then-these-those c = each_uneven bytes_eq c.args.these.now c.args.those.
 
 pub returns-then-not-same_text : goal.returns-then-not-same_text
 returns-then-not-same_text c =
-    each_not bytes_eq c.args.these.now c.args.those.now c.loop-i.i _ _ c.loop-i-test.true (omega arith) c.index-these-i.is c.index-those-i.is c.if-not-same_text.ensures
+    each_not bytes_eq c.args.these.now c.args.those.now c.loop-i.i _ _ c.loop-i-test.true (omega arith) c.index-these-i.is
+    c.index-those-i.is c.if-not-same_text.ensures
 
 pub loop-i-preserved : goal.loop-i-preserved
 loop-i-preserved c =
-    each_more bytes_eq c.args.these.now c.args.those.now c.loop-i.i _ _ c.loop-i-test.true (omega arith) c.index-these-i.is c.index-those-i.is c.loop-i.invariant c.if-not-same_text.ensures
+    each_more bytes_eq c.args.these.now c.args.those.now c.loop-i.i _ _ c.loop-i-test.true (omega arith) c.index-these-i.is
+    c.index-those-i.is c.loop-i.invariant c.if-not-same_text.ensures

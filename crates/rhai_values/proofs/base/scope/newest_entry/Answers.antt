@@ -6,4 +6,5 @@ use Rattle.rhai_values.proofs.base.scope.newest_entry.Goals as goal
 pub returns-then-eq : goal.returns-then-eq
 returns-then-eq g c =
     let place : suc (c.entries.at - 1) ≡ c.entries.at = omega arith in
-    sym (newest_here name_of c.args.name.now c.args.entries.now (c.entries.at - 1) c.index-entries-at.result (omega arith) (rw place c.entries.invariant.0) c.index-entries-at.is (cc))
+    sym (newest_here name_of c.args.name.now c.args.entries.now (c.entries.at - 1) c.index-entries-at.result (omega arith)
+    (rw place c.entries.invariant.0) c.index-entries-at.is (cc))

@@ -1,0 +1,109 @@
+use Rattle.std.proofs.Common.{◌∷◌, refl, sym, ◌∙◌, arith}
+use Rattle.rhai_machine.specs.machine.Point.{after}
+use Rattle.rhai_machine.specs.machine.Memory.{here, next, ◌⨾◌}
+use Rattle.rhai_machine.specs.language.Frames.{UnaryOperand, LeftOperand, RightOperand}
+use Rattle.rhai_machine.specs.language.Runs.{Steps}
+use Rattle.rhai_steps.proofs.Pieces.{exits}
+use Rattle.rhai_eval.specs.States.{names, offer_of, under}
+use Rattle.rhai_eval.proofs.NameLemmas.{operands_resolve}
+use Rattle.rhai_eval.proofs.Chain.{flat_fails, literal_runs, opens_unary, opens_binary}
+use Rattle.rhai_eval.proofs.engine.Engine.+eval.Goals as goal
+
+pub run_fn_call_expr-run_binary-requires : goal.run_fn_call_expr-run_binary-requires
+run_fn_call_expr-run_binary-requires g t c =
+    let args = rw c.in-Some-right.is at c.operands_of.ensures in
+    let resolved = operands_resolve c.args.call.now c.operands_of.result.0.now c.in-Some-right.right.now (names c.args.run.now) args
+    c.requires.resolves in
+    λ κs lives. (omega arith, (lives.0, (lives.1, (c.in-Some.is, (args, (resolved.0, (resolved.1, c.requires.fast)))))))
+
+pub run_arg-returns-in-Some-clause-runs : goal.run_arg-returns-in-Some-clause-runs
+unfolding after Steps
+run_arg-returns-in-Some-clause-runs g t c k =
+    let rules = under g.H.Host.name_of c.args.self.now g.T.NativeTable.natives in
+    literal_runs rules _ _ _ _ _ _ _ _ c.literal_arg.ensures.room c.literal_arg.ensures.charged c.literal_arg.ensures.value
+    c.literal_arg.ensures.full c.literal_arg.ensures.refused c.literal_arg.ensures.same _ (sym c.literal_value.ensures ∙ c.in-Some.is)
+    c.start_position.ensures k
+
+pub run_arg-returns-in-None-clause-runs : goal.run_arg-returns-in-None-clause-runs
+unfolding after Steps
+run_arg-returns-in-None-clause-runs g t c k =
+    next (rw (sym c.literal_value.ensures ∙ c.in-None.is) (c.run_expr.ensures.runs k))
+
+pub run_unary-returns-in_err-value-clause-runs : goal.run_unary-returns-in_err-value-clause-runs
+unfolding after Steps
+run_unary-returns-in_err-value-clause-runs g t c =
+    let rules = under g.H.Host.name_of c.args.self.now g.T.NativeTable.natives in
+    exits rules _ _ _ _ _ c.from_residual.ensures (λ k.
+    opens_unary rules c.args.call.now c.args.token c.args.operand.now c.args.pos k _ c.requires.fast c.requires.token c.requires.args
+    ⨾ c.in_err-value.ensures.runs (UnaryOperand _ _ ∷ k) ⨾ next here)
+
+pub run_unary-returns-in_err-value-2-clause-runs : goal.run_unary-returns-in_err-value-2-clause-runs
+unfolding after Steps
+run_unary-returns-in_err-value-2-clause-runs g t c =
+    let rules = under g.H.Host.name_of c.args.self.now g.T.NativeTable.natives in
+    exits rules _ _ _ _ _ c.from_residual-in_err-value-2.ensures (λ k.
+    opens_unary rules c.args.call.now c.args.token c.args.operand.now c.args.pos k _ c.requires.fast c.requires.token c.requires.args
+    ⨾ c.in_ok-value.ensures.runs (UnaryOperand _ _ ∷ k)
+    ⨾ flat_fails rules _ _ k _ _ (UnaryOperand _ _) refl (rw c.position.ensures at c.in_err-value-2.ensures.exact))
+
+pub run_unary-returns-clause-runs : goal.run_unary-returns-clause-runs
+unfolding after Steps
+run_unary-returns-clause-runs g t c k =
+    let rules = under g.H.Host.name_of c.args.self.now g.T.NativeTable.natives in
+    opens_unary rules c.args.call.now c.args.token c.args.operand.now c.args.pos k _ c.requires.fast c.requires.token c.requires.args
+    ⨾ c.in_ok-value.ensures.runs (UnaryOperand _ _ ∷ k)
+    ⨾ next (rw (← c.position.ensures, ← (c.in_ok-value-2.ensures.exact tt))
+    (c.operate_one.ensures.runs (offer_of c.args.self.now) c.run_arg.new.run.scope c.run_arg.new.run.this k))
+
+pub run_binary-returns-in_err-first-clause-runs : goal.run_binary-returns-in_err-first-clause-runs
+unfolding after Steps
+run_binary-returns-in_err-first-clause-runs g t c =
+    let rules = under g.H.Host.name_of c.args.self.now g.T.NativeTable.natives in
+    exits rules _ _ _ _ _ c.from_residual.ensures (λ k.
+    opens_binary rules c.args.call.now c.args.token c.args.left.now c.args.right.now c.args.pos k _ c.requires.fast c.requires.token
+    c.requires.args
+    ⨾ c.in_err-first.ensures.runs (LeftOperand _ _ _ ∷ k) ⨾ next here)
+
+pub run_binary-returns-in_err-first-2-clause-runs : goal.run_binary-returns-in_err-first-2-clause-runs
+unfolding after Steps
+run_binary-returns-in_err-first-2-clause-runs g t c =
+    let rules = under g.H.Host.name_of c.args.self.now g.T.NativeTable.natives in
+    exits rules _ _ _ _ _ c.from_residual-in_err-first-2.ensures (λ k.
+    opens_binary rules c.args.call.now c.args.token c.args.left.now c.args.right.now c.args.pos k _ c.requires.fast c.requires.token
+    c.requires.args
+    ⨾ c.in_ok-first.ensures.runs (LeftOperand _ _ _ ∷ k)
+    ⨾ flat_fails rules _ _ k _ _ (LeftOperand _ _ _) refl (rw c.position.ensures at c.in_err-first-2.ensures.exact))
+
+pub run_binary-returns-in-Err-clause-runs : goal.run_binary-returns-in-Err-clause-runs
+unfolding after Steps
+run_binary-returns-in-Err-clause-runs g t c k =
+    let rules = under g.H.Host.name_of c.args.self.now g.T.NativeTable.natives in
+    opens_binary rules c.args.call.now c.args.token c.args.left.now c.args.right.now c.args.pos k _ c.requires.fast c.requires.token
+    c.requires.args
+    ⨾ c.in_ok-first.ensures.runs (LeftOperand _ _ _ ∷ k)
+    ⨾ next (rw (← c.position.ensures, ← (c.in_ok-first-2.ensures.exact tt)) ((rw c.in-Err.is at c.run_arg-2.ensures.runs) (RightOperand
+    _ _ _ ∷ k) ⨾ next here))
+
+pub run_binary-returns-in-Err-flatten-clause-runs : goal.run_binary-returns-in-Err-flatten-clause-runs
+unfolding after Steps
+run_binary-returns-in-Err-flatten-clause-runs g t c k =
+    let rules = under g.H.Host.name_of c.args.self.now g.T.NativeTable.natives in
+    opens_binary rules c.args.call.now c.args.token c.args.left.now c.args.right.now c.args.pos k _ c.requires.fast c.requires.token
+    c.requires.args
+    ⨾ c.in_ok-first.ensures.runs (LeftOperand _ _ _ ∷ k)
+    ⨾ next (rw (← c.position.ensures, ← (c.in_ok-first-2.ensures.exact tt)) ((rw c.in-Ok.is at c.run_arg-2.ensures.runs) (RightOperand
+    _ _ _ ∷ k)
+    ⨾ flat_fails rules _ _ k _ _ (RightOperand _ _ _) refl (rw (c.position-in-Ok.ensures, c.in-Err-flatten.is) at
+    c.flatten-in-Ok.ensures.exact)))
+
+pub run_binary-returns-in-Ok-flatten-clause-runs : goal.run_binary-returns-in-Ok-flatten-clause-runs
+unfolding after Steps
+run_binary-returns-in-Ok-flatten-clause-runs g t c k =
+    let rules = under g.H.Host.name_of c.args.self.now g.T.NativeTable.natives in
+    opens_binary rules c.args.call.now c.args.token c.args.left.now c.args.right.now c.args.pos k _ c.requires.fast c.requires.token
+    c.requires.args
+    ⨾ c.in_ok-first.ensures.runs (LeftOperand _ _ _ ∷ k)
+    ⨾ next (rw (← c.position.ensures, ← (c.in_ok-first-2.ensures.exact tt)) ((rw c.in-Ok.is at c.run_arg-2.ensures.runs) (RightOperand
+    _ _ _ ∷ k)
+    ⨾ next (rw (← c.position-in-Ok.ensures, ← ((rw c.in-Ok-flatten.is at c.flatten-in-Ok.ensures.exact) tt))
+    (c.operate_two.ensures.runs (offer_of c.args.self.now) c.run_arg-2.new.run.scope c.run_arg-2.new.run.this k))))

@@ -1,0 +1,29 @@
+//! What the calls of lines answer.
+
+use crate::program::{write_refusals, write_run};
+use crate::scripts::{write_number, write_ways};
+use crate::values::write_sample;
+use std::alloc::Global;
+use std::io;
+use std::io::Write;
+
+/// The answer of a call:
+///
+/// - `scripts LIST`: how many scripts a list has
+/// - `ends LIST N`, `charges LIST N`, `leaves LIST N`, `says LIST N`: the line of a script of a
+///   list, counted from 1, its operations, its variables, and what its error says beside its place
+/// - `run [WORD] ..`: the lines of the program for the words, and its status
+/// - `refuses [WORD] ..`: the status of the program where one of its writes is refused
+/// - `prints NAME`: a value or a place of that name
+pub fn answer(alloc: Global, call: &str) -> io::Result<Vec<u8>> {
+    let mut out = Vec::new(alloc);
+    let (form, rest) = call.split_once(' ').unwrap_or((call, ""));
+    match form {
+        "scripts" => write_number(alloc, rest, &mut out)?,
+        "run" => write_run(alloc, rest, &mut out)?,
+        "refuses" => write_refusals(alloc, rest, &mut out)?,
+        "prints" => write_sample(alloc, rest, &mut out)?,
+        _ => write_ways(alloc, form, rest, &mut out)?,
+    }
+    Ok(out)
+}

@@ -1,0 +1,98 @@
+//! What scripts come to.
+
+use rhai_bench::host::Pair;
+use rhai_bench::outcome::{Ending, Outcome};
+use rhai_bench::print::{write_ending, write_value};
+use rhai_bench::rows::loops::{endless, outside_of_loops};
+use rhai_bench::rows::operators::first_that_is_there;
+use rhai_bench::rows::scripts;
+use rhai_bench::script::Script;
+use rhai_bench::settings::Way;
+use rhai_eval::base::{EvalAltResult, Items, Scope};
+use std::alloc::{AllocError, Global};
+use std::io;
+use std::io::Write;
+
+/// The scripts of a list: those of a row by its number, and of lists that no row has by their names.
+fn scripts_of(alloc: Global, list: &str) -> Result<Option<Items<Script>>, AllocError> {
+    let scripts = match list {
+        "endless" => endless(alloc)?,
+        "outside" => outside_of_loops(alloc)?,
+        "coalesced" => first_that_is_there(alloc)?,
+        row => return scripts(alloc, row),
+    };
+    Ok(Some(scripts))
+}
+
+/// Writes how many scripts a list has.
+pub fn write_number(alloc: Global, list: &str, out: &mut Vec<u8>) -> io::Result<()> {
+    match scripts_of(alloc, list)? {
+        Some(scripts) => write!(out, "{}", scripts.len()),
+        None => write!(out, "no list"),
+    }
+}
+
+/// Writes what a script comes to in every way of running. Where two ways differ both are written.
+pub fn write_ways(alloc: Global, form: &str, name: &str, out: &mut Vec<u8>) -> io::Result<()> {
+    write_way(alloc, form, name, Way::USUAL, out)?;
+    for way in Way::ALL {
+        let mut other = Vec::new(alloc);
+        write_way(alloc, form, name, way, &mut other)?;
+        if other.as_slice() != out.as_slice() {
+            write!(out, " or ")?;
+            out.write_all(other.as_slice())?;
+        }
+    }
+    Ok(())
+}
+
+/// Writes what a script comes to in one of the ways. A script is named by its list and its number
+/// there, as `26 1`.
+fn write_way(alloc: Global, form: &str, name: &str, way: Way, out: &mut Vec<u8>) -> io::Result<()> {
+    let (list, number) = name.split_once(' ').unwrap_or((name, ""));
+    let before = number.parse::<usize>().unwrap_or(0).checked_sub(1);
+    let (Some(before), Some(scripts)) = (before, scripts_of(alloc, list)?) else {
+        return write!(out, "no script");
+    };
+    match scripts.into_vec().into_iter().nth(before) {
+        Some(script) => write_outcome(form, &script.run(alloc, way)?, out),
+        None => write!(out, "no script"),
+    }
+}
+
+fn write_outcome(form: &str, outcome: &Outcome, out: &mut Vec<u8>) -> io::Result<()> {
+    match form {
+        "ends" => write_ending(out, &outcome.ending),
+        "charges" => write!(out, "{}", outcome.num_operations),
+        "leaves" => write_variables(&outcome.scope, out),
+        "says" => write!(out, "{}", text_of(&outcome.ending)),
+        _ => write!(out, "no form"),
+    }
+}
+
+/// Writes the variables with their values, as `x = 1; y = 2;`, or `nothing`.
+fn write_variables(scope: &Scope<Pair>, out: &mut Vec<u8>) -> io::Result<()> {
+    if scope.entries().is_empty() {
+        return write!(out, "nothing");
+    }
+    for (i, entry) in scope.entries().iter().enumerate() {
+        if i > 0 {
+            write!(out, " ")?;
+        }
+        write!(out, "{} = ", entry.name.get().as_str())?;
+        write_value(out, &entry.value)?;
+        write!(out, ";")?;
+    }
+    Ok(())
+}
+
+/// What an error of these scripts says beside its place, or `nothing`.
+fn text_of(ending: &Ending) -> &str {
+    match ending {
+        Ending::Error(EvalAltResult::ErrorFunctionNotFound(text, _)) => text.get().as_str(),
+        Ending::Error(EvalAltResult::ErrorVariableNotFound(text, _)) => text.get().as_str(),
+        Ending::Error(EvalAltResult::ErrorAssignmentToConstant(text, _)) => text.get().as_str(),
+        Ending::Error(EvalAltResult::ErrorMismatchDataType(types, _)) => types.get().found.as_str(),
+        _ => "nothing",
+    }
+}

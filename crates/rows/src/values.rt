@@ -1,0 +1,79 @@
+//! Each kind of value as it is printed, and places.
+
+use rhai_bench::host::Pair;
+use rhai_bench::print::{write_place, write_value};
+use rhai_eval::base::{
+    Boxed, CellId, Dynamic, FnPtr, FnPtrKind, Items, Position, Shared, Text, Union,
+};
+use std::alloc::{AllocError, Global};
+use std::io;
+use std::io::Write;
+
+/// Writes the value or the place of a name.
+pub fn write_sample(alloc: Global, name: &str, out: &mut Vec<u8>) -> io::Result<()> {
+    match name {
+        "place" => write_place(out, Position::new(1, 6)),
+        "no place" => write_place(out, Position::NONE),
+        _ => match plain(name) {
+            Some(value) => write_value(out, &Dynamic::new(value)),
+            None => write_with_parts(alloc, name, out),
+        },
+    }
+}
+
+fn write_with_parts(alloc: Global, name: &str, out: &mut Vec<u8>) -> io::Result<()> {
+    match with_parts(alloc, name)? {
+        Some(value) => write_value(out, &Dynamic::new(value)),
+        None => write!(out, "no value"),
+    }
+}
+
+/// The values without parts.
+fn plain(name: &str) -> Option<Union<Pair>> {
+    match name {
+        "unit" => Some(Union::Unit),
+        "true" => Some(Union::Bool(true)),
+        "false" => Some(Union::Bool(false)),
+        "the least integer" => Some(Union::Int(i64::MIN)),
+        "a quote" => Some(Union::Char('\'')),
+        "a range" => Some(Union::ExclusiveRange(-1, 3)),
+        "an inclusive range" => Some(Union::InclusiveRange(1, 3)),
+        "a pair" => Some(Union::Host(Pair(1, 2))),
+        "a cell" => Some(Union::Cell(CellId { number: 7 })),
+        _ => None,
+    }
+}
+
+/// The values with parts.
+fn with_parts(alloc: Global, name: &str) -> Result<Option<Union<Pair>>, AllocError> {
+    let value = match name {
+        "a text" => Union::Str(shared(alloc, "a\"b")?),
+        "an array" => array(alloc)?,
+        "an empty array" => Union::Array(Boxed::new(alloc, Items::new(alloc))?),
+        "bytes" => Union::Blob(Boxed::new(alloc, Items::from_slice(alloc, &[1, 255])?)?),
+        "a pointer" => pointer(alloc)?,
+        _ => return Ok(None),
+    };
+    Ok(Some(value))
+}
+
+fn shared(alloc: Global, text: &str) -> Result<Shared<Text>, AllocError> {
+    Shared::new(alloc, Text::from_str(alloc, text)?)
+}
+
+fn array(alloc: Global) -> Result<Union<Pair>, AllocError> {
+    let text = Dynamic::new(Union::Str(shared(alloc, "x")?));
+    let mut items = Items::new(alloc);
+    items.push(Dynamic::new(Union::Int(1)))?;
+    items.push(text)?;
+    Ok(Union::Array(Boxed::new(alloc, items)?))
+}
+
+fn pointer(alloc: Global) -> Result<Union<Pair>, AllocError> {
+    let pointer = FnPtr {
+        name: shared(alloc, "f")?,
+        curry: Items::new(alloc),
+        kind: FnPtrKind::Name,
+    };
+    Ok(Union::FnPtr(Boxed::new(alloc, pointer)?))
+}

@@ -1,0 +1,43 @@
+//! The host's own value in the vectors, and the cells that their handles lead to.
+
+use crate::reader::Fault;
+use rhai_values::base::value::{CellId, Dynamic, Host, Union};
+use rhai_values::cells::CellStore;
+use std::alloc::{AllocError, Global};
+
+/// A host's value of one word, written `stone`.
+#[derive(Clone, Copy)]
+pub struct Stone {
+    pub weight: u64,
+}
+
+impl Host for Stone {
+    ghost use Rattle.std.specs.Prelude.{codes};
+
+    ghost name_of = { λ stone. codes "stone" };
+
+    fn try_clone(&self, _alloc: Global) -> Result<Stone, AllocError> {
+        Ok(*self)
+    }
+
+    fn type_name(&self) -> &str {
+        "stone"
+    }
+}
+
+/// Two cells: `cell 0` with the value 2, and `cell 1`, which is held.
+pub fn cells(alloc: Global) -> Result<CellStore<Stone>, Fault> {
+    let mut cells = CellStore::new(alloc);
+    add_cell(&mut cells, 2)?;
+    let held = add_cell(&mut cells, 1)?;
+    cells.take(held);
+    Ok(cells)
+}
+
+/// Adds a cell with an integer.
+fn add_cell(cells: &mut CellStore<Stone>, number: i64) -> Result<CellId, Fault> {
+    match cells.add(Dynamic::new(Union::Int(number))) {
+        Ok(id) => Ok(id),
+        Err(_) => Err(Fault::NoMemory),
+    }
+}
