@@ -4,7 +4,6 @@ mod Expressions
 mod Leaving
 mod Loops
 mod Statements
-
 use Rattle.rhai_eval.proofs.engine.Engine.+eval.Goals as goal
 use Rattle.rhai_eval.proofs.engine.Engine.+eval.Answers.Expressions as expressions
 use Rattle.rhai_eval.proofs.engine.Engine.+eval.Answers.Calls as calls
