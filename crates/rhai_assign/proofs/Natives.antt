@@ -4,13 +4,13 @@ use Rattle.rhai_tree.specs.declared.position.Position.{Position}
 use Rattle.rhai_values.specs.declared.base.value.Dynamic.{Dynamic}
 use Rattle.rhai_values.specs.declared.base.value.Union.{Union}
 use Rattle.rhai_values.specs.declared.base.value.Union.TheVariants as value
-use Rattle.rhai_values.specs.declared.base.scope.Scope.{Scope}
+use Rattle.rhai_state.specs.declared.scope.Scope.{Scope}
 use Rattle.rhai_values.specs.declared.cells.CellStore.{CellStore}
-use Rattle.rhai_values.specs.declared.state.GlobalRuntimeState.{GlobalRuntimeState}
-use Rattle.rhai_values.specs.declared.base.error.EvalAltResult.{EvalAltResult}
-use Rattle.rhai_values.specs.declared.base.error.EvalAltResult.TheVariants as error
-use Rattle.rhai_values.specs.Errors.{is_out_of_memory}
-use Rattle.rhai_values.specs.Native.{Request, Reply, Faults, Named, Obeys, effect, request}
+use Rattle.rhai_state.specs.declared.state.GlobalRuntimeState.{GlobalRuntimeState}
+use Rattle.rhai_state.specs.declared.error.EvalAltResult.{EvalAltResult}
+use Rattle.rhai_state.specs.declared.error.EvalAltResult.TheVariants as error
+use Rattle.rhai_state.specs.Errors.{is_out_of_memory}
+use Rattle.rhai_state.specs.Native.{Request, Reply, Faults, Named, Obeys, effect, request}
 use Rattle.rhai_machine.specs.machine.Machine.{Go, Native}
 use Rattle.rhai_machine.specs.machine.Point.{Point, after}
 use Rattle.rhai_machine.specs.machine.Memory.{here, next, starved, starved_at, ◌⨾◌}

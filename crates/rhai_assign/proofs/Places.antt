@@ -6,12 +6,12 @@ use Rattle.std.proofs.lemmas.Option.{slice_get_within, get_or_from_slice_get}
 use Rattle.std.proofs.Math.Seq.{map-set_same}
 use Rattle.std.specs.Option.{option_flatten, option_map}
 use Rattle.rhai_values.specs.declared.base.value.Dynamic.{Dynamic}
-use Rattle.rhai_values.specs.declared.base.scope.Scope.{Scope}
-use Rattle.rhai_values.specs.declared.base.scope.ScopeEntry.{ScopeEntry}
+use Rattle.rhai_state.specs.declared.scope.Scope.{Scope}
+use Rattle.rhai_state.specs.declared.scope.ScopeEntry.{ScopeEntry}
 use Rattle.rhai_values.specs.declared.cells.CellStore.{CellStore}
-use Rattle.rhai_values.specs.declared.state.GlobalRuntimeState.{GlobalRuntimeState}
+use Rattle.rhai_state.specs.declared.state.GlobalRuntimeState.{GlobalRuntimeState}
 use Rattle.rhai_values.specs.Cells.{cells_of}
-use Rattle.rhai_values.specs.Scope.{name_of, value_of, entries_of, names_in, revalued}
+use Rattle.rhai_state.specs.Scope.{name_of, value_of, entries_of, names_in, revalued}
 use Rattle.rhai_machine.specs.language.Values.{Cells, unit_value}
 use Rattle.rhai_machine.specs.language.Places.{Place, InEntry, InCell, put, while_lent}
 use Rattle.rhai_steps.specs.States.{local_of}

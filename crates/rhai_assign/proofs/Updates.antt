@@ -4,15 +4,15 @@ use Rattle.std.proofs.Common.{Err, IfOk, IfErr, get_or, refl, sym, ap, ◌∙◌
 use Rattle.std.proofs.lemmas.Bool.{false≢true}
 use Rattle.rhai_tree.specs.declared.position.Position.{Position}
 use Rattle.rhai_values.specs.declared.base.value.Dynamic.{Dynamic}
-use Rattle.rhai_values.specs.declared.base.scope.Scope.{Scope}
+use Rattle.rhai_state.specs.declared.scope.Scope.{Scope}
 use Rattle.rhai_values.specs.declared.cells.CellStore.{CellStore}
-use Rattle.rhai_values.specs.declared.state.GlobalRuntimeState.{GlobalRuntimeState}
-use Rattle.rhai_values.specs.declared.base.error.EvalAltResult.{EvalAltResult}
-use Rattle.rhai_values.specs.declared.base.error.EvalAltResult.TheVariants as error
+use Rattle.rhai_state.specs.declared.state.GlobalRuntimeState.{GlobalRuntimeState}
+use Rattle.rhai_state.specs.declared.error.EvalAltResult.{EvalAltResult}
+use Rattle.rhai_state.specs.declared.error.EvalAltResult.TheVariants as error
 use Rattle.rhai_values.specs.Cells.{cells_of}
-use Rattle.rhai_values.specs.Errors.{is_out_of_memory}
-use Rattle.rhai_values.specs.Scope.{entries_of}
-use Rattle.rhai_values.specs.Native.{Reply}
+use Rattle.rhai_state.specs.Errors.{is_out_of_memory}
+use Rattle.rhai_state.specs.Scope.{entries_of}
+use Rattle.rhai_state.specs.Native.{Reply}
 use Rattle.rhai_operators.specs.Answers as operators
 use Rattle.rhai_operators.specs.Answers.{Answer, op_assign_of}
 use Rattle.rhai_machine.specs.machine.Point.{Point, after}

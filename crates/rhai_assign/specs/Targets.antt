@@ -2,14 +2,14 @@
 use Rattle.std.specs.Prelude.{◌≡◌, ◌<◌, ℕ, Bool, true, false, List, length, Option, Some, is_some, unwrap_or, slice_get, Result, Ok, Err}
 use Rattle.rhai_tree.specs.declared.position.Position.{Position}
 use Rattle.rhai_values.specs.declared.base.value.Dynamic.{Dynamic}
-use Rattle.rhai_values.specs.declared.base.scope.Scope.{Scope}
-use Rattle.rhai_values.specs.declared.base.scope.ScopeEntry.{ScopeEntry}
-use Rattle.rhai_values.specs.declared.base.error.EvalAltResult.{EvalAltResult}
+use Rattle.rhai_state.specs.declared.scope.Scope.{Scope}
+use Rattle.rhai_state.specs.declared.scope.ScopeEntry.{ScopeEntry}
+use Rattle.rhai_state.specs.declared.error.EvalAltResult.{EvalAltResult}
 use Rattle.rhai_values.specs.declared.cells.CellStore.{CellStore}
 use Rattle.rhai_values.specs.Cells.{cells_of, value_of_cell, with_value}
-use Rattle.rhai_values.specs.Errors.{is_out_of_memory}
-use Rattle.rhai_values.specs.Native.{Request, Named, request}
-use Rattle.rhai_values.specs.Scope.{entries_of, value_in, revalued}
+use Rattle.rhai_state.specs.Errors.{is_out_of_memory}
+use Rattle.rhai_state.specs.Native.{Request, Named, request}
+use Rattle.rhai_state.specs.Scope.{entries_of, value_in, revalued}
 use Rattle.rhai_machine.specs.language.Values.{Cells, unit_value}
 use Rattle.rhai_machine.specs.language.Places.{Place, InEntry, InCell, Target, target, while_lent}
 use Rattle.rhai_assign.specs.declared.place.Place as code

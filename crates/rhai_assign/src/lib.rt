@@ -10,7 +10,7 @@ mod update;
 mod write;
 
 ghost use Rattle.std.specs.Prelude.{◌≡◌, ◌≤◌, true};
-ghost use Rattle.rhai_values.specs.Scope.{names_in};
+ghost use Rattle.rhai_state.specs.Scope.{names_in};
 ghost use Rattle.rhai_machine.specs.language.Setting.{rules_of};
 ghost use Rattle.rhai_machine.specs.language.Frames.{Assign};
 ghost use Rattle.rhai_machine.specs.language.Runs.{Runs};
@@ -19,16 +19,16 @@ ghost use Rattle.rhai_steps.specs.States.{state_of};
 use crate::place::find_target;
 use crate::update::store;
 use rhai_items::{Shared, Text};
+use rhai_state::error::EvalAltResult;
+use rhai_state::limits::Limits;
+use rhai_state::scope::Scope;
+use rhai_state::state::GlobalRuntimeState;
+use rhai_state::table::NativeTable;
 use rhai_steps::charges::track_operation;
 use rhai_steps::values::let_go;
 use rhai_tree::expr::OpAssignment;
 use rhai_tree::position::Position;
-use rhai_values::base::error::EvalAltResult;
-use rhai_values::base::scope::Scope;
 use rhai_values::base::value::{Dynamic, Host};
-use rhai_values::limits::Limits;
-use rhai_values::state::GlobalRuntimeState;
-use rhai_values::table::NativeTable;
 use std::alloc::Global;
 
 /// Assigns a value to the variable of a name, charged first at the variable. By an operator the

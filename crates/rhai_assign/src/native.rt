@@ -2,7 +2,8 @@
 //! native and written back.
 
 ghost use Rattle.std.specs.Prelude.{◌≡◌, ◌∷◌, [], Some, true, IfOk, IfErr};
-ghost use Rattle.rhai_values.specs.Native.{IsNoHandle, Obeys, reply_of};
+ghost use Rattle.rhai_values.specs.Cells.{IsNoHandle};
+ghost use Rattle.rhai_state.specs.Native.{Obeys, reply_of};
 ghost use Rattle.rhai_machine.specs.language.Setting.{rules_of};
 ghost use Rattle.rhai_machine.specs.language.Frames.{AskUpdate, Fail, InPlace};
 ghost use Rattle.rhai_machine.specs.language.Assignment.{native_of, says_missing as missing_said};
@@ -15,18 +16,18 @@ ghost use Rattle.rhai_assign.specs.Updates.{other_fault, updating};
 
 use crate::place::{Place, Update, put, take, value_at};
 use rhai_items::{Shared, Text};
+use rhai_state::error::EvalAltResult;
+use rhai_state::limits::Limits;
+use rhai_state::scope::Scope;
+use rhai_state::state::GlobalRuntimeState;
+use rhai_state::table::{Answer, NativeTable};
 use rhai_steps::charges::track_operation;
 use rhai_steps::errors::data_race_of;
 use rhai_steps::values::is_bare_handle;
 use rhai_tree::position::Position;
 use rhai_tree::token::Token;
-use rhai_values::base::error::EvalAltResult;
-use rhai_values::base::scope::Scope;
 use rhai_values::base::value::{Dynamic, Host};
 use rhai_values::cells::CellStore;
-use rhai_values::limits::Limits;
-use rhai_values::state::GlobalRuntimeState;
-use rhai_values::table::{Answer, NativeTable};
 use std::alloc::{AllocError, Global};
 
 /// Calls a native with the value of a place as its first argument, which is lent to it and back at

@@ -3,7 +3,7 @@
 
 ghost use Rattle.std.specs.Prelude.{◌≡◌, ◌||◌, Some, true};
 ghost use Rattle.rhai_values.specs.Cells.{cells_of, value_of_cell};
-ghost use Rattle.rhai_values.specs.Scope.{entries_of};
+ghost use Rattle.rhai_state.specs.Scope.{entries_of};
 ghost use Rattle.rhai_machine.specs.language.Values.{unit_value as unit};
 ghost use Rattle.rhai_machine.specs.language.Places.{is_constant as constant_at, target, target_in_cell};
 ghost use Rattle.rhai_machine.specs.language.Places.{target_of, unless_constant as allowed, while_lent};
@@ -11,12 +11,12 @@ ghost use Rattle.rhai_assign.specs.Targets.{Finds, IsKnownAt, IsPut, entries_put
 ghost use Rattle.rhai_assign.specs.Targets.{there, there_at};
 
 use rhai_items::{Shared, Text};
+use rhai_state::error::EvalAltResult;
+use rhai_state::scope::Scope;
 use rhai_steps::errors::{assignment_to_constant, data_race_of, variable_not_found};
 use rhai_steps::values::{let_go, unit_value};
 use rhai_tree::position::Position;
 use rhai_tree::token::Token;
-use rhai_values::base::error::EvalAltResult;
-use rhai_values::base::scope::Scope;
 use rhai_values::base::value::{AccessMode, CellId, Dynamic, Host, Union};
 use rhai_values::cells::CellStore;
 

@@ -16,17 +16,17 @@ use crate::native::{ask_native, assigning_name, unless_missing};
 use crate::place::{Place, Update, put, value_at};
 use crate::write::{changed, write_outcome, write_value};
 use rhai_operators::builtin_op_assign;
+use rhai_state::error::EvalAltResult;
+use rhai_state::limits::Limits;
+use rhai_state::scope::Scope;
+use rhai_state::state::GlobalRuntimeState;
+use rhai_state::table::{Answer, NativeTable};
 use rhai_steps::errors::shared_text;
 use rhai_steps::replies::{placed, replied};
 use rhai_steps::values::{let_go, list_of, unit_value};
 use rhai_tree::expr::OpAssignment;
 use rhai_tree::position::Position;
-use rhai_values::base::error::EvalAltResult;
-use rhai_values::base::scope::Scope;
 use rhai_values::base::value::{AccessMode, Dynamic, Host};
-use rhai_values::limits::Limits;
-use rhai_values::state::GlobalRuntimeState;
-use rhai_values::table::{Answer, NativeTable};
 use std::alloc::Global;
 
 /// The native `op` of an update gives the target's new value.

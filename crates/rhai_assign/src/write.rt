@@ -1,7 +1,7 @@
 //! What an update writes to its target, and what it measures.
 
 ghost use Rattle.std.specs.Prelude.{◌≡◌, Err, true, IfErr, IfOk};
-ghost use Rattle.rhai_values.specs.Scope.{names_in};
+ghost use Rattle.rhai_state.specs.Scope.{names_in};
 ghost use Rattle.rhai_machine.specs.language.State.{Answers};
 ghost use Rattle.rhai_machine.specs.language.Calls.{applied as applied_at, sized as sized_at};
 ghost use Rattle.rhai_machine.specs.language.Places.{put as put_at};
@@ -11,15 +11,15 @@ ghost use Rattle.rhai_assign.specs.Targets.{place_in, stands_at};
 ghost use Rattle.rhai_assign.specs.Updates.{Becomes, changed_of, finished};
 
 use crate::place::{Update, put};
+use rhai_state::error::EvalAltResult;
+use rhai_state::limits::Limits;
+use rhai_state::scope::Scope;
+use rhai_state::state::GlobalRuntimeState;
 use rhai_steps::errors::data_too_large;
 use rhai_steps::replies::{applied, sized};
 use rhai_steps::values::{let_go, unit_value};
 use rhai_tree::position::Position;
-use rhai_values::base::error::EvalAltResult;
-use rhai_values::base::scope::Scope;
 use rhai_values::base::value::{Dynamic, Host};
-use rhai_values::limits::Limits;
-use rhai_values::state::GlobalRuntimeState;
 use std::alloc::Global;
 
 /// Refuses a value whose data is too large, and leaves it where it is.

@@ -1,6 +1,6 @@
 -- What the bench's tables answer.
 use Rattle.std.specs.Prelude.{true, refl}
-use Rattle.rhai_values.specs.Native.{Effect, Request, Missing, Natives, Lawful, effect}
+use Rattle.rhai_state.specs.Native.{Effect, Request, Missing, Natives, Lawful, effect}
 
 -- the state of a table that has none
 abbrev pub Stateless : Type 0

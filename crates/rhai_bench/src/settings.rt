@@ -1,7 +1,7 @@
 //! What is set for a run.
 
 ghost use Rattle.std.specs.Prelude.{◌≡◌, true};
-ghost use Rattle.rhai_values.specs.Caches.{depth_of, is_on};
+ghost use Rattle.rhai_state.specs.Caches.{depth_of, is_on};
 
 use crate::host::Pair;
 use rhai_eval::engine::Engine;

@@ -1,7 +1,7 @@
 //! The bench's tables of natives.
 
 ghost use Rattle.std.specs.Prelude.{◌≡◌, Some};
-ghost use Rattle.rhai_values.specs.Native.{Missing, reply_of};
+ghost use Rattle.rhai_state.specs.Native.{Missing, reply_of};
 
 use crate::host::Pair;
 use rhai_eval::base::{Dynamic, NativeId, Position};

@@ -6,13 +6,14 @@ use Rattle.rhai_tree.specs.declared.position.Position.{Position}
 use Rattle.rhai_values.specs.declared.base.value.Dynamic.{Dynamic}
 use Rattle.rhai_values.specs.declared.base.value.Union.{Union}
 use Rattle.rhai_values.specs.declared.base.value.Union.TheVariants as value
-use Rattle.rhai_values.specs.declared.base.scope.Scope.{Scope}
-use Rattle.rhai_values.specs.declared.state.GlobalRuntimeState.{GlobalRuntimeState}
-use Rattle.rhai_values.specs.declared.base.error.EvalAltResult.{EvalAltResult}
-use Rattle.rhai_values.specs.declared.base.error.EvalAltResult.TheVariants as error
-use Rattle.rhai_values.specs.declared.limits.Limits.{Limits}
-use Rattle.rhai_values.specs.Errors.{is_out_of_memory, at_position}
-use Rattle.rhai_values.specs.Native.{Reply, Named, Obeys, effect, request, IsNoHandle}
+use Rattle.rhai_state.specs.declared.scope.Scope.{Scope}
+use Rattle.rhai_state.specs.declared.state.GlobalRuntimeState.{GlobalRuntimeState}
+use Rattle.rhai_state.specs.declared.error.EvalAltResult.{EvalAltResult}
+use Rattle.rhai_state.specs.declared.error.EvalAltResult.TheVariants as error
+use Rattle.rhai_state.specs.declared.limits.Limits.{Limits}
+use Rattle.rhai_state.specs.Errors.{is_out_of_memory, at_position}
+use Rattle.rhai_values.specs.Cells.{IsNoHandle}
+use Rattle.rhai_state.specs.Native.{Reply, Named, Obeys, effect, request}
 use Rattle.rhai_operators.specs.Answers as operators
 use Rattle.rhai_machine.specs.machine.Machine.{Go}
 use Rattle.rhai_machine.specs.machine.Point.{after}

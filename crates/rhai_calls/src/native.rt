@@ -12,17 +12,17 @@ ghost use Rattle.rhai_calls.specs.Operates.{Operates};
 
 use rhai_items::{Items, Shared, Text};
 use rhai_operators::{builtin_binary, builtin_unary};
+use rhai_state::error::EvalAltResult;
+use rhai_state::limits::Limits;
+use rhai_state::state::GlobalRuntimeState;
+use rhai_state::table::NativeTable;
 use rhai_steps::charges::track_operation;
 use rhai_steps::errors::data_race_of;
 use rhai_steps::replies::{applied, replied};
 use rhai_steps::values::{is_bare_handle, let_go, list_of};
 use rhai_tree::position::Position;
 use rhai_tree::token::Token;
-use rhai_values::base::error::EvalAltResult;
 use rhai_values::base::value::{Dynamic, Host};
-use rhai_values::limits::Limits;
-use rhai_values::state::GlobalRuntimeState;
-use rhai_values::table::NativeTable;
 use std::alloc::Global;
 
 /// Charges a call at its position, and calls the native of its name.

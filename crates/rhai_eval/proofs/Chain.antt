@@ -10,16 +10,16 @@ use Rattle.rhai_tree.specs.declared.expr.Stmt.{Stmt, out-Stmt}
 use Rattle.rhai_tree.specs.Layers.{ExprLayer, StmtLayer}
 use Rattle.rhai_tree.specs.Positions.{position_of, stmt_position_of, start_of}
 use Rattle.rhai_values.specs.declared.base.value.Dynamic.{Dynamic}
-use Rattle.rhai_values.specs.declared.base.scope.Scope.{Scope}
-use Rattle.rhai_values.specs.declared.state.GlobalRuntimeState.{GlobalRuntimeState}
-use Rattle.rhai_values.specs.declared.base.error.EvalAltResult.{EvalAltResult}
-use Rattle.rhai_values.specs.declared.base.error.EvalAltResult.TheVariants as error
+use Rattle.rhai_state.specs.declared.scope.Scope.{Scope}
+use Rattle.rhai_state.specs.declared.state.GlobalRuntimeState.{GlobalRuntimeState}
+use Rattle.rhai_state.specs.declared.error.EvalAltResult.{EvalAltResult}
+use Rattle.rhai_state.specs.declared.error.EvalAltResult.TheVariants as error
 use Rattle.rhai_machine.specs.machine.Machine.{Go}
 use Rattle.rhai_machine.specs.machine.Point.{Point, after}
 use Rattle.rhai_machine.specs.machine.Memory.{here, next, wanting, ◌⨾◌}
 use Rattle.rhai_machine.specs.language.Setting.{Rules, limit_under}
 use Rattle.rhai_machine.specs.language.State.{State}
-use Rattle.rhai_values.specs.Errors.{is_out_of_memory}
+use Rattle.rhai_state.specs.Errors.{is_out_of_memory}
 use Rattle.rhai_machine.specs.language.Frames.{AndPart, OrPart, WhileCondition, DoCondition, StatementValue, RightOperand, AssignValue}
 use Rattle.rhai_machine.specs.language.Frames.{ReturnValue, IfCondition, Control, Frame, Core, core, ended, UnaryOperand, LeftOperand}
 use Rattle.rhai_machine.specs.language.Frames.{DefineValue, Eval, Exec, Argument, OpenExpr, OpenStmt, Enter, Run, Back, Fail, RestoreList}
@@ -39,7 +39,7 @@ use Rattle.rhai_machine.specs.language.Runs.{at, Goes, Steps, Runs}
 use Rattle.rhai_tree.specs.declared.expr.Ident.{Ident}
 use Rattle.rhai_tree.specs.declared.flags.ASTFlags.{ASTFlags}
 use Rattle.rhai_values.specs.declared.base.value.AccessMode.{AccessMode}
-use Rattle.rhai_values.specs.Scope.{entries_of, new_entry}
+use Rattle.rhai_state.specs.Scope.{entries_of, new_entry}
 use Rattle.rhai_machine.proofs.ThisLaws.{steps_with}
 use Rattle.rhai_steps.specs.States.{local_of, state_of}
 use Rattle.rhai_steps.specs.Declaring.{declarable, is_full, is_taken}

@@ -5,7 +5,7 @@ use Rattle.rhai_tree.specs.declared.expr.Expr.{Expr}
 use Rattle.rhai_values.specs.declared.base.value.Dynamic.{Dynamic}
 use Rattle.rhai_values.specs.declared.base.value.Union.{Union}
 use Rattle.rhai_values.specs.declared.base.value.Union.TheVariants as value
-use Rattle.rhai_values.specs.declared.base.error.EvalAltResult.{EvalAltResult}
+use Rattle.rhai_state.specs.declared.error.EvalAltResult.{EvalAltResult}
 use Rattle.rhai_machine.specs.machine.Machine.{Go}
 use Rattle.rhai_machine.specs.machine.Memory.{here}
 use Rattle.rhai_machine.specs.language.Setting.{Rules}
@@ -15,7 +15,7 @@ use Rattle.rhai_machine.specs.language.Frames.{Frame, core, Back, Fail, Coalesce
 use Rattle.rhai_machine.specs.language.Expressions.{coalesce_core, coalesce_seen, coalesce_next}
 use Rattle.rhai_machine.specs.language.Runs.{at, with_core, Goes}
 use Rattle.rhai_steps.specs.Values.{is_unit_union, unit_seen}
-use Rattle.rhai_values.specs.Errors.{is_out_of_memory}
+use Rattle.rhai_state.specs.Errors.{is_out_of_memory}
 use Rattle.rhai_eval.proofs.Chain.{fails_on}
 use Rattle.rhai_steps.proofs.Pieces.{step_by}
 

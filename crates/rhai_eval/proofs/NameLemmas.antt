@@ -3,22 +3,22 @@ use Rattle.std.proofs.Common.{◌≡◌, ◌<◌, ◌+◌, ℕ, Bool, true, fals
 use Rattle.std.proofs.Common.{take, map, refl, sym, ap, ◌∙◌}
 use Rattle.std.proofs.lemmas.List.{take-append-drop, take-map, length-map}
 use Rattle.std.proofs.Math.Seq.{take-append_seam}
-use Rattle.rhai_tree.specs.Names.{Name, Begins}
+use Rattle.rhai_check.specs.Names.{Name, Begins}
 use Rattle.rhai_tree.specs.declared.expr.Expr.{Expr}
 use Rattle.rhai_tree.specs.declared.expr.FnCallExpr.{FnCallExpr}
-use Rattle.rhai_tree.specs.Frame.{Test, Tests, Verdict, tests_of, expr_step, stmt_step, call_step, block_step, resolves_expr}
-use Rattle.rhai_tree.specs.Frame.{resolves_call, all_resolve_exprs, all_resolve}
+use Rattle.rhai_check.specs.Frame.{Test, Tests, Verdict, tests_of, expr_step, stmt_step, call_step, block_step, resolves_expr}
+use Rattle.rhai_check.specs.Frame.{resolves_call, all_resolve_exprs, all_resolve}
 use Rattle.rhai_tree.specs.declared.expr.Expr.TheFolds.{fold_out-FnCallExpr}
-use Rattle.rhai_values.specs.declared.base.scope.ScopeEntry.{ScopeEntry}
-use Rattle.rhai_values.specs.Scope.{name_of}
-use Rattle.rhai_tree.specs.Declares.{any_of}
+use Rattle.rhai_state.specs.declared.scope.ScopeEntry.{ScopeEntry}
+use Rattle.rhai_state.specs.Scope.{name_of}
+use Rattle.rhai_check.specs.Declares.{any_of}
 use Rattle.rhai_tree.specs.declared.expr.Stmt.{Stmt, out-Stmt}
 use Rattle.rhai_tree.specs.declared.expr.Expr.TheOpen as layer
 use Rattle.rhai_tree.specs.declared.flags.ASTFlags.{ASTFlags}
 use Rattle.rhai_tree.specs.declared.position.Position.{Position}
-use Rattle.rhai_tree.specs.Forms.{is_throw}
-use Rattle.rhai_tree.specs.Frame.{resolves_stmt}
-use Rattle.rhai_tree.proofs.Walk.{resolves-stmt}
+use Rattle.rhai_check.specs.Forms.{is_throw}
+use Rattle.rhai_check.specs.Frame.{resolves_stmt}
+use Rattle.rhai_check.proofs.Walk.{resolves-stmt}
 use Rattle.std.proofs.Common.{not, Option}
 use Rattle.rhai_eval.proofs.Chain.{drop_item}
 

@@ -2,7 +2,7 @@
 use Rattle.std.proofs.Common.{◌≡◌, Bool, false, List, [], ◌∷◌, Result, Ok, Err, IfOk, IfErr}
 use Rattle.rhai_tree.specs.declared.expr.Stmt.{Stmt}
 use Rattle.rhai_values.specs.declared.base.value.Dynamic.{Dynamic}
-use Rattle.rhai_values.specs.declared.base.error.EvalAltResult.{EvalAltResult}
+use Rattle.rhai_state.specs.declared.error.EvalAltResult.{EvalAltResult}
 use Rattle.rhai_machine.specs.machine.Memory.{here, next, ◌⨾◌}
 use Rattle.rhai_machine.specs.machine.Point.{after}
 use Rattle.rhai_machine.specs.language.Setting.{Rules}

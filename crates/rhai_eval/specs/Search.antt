@@ -3,9 +3,9 @@ use Rattle.std.specs.Prelude.{Bool, true, false, List, Option, Some, None, Resul
 use Rattle.rhai_tree.specs.declared.expr.Expr.TheOpen as layer
 use Rattle.rhai_tree.specs.Layers.{ExprLayer}
 use Rattle.rhai_values.specs.declared.base.value.Dynamic.{Dynamic}
-use Rattle.rhai_values.specs.declared.base.scope.ScopeEntry.{ScopeEntry}
-use Rattle.rhai_values.specs.declared.base.error.EvalAltResult.{EvalAltResult}
-use Rattle.rhai_values.specs.Scope.{found}
+use Rattle.rhai_state.specs.declared.scope.ScopeEntry.{ScopeEntry}
+use Rattle.rhai_state.specs.declared.error.EvalAltResult.{EvalAltResult}
+use Rattle.rhai_state.specs.Scope.{found}
 use Rattle.rhai_machine.specs.language.Values.{Cells}
 use Rattle.rhai_machine.specs.language.Names.{variable_of}
 

@@ -1,9 +1,9 @@
 -- What a run of the code is to the machine: the engine and the table as its rules, and the context as its state.
 use Rattle.std.specs.Prelude.{ℕ, ◌-◌, ◌^◌, List}
-use Rattle.rhai_tree.specs.Names.{Name}
-use Rattle.rhai_values.specs.declared.limits.Limits.{Limits}
-use Rattle.rhai_values.specs.Native.{Natives}
-use Rattle.rhai_values.specs.Scope.{names_in}
+use Rattle.rhai_check.specs.Names.{Name}
+use Rattle.rhai_state.specs.declared.limits.Limits.{Limits}
+use Rattle.rhai_state.specs.Native.{Natives}
+use Rattle.rhai_state.specs.Scope.{names_in}
 use Rattle.rhai_machine.specs.language.Setting.{Offer, Rules, rules_of}
 use Rattle.rhai_machine.specs.language.State.{State}
 use Rattle.rhai_steps.specs.States.{state_of}

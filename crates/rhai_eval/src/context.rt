@@ -3,11 +3,11 @@
 ghost use Rattle.std.specs.Prelude.{◌≡◌, None};
 
 use rhai_items::Items;
-use rhai_values::base::scope::Scope;
+use rhai_state::caches::Caches;
+use rhai_state::scope::Scope;
+use rhai_state::state::GlobalRuntimeState;
 use rhai_values::base::value::{Dynamic, Host};
-use rhai_values::caches::Caches;
 use rhai_values::cells::CellStore;
-use rhai_values::state::GlobalRuntimeState;
 use std::alloc::Global;
 use std::mem::replace;
 

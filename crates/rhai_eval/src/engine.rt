@@ -1,17 +1,17 @@
 //! The engine: the limits and switches of a run, and the modules that it offers.
 
 ghost use Rattle.std.specs.Prelude.{◌≡◌, ◌<◌, ◌≤◌, ◌+◌, ◌-◌, ◌^◌, OnOk, IfErr, [], true, false};
-ghost use Rattle.rhai_values.specs.declared.base.error.EvalAltResult.TheVariants as error;
-ghost use Rattle.rhai_values.specs.Limits.{limit_of};
+ghost use Rattle.rhai_state.specs.declared.error.EvalAltResult.TheVariants as error;
+ghost use Rattle.rhai_state.specs.Limits.{limit_of};
 ghost use Rattle.rhai_eval.specs.States.{unlimited};
 
 use rhai_items::{Items, Shared, Table};
+use rhai_state::error::EvalAltResult;
+use rhai_state::limits::Limits;
+use rhai_state::state::GlobalRuntimeState;
 use rhai_steps::charges;
 use rhai_tree::position::Position;
-use rhai_values::base::error::EvalAltResult;
 use rhai_values::base::value::{Host, Module, ModuleTable};
-use rhai_values::limits::Limits;
-use rhai_values::state::GlobalRuntimeState;
 use std::alloc::Global;
 
 /// The limits and switches of a run, and the modules that it offers. Ports upstream's `Engine`, as

@@ -5,8 +5,8 @@ use Rattle.std.proofs.lemmas.Option.{slice_get_within}
 use Rattle.std.proofs.Math.Seq.{lt-length-set}
 use Rattle.rhai_values.specs.Cells.{value_of_cell, with_held}
 use Rattle.rhai_values.specs.declared.base.value.Dynamic.{Dynamic}
-use Rattle.rhai_values.specs.declared.base.error.EvalAltResult.{EvalAltResult}
-use Rattle.rhai_values.specs.Native.{Reply, Effect}
+use Rattle.rhai_state.specs.declared.error.EvalAltResult.{EvalAltResult}
+use Rattle.rhai_state.specs.Native.{Reply, Effect}
 use Rattle.rhai_machine.specs.language.State.{HasMemory}
 use Rattle.rhai_index.specs.Calls.{Leaves}
 use Rattle.rhai_index.specs.Indexers.{with_change}

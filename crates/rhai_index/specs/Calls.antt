@@ -1,15 +1,16 @@
 -- What a call of an indexer does, as one record.
 use Rattle.std.specs.Prelude.{◌≡◌, ◌<◌, ◌≤◌, ◌+◌, ℕ, Bool, List, Option, Some, None, Result, Err, IfSome}
-use Rattle.rhai_values.specs.declared.base.error.EvalAltResult.{EvalAltResult}
-use Rattle.rhai_values.specs.declared.base.error.EvalAltResult.TheVariants as error
+use Rattle.rhai_state.specs.declared.error.EvalAltResult.{EvalAltResult}
+use Rattle.rhai_state.specs.declared.error.EvalAltResult.TheVariants as error
 use Rattle.rhai_values.specs.declared.base.value.CellId.{CellId}
 use Rattle.rhai_values.specs.declared.base.value.Dynamic.{Dynamic}
-use Rattle.rhai_values.specs.declared.limits.Limits.{Limits}
-use Rattle.rhai_values.specs.declared.state.GlobalRuntimeState.{GlobalRuntimeState}
+use Rattle.rhai_state.specs.declared.limits.Limits.{Limits}
+use Rattle.rhai_state.specs.declared.state.GlobalRuntimeState.{GlobalRuntimeState}
 use Rattle.rhai_values.specs.Cells.{cells_of}
 use Rattle.rhai_values.specs.Layers.{layer_of}
-use Rattle.rhai_values.specs.Limits.{limit_of}
-use Rattle.rhai_values.specs.Native.{Effect, Natives, Reply, IsNoHandle}
+use Rattle.rhai_state.specs.Limits.{limit_of}
+use Rattle.rhai_values.specs.Cells.{IsNoHandle}
+use Rattle.rhai_state.specs.Native.{Effect, Natives, Reply}
 use Rattle.rhai_machine.specs.language.State.{Answers, HasMemory}
 use Rattle.rhai_index.specs.Indexers.{IndexerCall, cell_of, effect_of, given_back, indexer_result}
 use Rattle.rhai_index.specs.Indexers.{is_pure_for, lending, lent_by, outcome_of}

@@ -4,11 +4,12 @@
 ghost use Rattle.std.specs.Prelude.{◌≡◌, ◌<◌, ◌∷◌, [], length, slice_get, Some, true, false, IfOk, IfErr};
 ghost use Rattle.std.specs.Prelude.{IfSome, is_some};
 ghost use Rattle.rhai_values.specs.Cells.{cells_of};
-ghost use Rattle.rhai_values.specs.Errors.{is_out_of_memory};
+ghost use Rattle.rhai_state.specs.Errors.{is_out_of_memory};
 ghost use Rattle.rhai_values.specs.Layers.{layer_of};
-ghost use Rattle.rhai_values.specs.Native.{IsNoHandle, reply_of};
+ghost use Rattle.rhai_values.specs.Cells.{IsNoHandle};
+ghost use Rattle.rhai_state.specs.Native.{reply_of};
 ghost use Rattle.rhai_values.specs.TypeNames.{type_name_of};
-ghost use Rattle.rhai_values.specs.declared.base.error.EvalAltResult.TheVariants as error;
+ghost use Rattle.rhai_state.specs.declared.error.EvalAltResult.TheVariants as error;
 ghost use Rattle.rhai_places.specs.Refusals.{indexing_text};
 ghost use Rattle.rhai_machine.specs.language.State.{Answers, HasMemory};
 ghost use Rattle.rhai_index.specs.Calls.{Asked, Calls, Leaves, LendsNoHandle};
@@ -19,17 +20,17 @@ ghost use Rattle.rhai_index.specs.Indexers.{is_barred as is_barred_from, is_pure
 use rhai_items::Items;
 use rhai_places::errors::indexing_error;
 use rhai_places::spot::{Access, Refusal};
+use rhai_state::error::EvalAltResult;
+use rhai_state::limits::Limits;
+use rhai_state::state::GlobalRuntimeState;
+use rhai_state::table::{Answer, NativeTable};
 use rhai_steps::charges::track_operation;
 use rhai_steps::errors::{data_race_by, non_pure};
 use rhai_steps::replies::{placed, sized};
 use rhai_steps::values::{let_go, list_of, unit_value};
 use rhai_tree::position::Position;
-use rhai_values::base::error::EvalAltResult;
 use rhai_values::base::value::{AccessMode, CellId, Dynamic, Host, Union};
 use rhai_values::cells::CellStore;
-use rhai_values::limits::Limits;
-use rhai_values::state::GlobalRuntimeState;
-use rhai_values::table::{Answer, NativeTable};
 use std::alloc::Global;
 use std::mem::replace;
 

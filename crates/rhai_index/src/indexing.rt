@@ -6,7 +6,7 @@ ghost use Rattle.std.specs.Prelude.{◌≡◌};
 ghost use Rattle.std.specs.Borrow.{sem};
 ghost use Rattle.rhai_values.specs.Cells.{cells_of};
 ghost use Rattle.rhai_values.specs.Layers.{layer_of};
-ghost use Rattle.rhai_values.specs.Native.{IsNoHandle};
+ghost use Rattle.rhai_values.specs.Cells.{IsNoHandle};
 ghost use Rattle.rhai_places.specs.Found.{found};
 ghost use Rattle.rhai_index.specs.Indexers.{asks_indexer as is_asked};
 ghost use Rattle.rhai_index.specs.Indexes.{Indexes};
@@ -16,13 +16,13 @@ use crate::indexers::ask_get;
 use rhai_places::indexing;
 use rhai_places::spot::Access;
 use rhai_places::target::{Part, Target};
+use rhai_state::error::EvalAltResult;
+use rhai_state::limits::Limits;
+use rhai_state::state::GlobalRuntimeState;
+use rhai_state::table::NativeTable;
 use rhai_steps::charges::track_operation;
 use rhai_tree::position::Position;
-use rhai_values::base::error::EvalAltResult;
 use rhai_values::base::value::{Dynamic, Host, Union};
-use rhai_values::limits::Limits;
-use rhai_values::state::GlobalRuntimeState;
-use rhai_values::table::NativeTable;
 use std::alloc::Global;
 
 /// Whether the host's indexer is asked: it may be, and the value is of no kind that is indexed

@@ -7,10 +7,10 @@ use Rattle.std.specs.Option.{option_flatten}
 use Rattle.std.specs.Prelude.{◌≡◌, ℕ, zero, suc, Bool, true, false, List, [], ◌∷◌, ◌++◌, map, take, length, nat_le, Some, None, Result, Ok}
 use Rattle.std.specs.Prelude.{Err}
 use Rattle.std.specs.Prelude.{is_some, slice_get, slice_set}
-use Rattle.rhai_tree.specs.Names.{Name, Begins}
+use Rattle.rhai_check.specs.Names.{Name, Begins}
 use Rattle.rhai_values.specs.declared.base.value.Dynamic.{Dynamic}
-use Rattle.rhai_values.specs.declared.base.error.EvalAltResult.{EvalAltResult}
-use Rattle.rhai_values.specs.Scope.{name_of}
+use Rattle.rhai_state.specs.declared.error.EvalAltResult.{EvalAltResult}
+use Rattle.rhai_state.specs.Scope.{name_of}
 use Rattle.rhai_machine.specs.language.State.{Surroundings, Local}
 use Rattle.rhai_machine.specs.language.Values.{Cells, unit_value}
 use Rattle.rhai_machine.specs.language.Places.{Place, InEntry, InCell, put}

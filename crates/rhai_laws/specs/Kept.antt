@@ -1,9 +1,9 @@
 -- What every run of the language keeps, whatever its end, want of memory included.
 use Rattle.std.specs.Prelude.{◌≡◌, ◌≤◌, ⊤, true, false, List, map, Option, Some, None, is_some}
-use Rattle.rhai_tree.specs.Names.{Name}
+use Rattle.rhai_check.specs.Names.{Name}
 use Rattle.rhai_values.specs.declared.base.value.Dynamic.{Dynamic}
 use Rattle.rhai_values.specs.Cells.{value_of_cell}
-use Rattle.rhai_values.specs.Scope.{name_of}
+use Rattle.rhai_state.specs.Scope.{name_of}
 use Rattle.rhai_machine.specs.language.Setting.{Rules, limit_under}
 use Rattle.rhai_machine.specs.language.State.{Surroundings, Local, State}
 use Rattle.rhai_machine.specs.language.Values.{unit_value}

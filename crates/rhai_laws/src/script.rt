@@ -5,7 +5,7 @@ ghost use Rattle.rhai_machine.specs.language.Setting.{Setting, over};
 ghost use Rattle.rhai_laws.specs.Laws.{GoesWithMemory, GoesUpToMemory, StepsKeep, NamesStay, NamesBegin};
 ghost use Rattle.rhai_laws.specs.Laws.{VariablesStay};
 
-use rhai_values::table::NativeTable;
+use rhai_state::table::NativeTable;
 use std::marker::PhantomData;
 
 /// Where memory was not wanting at the end of a run, the machine takes its steps by itself.

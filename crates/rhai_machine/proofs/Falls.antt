@@ -16,9 +16,9 @@ use Rattle.rhai_tree.specs.Layers.{ExprLayer, StmtLayer}
 use Rattle.rhai_values.specs.declared.base.value.Dynamic.{Dynamic}
 use Rattle.rhai_values.specs.declared.base.value.Union.{Union}
 use Rattle.rhai_values.specs.declared.base.value.Union.TheVariants as value
-use Rattle.rhai_values.specs.declared.base.error.EvalAltResult.{EvalAltResult}
-use Rattle.rhai_values.specs.declared.base.error.EvalAltResult.TheVariants as error
-use Rattle.rhai_values.specs.Native.{Reply, Missing, Gives, Faults}
+use Rattle.rhai_state.specs.declared.error.EvalAltResult.{EvalAltResult}
+use Rattle.rhai_state.specs.declared.error.EvalAltResult.TheVariants as error
+use Rattle.rhai_state.specs.Native.{Reply, Missing, Gives, Faults}
 use Rattle.rhai_operators.specs.Answers.{Answer, op_assign_of}
 use Rattle.rhai_machine.specs.machine.Settling.{Falls}
 use Rattle.rhai_machine.specs.language.Setting.{Setting}
@@ -37,7 +37,7 @@ use Rattle.rhai_machine.specs.language.Assignment.{value_core, answered_core, ca
 use Rattle.rhai_machine.specs.language.Loops.{is_endless, while_move, while_core, if_goes_on, goes_on, do_control, caught}
 use Rattle.rhai_machine.specs.language.Names.{read}
 use Rattle.rhai_tree.specs.Positions.{position_of}
-use Rattle.rhai_values.specs.Scope.{index_of}
+use Rattle.rhai_state.specs.Scope.{index_of}
 use Rattle.rhai_machine.specs.language.Expressions.{literal_of, argument_move, operands_move, and_core, and_next, or_core, or_next}
 use Rattle.rhai_machine.specs.language.Expressions.{coalesce_core, coalesce_seen, coalesce_next, expr_move}
 use Rattle.rhai_machine.specs.language.Calls.{operator_core, builtin_of, fire_first, fire_move, call_native, replied, applied, sized}

@@ -5,7 +5,7 @@ use Rattle.rhai_tree.specs.declared.expr.Expr.TheFolds.{fold_out-Expr, fold_out-
 use Rattle.rhai_tree.specs.declared.expr.Expr.TheVariants as expr
 use Rattle.rhai_tree.specs.declared.expr.Stmt.TheVariants as stmt
 use Rattle.rhai_machine.specs.machine.Machine.{Machine, Config, Run, ended, next, step}
-use Rattle.rhai_values.specs.declared.base.scope.ScopeEntry.{ScopeEntry}
+use Rattle.rhai_state.specs.declared.scope.ScopeEntry.{ScopeEntry}
 use Rattle.rhai_tree.specs.declared.expr.Stmt.{Stmt}
 use Rattle.rhai_tree.specs.declared.token.Token.TheVariants.{Plus}
 use Rattle.rhai_machine.specs.language.Frames.{Core, core, Fire, StatementValue, Enter, RestOfList, Run as RunList}

@@ -16,8 +16,8 @@ use Rattle.rhai_tree.specs.Positions.{position_of}
 use Rattle.rhai_values.specs.declared.base.value.Dynamic.{Dynamic}
 use Rattle.rhai_values.specs.declared.base.value.Union.{Union}
 use Rattle.rhai_values.specs.declared.base.value.Union.TheVariants as value
-use Rattle.rhai_values.specs.declared.base.error.EvalAltResult.{EvalAltResult}
-use Rattle.rhai_values.specs.Scope.{index_of}
+use Rattle.rhai_state.specs.declared.error.EvalAltResult.{EvalAltResult}
+use Rattle.rhai_state.specs.Scope.{index_of}
 use Rattle.rhai_machine.specs.machine.Machine.{Move, Halt, Go, Charge, Native, AskPure}
 use Rattle.rhai_machine.specs.machine.Point.{Point, after, moved, paid}
 use Rattle.rhai_machine.specs.machine.Memory.{Leads, here, next, wanting, starved}
@@ -28,7 +28,7 @@ use Rattle.rhai_operators.specs.Answers.{Answer, op_assign_of}
 use Rattle.rhai_tree.specs.declared.expr.OpAssignment.{OpAssignment}
 use Rattle.rhai_values.specs.declared.base.value.AccessMode.TheVariants.{ReadWrite}
 use Rattle.rhai_values.specs.Modes.{with_mode}
-use Rattle.rhai_values.specs.Native.{Reply, Missing, Gives, Faults, Named, request}
+use Rattle.rhai_state.specs.Native.{Reply, Missing, Gives, Faults, Named, request}
 use Rattle.rhai_machine.specs.language.Frames.{Operation, Call, Attempt, InPlace, AsValue, Assignment, Update, Control, Frame, Core, core}
 use Rattle.rhai_machine.specs.language.Frames.{Eval, Exec, Ask, Assign, AskUpdate, Argument, Question, Fire, QuestionUpdate, FireUpdate}
 use Rattle.rhai_machine.specs.language.Frames.{OpenExpr, OpenStmt, Enter, Run, Store, WhileTurn, DoTurn, Back, Fail, StatementValue}

@@ -7,7 +7,7 @@ ghost use Rattle.rhai_machine.specs.language.Language.{machine};
 ghost use Rattle.rhai_machine.specs.language.Laws.{IsNeverCaught, CutFollows, CutOrSame, CutEnds};
 ghost use Rattle.rhai_machine.specs.language.Laws.{HigherLimit, HigherLimitOfSteps};
 
-use rhai_values::table::NativeTable;
+use rhai_state::table::NativeTable;
 use std::marker::PhantomData;
 
 /// A run of a script has one end.

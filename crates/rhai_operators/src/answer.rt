@@ -3,14 +3,14 @@
 
 ghost use Rattle.std.specs.Prelude.{◌≡◌, false, IfOk};
 ghost use Rattle.rhai_tree.specs.Position.{none};
-ghost use Rattle.rhai_values.specs.Errors.{is_out_of_memory, position_of};
+ghost use Rattle.rhai_state.specs.Errors.{is_out_of_memory, position_of};
 ghost use Rattle.rhai_operators.specs.Answers as spec;
 ghost use Rattle.rhai_operators.specs.Answers.{IsAnswer};
 
 use crate::integers::ArithmeticFault;
 use rhai_items::{Shared, Text};
+use rhai_state::error::EvalAltResult;
 use rhai_tree::position::Position;
-use rhai_values::base::error::EvalAltResult;
 use rhai_values::base::value::{Dynamic, Host, Union};
 use std::alloc::{AllocError, Global};
 

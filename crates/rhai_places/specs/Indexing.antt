@@ -4,7 +4,7 @@ use Rattle.std.specs.Prelude.{None, option_map, Result, Ok, Err, ok_or}
 use Rattle.std.specs.Ordering.{int_eq}
 use Rattle.std.specs.Str.{chars}
 use Rattle.rhai_items.specs.Lookup.{place_of}
-use Rattle.rhai_values.specs.declared.base.error.Bounds.{Bounds}
+use Rattle.rhai_state.specs.declared.error.Bounds.{Bounds}
 use Rattle.rhai_values.specs.declared.base.value.FnPtrKind.TheOpen as layer
 use Rattle.rhai_values.specs.Layers.{UnionLayer}
 use Rattle.rhai_places.specs.declared.spot.Spot.{Spot}

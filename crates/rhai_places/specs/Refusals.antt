@@ -1,10 +1,10 @@
 -- The errors of what is refused, and what holds of an error where memory may have been wanting.
 use Rattle.std.specs.Prelude.{◌≡◌, ℕ, false, List, ◌++◌, Option, codes}
 use Rattle.rhai_tree.specs.declared.position.Position.{Position}
-use Rattle.rhai_values.specs.Errors.{is_out_of_memory}
+use Rattle.rhai_state.specs.Errors.{is_out_of_memory}
 use Rattle.rhai_values.specs.TypeNames.{type_name_of}
-use Rattle.rhai_values.specs.declared.base.error.EvalAltResult.{EvalAltResult}
-use Rattle.rhai_values.specs.declared.base.error.EvalAltResult.TheVariants as error
+use Rattle.rhai_state.specs.declared.error.EvalAltResult.{EvalAltResult}
+use Rattle.rhai_state.specs.declared.error.EvalAltResult.TheVariants as error
 use Rattle.rhai_values.specs.declared.base.value.Dynamic.{Dynamic}
 use Rattle.rhai_places.specs.declared.spot.Access.{Access}
 use Rattle.rhai_places.specs.declared.spot.Refusal.{Refusal}

@@ -2,14 +2,14 @@
 
 ghost use Rattle.std.specs.Prelude.{◌≡◌, [], ◌++◌, codes, IfOk};
 ghost use Rattle.rhai_values.specs.Cells.{cells_of};
-ghost use Rattle.rhai_values.specs.declared.base.error.EvalAltResult.TheVariants as error;
+ghost use Rattle.rhai_state.specs.declared.error.EvalAltResult.TheVariants as error;
 ghost use Rattle.rhai_places.specs.Refusals as spec;
 ghost use Rattle.rhai_places.specs.Refusals.{IsTold, refused};
 
 use crate::spot::{Access, Refusal};
 use rhai_items::{Boxed, Shared, Text};
+use rhai_state::error::{EvalAltResult, TypeMismatch};
 use rhai_tree::position::Position;
-use rhai_values::base::error::{EvalAltResult, TypeMismatch};
 use rhai_values::base::value::{Dynamic, Host};
 use rhai_values::cells::CellStore;
 use std::alloc::{AllocError, Global};

@@ -14,8 +14,8 @@ use crate::chars::{with_char, with_slice};
 use crate::errors::mismatch;
 use crate::spot::Spot;
 use rhai_items::Shared;
+use rhai_state::error::EvalAltResult;
 use rhai_tree::position::Position;
-use rhai_values::base::error::EvalAltResult;
 use rhai_values::base::value::{Dynamic, Host, Union};
 use std::alloc::{AllocError, Global};
 

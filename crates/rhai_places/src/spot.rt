@@ -1,7 +1,7 @@
 //! What an index finds in a value.
 
+use rhai_state::error::Bounds;
 use rhai_tree::position::Position;
-use rhai_values::base::error::Bounds;
 
 /// Where an index leads in a value.
 #[derive(Clone, Copy, Debug, PartialEq, Eq)]

@@ -2,13 +2,13 @@
 //! The contracts cite specs/Targets.antt.
 
 ghost use Rattle.std.specs.Prelude.{◌≡◌, Some, true, false, IfErr, IfOk, IsOk, IsSome, OnErr, OnOk};
-ghost use Rattle.rhai_values.specs.Errors.{is_out_of_memory};
+ghost use Rattle.rhai_state.specs.Errors.{is_out_of_memory};
 
 use crate::part::is_part;
 use crate::put::put_part;
 use crate::spot::Spot;
+use rhai_state::error::EvalAltResult;
 use rhai_tree::position::Position;
-use rhai_values::base::error::EvalAltResult;
 use rhai_values::base::value::{Dynamic, Host, Union};
 use std::alloc::Global;
 

@@ -5,11 +5,11 @@ use Rattle.std.proofs.lemmas.Result.{err_from_is_err_and}
 use Rattle.std.specs.Result.{IsErr, IsErrAnd}
 use Rattle.rhai_tree.specs.declared.position.Position.{Position}
 use Rattle.rhai_values.specs.declared.base.value.Dynamic.{Dynamic}
-use Rattle.rhai_values.specs.declared.base.scope.Scope.{Scope}
-use Rattle.rhai_values.specs.declared.state.GlobalRuntimeState.{GlobalRuntimeState}
-use Rattle.rhai_values.specs.declared.base.error.EvalAltResult.{EvalAltResult}
-use Rattle.rhai_values.specs.declared.base.error.EvalAltResult.TheVariants as error
-use Rattle.rhai_values.specs.Errors.{is_out_of_memory}
+use Rattle.rhai_state.specs.declared.scope.Scope.{Scope}
+use Rattle.rhai_state.specs.declared.state.GlobalRuntimeState.{GlobalRuntimeState}
+use Rattle.rhai_state.specs.declared.error.EvalAltResult.{EvalAltResult}
+use Rattle.rhai_state.specs.declared.error.EvalAltResult.TheVariants as error
+use Rattle.rhai_state.specs.Errors.{is_out_of_memory}
 use Rattle.rhai_machine.specs.machine.Machine.{Move, Charge}
 use Rattle.rhai_machine.specs.machine.Point.{Point, moved, after}
 use Rattle.rhai_machine.specs.machine.Memory.{here, next, wanting}

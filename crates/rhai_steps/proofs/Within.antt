@@ -1,7 +1,7 @@
 -- Where a variable is found there is an entry.
 use Rattle.std.proofs.Common.{◌≡◌, ◌<◌, ℕ, zero, suc, Bool, true, false, List, [], ◌∷◌, length, Option, Some, None, refl, arith}
 use Rattle.std.specs.Str.{bytes_eq}
-use Rattle.rhai_values.specs.Newest.{newest, or_here}
+use Rattle.rhai_state.specs.Newest.{newest, or_here}
 
 module _ {A : Type 0} (name_of : A → List ℕ) (name : List ℕ) where
   within_step : (items : List A) (later : Option ℕ) (here : Bool) (at : ℕ) → ((j : ℕ) → later ≡ Some j → j < length items) →

@@ -1,11 +1,11 @@
 -- When a variable may be declared.
 use Rattle.std.specs.Prelude.{ℕ, Bool, true, false, not, ◌&&◌, List, Result, Ok, Err, is_some, length, nat_le}
 use Rattle.rhai_tree.specs.declared.position.Position.{Position}
-use Rattle.rhai_values.specs.declared.base.scope.ScopeEntry.{ScopeEntry}
-use Rattle.rhai_values.specs.declared.base.error.EvalAltResult.{EvalAltResult}
-use Rattle.rhai_values.specs.declared.base.error.EvalAltResult.TheVariants as error
-use Rattle.rhai_values.specs.declared.limits.Limits.{Limits}
-use Rattle.rhai_values.specs.Scope.{index_of}
+use Rattle.rhai_state.specs.declared.scope.ScopeEntry.{ScopeEntry}
+use Rattle.rhai_state.specs.declared.error.EvalAltResult.{EvalAltResult}
+use Rattle.rhai_state.specs.declared.error.EvalAltResult.TheVariants as error
+use Rattle.rhai_state.specs.declared.limits.Limits.{Limits}
+use Rattle.rhai_state.specs.Scope.{index_of}
 
 module _ {H : Type 0} where
   -- shadowing is off, and the scope has the name

@@ -1,8 +1,8 @@
 -- What a restoring list keeps in code, as the machine's frame keeps it.
 use Rattle.std.specs.Prelude.{length, take}
-use Rattle.rhai_values.specs.declared.base.scope.Scope.{Scope}
-use Rattle.rhai_values.specs.declared.state.GlobalRuntimeState.{GlobalRuntimeState}
-use Rattle.rhai_values.specs.Scope.{entries_of}
+use Rattle.rhai_state.specs.declared.scope.Scope.{Scope}
+use Rattle.rhai_state.specs.declared.state.GlobalRuntimeState.{GlobalRuntimeState}
+use Rattle.rhai_state.specs.Scope.{entries_of}
 use Rattle.rhai_machine.specs.language.Frames as machine
 use Rattle.rhai_steps.specs.declared.variables.Saved.{Saved}
 

@@ -1,10 +1,10 @@
 -- The state of a run as the machine reads it.
 use Rattle.std.specs.Prelude.{Option}
 use Rattle.rhai_values.specs.declared.base.value.Dynamic.{Dynamic}
-use Rattle.rhai_values.specs.declared.base.scope.Scope.{Scope}
-use Rattle.rhai_values.specs.declared.state.GlobalRuntimeState.{GlobalRuntimeState}
+use Rattle.rhai_state.specs.declared.scope.Scope.{Scope}
+use Rattle.rhai_state.specs.declared.state.GlobalRuntimeState.{GlobalRuntimeState}
 use Rattle.rhai_values.specs.Cells.{cells_of}
-use Rattle.rhai_values.specs.Scope.{entries_of}
+use Rattle.rhai_state.specs.Scope.{entries_of}
 use Rattle.rhai_machine.specs.language.State.{Surroundings, Local, State}
 
 module _ {H : Type 0} where

@@ -1,15 +1,15 @@
 //! Charges of operations. Ports upstream's `track_operation`.
 
 ghost use Rattle.std.specs.Prelude.{◌≡◌, ◌<◌, ◌≤◌, ◌+◌, OnOk, IfErr, IfOk};
-ghost use Rattle.rhai_values.specs.Limits.{limit_of};
-ghost use Rattle.rhai_values.specs.declared.base.error.EvalAltResult.TheVariants as error;
+ghost use Rattle.rhai_state.specs.Limits.{limit_of};
+ghost use Rattle.rhai_state.specs.declared.error.EvalAltResult.TheVariants as error;
 
 use crate::values::let_go;
+use rhai_state::error::EvalAltResult;
+use rhai_state::limits::Limits;
+use rhai_state::state::GlobalRuntimeState;
 use rhai_tree::position::Position;
-use rhai_values::base::error::EvalAltResult;
 use rhai_values::base::value::{Dynamic, Host};
-use rhai_values::limits::Limits;
-use rhai_values::state::GlobalRuntimeState;
 
 /// How many operations a run may charge.
 fn limit(limits: &Limits) -> u64

@@ -2,14 +2,14 @@
 //! memory for one the answer is want of memory.
 
 ghost use Rattle.std.specs.Prelude.{◌≡◌, false, [], IfOk};
-ghost use Rattle.rhai_values.specs.Errors.{is_out_of_memory};
+ghost use Rattle.rhai_state.specs.Errors.{is_out_of_memory};
 ghost use Rattle.rhai_values.specs.DataSize.{fault_text};
-ghost use Rattle.rhai_values.specs.declared.base.error.EvalAltResult.TheVariants as error;
+ghost use Rattle.rhai_state.specs.declared.error.EvalAltResult.TheVariants as error;
 ghost use Rattle.rhai_machine.specs.language.Values.{mismatch as mismatched};
 
 use rhai_items::{Boxed, Shared, Text};
+use rhai_state::error::{EvalAltResult, TypeMismatch};
 use rhai_tree::position::Position;
-use rhai_values::base::error::{EvalAltResult, TypeMismatch};
 use rhai_values::base::size::SizeFault;
 use rhai_values::base::value::{Dynamic, Host};
 use std::alloc::{AllocError, Global};

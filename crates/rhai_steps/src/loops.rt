@@ -9,9 +9,9 @@ ghost use Rattle.rhai_steps.specs.Loops.{after_body, after_test, turn_in};
 
 use crate::values::{let_go, unit_value};
 use bitflags::Flags;
+use rhai_state::error::EvalAltResult;
 use rhai_tree::expr::{Expr, Stmt, StmtBlock};
 use rhai_tree::flags::ASTFlags;
-use rhai_values::base::error::EvalAltResult;
 use rhai_values::base::value::{Dynamic, Host};
 
 /// How the body of a loop ended, errors that pass aside.

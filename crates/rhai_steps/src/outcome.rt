@@ -3,7 +3,7 @@
 ghost use Rattle.std.specs.Prelude.{◌≡◌, Ok, IfOk, IfErr};
 ghost use Rattle.rhai_machine.specs.language.Unwinding.{topped};
 
-use rhai_values::base::error::EvalAltResult;
+use rhai_state::error::EvalAltResult;
 use rhai_values::base::value::{Dynamic, Host};
 
 /// What a script's end makes of an error: a `return` gives its value, and so does an exit where

@@ -3,10 +3,10 @@
 ghost use Rattle.std.specs.Prelude.{◌≡◌, ◌<◌, ◌≤◌, ◌+◌, ◌∷◌, ◌++◌, [], Some, IfOk, IfErr, IfSome, OnOk};
 ghost use Rattle.std.specs.Prelude.{is_some, true, false, codes};
 ghost use Rattle.std.specs.String.{string_bytes};
-ghost use Rattle.rhai_values.specs.Errors.{is_out_of_memory};
+ghost use Rattle.rhai_state.specs.Errors.{is_out_of_memory};
 ghost use Rattle.rhai_values.specs.Cells.{cells_of};
-ghost use Rattle.rhai_values.specs.declared.base.error.EvalAltResult.TheVariants as error;
-ghost use Rattle.rhai_values.specs.Native.{Missing, reply_of};
+ghost use Rattle.rhai_state.specs.declared.error.EvalAltResult.TheVariants as error;
+ghost use Rattle.rhai_state.specs.Native.{Missing, reply_of};
 ghost use Rattle.rhai_operators.specs.Answers.{HasMemory};
 ghost use Rattle.rhai_machine.specs.language.State.{Answers, HasMemory as WithMemory};
 ghost use Rattle.rhai_machine.specs.language.Values.{is_handle as handle_at};
@@ -18,13 +18,13 @@ ghost use Rattle.rhai_machine.specs.language.Calls.{signature as signature_of, s
 use crate::errors::data_too_large;
 use rhai_items::{Items, Shared, Text};
 use rhai_operators::{builtin_binary, builtin_unary};
+use rhai_state::error::EvalAltResult;
+use rhai_state::limits::Limits;
+use rhai_state::table::Answer;
 use rhai_tree::position::Position;
 use rhai_tree::token::Token;
-use rhai_values::base::error::EvalAltResult;
 use rhai_values::base::value::{Dynamic, Host};
 use rhai_values::cells::CellStore;
-use rhai_values::limits::Limits;
-use rhai_values::table::Answer;
 use std::alloc::{AllocError, Global};
 
 /// Adds a further type to a row of types.

@@ -14,9 +14,9 @@ ghost use Rattle.rhai_steps.specs.Values.{unit_seen};
 
 use crate::errors::{data_race, mismatch};
 use rhai_items::Items;
+use rhai_state::error::EvalAltResult;
 use rhai_tree::expr::Expr;
 use rhai_tree::position::Position;
-use rhai_values::base::error::EvalAltResult;
 use rhai_values::base::value::{CellId, Dynamic, Host, Union};
 use rhai_values::cells::CellStore;
 use std::alloc::Global;

@@ -3,10 +3,10 @@
 ghost use Rattle.std.specs.Prelude.{◌≡◌, ℕ, List, Ok, Err, Some, None, false, IsTrue, ◌++◌, ◌∷◌, [], true};
 ghost use Rattle.std.specs.Prelude.{not, ◌&&◌, is_some, take, IfOk, IfErr, OnOk, OnErr};
 ghost use Rattle.rhai_values.specs.Cells.{cells_of};
-ghost use Rattle.rhai_values.specs.Errors.{is_out_of_memory};
-ghost use Rattle.rhai_values.specs.declared.base.error.EvalAltResult.TheVariants as error;
+ghost use Rattle.rhai_state.specs.Errors.{is_out_of_memory};
+ghost use Rattle.rhai_state.specs.declared.error.EvalAltResult.TheVariants as error;
 ghost use Rattle.rhai_places.specs.declared.target.Part.TheVariants as part;
-ghost use Rattle.rhai_values.specs.Scope.{entries_of, found, index_of, new_entry};
+ghost use Rattle.rhai_state.specs.Scope.{entries_of, found, index_of, new_entry};
 ghost use Rattle.rhai_machine.specs.language.State.{Answers};
 ghost use Rattle.rhai_machine.specs.language.Values.{copied, unit_value as unit};
 ghost use Rattle.rhai_machine.specs.language.Names.{looked_up, read, variable_of};
@@ -19,15 +19,15 @@ use crate::values::{copy, unit_value};
 use bitflags::Flags;
 use rhai_items::{Shared, Text};
 use rhai_places::target::{Part, Target};
+use rhai_state::error::EvalAltResult;
+use rhai_state::limits::Limits;
+use rhai_state::scope::Scope;
+use rhai_state::state::GlobalRuntimeState;
 use rhai_tree::expr::Ident;
 use rhai_tree::flags::ASTFlags;
 use rhai_tree::position::Position;
-use rhai_values::base::error::EvalAltResult;
-use rhai_values::base::scope::Scope;
 use rhai_values::base::value::{AccessMode, Dynamic, Host, Union};
 use rhai_values::cells::CellStore;
-use rhai_values::limits::Limits;
-use rhai_values::state::GlobalRuntimeState;
 use std::alloc::Global;
 
 /// Reads a variable by its name: a copy, unless there is none or its cell is held.

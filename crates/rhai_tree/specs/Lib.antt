@@ -1,12 +1,4 @@
-pub mod Context
-pub mod Declares
-pub mod Faults
-pub mod Forms
-pub mod Frame
 pub mod Layers
-pub mod Names
 pub mod Position
 pub mod Positions
-pub mod Refusals
 pub mod Tokens
-pub mod WellFormed

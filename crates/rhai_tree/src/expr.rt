@@ -2,7 +2,6 @@
 
 ghost use Rattle.std.specs.Prelude.{◌≡◌};
 ghost use Rattle.rhai_tree.specs.Positions.{position_of, start_of, stmt_position_of};
-ghost use Rattle.rhai_tree.specs.WellFormed.{seen_expr};
 
 use crate::flags::ASTFlags;
 use crate::literal::Literal;
@@ -108,14 +107,6 @@ impl Expr {
     pub fn start_position(&self) -> Position
         ensures { result ≡ start_of self.now }
     {
-        self.first_token()
-    }
-
-    /// Where the expression's text starts, which is also where the checker sees it start.
-    pub(crate) fn first_token(&self) -> Position
-        ensures start { result ≡ start_of self.now }
-        ensures seen { result ≡ (seen_expr self.now).start }
-    {
         match self {
             Expr::Variable { namespace, pos, .. } => {
                 if namespace.path.is_empty() {
@@ -125,14 +116,14 @@ impl Expr {
                 }
             }
             Expr::FnCall(call, pos) => match (call.op_token, call.args.as_slice()) {
-                (Some(_), [left, _]) => left.first_token(),
+                (Some(_), [left, _]) => left.start_position(),
                 _ => *pos,
             },
-            Expr::Dot(lhs, _, _, _) | Expr::Index(lhs, _, _, _) => lhs.get().first_token(),
+            Expr::Dot(lhs, _, _, _) | Expr::Index(lhs, _, _, _) => lhs.get().start_position(),
             Expr::And(parts, pos) | Expr::Or(parts, pos) | Expr::Coalesce(parts, pos) => {
                 match parts.as_slice() {
                     [] => *pos,
-                    [first, ..] => first.first_token(),
+                    [first, ..] => first.start_position(),
                 }
             }
             _ => self.position(),

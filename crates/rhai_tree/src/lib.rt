@@ -1,9 +1,6 @@
-//! The tree of a script: positions, operators, literals, expressions and statements, and the
-//! checker that passes exactly the well-formed ones.
+//! The tree of a script: positions, operators, literals, expressions and statements.
 #![tactic(auto)]
 
-pub mod check;
-pub mod checked;
 pub mod expr;
 pub mod flags;
 pub mod function;

@@ -2,4 +2,3 @@ pub mod EachLemmas
 pub mod SizeLemmas
 pub mod CopyLemmas
 pub mod ModeLemmas
-pub mod Newest

@@ -1,7 +1,9 @@
 -- The store of cells as a plain list, by their numbers: the value of each, None where it is held.
-use Rattle.std.specs.Prelude.{◌≡◌, ℕ, List, Option, Some, None, slice_get, slice_set}
+use Rattle.std.specs.Prelude.{◌≡◌, ⊤, ℕ, List, Option, Some, None, slice_get, slice_set}
 use Rattle.std.specs.Option.{option_flatten}
 use Rattle.rhai_values.specs.declared.base.value.Dynamic.{Dynamic}
+use Rattle.rhai_values.specs.declared.base.value.Union.{Union}
+use Rattle.rhai_values.specs.declared.base.value.Union.TheVariants as value
 use Rattle.rhai_values.specs.declared.cells.CellStore.{CellStore}
 
 module _ {H : Type 0} where
@@ -22,3 +24,8 @@ module _ {H : Type 0} where
 
   abbrev pub with_value : List (Option (Dynamic H)) → ℕ → Dynamic H → List (Option (Dynamic H))
   with_value cells number value = slice_set cells number (Some value)
+
+  -- a value that is no bare handle of a cell
+  abbrev pub IsNoHandle : Union H → Type 0
+  IsNoHandle (value.Cell id) = ⊥
+  IsNoHandle _ = ⊤

@@ -1,12 +1,10 @@
-//! Values, errors and scopes.
+//! Values.
 
 mod copy;
 mod debug;
-pub mod error;
 pub mod hashable;
 pub mod literal;
 mod modes;
-pub mod scope;
 pub mod size;
 mod type_name;
 pub mod value;

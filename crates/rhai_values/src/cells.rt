@@ -3,7 +3,7 @@
 ghost use Rattle.std.specs.Prelude.{◌≡◌, ◌<◌, [], ◌∷◌, ◌++◌, Some, length, IfOk, IfErr, OnOk, OnErr};
 ghost use Rattle.std.specs.Option.{option_copied};
 ghost use Rattle.rhai_values.specs.Cells.{cells_of, value_of_cell, with_held, with_value, IsHeld};
-ghost use Rattle.rhai_values.specs.Native.{IsNoHandle};
+ghost use Rattle.rhai_values.specs.Cells.{IsNoHandle};
 
 use crate::base::value::{CellId, Dynamic};
 use rhai_items::Items;

@@ -2,7 +2,7 @@
 
 use crate::host::Stone;
 use crate::reader::Fault;
-use rhai_values::base::error::EvalAltResult;
+use rhai_state::error::EvalAltResult;
 use rhai_values::base::value::{AccessMode, Dynamic};
 use std::alloc::{AllocError, Global};
 use std::fmt::Write;

@@ -3,7 +3,7 @@
 use crate::operators::operator;
 use crate::reader::{Fault, Reader};
 use crate::shown::text;
-use rhai_tree::check::CheckFault;
+use rhai_check::check::CheckFault;
 use rhai_tree::position::Position;
 
 /// What `fault NAME PLACE` or `operator OP` is written as.

@@ -4,12 +4,12 @@ use crate::host::{Stone, cells};
 use crate::reader::{Fault, Reader};
 use crate::shown::{place_or_none, shown_value, text};
 use rhai_items::{Boxed, Shared};
+use rhai_state::caches::Caches;
+use rhai_state::error::{EvalAltResult, FunctionCallError};
+use rhai_state::scope::Scope;
+use rhai_state::state::GlobalRuntimeState;
 use rhai_tree::position::Position;
-use rhai_values::base::error::{EvalAltResult, FunctionCallError};
-use rhai_values::base::scope::Scope;
 use rhai_values::base::value::{AccessMode, Dynamic, Module, Union};
-use rhai_values::caches::Caches;
-use rhai_values::state::GlobalRuntimeState;
 use std::mem::size_of;
 
 /// What a call with a value, an error, names or a type answers, by its first word.

@@ -2,7 +2,7 @@
 //! `eval/expr.rs`; the contracts speak of the machine's runs.
 
 ghost use Rattle.std.specs.Prelude.{◌≡◌, ◌≤◌, IsTrue, OnOk, true, map};
-ghost use Rattle.rhai_tree.specs.Frame.{tests_of, all_resolve_exprs};
+ghost use Rattle.rhai_check.specs.Frame.{tests_of, all_resolve_exprs};
 ghost use Rattle.rhai_tree.specs.declared.expr.Expr.TheOpen as layer;
 ghost use Rattle.rhai_machine.specs.language.Frames.{OpenExpr};
 ghost use Rattle.rhai_machine.specs.language.Runs.{Runs};
@@ -10,11 +10,11 @@ ghost use Rattle.rhai_eval.specs.States.{names, state_in, under};
 
 use crate::context::Context;
 use crate::engine::Engine;
+use rhai_state::error::EvalAltResult;
+use rhai_state::table::NativeTable;
 use rhai_steps::values::{bool_value, is_unit, truth_value, unit_value};
 use rhai_tree::expr::Expr;
-use rhai_values::base::error::EvalAltResult;
 use rhai_values::base::value::{Dynamic, Host};
-use rhai_values::table::NativeTable;
 use std::alloc::Global;
 
 impl<H: Host> Engine<H> {

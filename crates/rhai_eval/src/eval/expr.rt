@@ -1,12 +1,12 @@
 //! Expressions. Ports upstream's `eval/expr.rs`; the contracts speak of the machine's runs.
 
 ghost use Rattle.std.specs.Prelude.{◌≡◌, ◌<◌, OnOk, IfOk, IfErr, IsTrue, true, false, Some, Ok, Err};
-ghost use Rattle.rhai_tree.specs.Frame.{resolves_expr};
+ghost use Rattle.rhai_check.specs.Frame.{resolves_expr};
 ghost use Rattle.rhai_tree.specs.declared.expr.Expr.{out-Expr};
 ghost use Rattle.rhai_values.specs.Cells.{cells_of};
-ghost use Rattle.rhai_values.specs.Errors.{is_out_of_memory};
-ghost use Rattle.rhai_values.specs.Native.{was};
-ghost use Rattle.rhai_values.specs.Scope.{entries_of, names_in};
+ghost use Rattle.rhai_state.specs.Errors.{is_out_of_memory};
+ghost use Rattle.rhai_state.specs.Native.{was};
+ghost use Rattle.rhai_state.specs.Scope.{entries_of, names_in};
 ghost use Rattle.rhai_places.specs.declared.target.Part.TheVariants as part;
 ghost use Rattle.rhai_machine.specs.language.Values.{is_handle, is_truth};
 ghost use Rattle.rhai_machine.specs.language.Frames.{Eval};
@@ -21,16 +21,16 @@ ghost use Rattle.rhai_eval.specs.States.{names, state_in, under};
 use crate::context::{Context, give_back, take};
 use crate::engine::Engine;
 use rhai_places::target::Target;
+use rhai_state::caches::Caches;
+use rhai_state::error::EvalAltResult;
+use rhai_state::scope::Scope;
+use rhai_state::state::GlobalRuntimeState;
+use rhai_state::table::NativeTable;
 use rhai_steps::charges::track_operation;
 use rhai_steps::values::{bool_value, int_value, unit_value};
 use rhai_steps::variables::{find_variable, read_variable};
 use rhai_tree::expr::Expr;
-use rhai_values::base::error::EvalAltResult;
-use rhai_values::base::scope::Scope;
 use rhai_values::base::value::{Dynamic, Host};
-use rhai_values::caches::Caches;
-use rhai_values::state::GlobalRuntimeState;
-use rhai_values::table::NativeTable;
 use std::alloc::Global;
 
 impl<H: Host> Engine<H> {

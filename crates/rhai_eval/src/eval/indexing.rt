@@ -2,7 +2,7 @@
 //! upstream's `eval/indexing.rs` as far as it is there.
 
 ghost use Rattle.std.specs.Prelude.{◌≡◌};
-ghost use Rattle.rhai_values.specs.Native.{IsNoHandle};
+ghost use Rattle.rhai_values.specs.Cells.{IsNoHandle};
 ghost use Rattle.rhai_index.specs.Calls.{Calls, LendsNoHandle};
 ghost use Rattle.rhai_index.specs.Indexers.{beside_change, by_itself, reading, writing};
 ghost use Rattle.rhai_index.specs.Indexes.{Indexes};
@@ -12,12 +12,12 @@ use crate::engine::Engine;
 use rhai_index::{indexers, indexing};
 use rhai_places::spot::Access;
 use rhai_places::target::Target;
+use rhai_state::caches::Caches;
+use rhai_state::error::EvalAltResult;
+use rhai_state::state::GlobalRuntimeState;
+use rhai_state::table::NativeTable;
 use rhai_tree::position::Position;
-use rhai_values::base::error::EvalAltResult;
 use rhai_values::base::value::{Dynamic, Host};
-use rhai_values::caches::Caches;
-use rhai_values::state::GlobalRuntimeState;
-use rhai_values::table::NativeTable;
 use std::alloc::Global;
 
 impl<H: Host> Engine<H> {

@@ -3,8 +3,8 @@
 
 ghost use Rattle.std.specs.Prelude.{◌≡◌, ◌<◌, ◌≤◌, ◌∷◌, OnOk, IsTrue, true, false, length, Option, Some};
 ghost use Rattle.std.specs.Option.{option_map};
-ghost use Rattle.rhai_tree.specs.Forms.{is_throw};
-ghost use Rattle.rhai_tree.specs.Frame.{tests_of, option_resolves, resolves_expr, resolves_block};
+ghost use Rattle.rhai_check.specs.Forms.{is_throw};
+ghost use Rattle.rhai_check.specs.Frame.{tests_of, option_resolves, resolves_expr, resolves_block};
 ghost use Rattle.rhai_tree.specs.declared.expr.Expr.{out-Expr};
 ghost use Rattle.rhai_tree.specs.declared.expr.Expr.TheOpen as layer;
 ghost use Rattle.rhai_machine.specs.language.Loops.{is_endless as without_end};
@@ -16,6 +16,8 @@ ghost use Rattle.rhai_eval.specs.States.{names, state_in, under};
 
 use crate::context::Context;
 use crate::engine::Engine;
+use rhai_state::error::EvalAltResult;
+use rhai_state::table::NativeTable;
 use rhai_steps::charges::track_operation;
 use rhai_steps::errors::{loop_break, returned};
 use rhai_steps::loops::{BodyEnd, body_end, breaks, do_next, is_endless, while_next};
@@ -23,9 +25,7 @@ use rhai_steps::values::{flatten, truth_value, unit_value};
 use rhai_tree::expr::{Expr, StmtBlock};
 use rhai_tree::flags::ASTFlags;
 use rhai_tree::position::Position;
-use rhai_values::base::error::EvalAltResult;
 use rhai_values::base::value::{Dynamic, Host};
-use rhai_values::table::NativeTable;
 use std::alloc::Global;
 
 impl<H: Host> Engine<H> {

@@ -1,9 +1,9 @@
 //! Whole scripts. Ports upstream's `eval_global_statements`.
 
 ghost use Rattle.std.specs.Prelude.{◌≡◌, ◌≤◌, length, true, None, IfErr, IsTrue};
-ghost use Rattle.rhai_tree.specs.Names.{Begins};
-ghost use Rattle.rhai_values.specs.Errors.{is_out_of_memory};
-ghost use Rattle.rhai_values.specs.Scope.{names_in};
+ghost use Rattle.rhai_check.specs.Names.{Begins};
+ghost use Rattle.rhai_state.specs.Errors.{is_out_of_memory};
+ghost use Rattle.rhai_state.specs.Scope.{names_in};
 ghost use Rattle.rhai_machine.specs.language.Memory.{UpToMemory};
 ghost use Rattle.rhai_machine.specs.language.Script.{EndsAsMachine, AgreesWithHigherLimits, start_of_script};
 ghost use Rattle.rhai_machine.specs.language.Script.{end_of_script};
@@ -14,14 +14,14 @@ ghost use Rattle.rhai_eval.specs.States.{under};
 
 use crate::context::{give_back, take};
 use crate::engine::Engine;
+use rhai_check::checked::CheckedTree;
+use rhai_state::caches::Caches;
+use rhai_state::error::EvalAltResult;
+use rhai_state::scope::Scope;
+use rhai_state::state::GlobalRuntimeState;
+use rhai_state::table::NativeTable;
 use rhai_steps::outcome::top;
-use rhai_tree::checked::CheckedTree;
-use rhai_values::base::error::EvalAltResult;
-use rhai_values::base::scope::Scope;
 use rhai_values::base::value::{Dynamic, Host};
-use rhai_values::caches::Caches;
-use rhai_values::state::GlobalRuntimeState;
-use rhai_values::table::NativeTable;
 use std::alloc::Global;
 
 impl<H: Host> Engine<H> {

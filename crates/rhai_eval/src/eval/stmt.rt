@@ -2,13 +2,13 @@
 
 ghost use Rattle.std.specs.Prelude.{◌≡◌, ◌<◌, ◌≤◌, ◌++◌, ◌∷◌, [], ◌||◌, OnOk, IfErr, IsTrue, true, None};
 ghost use Rattle.std.specs.Prelude.{length, map};
-ghost use Rattle.rhai_tree.specs.Frame.{tests_of, target_resolves, resolves_expr, resolves_stmt};
-ghost use Rattle.rhai_tree.specs.Frame.{resolves_block, all_resolve};
-ghost use Rattle.rhai_tree.specs.Names.{Begins};
+ghost use Rattle.rhai_check.specs.Frame.{tests_of, target_resolves, resolves_expr, resolves_stmt};
+ghost use Rattle.rhai_check.specs.Frame.{resolves_block, all_resolve};
+ghost use Rattle.rhai_check.specs.Names.{Begins};
 ghost use Rattle.rhai_tree.specs.declared.expr.Expr.TheOpen as layer;
-ghost use Rattle.rhai_values.specs.Errors.{is_out_of_memory};
-ghost use Rattle.rhai_values.specs.Native.{was};
-ghost use Rattle.rhai_values.specs.Scope.{names_in};
+ghost use Rattle.rhai_state.specs.Errors.{is_out_of_memory};
+ghost use Rattle.rhai_state.specs.Native.{was};
+ghost use Rattle.rhai_state.specs.Scope.{names_in};
 ghost use Rattle.rhai_machine.specs.language.Values.{unit_value as unit};
 ghost use Rattle.rhai_machine.specs.language.Frames.{Exec, OpenStmt, Enter, Run};
 ghost use Rattle.rhai_machine.specs.language.Runs.{Runs};
@@ -21,6 +21,11 @@ ghost use Rattle.rhai_eval.specs.States.{names, state_in, under};
 use crate::context::{Context, give_back, take};
 use crate::engine::Engine;
 use rhai_assign::assign_variable;
+use rhai_state::caches::Caches;
+use rhai_state::error::EvalAltResult;
+use rhai_state::scope::Scope;
+use rhai_state::state::GlobalRuntimeState;
+use rhai_state::table::NativeTable;
 use rhai_steps::charges::track_operation;
 use rhai_steps::loops::chosen;
 use rhai_steps::values::{flatten, truth_value, unit_value};
@@ -28,12 +33,7 @@ use rhai_steps::variables::{define_variable, enter_list, leave_list, may_declare
 use rhai_tree::expr::{Expr, Ident, OpAssignment, Stmt, StmtBlock};
 use rhai_tree::flags::ASTFlags;
 use rhai_tree::position::Position;
-use rhai_values::base::error::EvalAltResult;
-use rhai_values::base::scope::Scope;
 use rhai_values::base::value::{Dynamic, Host};
-use rhai_values::caches::Caches;
-use rhai_values::state::GlobalRuntimeState;
-use rhai_values::table::NativeTable;
 use std::alloc::Global;
 
 impl<H: Host> Engine<H> {

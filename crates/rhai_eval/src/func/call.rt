@@ -2,7 +2,7 @@
 
 ghost use Rattle.std.specs.Prelude.{◌≡◌, ◌<◌, ◌≤◌, ◌∷◌, ◌==◌, ◌||◌, [], IsTrue, Some, OnOk, length, true};
 ghost use Rattle.std.specs.Option.{option_copied, option_to_list};
-ghost use Rattle.rhai_tree.specs.Frame.{resolves_expr, resolves_call};
+ghost use Rattle.rhai_check.specs.Frame.{resolves_expr, resolves_call};
 ghost use Rattle.rhai_tree.specs.declared.expr.Expr.TheOpen as layer;
 ghost use Rattle.rhai_machine.specs.language.Frames.{Argument, OpenExpr};
 ghost use Rattle.rhai_machine.specs.language.Runs.{Runs};
@@ -11,14 +11,14 @@ ghost use Rattle.rhai_eval.specs.States.{names, state_in, under};
 use crate::context::Context;
 use crate::engine::Engine;
 use rhai_calls::native::{operate_one, operate_two};
+use rhai_state::error::EvalAltResult;
+use rhai_state::table::NativeTable;
 use rhai_steps::charges::literal_arg;
 use rhai_steps::values::{flatten, let_go, literal_value};
 use rhai_tree::expr::{Expr, FnCallExpr};
 use rhai_tree::position::Position;
 use rhai_tree::token::Token;
-use rhai_values::base::error::EvalAltResult;
 use rhai_values::base::value::{Dynamic, Host};
-use rhai_values::table::NativeTable;
 use std::alloc::Global;
 
 /// The operands of a call that was written as an operator: one or two.

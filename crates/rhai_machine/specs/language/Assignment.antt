@@ -12,10 +12,10 @@ use Rattle.rhai_values.specs.declared.base.value.AccessMode.TheVariants.{ReadWri
 use Rattle.rhai_values.specs.declared.base.value.Dynamic.{Dynamic}
 use Rattle.rhai_values.specs.declared.base.value.Union.{Union}
 use Rattle.rhai_values.specs.declared.base.value.Union.TheVariants as value
-use Rattle.rhai_values.specs.declared.base.error.EvalAltResult.{EvalAltResult}
-use Rattle.rhai_values.specs.declared.base.error.EvalAltResult.TheVariants as error
+use Rattle.rhai_state.specs.declared.error.EvalAltResult.{EvalAltResult}
+use Rattle.rhai_state.specs.declared.error.EvalAltResult.TheVariants as error
 use Rattle.rhai_values.specs.Modes.{with_mode}
-use Rattle.rhai_values.specs.Native.{Reply, Missing, Gives, Faults, Named, OfName, request}
+use Rattle.rhai_state.specs.Native.{Reply, Missing, Gives, Faults, Named, OfName, request}
 use Rattle.rhai_values.specs.TypeNames.{type_name_of}
 use Rattle.rhai_operators.specs.Answers.{Answer, op_assign_of}
 use Rattle.rhai_machine.specs.machine.Machine.{Move, Halt, Go, Native, AskPure}

@@ -5,11 +5,11 @@ use Rattle.rhai_tree.specs.declared.token.Token.{Token}
 use Rattle.rhai_values.specs.declared.base.value.Dynamic.{Dynamic}
 use Rattle.rhai_values.specs.declared.base.value.Union.{Union}
 use Rattle.rhai_values.specs.declared.base.value.Union.TheVariants as value
-use Rattle.rhai_values.specs.declared.base.error.EvalAltResult.{EvalAltResult}
-use Rattle.rhai_values.specs.declared.limits.Limits.{Limits}
-use Rattle.rhai_values.specs.declared.base.error.EvalAltResult.TheVariants as error
-use Rattle.rhai_values.specs.Native.{Reply, Missing, Gives, Faults, Named, OfName, request}
-use Rattle.rhai_values.specs.Errors.{position_of, at_position}
+use Rattle.rhai_state.specs.declared.error.EvalAltResult.{EvalAltResult}
+use Rattle.rhai_state.specs.declared.limits.Limits.{Limits}
+use Rattle.rhai_state.specs.declared.error.EvalAltResult.TheVariants as error
+use Rattle.rhai_state.specs.Native.{Reply, Missing, Gives, Faults, Named, OfName, request}
+use Rattle.rhai_state.specs.Errors.{position_of, at_position}
 use Rattle.rhai_values.specs.TypeNames.{type_name_of}
 use Rattle.rhai_values.specs.DataSize.{too_large}
 use Rattle.rhai_operators.specs.Answers.{unary_of, binary_of}

@@ -1,7 +1,7 @@
 -- The error of a refused charge.
 use Rattle.std.specs.Prelude.{◌≡◌}
 use Rattle.rhai_tree.specs.declared.position.Position.{Position}
-use Rattle.rhai_values.specs.declared.base.error.EvalAltResult.TheVariants as error
+use Rattle.rhai_state.specs.declared.error.EvalAltResult.TheVariants as error
 use Rattle.rhai_machine.specs.language.Frames.{Core, Fail}
 
 -- the error of a refused charge is on its way down

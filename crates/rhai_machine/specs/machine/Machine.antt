@@ -2,7 +2,7 @@
 use Rattle.std.specs.Prelude.{◌≡◌, ℕ, ◌+◌, nat_lt, Bool, true, false, List, ◌∷◌, Option, Some, None}
 use Rattle.rhai_tree.specs.declared.position.Position.{Position}
 use Rattle.rhai_values.specs.declared.base.value.Dynamic.{Dynamic}
-use Rattle.rhai_values.specs.Native.{Request, Reply, Effect, Natives, Purity}
+use Rattle.rhai_state.specs.Native.{Request, Reply, Effect, Natives, Purity}
 
 -- What a core does next. A core is all that a language works on: control, stack, scope and the rest of its state.
 pub data Move (H Core : Type 0) : Type 0 where

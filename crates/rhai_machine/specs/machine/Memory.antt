@@ -2,8 +2,8 @@
 use Rattle.std.specs.Prelude.{◌≡◌, ℕ, Bool, Option}
 use Rattle.rhai_tree.specs.declared.position.Position.{Position}
 use Rattle.rhai_values.specs.declared.base.value.Dynamic.{Dynamic}
-use Rattle.rhai_values.specs.declared.base.error.EvalAltResult.{EvalAltResult}
-use Rattle.rhai_values.specs.Native.{Request, Reply, Faults}
+use Rattle.rhai_state.specs.declared.error.EvalAltResult.{EvalAltResult}
+use Rattle.rhai_state.specs.Native.{Request, Reply, Faults}
 use Rattle.rhai_machine.specs.machine.Machine.{Native, Machine}
 use Rattle.rhai_machine.specs.machine.Unwinding.{Passes}
 use Rattle.rhai_machine.specs.machine.Point.{Point, Reaches, after}

@@ -1,7 +1,7 @@
 -- A toy language, in which each move and each way of counting can be seen at work.
 use Rattle.std.specs.Prelude.{⊤, ℕ, ◌+◌, zero, suc, true, cond, List, [], ◌∷◌, None}
 use Rattle.rhai_tree.specs.declared.position.Position.{Position}
-use Rattle.rhai_values.specs.Native.{Request, Missing, OfNumber, Numbered, request, effect}
+use Rattle.rhai_state.specs.Native.{Request, Missing, OfNumber, Numbered, request, effect}
 use Rattle.rhai_machine.specs.machine.Machine.{Move, Halt, Go, Charge, Native, AskPure, Machine, Config, Run, below}
 
 pub data Toy : Type 0 where

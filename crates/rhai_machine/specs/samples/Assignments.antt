@@ -6,11 +6,11 @@ use Rattle.rhai_tree.specs.Position.{none}
 use Rattle.rhai_values.specs.declared.base.value.AccessMode.TheVariants.{ReadOnly}
 use Rattle.rhai_values.specs.declared.base.value.Dynamic.{Dynamic}
 use Rattle.rhai_values.specs.declared.base.value.Union.TheVariants as value_of
-use Rattle.rhai_values.specs.declared.base.error.EvalAltResult.{EvalAltResult}
-use Rattle.rhai_values.specs.declared.base.error.EvalAltResult.TheVariants.{ErrorTooManyOperations, ErrorVariableNotFound}
-use Rattle.rhai_values.specs.declared.base.error.EvalAltResult.TheVariants.{ErrorAssignmentToConstant, ErrorArithmetic, ErrorDataRace}
-use Rattle.rhai_values.specs.declared.base.error.EvalAltResult.TheVariants.{ErrorDataTooLarge, ErrorFunctionNotFound}
-use Rattle.rhai_values.specs.Native.{Request, Missing, Gives, Faults, Named, request}
+use Rattle.rhai_state.specs.declared.error.EvalAltResult.{EvalAltResult}
+use Rattle.rhai_state.specs.declared.error.EvalAltResult.TheVariants.{ErrorTooManyOperations, ErrorVariableNotFound}
+use Rattle.rhai_state.specs.declared.error.EvalAltResult.TheVariants.{ErrorAssignmentToConstant, ErrorArithmetic, ErrorDataRace}
+use Rattle.rhai_state.specs.declared.error.EvalAltResult.TheVariants.{ErrorDataTooLarge, ErrorFunctionNotFound}
+use Rattle.rhai_state.specs.Native.{Request, Missing, Gives, Faults, Named, request}
 use Rattle.rhai_machine.specs.language.Setting.{Setting}
 use Rattle.rhai_machine.specs.samples.Trees.{column, int, bool, var, value, braces, block, let_, const_, assign}
 use Rattle.rhai_machine.specs.samples.Runs.{Table, Replies, Answers, EndsFrom, Returns, Fails, Ends, EndsCalling, usual, limited, integer}

@@ -3,13 +3,13 @@ use Rattle.std.specs.Prelude.{ℕ, true, List, [], ◌∷◌, Some, Ok, Err, cod
 use Rattle.rhai_tree.specs.declared.expr.Stmt.{Stmt}
 use Rattle.rhai_tree.specs.declared.token.Token.TheVariants.{Plus}
 use Rattle.rhai_tree.specs.Position.{none}
-use Rattle.rhai_values.specs.declared.base.error.EvalAltResult.TheVariants.{ErrorTooManyOperations, ErrorFunctionNotFound}
-use Rattle.rhai_values.specs.declared.base.error.EvalAltResult.TheVariants.{ErrorArithmetic, ErrorDataTooLarge}
+use Rattle.rhai_state.specs.declared.error.EvalAltResult.TheVariants.{ErrorTooManyOperations, ErrorFunctionNotFound}
+use Rattle.rhai_state.specs.declared.error.EvalAltResult.TheVariants.{ErrorArithmetic, ErrorDataTooLarge}
 use Rattle.rhai_values.specs.declared.base.value.AccessMode.TheVariants.{ReadWrite}
 use Rattle.rhai_values.specs.declared.base.value.Dynamic.{Dynamic}
 use Rattle.rhai_values.specs.declared.base.value.Union.TheVariants.{Str}
 use Rattle.rhai_machine.specs.language.Setting.{Setting}
-use Rattle.rhai_values.specs.Native.{Request, Missing, Gives, Faults, Named, request}
+use Rattle.rhai_state.specs.Native.{Request, Missing, Gives, Faults, Named, request}
 use Rattle.rhai_machine.specs.samples.Trees.{column, int, bool, op, value}
 use Rattle.rhai_machine.specs.samples.Runs.{usual_limits, Table, Replies, EndsFrom, Fails, usual, limited, integer, truth}
 

@@ -5,12 +5,12 @@ use Rattle.rhai_tree.specs.declared.token.Token.TheVariants.{Plus}
 use Rattle.rhai_values.specs.declared.base.value.AccessMode.TheVariants.{ReadWrite}
 use Rattle.rhai_values.specs.declared.base.value.Dynamic.{Dynamic}
 use Rattle.rhai_values.specs.declared.base.value.Union.TheVariants.{Cell}
-use Rattle.rhai_values.specs.declared.base.scope.ScopeEntry.{ScopeEntry}
-use Rattle.rhai_values.specs.declared.base.error.EvalAltResult.{EvalAltResult}
-use Rattle.rhai_values.specs.declared.base.error.EvalAltResult.TheVariants.{ErrorDataRace}
+use Rattle.rhai_state.specs.declared.scope.ScopeEntry.{ScopeEntry}
+use Rattle.rhai_state.specs.declared.error.EvalAltResult.{EvalAltResult}
+use Rattle.rhai_state.specs.declared.error.EvalAltResult.TheVariants.{ErrorDataRace}
 use Rattle.rhai_machine.specs.machine.Machine.{Run, below}
-use Rattle.rhai_values.specs.Limits.{limit_of}
-use Rattle.rhai_values.specs.Limits.{limit_of}
+use Rattle.rhai_state.specs.Limits.{limit_of}
+use Rattle.rhai_state.specs.Limits.{limit_of}
 use Rattle.rhai_machine.specs.language.State.{Local}
 use Rattle.rhai_machine.specs.language.Frames.{Enter, ended}
 use Rattle.rhai_machine.specs.language.Language.{machine}

@@ -4,7 +4,7 @@ use Rattle.rhai_tree.specs.declared.expr.Expr.{Expr}
 use Rattle.rhai_tree.specs.declared.expr.Stmt.{Stmt}
 use Rattle.rhai_tree.specs.declared.expr.StmtBlock.{StmtBlock}
 use Rattle.rhai_tree.specs.declared.token.Token.TheVariants.{Plus, Bang, LessThan, GreaterThanEqualsTo}
-use Rattle.rhai_values.specs.declared.base.error.EvalAltResult.TheVariants.{ErrorTooManyOperations}
+use Rattle.rhai_state.specs.declared.error.EvalAltResult.TheVariants.{ErrorTooManyOperations}
 use Rattle.rhai_machine.specs.samples.Trees.{column, int, bool, var, op, value, braces, inner, let_, if_, no_else, assign, while_, loop_}
 use Rattle.rhai_machine.specs.samples.Trees.{do_while, do_until, break_, continue_, return_}
 use Rattle.rhai_machine.specs.samples.Runs.{Table, Returns, Fails, Ends, usual, limited, integer, unit, entry, nothing_but}

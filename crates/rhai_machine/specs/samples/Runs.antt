@@ -4,12 +4,12 @@ use Rattle.rhai_tree.specs.declared.expr.Stmt.{Stmt}
 use Rattle.rhai_values.specs.declared.base.value.AccessMode.TheVariants.{ReadWrite}
 use Rattle.rhai_values.specs.declared.base.value.Dynamic.{Dynamic}
 use Rattle.rhai_values.specs.declared.base.value.Union.TheVariants as value
-use Rattle.rhai_values.specs.declared.base.scope.ScopeEntry.{ScopeEntry}
-use Rattle.rhai_values.specs.declared.base.error.EvalAltResult.{EvalAltResult}
-use Rattle.rhai_values.specs.Native.{Request, Reply, Natives, effect}
+use Rattle.rhai_state.specs.declared.scope.ScopeEntry.{ScopeEntry}
+use Rattle.rhai_state.specs.declared.error.EvalAltResult.{EvalAltResult}
+use Rattle.rhai_state.specs.Native.{Request, Reply, Natives, effect}
 use Rattle.rhai_machine.specs.machine.Machine.{Config, Run, below}
-use Rattle.rhai_values.specs.declared.limits.Limits.{Limits}
-use Rattle.rhai_values.specs.Limits.{limit_of}
+use Rattle.rhai_state.specs.declared.limits.Limits.{Limits}
+use Rattle.rhai_state.specs.Limits.{limit_of}
 use Rattle.rhai_machine.specs.language.Setting.{Setting, Rules, over}
 use Rattle.rhai_machine.specs.language.State.{Local}
 use Rattle.rhai_machine.specs.language.Frames.{Control, Core, core, ended, Enter, Top}

@@ -1,7 +1,7 @@
 use Rattle.std.proofs.Common.{sym, ap, ◌∙◌, ◌+◌, arith}
 use Rattle.rhai_values.specs.declared.base.value.Dynamic.{Dynamic}
-use Rattle.rhai_values.specs.declared.state.GlobalRuntimeState.{GlobalRuntimeState}
-use Rattle.rhai_values.specs.Native.{reply_of}
+use Rattle.rhai_state.specs.declared.state.GlobalRuntimeState.{GlobalRuntimeState}
+use Rattle.rhai_state.specs.Native.{reply_of}
 use Rattle.rhai_machine.specs.language.Setting.{Rules, rules_of}
 use Rattle.rhai_machine.specs.language.Values.{is_handle}
 use Rattle.rhai_steps.proofs.Pieces.{passed}

@@ -1,7 +1,7 @@
 use Rattle.std.proofs.Common.{◌∙◌}
 use Rattle.rhai_values.specs.Cells.{cells_of}
-use Rattle.rhai_values.specs.Scope.{entries_of}
-use Rattle.rhai_values.specs.Native.{reply_of}
+use Rattle.rhai_state.specs.Scope.{entries_of}
+use Rattle.rhai_state.specs.Native.{reply_of}
 use Rattle.rhai_machine.specs.language.Setting.{Rules, rules_of}
 use Rattle.rhai_machine.specs.language.State.{State}
 use Rattle.rhai_machine.specs.language.Frames.{AsValue, AskUpdate}

@@ -1,5 +1,5 @@
 use Rattle.std.proofs.Common.{sym, ◌∙◌}
-use Rattle.rhai_values.specs.Scope.{name_of}
+use Rattle.rhai_state.specs.Scope.{name_of}
 use Rattle.rhai_steps.proofs.Within.{newest_within}
 use Rattle.rhai_steps.proofs.variables.find_variable.Goals as goal
 

@@ -1,6 +1,6 @@
 use Rattle.std.specs.Prelude.{◌≡◌, ◌≤◌, ◌+◌, ◌*◌, ◌-◌, ℕ, List, drop, map}
-use Rattle.rhai_tree.specs.Frame.{resolves_stmt, all_resolve}
-use Rattle.rhai_values.specs.Limits.{limit_of}
+use Rattle.rhai_check.specs.Frame.{resolves_stmt, all_resolve}
+use Rattle.rhai_state.specs.Limits.{limit_of}
 use Rattle.rhai_machine.specs.language.Values.{unit_value}
 use Rattle.rhai_machine.specs.language.Frames.{Frame, Run, WhileTurn, DoTurn}
 use Rattle.rhai_machine.specs.language.Runs.{with_core, Goes, Steps}

@@ -1,4 +1,4 @@
-use Rattle.rhai_values.specs.Native.{was}
+use Rattle.rhai_state.specs.Native.{was}
 use Rattle.rhai_machine.specs.language.Frames.{ended, Exec}
 use Rattle.rhai_laws.proofs.KeptLaws.{kept, names_begin, variables_stay}
 use Rattle.rhai_eval.specs.States.{under}

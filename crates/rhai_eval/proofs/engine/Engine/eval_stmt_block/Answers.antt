@@ -1,4 +1,4 @@
-use Rattle.rhai_values.specs.Native.{was}
+use Rattle.rhai_state.specs.Native.{was}
 use Rattle.rhai_machine.specs.language.Frames.{ended, Enter}
 use Rattle.rhai_laws.specs.Kept.{AddsNone}
 use Rattle.rhai_laws.proofs.KeptLaws.{kept, names_begin, names_stay, variables_stay}

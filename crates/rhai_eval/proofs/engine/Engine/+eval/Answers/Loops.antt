@@ -1,6 +1,6 @@
 use Rattle.std.proofs.Common.{true, ◌≡◌, ◌≤◌, ◌<◌, Ok, ◌∷◌, [], refl, sym, ap, ◌∙◌, arith}
 use Rattle.std.proofs.lemmas.Bool.{true≢false}
-use Rattle.rhai_values.specs.Limits.{limit_of}
+use Rattle.rhai_state.specs.Limits.{limit_of}
 use Rattle.rhai_machine.specs.machine.Point.{after}
 use Rattle.rhai_machine.specs.machine.Memory.{here, next, ◌⨾◌}
 use Rattle.rhai_machine.specs.language.Frames.{ended, Enter, WhileCondition, WhileBody, DoCondition, DoBody}

@@ -3,7 +3,7 @@ use Rattle.rhai_tree.specs.declared.expr.Expr.TheOpen as layer
 use Rattle.rhai_tree.specs.declared.expr.Expr.TheVariants as exprs
 use Rattle.rhai_tree.specs.declared.expr.Stmt.TheVariants as stmts
 use Rattle.rhai_tree.specs.declared.expr.Expr.TheViews.{the_lemmas}
-use Rattle.rhai_tree.specs.Frame.{resolves_stmt}
+use Rattle.rhai_check.specs.Frame.{resolves_stmt}
 use Rattle.rhai_machine.specs.machine.Point.{after}
 use Rattle.rhai_machine.specs.machine.Memory.{here, next, ◌⨾◌}
 use Rattle.rhai_machine.specs.language.Frames.{StatementValue, DefineValue, IfCondition, RestOfList, RestoreList, AssignValue}

@@ -1,0 +1,81 @@
+-- Where the newest of a name stands, as names are added at the end or put below.
+use Rattle.std.proofs.Common.{◌≡◌, ◌<◌, ◌≤◌, arith, ℕ, zero, suc, ◌+◌, Bool, true, false, IsTrue, List, [], ◌∷◌, ◌++◌, length, take}
+use Rattle.std.proofs.Common.{get_or, refl, sym, ap, ◌∙◌, add-one, length-append}
+use Rattle.std.specs.Str.{bytes_eq}
+use Rattle.std.proofs.lemmas.Bool.{eqb-true, eq-eqb}
+use Rattle.std.proofs.Math.Seq.{take-suc}
+use Rattle.std.specs.Prelude.{Option, Some, None, ◌&&◌}
+use Rattle.std.specs.Int.NonZero.{non_zero_usize_get}
+use Rattle.std.specs.declared.num.NonZeroUsize.{NonZeroUsize}
+use Rattle.rhai_check.specs.Forms.{is_unqualified}
+use Rattle.rhai_check.specs.Names.{Name, further, offset_of, stands, is_good}
+
+-- the offset after one more name
+abbrev pub moved : ℕ → Bool → ℕ
+moved offset true = 1
+moved zero false = zero
+moved (suc offset) false = suc (suc offset)
+
+moved_on : (o : ℕ) (newer here : Bool) (count : ℕ) → further (moved o newer) here (suc (suc count)) ≡ moved (further o here (suc count))
+    newer
+moved_on o true here count = refl
+moved_on (suc o) false here count = refl
+moved_on zero false true count = refl
+moved_on zero false false count = refl
+
+length-push : (ns : List Name) (n : Name) → length (ns ++ n ∷ []) ≡ suc (length ns)
+length-push ns n = omega (arith, length-append ns (n ∷ []))
+
+pub offset-push : (name n : Name) (ns : List Name) → offset_of name (ns ++ n ∷ []) ≡ moved (offset_of name ns) (bytes_eq n name)
+offset-push name n [] = elim (bytes_eq n name) as (λ b. further zero b 1 ≡ moved zero b) [ true ↦ refl | false ↦ refl ]
+offset-push name n (m ∷ ns) =
+    ap (λ o. further o (bytes_eq m name) (suc (length (ns ++ n ∷ [])))) (offset-push name n ns)
+    ∙ ap (λ k. further (moved (offset_of name ns) (bytes_eq n name)) (bytes_eq m name) (suc k)) (length-push ns n)
+    ∙ moved_on (offset_of name ns) (bytes_eq n name) (bytes_eq m name) (length ns)
+
+-- the offset after the next name of a list
+pub offset-next : (name : Name) (names : List Name) (i : ℕ) (n : Name) → i < length names → n ≡ get_or names i n
+    → offset_of name (take (i + 1) names) ≡ moved (offset_of name (take i names)) (bytes_eq n name)
+offset-next name names i n lt is =
+    ap (λ k. offset_of name (take k names)) (add-one i)
+    ∙ ap (offset_of name) (take-suc names i n lt ∙ ap (λ m. take i names ++ m ∷ []) (sym is))
+    ∙ offset-push name n (take i names)
+
+pub moved_up : (o : ℕ) → 0 < o → moved o false ≡ o + 1
+moved_up zero positive = absurd (omega arith)
+moved_up (suc o) positive = omega arith
+
+pub moved_none : (o : ℕ) → o ≤ 0 → moved o false ≡ o
+moved_none zero none = refl
+moved_none (suc o) none = absurd (omega arith)
+
+-- what stands above some names stands above more
+kept : (o k at : ℕ) (test : Bool) → o ≡ suc k → further o test at ≡ suc k
+kept (suc o) k at test e = e
+kept zero k at test e = cc
+
+above : (base : List Name) (name : Name) (names : List Name) (k : ℕ) → offset_of name names ≡ suc k → offset_of name (base ++ names) ≡ suc k
+above [] name names k e = e
+above (n ∷ base) name names k e = kept _ k _ (bytes_eq n name) (above base name names k e)
+
+pub stands_above : (base : List Name) (name : Name) (k : ℕ) (names : List Name) → IsTrue (stands name k names) →
+    IsTrue (stands name k (base ++ names))
+stands_above base name zero names e = cc
+stands_above base name (suc k) names e = eq-eqb _ _ (above base name names k (eqb-true _ _ e))
+
+good_above : (base : List Name) (offset : Option NonZeroUsize) (name : Name) (names : List Name) → is_good offset name names ≡ true →
+    is_good offset name (base ++ names) ≡ true
+good_above base None name names e = refl
+good_above base (Some offset) name names e = stands_above base name (non_zero_usize_get offset) names e
+
+both : (a b : Bool) → a ≡ true → b ≡ true → (a && b) ≡ true
+both a b p q = rw (p, q)
+
+unqualified : (path : List Name) → length path ≤ 0 → is_unqualified path ≡ true
+unqualified [] none = refl
+unqualified (root ∷ path) none = absurd (omega arith)
+
+-- a good offset is good above more names
+pub variable_above : (base : List Name) (path : List Name) (offset : Option NonZeroUsize) (name : Name) (names : List Name)
+    → length path ≤ 0 → is_good offset name names ≡ true → (is_unqualified path && is_good offset name (base ++ names)) ≡ true
+variable_above base path offset name names none good = both _ _ (unqualified path none) (good_above base offset name names good)

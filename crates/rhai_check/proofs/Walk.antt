@@ -1,0 +1,96 @@
+-- What the folds give at a form, from one level of it.
+use Rattle.std.proofs.Common.{◌≡◌, ap, sym, ◌∙◌, subst, List, Bool}
+use Rattle.rhai_check.specs.declared.check.CheckFault.{CheckFault}
+use Rattle.rhai_tree.specs.declared.expr.ConditionalExpr.{ConditionalExpr}
+use Rattle.rhai_tree.specs.declared.expr.Expr.{Expr, out-Expr}
+use Rattle.rhai_tree.specs.declared.expr.Expr.TheOpen as layer
+use Rattle.rhai_tree.specs.declared.expr.Expr.TheFolds.{map-Expr, map-Stmt, fold_out-Expr, fold_out-Stmt}
+use Rattle.rhai_tree.specs.declared.expr.FnCallExpr.{FnCallExpr}
+use Rattle.rhai_tree.specs.declared.expr.MapEntry.{MapEntry}
+use Rattle.rhai_tree.specs.declared.expr.StmtBlock.{StmtBlock}
+use Rattle.rhai_tree.specs.declared.expr.Stmt.{Stmt, out-Stmt}
+use Rattle.rhai_check.specs.Context.{Context}
+use Rattle.rhai_check.specs.Declares as declares
+use Rattle.rhai_check.specs.Declares.{any_of, declares_expr, declares_call, declares_block, declares_stmt}
+use Rattle.rhai_check.specs.Frame as frame
+use Rattle.rhai_check.specs.Frame.{Test, Tests, Verdict, tests_of, resolves_call, resolves_block, resolves_stmt}
+use Rattle.rhai_tree.specs.Layers.{ExprLayer, StmtLayer}
+use Rattle.rhai_check.specs.Refusals.{Refuses}
+use Rattle.rhai_check.specs.WellFormed as seen
+use Rattle.rhai_check.specs.WellFormed.{Seen, SeenCall, SeenStmt, seen_expr, seen_call, seen_block, seen_stmt}
+
+-- the faults of the parts of one level
+abbrev pub expr_faults : ExprLayer → layer.Expr-F Seen SeenStmt (Unit {0}) SeenCall (Unit {0}) Seen
+expr_faults = map-Expr Expr Stmt ConditionalExpr FnCallExpr MapEntry StmtBlock Seen SeenStmt (Unit {0}) SeenCall (Unit {0}) Seen
+    seen_expr seen_stmt (λ conditional. tt) seen_call (λ entry. tt) seen_block
+
+abbrev pub stmt_faults : StmtLayer → layer.Stmt-F Seen SeenStmt (Unit {0}) SeenCall (Unit {0}) Seen
+stmt_faults = map-Stmt Expr Stmt ConditionalExpr FnCallExpr MapEntry StmtBlock Seen SeenStmt (Unit {0}) SeenCall (Unit {0}) Seen
+    seen_expr seen_stmt (λ conditional. tt) seen_call (λ entry. tt) seen_block
+
+-- whether the parts of one level declare
+abbrev pub expr_declares : ExprLayer → layer.Expr-F Bool Bool (Unit {0}) Bool (Unit {0}) Bool
+expr_declares = map-Expr Expr Stmt ConditionalExpr FnCallExpr MapEntry StmtBlock Bool Bool (Unit {0}) Bool (Unit {0}) Bool
+    declares_expr declares_stmt (λ conditional. tt) declares_call (λ entry. tt) declares_block
+
+abbrev pub stmt_declares : StmtLayer → layer.Stmt-F Bool Bool (Unit {0}) Bool (Unit {0}) Bool
+stmt_declares = map-Stmt Expr Stmt ConditionalExpr FnCallExpr MapEntry StmtBlock Bool Bool (Unit {0}) Bool (Unit {0}) Bool
+    declares_expr declares_stmt (λ conditional. tt) declares_call (λ entry. tt) declares_block
+
+-- whether the parts of one level may run
+abbrev pub expr_tests : ExprLayer → layer.Expr-F Tests Verdict (Unit {0}) Test (Unit {0}) Test
+expr_tests = map-Expr Expr Stmt ConditionalExpr FnCallExpr MapEntry StmtBlock Tests Verdict (Unit {0}) Test (Unit {0}) Test
+    tests_of resolves_stmt (λ conditional. tt) resolves_call (λ entry. tt) resolves_block
+
+abbrev pub stmt_tests : StmtLayer → layer.Stmt-F Tests Verdict (Unit {0}) Test (Unit {0}) Test
+stmt_tests = map-Stmt Expr Stmt ConditionalExpr FnCallExpr MapEntry StmtBlock Tests Verdict (Unit {0}) Test (Unit {0}) Test
+    tests_of resolves_stmt (λ conditional. tt) resolves_call (λ entry. tt) resolves_block
+
+seen-expr : (e : Expr) (l : ExprLayer) → out-Expr e ≡ l → seen_expr e ≡ seen.expr_step (expr_faults l)
+seen-expr e l is = fold_out-Expr Seen SeenStmt (Unit {0}) SeenCall (Unit {0}) Seen
+    seen.expr_step seen.stmt_step (λ conditional. tt) seen.call_step (λ entry. tt) seen.block_step e
+    ∙ ap (λ (k : ExprLayer). seen.expr_step (expr_faults k)) is
+
+seen-stmt : (s : Stmt) (l : StmtLayer) → out-Stmt s ≡ l → seen_stmt s ≡ seen.stmt_step (stmt_faults l)
+seen-stmt s l is = fold_out-Stmt Seen SeenStmt (Unit {0}) SeenCall (Unit {0}) Seen
+    seen.expr_step seen.stmt_step (λ conditional. tt) seen.call_step (λ entry. tt) seen.block_step s
+    ∙ ap (λ (k : StmtLayer). seen.stmt_step (stmt_faults k)) is
+
+declares-expr : (e : Expr) (l : ExprLayer) → out-Expr e ≡ l → declares_expr e ≡ declares.expr_step (expr_declares l)
+declares-expr e l is = fold_out-Expr Bool Bool (Unit {0}) Bool (Unit {0}) Bool
+    declares.expr_step declares.stmt_step (λ conditional. tt) (λ call. any_of call.args) (λ entry. tt) (λ block. any_of block.statements) e
+    ∙ ap (λ (k : ExprLayer). declares.expr_step (expr_declares k)) is
+
+declares-stmt : (s : Stmt) (l : StmtLayer) → out-Stmt s ≡ l → declares_stmt s ≡ declares.stmt_step (stmt_declares l)
+declares-stmt s l is = fold_out-Stmt Bool Bool (Unit {0}) Bool (Unit {0}) Bool
+    declares.expr_step declares.stmt_step (λ conditional. tt) (λ call. any_of call.args) (λ entry. tt) (λ block. any_of block.statements) s
+    ∙ ap (λ (k : StmtLayer). declares.stmt_step (stmt_declares k)) is
+
+pub resolves-expr : (e : Expr) (l : ExprLayer) → out-Expr e ≡ l → tests_of e ≡ frame.expr_step (expr_tests l)
+resolves-expr e l is = fold_out-Expr Tests Verdict (Unit {0}) Test (Unit {0}) Test
+    frame.expr_step frame.stmt_step (λ conditional. tt) frame.call_step (λ entry. tt) frame.block_step e
+    ∙ ap (λ (k : ExprLayer). frame.expr_step (expr_tests k)) is
+
+pub resolves-stmt : (s : Stmt) (l : StmtLayer) → out-Stmt s ≡ l → resolves_stmt s ≡ frame.stmt_step (stmt_tests l)
+resolves-stmt s l is = fold_out-Stmt Tests Verdict (Unit {0}) Test (Unit {0}) Test
+    frame.expr_step frame.stmt_step (λ conditional. tt) frame.call_step (λ entry. tt) frame.block_step s
+    ∙ ap (λ (k : StmtLayer). frame.stmt_step (stmt_tests k)) is
+
+-- what refuses one level refuses the form
+pub refuses_expr_at : (e : Expr) (l : ExprLayer) (c : Context) (fault : CheckFault) → out-Expr e ≡ l
+    → Refuses ((seen.expr_step (expr_faults l)).value c) (declares.expr_step (expr_declares l)) fault
+    → Refuses ((seen_expr e).value c) (declares_expr e) fault
+refuses_expr_at e l c fault is h =
+    let faults : (seen_expr e).value c ≡ (seen.expr_step (expr_faults l)).value c = ap (λ (s : Seen). s.value c) (seen-expr e l is) in
+    let declaring = declares-expr e l is in
+    subst (λ (fs : List CheckFault). Refuses fs (declares_expr e) fault) (sym faults)
+    (subst (λ (d : Bool). Refuses ((seen.expr_step (expr_faults l)).value c) d fault) (sym declaring) h)
+
+pub refuses_stmt_at : (s : Stmt) (l : StmtLayer) (c : Context) (fault : CheckFault) → out-Stmt s ≡ l
+    → Refuses (seen.stmt_step (stmt_faults l) c).0 (declares.stmt_step (stmt_declares l)) fault
+    → Refuses (seen_stmt s c).0 (declares_stmt s) fault
+refuses_stmt_at s l c fault is h =
+    let faults : (seen_stmt s c).0 ≡ (seen.stmt_step (stmt_faults l) c).0 = ap (λ (f : SeenStmt). (f c).0) (seen-stmt s l is) in
+    let declaring = declares-stmt s l is in
+    subst (λ (fs : List CheckFault). Refuses fs (declares_stmt s) fault) (sym faults)
+    (subst (λ (d : Bool). Refuses (seen.stmt_step (stmt_faults l) c).0 d fault) (sym declaring) h)

@@ -1,0 +1,27 @@
+use Rattle.std.specs.Prelude.{◌≡◌, ◌++◌, map, drop, List, IsTrue}
+use Rattle.rhai_check.specs.Context.{around}
+use Rattle.rhai_check.specs.Declares.{any_of, declares_expr, declares_stmt}
+use Rattle.rhai_check.specs.Frame.{tests_of, resolves_stmt, all_resolve_exprs, all_resolve}
+use Rattle.rhai_check.specs.Names.{Name, Begins}
+use Rattle.rhai_check.specs.WellFormed.{seen_expr, seen_stmt, faults_in_all, faults_in_list}
+use Rattle.rhai_check.proofs.check.+check.Given as goal
+
+abbrev pub invariant-expr::check_exprs-each : goal.invariant-expr::check_exprs-each
+invariant-expr::check_exprs-each l = record {
+  same : l.names ≡ l.fn.names;
+  faults : faults_in_all (map seen_expr l.exprs) (around l.fn.names l.place) ≡ faults_in_all (map seen_expr (drop l.expr-index l.exprs))
+      (around l.fn.names l.place);
+  resolved : (base : List Name) → all_resolve_exprs (map tests_of l.exprs) (base ++ l.fn.names) ≡ all_resolve_exprs
+      (map tests_of (drop l.expr-index l.exprs)) (base ++ l.fn.names);
+  declares : IsTrue (any_of (map declares_expr (drop l.expr-index l.exprs))) → IsTrue (any_of (map declares_expr l.exprs));
+}
+
+abbrev pub invariant-stmt::check_statements-each : goal.invariant-stmt::check_statements-each
+invariant-stmt::check_statements-each l = record {
+  begins : Begins l.fn.names l.names;
+  faults : faults_in_list (map seen_stmt l.statements) (around l.fn.names l.place) ≡ faults_in_list
+      (map seen_stmt (drop l.statement-index l.statements)) (around l.names l.place);
+  resolved : (base : List Name) → all_resolve (map resolves_stmt l.statements) (base ++ l.fn.names) ≡ all_resolve
+      (map resolves_stmt (drop l.statement-index l.statements)) (base ++ l.names);
+  declares : IsTrue (any_of (map declares_stmt (drop l.statement-index l.statements))) → IsTrue (any_of (map declares_stmt l.statements));
+}

@@ -1,0 +1,16 @@
+use Rattle.std.proofs.Common.{ap, sym, ◌∙◌, map}
+use Rattle.std.proofs.lemmas.List.{append-nil}
+use Rattle.rhai_check.specs.Frame.{all_resolve, resolves_stmt}
+use Rattle.rhai_check.specs.WellFormed.{faults_in_statements, faults_in_functions}
+use Rattle.rhai_check.proofs.Refused.{later_stands}
+use Rattle.rhai_check.proofs.check.check_tree.Goals as goal
+
+pub returns-in_err-functions-clause-refused : goal.returns-in_err-functions-clause-refused
+returns-in_err-functions-clause-refused c =
+    later_stands _ (faults_in_statements c.args.statements) (faults_in_functions c.args.functions) _ _
+    c.from_residual-in_err-functions.ensures c.in_err-functions.ensures.refused
+
+pub new-requires-clause-resolves : goal.new-requires-clause-resolves
+new-requires-clause-resolves c base =
+    ap (λ n. (all_resolve (map resolves_stmt c.args.statements) n).0) (sym (append-nil base))
+    ∙ ap (λ p. p.0) (rw (c.as_slice.ensures, c.new-names.ensures) at (c.in_ok-check_statements.ensures.resolved base))

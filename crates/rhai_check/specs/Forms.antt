@@ -1,0 +1,30 @@
+-- Which forms of the tree are there.
+use Rattle.std.specs.Prelude.{ℕ, Bool, true, false, ◌&&◌, ◌||◌, not, ◌==◌, is_some, List, [], ◌∷◌, Option, codes}
+use Rattle.std.specs.Int.RustNames.{bit_and}
+use Rattle.std.specs.Str.{bytes_eq}
+use Rattle.rhai_tree.specs.declared.expr.Namespace.{Namespace}
+use Rattle.rhai_tree.specs.declared.flags.ASTFlags.{ASTFlags}
+use Rattle.rhai_tree.specs.declared.token.Token.{Token}
+use Rattle.rhai_check.specs.Names.{Name}
+
+-- a name without a path
+abbrev pub is_unqualified : List Name → Bool
+is_unqualified [] = true
+is_unqualified (root ∷ path) = false
+
+-- a call written as an operator with one or two operands, without a path, that leaves the caller's scope alone
+abbrev pub is_operator_call : Namespace → Option Token → Bool → ℕ → Bool
+is_operator_call namespace op capture count =
+    is_unqualified namespace.path && is_some op && not capture && (count == 1 || count == 2)
+
+-- a call of `eval` by its name, with one argument, operator or not
+abbrev pub is_eval_call : Namespace → Name → ℕ → Bool
+is_eval_call namespace name count = is_unqualified namespace.path && bytes_eq name (codes "eval") && count == 1
+
+-- a variable that is exported
+abbrev pub is_exported : ASTFlags → Bool
+is_exported options = bit_and options.0 8 == 8
+
+-- a `throw`, which is marked as a `return` with `BREAK`
+abbrev pub is_throw : ASTFlags → Bool
+is_throw options = bit_and options.0 2 == 2

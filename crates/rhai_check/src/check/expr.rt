@@ -1,0 +1,216 @@
+//! The checker's walk over expressions.
+
+ghost use Rattle.std.specs.Prelude.{◌≡◌, ◌++◌, [], ◌∷◌, IsTrue, IfErr, OnOk, map, length, List, option_map};
+ghost use Rattle.rhai_check.specs.Context.{around};
+ghost use Rattle.rhai_check.specs.Declares.{any_of, in_option, declares_expr, declares_call};
+ghost use Rattle.rhai_check.specs.Forms.{is_unqualified, is_eval_call, is_operator_call};
+ghost use Rattle.rhai_check.specs.Frame.{tests_of, resolves_expr, resolves_call, target_resolves};
+ghost use Rattle.rhai_check.specs.Frame.{option_resolves, all_resolve_exprs};
+ghost use Rattle.rhai_check.specs.Names.{Name, is_good};
+ghost use Rattle.rhai_check.specs.Refusals.{Refuses};
+ghost use Rattle.rhai_check.specs.WellFormed.{seen_expr, seen_call, target_faults, faults_in_option};
+ghost use Rattle.rhai_check.specs.WellFormed.{faults_in_all, variable_faults};
+
+use crate::check::CheckFault;
+use crate::check::names::is_good;
+use crate::check::place::Place;
+use crate::check::stmt::check_block;
+use rhai_items::{Items, Shared, Text};
+use rhai_tree::expr::{Expr, FnCallExpr};
+use rhai_tree::position::Position;
+use std::num::NonZeroUsize;
+
+/// Whether a call is written as an operator with one or two operands, without a path, and leaves
+/// the caller's scope alone.
+fn is_operator_call(call: &FnCallExpr) -> bool
+    ensures { result ≡ is_operator_call call.now.namespace call.now.op_token call.now.capture_parent_scope
+        (length call.now.args) }
+{
+    let count = call.args.len();
+    call.namespace.path.len() == 0
+        && call.op_token.is_some()
+        && !call.capture_parent_scope
+        && (count == 1 || count == 2)
+}
+
+/// Passes an expression, or answers one of its faults.
+#[cycle(check)]
+pub(crate) fn check_expr(
+    names: &mut Items<Shared<Text>>,
+    place: Place,
+    expr: &Expr,
+) -> Result<(), CheckFault>
+    ensures same { OnOk result (names.new ≡ names.old) }
+    ensures exact { OnOk result ((seen_expr expr.now).value (around names.old place) ≡ []) }
+    ensures resolved { OnOk result ((base : List Name) → IsTrue
+        (resolves_expr expr.now (base ++ names.old))) }
+    ensures refused { IfErr result (λ fault. Refuses ((seen_expr expr.now).value (around names.old place))
+        (declares_expr expr.now) fault) }
+{
+    match expr {
+        Expr::BoolConstant(_, _) => Ok(()),
+        Expr::IntegerConstant(_, _) => Ok(()),
+        Expr::Unit(_) => Ok(()),
+        Expr::Variable {
+            offset,
+            name,
+            namespace,
+            pos,
+        } => {
+            if namespace.path.len() > 0 {
+                Err(CheckFault::NotYet(*pos))
+            } else if is_good(names.as_slice(), *offset, name.get()) {
+                Ok(())
+            } else {
+                Err(CheckFault::BadOffset(*pos))
+            }
+        }
+        Expr::FnCall(call, pos) => check_call(names, place, call, *pos),
+        Expr::Stmt(block) => check_block(names, place, block),
+        Expr::And(parts, _) => check_exprs(names, place, parts.as_slice()),
+        Expr::Or(parts, _) => check_exprs(names, place, parts.as_slice()),
+        Expr::Coalesce(parts, _) => check_exprs(names, place, parts.as_slice()),
+        Expr::DynamicConstant(_, pos)
+        | Expr::CharConstant(_, pos)
+        | Expr::StringConstant(_, pos)
+        | Expr::InterpolatedString(_, pos)
+        | Expr::Array(_, pos)
+        | Expr::Map(_, _, pos)
+        | Expr::ThisPtr(pos)
+        | Expr::Property(_, pos)
+        | Expr::MethodCall(_, pos)
+        | Expr::Dot(_, _, _, pos)
+        | Expr::Index(_, _, _, pos) => Err(CheckFault::NotYet(*pos)),
+    }
+}
+
+/// Passes a list of expressions, or answers one of their faults.
+#[cycle(check)]
+pub(crate) fn check_exprs(
+    names: &mut Items<Shared<Text>>,
+    place: Place,
+    exprs: &[Expr],
+) -> Result<(), CheckFault>
+    ensures same { OnOk result (names.new ≡ names.old) }
+    ensures exact { OnOk result (faults_in_all (map seen_expr exprs.now) (around names.old place) ≡ []) }
+    ensures resolved { OnOk result ((base : List Name) → IsTrue
+        (all_resolve_exprs (map tests_of exprs.now) (base ++ names.old))) }
+    ensures refused { IfErr result (λ fault. Refuses (faults_in_all (map seen_expr exprs.now)
+        (around names.old place)) (any_of (map declares_expr exprs.now)) fault) }
+{
+    'each: for expr in exprs {
+        check_expr(names, place, expr)?;
+    }
+    Ok(())
+}
+
+/// Passes an expression that may be left out, or answers one of its faults.
+#[cycle(check)]
+pub(crate) fn check_option(
+    names: &mut Items<Shared<Text>>,
+    place: Place,
+    expr: &Option<Expr>,
+) -> Result<(), CheckFault>
+    ensures same { OnOk result (names.new ≡ names.old) }
+    ensures exact { OnOk result (faults_in_option (option_map seen_expr expr.now) (around names.old place)
+        ≡ []) }
+    ensures resolved { OnOk result ((base : List Name) → IsTrue
+        (option_resolves (option_map tests_of expr.now) (base ++ names.old))) }
+    ensures refused { IfErr result (λ fault. Refuses (faults_in_option (option_map seen_expr expr.now)
+        (around names.old place)) (in_option (option_map declares_expr expr.now)) fault) }
+{
+    match expr {
+        None => Ok(()),
+        Some(expr) => check_expr(names, place, expr),
+    }
+}
+
+/// Whether an expression is a variable, `this` or a chain, which alone may be assigned to.
+fn is_place(expr: &Expr) -> bool
+    ensures seen { result ≡ (seen_expr expr.now).is_place }
+    ensures tested { result ≡ (tests_of expr.now).is_place }
+{
+    matches!(
+        expr,
+        Expr::Variable { .. } | Expr::ThisPtr(_) | Expr::Dot(..) | Expr::Index(..)
+    )
+}
+
+/// Passes the left side of an assignment, or answers one of its faults.
+#[cycle(check)]
+pub(crate) fn check_target(
+    names: &mut Items<Shared<Text>>,
+    place: Place,
+    lhs: &Expr,
+) -> Result<(), CheckFault>
+    ensures same { OnOk result (names.new ≡ names.old) }
+    ensures exact { OnOk result (target_faults (seen_expr lhs.now) (around names.old place) ≡ []) }
+    ensures resolved { OnOk result ((base : List Name) → IsTrue
+        (target_resolves (tests_of lhs.now) (base ++ names.old))) }
+    ensures refused { IfErr result (λ fault. Refuses (target_faults (seen_expr lhs.now)
+        (around names.old place)) (declares_expr lhs.now) fault) }
+{
+    if is_place(lhs) {
+        check_expr(names, place, lhs)
+    } else {
+        Err(CheckFault::BadAssignment(first_token(lhs)))
+    }
+}
+
+/// Whether a call is one of `eval` by its name, with one argument, operator or not.
+fn is_eval_call(call: &FnCallExpr) -> bool
+    ensures { result ≡ is_eval_call call.now.namespace call.now.name (length call.now.args) }
+{
+    call.namespace.path.len() == 0 && call.name.get().as_str() == "eval" && call.args.len() == 1
+}
+
+/// Passes a call whose name or operator stands at a position, or answers one of its faults.
+#[cycle(check)]
+fn check_call(
+    names: &mut Items<Shared<Text>>,
+    place: Place,
+    call: &FnCallExpr,
+    pos: Position,
+) -> Result<(), CheckFault>
+    ensures same { OnOk result (names.new ≡ names.old) }
+    ensures exact { OnOk result ((seen_call call.now).value pos (around names.old place) ≡ []) }
+    ensures resolved { OnOk result ((base : List Name) → IsTrue
+        (resolves_call call.now (base ++ names.old))) }
+    ensures refused { IfErr result (λ fault. Refuses ((seen_call call.now).value pos
+        (around names.old place)) (declares_call call.now) fault) }
+{
+    if is_eval_call(call) {
+        Err(CheckFault::EvalCall(pos))
+    } else if is_operator_call(call) {
+        check_exprs(names, place, call.args.as_slice())
+    } else {
+        Err(CheckFault::NotYet(pos))
+    }
+}
+
+/// Where an expression is seen to start, which is where its text does.
+fn first_token(expr: &Expr) -> Position
+    ensures { result ≡ (seen_expr expr.now).start }
+{
+    match expr {
+        Expr::Variable { namespace, pos, .. } => {
+            if namespace.path.is_empty() {
+                *pos
+            } else {
+                namespace.position
+            }
+        }
+        Expr::FnCall(call, pos) => match (call.op_token, call.args.as_slice()) {
+            (Some(_), [left, _]) => first_token(left),
+            _ => *pos,
+        },
+        Expr::Dot(lhs, _, _, _) | Expr::Index(lhs, _, _, _) => first_token(lhs.get()),
+        Expr::And(parts, pos) | Expr::Or(parts, pos) | Expr::Coalesce(parts, pos) => {
+            match parts.as_slice() {
+                [] => *pos,
+                [first, ..] => first_token(first),
+            }
+        }
+        _ => expr.position(),
+    }
+}

@@ -1,0 +1,5 @@
+//! The checker that passes exactly the well-formed trees.
+#![tactic(auto)]
+
+pub mod check;
+pub mod checked;

@@ -1,0 +1,50 @@
+-- Scopes as plain lists of entries, the newest last.
+use Rattle.std.specs.Prelude.{ℕ, List, [], Option, Some, None, map, slice_get, slice_set}
+use Rattle.std.specs.Option.{option_map}
+use Rattle.std.specs.Borrow.{Bor}
+use Rattle.rhai_values.specs.declared.base.value.AccessMode.{AccessMode}
+use Rattle.rhai_values.specs.declared.base.value.Dynamic.{Dynamic}
+use Rattle.rhai_state.specs.declared.scope.ScopeEntry.{ScopeEntry}
+use Rattle.rhai_state.specs.declared.scope.Scope.{Scope}
+use Rattle.rhai_values.specs.Modes.{with_mode}
+use Rattle.rhai_state.specs.Newest.{newest}
+
+module _ {H : Type 0} where
+  abbrev pub entries_of : Scope H → List (ScopeEntry H)
+  entries_of scope = scope.entries
+
+  abbrev pub name_of : ScopeEntry H → List ℕ
+  name_of entry = entry.name
+
+  abbrev pub value_of : ScopeEntry H → Dynamic H
+  value_of entry = entry.value
+
+  -- the names of the entries, the newest last
+  abbrev pub names_in : Scope H → List (List ℕ)
+  names_in scope = map name_of scope.entries
+
+  -- where the newest entry of a name stands, counted from the start
+  abbrev pub index_of : List ℕ → List (ScopeEntry H) → Option ℕ
+  index_of name entries = newest name_of name entries
+
+  -- the value of the entry at a place
+  abbrev pub value_in : List (ScopeEntry H) → Option ℕ → Option (Dynamic H)
+  value_in entries None = None
+  value_in entries (Some at) = option_map value_of (slice_get entries at)
+
+  -- the value of the newest entry of a name
+  abbrev pub found : List ℕ → List (ScopeEntry H) → Option (Dynamic H)
+  found name entries = value_in entries (index_of name entries)
+
+  -- a new entry: its value takes the mode asked for, and it has no aliases
+  abbrev pub new_entry : List ℕ → AccessMode → Dynamic H → ScopeEntry H
+  new_entry name mode value = record { name = name; value = with_mode mode value; aliases = [] }
+
+  -- the entry at a place with another value
+  abbrev pub revalued : List (ScopeEntry H) → (at : ℕ) → (there : Option (ScopeEntry H)) → Dynamic H → List (ScopeEntry H)
+  revalued entries at (Some entry) value = slice_set entries at (record entry { value = value })
+  revalued entries at None value = entries
+
+  -- the entry that a name, a value and aliases show
+  abbrev pub shown : Bor (List ℕ) × Bor (Dynamic H) × Bor (List (List ℕ)) → ScopeEntry H
+  shown parts = record { name = parts.0.now; value = parts.1.now; aliases = parts.2.now }

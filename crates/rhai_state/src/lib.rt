@@ -1,0 +1,11 @@
+//! What an evaluation runs on: errors, scopes, modules, the state of a run, its limits, and the
+//! table of natives.
+#![tactic(auto)]
+
+pub mod caches;
+mod debug;
+pub mod error;
+pub mod limits;
+pub mod scope;
+pub mod state;
+pub mod table;

@@ -1,0 +1,177 @@
+//! The variables of a run.
+
+ghost use Rattle.std.specs.Prelude.{◌≡◌, ◌<◌, ◌↔◌, [], ◌∷◌, ◌++◌, take, length, slice_get, is_some, Some};
+ghost use Rattle.std.specs.Prelude.{string_bytes, IsTrue, OnOk, OnErr};
+ghost use Rattle.std.specs.Option.{option_map};
+ghost use Rattle.std.specs.Borrow.{sem};
+ghost use Rattle.rhai_state.specs.Lends.{lends_value};
+ghost use Rattle.rhai_state.specs.Scope.{entries_of, index_of, new_entry, revalued, shown, value_of};
+
+use rhai_items::{Items, Shared, Text};
+use rhai_values::base::value::{AccessMode, Dynamic};
+use std::alloc::{AllocError, Global};
+use std::mem::replace;
+
+/// A variable: its name, its value, and the names under which it is exported.
+#[derive(Drop)]
+pub struct ScopeEntry<H> {
+    pub name: Shared<Text>,
+    pub value: Dynamic<H>,
+    pub aliases: Items<Shared<Text>>,
+}
+
+/// The variables, the newest last. A name means the last entry that has it. Ports upstream's
+/// `Scope`.
+#[derive(Drop)]
+pub struct Scope<H> {
+    entries: Items<ScopeEntry<H>>,
+}
+
+impl<H> Scope<H> {
+    /// A scope with no entry. It takes no memory. Ports upstream's `Scope::new`.
+    pub fn new(alloc: Global) -> Scope<H>
+        ensures { entries_of result ≡ [] }
+    {
+        Scope {
+            entries: Items::new(alloc),
+        }
+    }
+
+    /// How many entries there are. Ports upstream's `Scope::len`.
+    pub fn len(&self) -> usize
+        ensures { result ≡ length (entries_of self.now) }
+    {
+        self.entries.len()
+    }
+
+    /// Whether there is no entry. Ports upstream's `Scope::is_empty`.
+    pub fn is_empty(&self) -> bool
+        ensures { IsTrue result ↔ (entries_of self.now ≡ []) }
+    {
+        self.entries.is_empty()
+    }
+
+    /// The entries, the newest last.
+    pub fn entries(&self) -> &[ScopeEntry<H>]
+        ensures { result.now ≡ entries_of self.now }
+    {
+        self.entries.as_slice()
+    }
+
+    /// Whether an entry has the name. Ports upstream's `Scope::contains`.
+    pub fn contains(&self, name: &str) -> bool
+        ensures { result ≡ is_some (index_of name.now (entries_of self.now)) }
+    {
+        self.search(name).is_some()
+    }
+
+    /// The place of the newest entry of a name. Ports upstream's `Scope::search`.
+    pub fn search(&self, name: &str) -> Option<usize>
+        ensures { result ≡ index_of name.now (entries_of self.now) }
+    {
+        newest_entry(self.entries.as_slice(), name)
+    }
+
+    /// The name, the value and the aliases of the entry at a place, if there is one. Ports
+    /// upstream's `Scope::get_entry_by_index`.
+    pub fn get(&self, index: usize) -> Option<(&str, &Dynamic<H>, &[Shared<Text>])>
+        ensures { option_map shown result ≡ slice_get (entries_of self.now) index }
+    {
+        let entry = self.entries.get(index)?;
+        Some((
+            entry.name.get().as_str(),
+            &entry.value,
+            entry.aliases.as_slice(),
+        ))
+    }
+
+    /// The value of the entry at a place.
+    pub fn value_at(&self, index: usize) -> &Dynamic<H>
+        requires { index < length (entries_of self.now) }
+        ensures { option_map value_of (slice_get (entries_of self.now) index) ≡ Some result.now }
+    {
+        &self.entries.as_slice()[index].value
+    }
+
+    /// The value of the entry at a place, to be changed in place. Ports upstream's
+    /// `Scope::get_mut_by_index`.
+    pub fn value_at_mut(&mut self, index: usize) -> &mut Dynamic<H>
+        requires { index < length (entries_of self.old) }
+        ensures* writes_back { sem 𝓛 (lends_value H.row self.entry index result) }
+        ensures value { option_map value_of (slice_get (entries_of self.old) index) ≡ Some result.now }
+    {
+        let entry = self.entries.at_mut(index);
+        &mut entry.value
+    }
+
+    /// Gives the entry at a place another value, and hands out the one that it had.
+    pub fn replace_value(&mut self, index: usize, value: Dynamic<H>) -> Dynamic<H>
+        requires { index < length (entries_of self.old) }
+        ensures before { option_map value_of (slice_get (entries_of self.old) index) ≡ Some result }
+        ensures after { entries_of self.new ≡ revalued (entries_of self.old) index
+            (slice_get (entries_of self.old) index) value }
+    {
+        let entry = self.entries.at_mut(index);
+        replace(&mut entry.value, value)
+    }
+}
+
+impl<H: Drop> Scope<H> {
+    /// Adds an entry. Its value takes the mode. Where there is no memory the scope stays. Ports
+    /// upstream's `Scope::push_entry`.
+    pub fn push_entry(
+        &mut self,
+        name: String,
+        mode: AccessMode,
+        value: Dynamic<H>,
+    ) -> Result<(), AllocError>
+        ensures ok { OnOk result (entries_of self.new ≡ entries_of self.old
+            ++ new_entry (string_bytes name) mode value ∷ []) }
+        ensures err { OnErr result (entries_of self.new ≡ entries_of self.old) }
+    {
+        let name = Shared::new(self.entries.allocator(), Text::from_string(name))?;
+        self.push_shared(name, mode, value)
+    }
+
+    /// Adds an entry under a shared name. Its value takes the mode. Where there is no memory the
+    /// scope stays.
+    pub fn push_shared(
+        &mut self,
+        name: Shared<Text>,
+        mode: AccessMode,
+        mut value: Dynamic<H>,
+    ) -> Result<(), AllocError>
+        ensures ok { OnOk result (entries_of self.new ≡ entries_of self.old ++ new_entry name mode value
+            ∷ []) }
+        ensures err { OnErr result (entries_of self.new ≡ entries_of self.old) }
+    {
+        value.set_access_mode(mode);
+        let aliases = Items::new(self.entries.allocator());
+        self.entries.push(ScopeEntry {
+            name,
+            value,
+            aliases,
+        })
+    }
+
+    /// Lets go of all entries from `len` on, if there are any. Ports upstream's `Scope::rewind`.
+    pub fn rewind(&mut self, len: usize)
+        ensures { entries_of self.new ≡ take len (entries_of self.old) }
+    {
+        self.entries.truncate(len);
+    }
+}
+
+/// The place of the newest entry of a name.
+fn newest_entry<H>(entries: &[ScopeEntry<H>], name: &str) -> Option<usize>
+    ensures { result ≡ index_of name.now entries.now }
+{
+    let mut at = entries.len();
+    'entries: while at > 0 {
+        at -= 1;
+        if entries[at].name.get().as_str() == name {
+            return Some(at);
+        }
+    }
+    None
+}

@@ -1,0 +1,76 @@
+//! Tables of natives: the functions that a host offers to its scripts.
+
+ghost use Rattle.std.specs.Prelude.{◌≡◌};
+
+use crate::error::EvalAltResult;
+use rhai_tree::literal::NativeId;
+use rhai_tree::position::Position;
+use rhai_values::base::value::Dynamic;
+use rhai_values::cells::CellStore;
+
+/// What a native answers.
+#[derive(Drop)]
+pub enum Answer<H> {
+    /// There is no such native.
+    Missing,
+    Value(Dynamic<H>),
+    Fault(EvalAltResult<H>),
+    NoMemory,
+}
+
+/// A host's natives. A call is a function of the table's state, the native, the position, the
+/// arguments and the cells, want of memory aside: the law that each implementation proves once.
+pub trait NativeTable<H> {
+    ghost use Rattle.rhai_values.specs.Cells.{cells_of};
+    ghost use Rattle.rhai_state.specs.Native.{Natives, OfName, OfNumber, Named, Numbered, Obeys};
+    ghost use Rattle.rhai_state.specs.Native.{HasNoHandle, Lawful, reply_of, request, was, left_by};
+
+    /// The state of the table as far as it shows.
+    ghost State: { Type 0 };
+
+    ghost state: { Self → State };
+
+    /// What a call does, and which natives change nothing.
+    ghost natives: { Natives State H };
+
+    /// Calls a native by its name. Asked: the first argument is no bare handle of a cell.
+    fn call(
+        &mut self,
+        cells: &CellStore<H>,
+        name: &str,
+        first: Option<&mut Dynamic<H>>,
+        rest: &[Dynamic<H>],
+        position: Position,
+    ) -> Answer<H>
+        requires { HasNoHandle (was first) }
+        ensures obeys { Obeys (natives.gives (state self.old)
+            (request (cells_of cells.now) (Named name.now) (was first.entry) rest.now position))
+            (reply_of result) (left_by first.exit) (state self.new) }
+        ensures no_handle { HasNoHandle (left_by first.exit) };
+
+    /// Calls a native by its number. Asked: the first argument is no bare handle of a cell.
+    fn call_numbered(
+        &mut self,
+        cells: &CellStore<H>,
+        id: NativeId,
+        first: Option<&mut Dynamic<H>>,
+        rest: &[Dynamic<H>],
+        position: Position,
+    ) -> Answer<H>
+        requires { HasNoHandle (was first) }
+        ensures obeys { Obeys (natives.gives (state self.old)
+            (request (cells_of cells.now) (Numbered id.number) (was first.entry) rest.now position))
+            (reply_of result) (left_by first.exit) (state self.new) }
+        ensures no_handle { HasNoHandle (left_by first.exit) };
+
+    /// Whether a native of a name, by the type of its first argument (the empty text where there
+    /// is none) and the number of its arguments, changes nothing.
+    fn is_pure(&self, name: &str, first_type: &str, count: usize) -> bool
+        ensures { result ≡ natives.pure (state self.now) (OfName name.now first_type.now count) };
+
+    /// Whether a native of a number changes nothing.
+    fn is_pure_numbered(&self, id: NativeId) -> bool
+        ensures { result ≡ natives.pure (state self.now) (OfNumber id.number) };
+
+    ghost lawful: { Lawful natives };
+}

@@ -1,5 +1,0 @@
-use Rattle.std.specs.Prelude.{◌≡◌, take}
-use Rattle.rhai_tree.proofs.check.function.check_def.Given as goal
-
-abbrev pub invariant-each : goal.invariant-each
-invariant-each l = l.names ≡ take l.param-index l.fn.def.params
