@@ -36,8 +36,6 @@ pub fn cells(alloc: Global) -> Result<CellStore<Stone>, Fault> {
 
 /// Adds a cell with an integer.
 fn add_cell(cells: &mut CellStore<Stone>, number: i64) -> Result<CellId, Fault> {
-    match cells.add(Dynamic::new(Union::Int(number))) {
-        Ok(id) => Ok(id),
-        Err(_) => Err(Fault::NoMemory),
-    }
+    let added = cells.add(Dynamic::new(Union::Int(number)));
+    added.map_err(|_| Fault::NoMemory)
 }

@@ -9,6 +9,7 @@ use rhai_places::target::Target;
 use rhai_tree::position::Position;
 use rhai_values::base::value::Dynamic;
 use std::alloc::Global;
+use std::mem::replace;
 
 /// What a call with an object and an index answers: `index` what the index leads to, `strict` the
 /// same where a missing key is an error, and `insert` where it is inserted; `target` the kind of
@@ -74,7 +75,7 @@ fn put_back(
     mut target: Target<'_, Stone>,
     part: Dynamic<Stone>,
 ) -> Result<String, Fault> {
-    *target.as_mut() = part;
+    drop(replace(target.as_mut(), part));
     match target.propagate_changed_value(alloc, Position::new(1, 9)) {
         Ok(()) => Ok(String::new(alloc)),
         Err(error) => shown_error(alloc, &error),
@@ -106,13 +107,10 @@ fn described(alloc: Global, target: Target<'_, Stone>) -> Result<String, Fault> 
 
 /// The word before what a target shows.
 fn kind(target: &Target<'_, Stone>) -> &'static str {
-    if target.is_shared() {
-        "shared "
-    } else if target.is_temp_value() {
-        "temporary "
-    } else if target.is_ref() {
-        "place "
-    } else {
-        "part "
+    match (target.is_shared(), target.is_temp_value(), target.is_ref()) {
+        (true, _, _) => "shared ",
+        (_, true, _) => "temporary ",
+        (_, _, true) => "place ",
+        _ => "part ",
     }
 }

@@ -63,11 +63,3 @@ pub fn shown_error(alloc: Global, error: &EvalAltResult<Stone>) -> Result<String
 pub fn text(alloc: Global, text: &str) -> Result<String, Fault> {
     Ok(String::from_str(alloc, text)?)
 }
-
-/// A place among others, or `none`.
-pub fn place_or_none(alloc: Global, place: Option<usize>) -> Result<String, Fault> {
-    match place {
-        Some(place) => Ok(format!(in alloc; "{place}")?),
-        None => text(alloc, "none"),
-    }
-}
