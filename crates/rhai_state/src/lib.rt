@@ -1,4 +1,4 @@
-//! What an evaluation runs on: errors, scopes, modules, the state of a run, its limits, and the
+//! What an evaluation runs on: errors, scopes, caches, the state of a run, its limits, and the
 //! table of natives.
 #![tactic(auto)]
 

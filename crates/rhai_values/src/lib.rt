@@ -1,4 +1,4 @@
-//! The values of a script, and the store of its shared cells.
+//! The values of a script, modules, and the store of shared cells.
 #![tactic(auto)]
 
 pub mod base;
