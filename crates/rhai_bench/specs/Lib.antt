@@ -1,4 +1,3 @@
-pub mod Build
 pub mod Tables
 pub mod Outcome
 pub mod Arguments

@@ -2,7 +2,6 @@
 //! does, and the work of the program that runs them.
 #![tactic(auto)]
 
-mod build;
 pub mod command;
 pub mod host;
 pub mod outcome;

@@ -1,10 +1,11 @@
 //! Operators, and what they refuse.
 
-use crate::build::expressions::{coalesce, int, operator, truth, unit, variable};
-use crate::build::list;
-use crate::build::statements::{block, if_stmt, no_block};
 use crate::script::Script;
-use rhai_eval::base::{Items, Stmt, Token};
+use rhai_build::list;
+use rhai_eval::base::Items;
+use rhai_samples::operators::{
+    integer_as_condition, sum, sum_of_two_types, sum_with_unknown_name, unit_or_integer,
+};
 use std::alloc::{AllocError, Global};
 
 /// The sum of two integers: three operations are too few, four are enough.
@@ -25,35 +26,4 @@ pub(crate) fn refused_operands(alloc: Global) -> Result<Items<Script>, AllocErro
 /// The first of two values that is not `()`.
 pub fn first_that_is_there(alloc: Global) -> Result<Items<Script>, AllocError> {
     list(alloc, [Script::new(alloc, unit_or_integer(alloc)?)])
-}
-
-/// `40 + 2`
-fn sum(alloc: Global) -> Result<Items<Stmt>, AllocError> {
-    let sum = operator(alloc, Token::Plus, "+", 4, [int(40, 1), int(2, 6)])?;
-    list(alloc, [Stmt::Expr(sum)])
-}
-
-/// `1 + true`
-fn sum_of_two_types(alloc: Global) -> Result<Items<Stmt>, AllocError> {
-    let sum = operator(alloc, Token::Plus, "+", 3, [int(1, 1), truth(true, 5)])?;
-    list(alloc, [Stmt::Expr(sum)])
-}
-
-/// `y + 1`
-fn sum_with_unknown_name(alloc: Global) -> Result<Items<Stmt>, AllocError> {
-    let y = variable(alloc, "y", 0, 1)?;
-    let sum = operator(alloc, Token::Plus, "+", 3, [y, int(1, 5)])?;
-    list(alloc, [Stmt::Expr(sum)])
-}
-
-/// `if 1 {}`
-fn integer_as_condition(alloc: Global) -> Result<Items<Stmt>, AllocError> {
-    let body = block(alloc, [], 6, 7)?;
-    list(alloc, [if_stmt(int(1, 4), body, no_block(alloc), 1)])
-}
-
-/// `() ?? 5`
-fn unit_or_integer(alloc: Global) -> Result<Items<Stmt>, AllocError> {
-    let first = coalesce(alloc, 4, [unit(1), int(5, 7)])?;
-    list(alloc, [Stmt::Expr(first)])
 }

@@ -4,18 +4,20 @@ ghost use Rattle.std.specs.Prelude.{◌≡◌, ◌≢◌, IfOk, Option, None, So
 ghost use Rattle.rhai_tree.specs.Position.{at as place, none as nowhere};
 ghost use Rattle.rhai_tree.specs.declared.expr.Expr.TheVariants as expr;
 ghost use Rattle.rhai_tree.specs.declared.expr.Stmt.TheVariants as stmt;
-ghost use Rattle.rhai_bench.specs.Build.{absent_block, assigned_by, block_at, break_option, constant_option};
-ghost use Rattle.rhai_bench.specs.Build.{negated_option, no_options};
+ghost use Rattle.rhai_build.specs.Build.{absent_block, assigned_by, block_at, break_option, constant_option};
+ghost use Rattle.rhai_build.specs.Build.{negated_option, no_options};
 
-use crate::build::{at, list};
+use crate::{at, list};
 use bitflags::Flags;
-use rhai_eval::base::{
-    ASTFlags, Expr, Ident, Items, OpAssignment, Position, Stmt, StmtBlock, Token,
-};
+use rhai_items::Items;
+use rhai_tree::expr::{Expr, Ident, OpAssignment, Stmt, StmtBlock};
+use rhai_tree::flags::ASTFlags;
+use rhai_tree::position::Position;
+use rhai_tree::token::Token;
 use std::alloc::{AllocError, Global};
 
 /// Statements between two braces.
-pub(crate) fn block<const N: usize>(
+pub fn block<const N: usize>(
     alloc: Global,
     statements: [Stmt; N],
     opening: u16,
@@ -33,7 +35,7 @@ pub(crate) fn block<const N: usize>(
 }
 
 /// A block that the text does not have.
-pub(crate) fn no_block(alloc: Global) -> StmtBlock
+pub fn no_block(alloc: Global) -> StmtBlock
     ensures { result ≡ absent_block }
 {
     StmtBlock {
@@ -44,7 +46,7 @@ pub(crate) fn no_block(alloc: Global) -> StmtBlock
 }
 
 /// A declaration of a variable.
-pub(crate) fn let_stmt(name: Ident, value: Expr, column: u16) -> Stmt
+pub fn let_stmt(name: Ident, value: Expr, column: u16) -> Stmt
     requires { column ≢ 0 }
     ensures { result ≡ stmt.Var name value None no_options (place 1 column) }
 {
@@ -52,7 +54,7 @@ pub(crate) fn let_stmt(name: Ident, value: Expr, column: u16) -> Stmt
 }
 
 /// A declaration of a constant.
-pub(crate) fn const_stmt(name: Ident, value: Expr, column: u16) -> Stmt
+pub fn const_stmt(name: Ident, value: Expr, column: u16) -> Stmt
     requires { column ≢ 0 }
     ensures { result ≡ stmt.Var name value None constant_option (place 1 column) }
 {
@@ -60,7 +62,7 @@ pub(crate) fn const_stmt(name: Ident, value: Expr, column: u16) -> Stmt
 }
 
 /// An assignment, by an operator where there is one.
-pub(crate) fn assign(op: Option<Token>, column: u16, left: Expr, right: Expr) -> Stmt
+pub fn assign(op: Option<Token>, column: u16, left: Expr, right: Expr) -> Stmt
     requires { column ≢ 0 }
     ensures { result ≡ stmt.Assignment (assigned_by op column) left right }
 {
@@ -69,7 +71,7 @@ pub(crate) fn assign(op: Option<Token>, column: u16, left: Expr, right: Expr) ->
 }
 
 /// An `if`. Where the text has no `else`, its branch is `no_block`.
-pub(crate) fn if_stmt(condition: Expr, body: StmtBlock, branch: StmtBlock, column: u16) -> Stmt
+pub fn if_stmt(condition: Expr, body: StmtBlock, branch: StmtBlock, column: u16) -> Stmt
     requires { column ≢ 0 }
     ensures { result ≡ stmt.If condition body branch (place 1 column) }
 {
@@ -77,7 +79,7 @@ pub(crate) fn if_stmt(condition: Expr, body: StmtBlock, branch: StmtBlock, colum
 }
 
 /// A `while`.
-pub(crate) fn while_stmt(condition: Expr, body: StmtBlock, column: u16) -> Stmt
+pub fn while_stmt(condition: Expr, body: StmtBlock, column: u16) -> Stmt
     requires { column ≢ 0 }
     ensures { result ≡ stmt.While condition body (place 1 column) }
 {
@@ -85,7 +87,7 @@ pub(crate) fn while_stmt(condition: Expr, body: StmtBlock, column: u16) -> Stmt
 }
 
 /// A `loop`, which has no condition.
-pub(crate) fn loop_stmt(body: StmtBlock, column: u16) -> Stmt
+pub fn loop_stmt(body: StmtBlock, column: u16) -> Stmt
     requires { column ≢ 0 }
     ensures { result ≡ stmt.While (expr.Unit nowhere) body (place 1 column) }
 {
@@ -93,7 +95,7 @@ pub(crate) fn loop_stmt(body: StmtBlock, column: u16) -> Stmt
 }
 
 /// A `do` with a `while` after its body.
-pub(crate) fn do_while(body: StmtBlock, condition: Expr, column: u16) -> Stmt
+pub fn do_while(body: StmtBlock, condition: Expr, column: u16) -> Stmt
     requires { column ≢ 0 }
     ensures { result ≡ stmt.Do condition body no_options (place 1 column) }
 {
@@ -101,7 +103,7 @@ pub(crate) fn do_while(body: StmtBlock, condition: Expr, column: u16) -> Stmt
 }
 
 /// A `do` with an `until` after its body.
-pub(crate) fn do_until(body: StmtBlock, condition: Expr, column: u16) -> Stmt
+pub fn do_until(body: StmtBlock, condition: Expr, column: u16) -> Stmt
     requires { column ≢ 0 }
     ensures { result ≡ stmt.Do condition body negated_option (place 1 column) }
 {
@@ -109,7 +111,7 @@ pub(crate) fn do_until(body: StmtBlock, condition: Expr, column: u16) -> Stmt
 }
 
 /// A `break`, with its value if it has one.
-pub(crate) fn break_stmt(value: Option<Expr>, column: u16) -> Stmt
+pub fn break_stmt(value: Option<Expr>, column: u16) -> Stmt
     requires { column ≢ 0 }
     ensures { result ≡ stmt.BreakLoop value break_option (place 1 column) }
 {
@@ -117,7 +119,7 @@ pub(crate) fn break_stmt(value: Option<Expr>, column: u16) -> Stmt
 }
 
 /// A `continue`.
-pub(crate) fn continue_stmt(column: u16) -> Stmt
+pub fn continue_stmt(column: u16) -> Stmt
     requires { column ≢ 0 }
     ensures { result ≡ stmt.BreakLoop None no_options (place 1 column) }
 {
@@ -125,7 +127,7 @@ pub(crate) fn continue_stmt(column: u16) -> Stmt
 }
 
 /// A `return`, with its value if it has one.
-pub(crate) fn return_stmt(value: Option<Expr>, column: u16) -> Stmt
+pub fn return_stmt(value: Option<Expr>, column: u16) -> Stmt
     requires { column ≢ 0 }
     ensures { result ≡ stmt.Return value no_options (place 1 column) }
 {

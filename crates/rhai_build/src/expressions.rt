@@ -3,15 +3,16 @@
 ghost use Rattle.std.specs.Prelude.{◌≡◌, ◌≢◌, IfOk};
 ghost use Rattle.rhai_tree.specs.Position.{at as place};
 ghost use Rattle.rhai_tree.specs.declared.expr.Expr.TheVariants as expr;
-ghost use Rattle.rhai_bench.specs.Build.{IsVariable, operator_at};
+ghost use Rattle.rhai_build.specs.Build.{IsVariable, operator_at};
 
-use crate::build::{at, list, no_namespace, shared};
-use rhai_eval::base::{Expr, FnCallExpr, Token};
+use crate::{at, list, no_namespace, shared};
+use rhai_tree::expr::{Expr, FnCallExpr};
+use rhai_tree::token::Token;
 use std::alloc::{AllocError, Global};
 use std::num::NonZeroUsize;
 
 /// An integer.
-pub(crate) fn int(value: i64, column: u16) -> Expr
+pub fn int(value: i64, column: u16) -> Expr
     requires { column ≢ 0 }
     ensures { result ≡ expr.IntegerConstant value (place 1 column) }
 {
@@ -19,7 +20,7 @@ pub(crate) fn int(value: i64, column: u16) -> Expr
 }
 
 /// A truth value.
-pub(crate) fn truth(value: bool, column: u16) -> Expr
+pub fn truth(value: bool, column: u16) -> Expr
     requires { column ≢ 0 }
     ensures { result ≡ expr.BoolConstant value (place 1 column) }
 {
@@ -27,7 +28,7 @@ pub(crate) fn truth(value: bool, column: u16) -> Expr
 }
 
 /// The value `()`.
-pub(crate) fn unit(column: u16) -> Expr
+pub fn unit(column: u16) -> Expr
     requires { column ≢ 0 }
     ensures { result ≡ expr.Unit (place 1 column) }
 {
@@ -35,12 +36,7 @@ pub(crate) fn unit(column: u16) -> Expr
 }
 
 /// A variable. Its offset counts from the end of the scope; zero is none, and the name is searched.
-pub(crate) fn variable(
-    alloc: Global,
-    name: &str,
-    offset: usize,
-    column: u16,
-) -> Result<Expr, AllocError>
+pub fn variable(alloc: Global, name: &str, offset: usize, column: u16) -> Result<Expr, AllocError>
     requires { column ≢ 0 }
     ensures { IfOk result (IsVariable name.now offset column) }
 {
@@ -53,7 +49,7 @@ pub(crate) fn variable(
 }
 
 /// A call that was written as an operator.
-pub(crate) fn operator<const N: usize>(
+pub fn operator<const N: usize>(
     alloc: Global,
     token: Token,
     name: &str,
@@ -74,11 +70,7 @@ pub(crate) fn operator<const N: usize>(
 }
 
 /// Operands of `&&`.
-pub(crate) fn and<const N: usize>(
-    alloc: Global,
-    column: u16,
-    parts: [Expr; N],
-) -> Result<Expr, AllocError>
+pub fn and<const N: usize>(alloc: Global, column: u16, parts: [Expr; N]) -> Result<Expr, AllocError>
     requires { column ≢ 0 }
     ensures { IfOk result (λ e. e ≡ expr.And parts.entry (place 1 column)) }
 {
@@ -86,11 +78,7 @@ pub(crate) fn and<const N: usize>(
 }
 
 /// Operands of `||`.
-pub(crate) fn or<const N: usize>(
-    alloc: Global,
-    column: u16,
-    parts: [Expr; N],
-) -> Result<Expr, AllocError>
+pub fn or<const N: usize>(alloc: Global, column: u16, parts: [Expr; N]) -> Result<Expr, AllocError>
     requires { column ≢ 0 }
     ensures { IfOk result (λ e. e ≡ expr.Or parts.entry (place 1 column)) }
 {
@@ -98,7 +86,7 @@ pub(crate) fn or<const N: usize>(
 }
 
 /// Operands of `??`.
-pub(crate) fn coalesce<const N: usize>(
+pub fn coalesce<const N: usize>(
     alloc: Global,
     column: u16,
     parts: [Expr; N],

@@ -1,0 +1,6 @@
+//! Trees of the worked examples, each of the text that stands above it.
+#![tactic(auto)]
+
+pub mod loops;
+pub mod operators;
+pub mod variables;
