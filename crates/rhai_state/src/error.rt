@@ -78,8 +78,8 @@ impl<H> EvalAltResult<H> {
             | EvalAltResult::ErrorDataTooLarge(_, at)
             | EvalAltResult::ErrorOutOfMemory(at)
             | EvalAltResult::Exit(_, at)
-            | EvalAltResult::Return(_, at)
-            | EvalAltResult::LoopBreak(_, _, at) => *at,
+            | EvalAltResult::Return(_, at) => *at,
+            EvalAltResult::LoopBreak(_, _, at) => *at,
         }
     }
 

@@ -8,3 +8,8 @@ returns-then-eq g c =
     let place : suc (c.imports.at - 1) ≡ c.imports.at = omega arith in
     sym (newest_here import_name c.args.name.now c.args.imports.now (c.imports.at - 1) c.index-imports-at.result (omega arith)
     (rw place c.imports.invariant.0) c.index-imports-at.is (cc))
+
+pub returns : goal.returns
+returns g c =
+    let start : c.imports.at ≡ 0 = omega arith in
+    sym (rw start at c.imports.invariant.0)
