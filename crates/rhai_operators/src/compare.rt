@@ -54,7 +54,8 @@ fn type_of<H>(value: &Union<H>) -> Option<u8>
         Union::Blob(_) => Some(8),
         Union::Map(_) => Some(9),
         Union::FnPtr(_) => Some(10),
-        Union::Host(_) | Union::Cell(_) => None,
+        Union::Host(_) => None,
+        Union::Cell(_) => None,
     }
 }
 

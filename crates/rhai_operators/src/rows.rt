@@ -143,10 +143,10 @@ fn assigns_truths(op: Token) -> bool
 pub(crate) fn assigns<H>(op: Token, x: &Union<H>, y: &Union<H>) -> bool
     ensures { result ≡ spec.assigns op x.now y.now }
 {
-    match x {
-        Union::Int(_) => matches!(y, Union::Int(_)) && assigns_integers(op),
-        Union::Bool(_) => matches!(y, Union::Bool(_)) && assigns_truths(op),
-        Union::Str(_) => matches!(y, Union::Str(_) | Union::Char(_)) && op == Token::Plus,
+    match (x, y) {
+        (Union::Int(_), Union::Int(_)) => assigns_integers(op),
+        (Union::Bool(_), Union::Bool(_)) => assigns_truths(op),
+        (Union::Str(_), Union::Str(_) | Union::Char(_)) => op == Token::Plus,
         _ => false,
     }
 }

@@ -1,3 +1,4 @@
+use Rattle.std.proofs.Common.{rules}
 use Rattle.rhai_operators.proofs.Table.{beside_integer, beside_truth, beside_character, beside_text, beside_unit}
 use Rattle.rhai_operators.proofs.binary.Goals as goal
 
@@ -25,3 +26,9 @@ pub returns-in_default-y-5 : goal.returns-in_default-y-5
 returns-in_default-y-5 g c =
     rw (c.in-Unit.is, beside_unit c.args.op c.args.y.now c.in_default-y-5.not-Unit)
     (rw (c.of_types-in_default-y-5.ensures, c.in-Unit.is) at c.answer-in_default-y-5.ensures)
+
+pub returns-in-Char-y-2 : goal.returns-in-Char-y-2
+returns-in-Char-y-2 g c = search rules
+
+pub returns-in-Unit-y : goal.returns-in-Unit-y
+returns-in-Unit-y g c = search rules
