@@ -36,7 +36,8 @@ pub fn track_operation<H: Host>(
     ensures refused { IfErr result (λ e. e ≡ error.ErrorTooManyOperations pos) }
     ensures same { IfErr result (λ _. global.new ≡ global.old) }
 {
-    if global.num_operations >= limit(limits) {
+    let is_spent = global.num_operations >= limit(limits);
+    if is_spent {
         return Err(EvalAltResult::ErrorTooManyOperations(pos));
     }
     global.num_operations += 1;

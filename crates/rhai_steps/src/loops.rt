@@ -95,9 +95,6 @@ pub fn do_next<H: Host>(options: ASTFlags, holds: bool) -> Option<Dynamic<H>>
 pub fn chosen<'a>(holds: bool, body: &'a StmtBlock, branch: &'a StmtBlock) -> &'a [Stmt]
     ensures { result.now ≡ (if holds then body.now.statements else branch.now.statements) }
 {
-    if holds {
-        body.statements.as_slice()
-    } else {
-        branch.statements.as_slice()
-    }
+    let block = if holds { body } else { branch };
+    block.statements.as_slice()
 }

@@ -139,7 +139,8 @@ pub fn find_variable<'s, H: Host>(
 pub fn mode_of(options: ASTFlags) -> AccessMode
     ensures { result ≡ mode_asked options }
 {
-    if options.contains(ASTFlags::CONSTANT) {
+    let is_constant = options.contains(ASTFlags::CONSTANT);
+    if is_constant {
         AccessMode::ReadOnly
     } else {
         AccessMode::ReadWrite
