@@ -1,4 +1,4 @@
-use Rattle.std.proofs.Common.{refl, arith}
+use Rattle.std.proofs.Common.{refl, rules, arith}
 use Rattle.rhai_steps.proofs.charges.track_operation.Goals as goal
 
 pub returns-then-is_spent-clause-full : goal.returns-then-is_spent-clause-full
@@ -8,7 +8,7 @@ pub returns-then-is_spent-clause-same : goal.returns-then-is_spent-clause-same
 returns-then-is_spent-clause-same g c = refl
 
 pub returns-clause-room : goal.returns-clause-room
-returns-clause-room g c = omega (arith, c.limit.ensures)
+returns-clause-room g c = search rules
 
 pub returns-clause-charged : goal.returns-clause-charged
 returns-clause-charged g c = refl
