@@ -1,3 +1,4 @@
 pub mod Offsets
+pub mod Outcome
 pub mod Refused
 pub mod Walk

@@ -46,12 +46,12 @@ abbrev pub stmt_tests : StmtLayer → layer.Stmt-F Tests Verdict (Unit {0}) Test
 stmt_tests = map-Stmt Expr Stmt ConditionalExpr FnCallExpr MapEntry StmtBlock Tests Verdict (Unit {0}) Test (Unit {0}) Test
     tests_of resolves_stmt (λ conditional. tt) resolves_call (λ entry. tt) resolves_block
 
-seen-expr : (e : Expr) (l : ExprLayer) → out-Expr e ≡ l → seen_expr e ≡ seen.expr_step (expr_faults l)
+pub seen-expr : (e : Expr) (l : ExprLayer) → out-Expr e ≡ l → seen_expr e ≡ seen.expr_step (expr_faults l)
 seen-expr e l is = fold_out-Expr Seen SeenStmt (Unit {0}) SeenCall (Unit {0}) Seen
     seen.expr_step seen.stmt_step (λ conditional. tt) seen.call_step (λ entry. tt) seen.block_step e
     ∙ ap (λ (k : ExprLayer). seen.expr_step (expr_faults k)) is
 
-seen-stmt : (s : Stmt) (l : StmtLayer) → out-Stmt s ≡ l → seen_stmt s ≡ seen.stmt_step (stmt_faults l)
+pub seen-stmt : (s : Stmt) (l : StmtLayer) → out-Stmt s ≡ l → seen_stmt s ≡ seen.stmt_step (stmt_faults l)
 seen-stmt s l is = fold_out-Stmt Seen SeenStmt (Unit {0}) SeenCall (Unit {0}) Seen
     seen.expr_step seen.stmt_step (λ conditional. tt) seen.call_step (λ entry. tt) seen.block_step s
     ∙ ap (λ (k : StmtLayer). seen.stmt_step (stmt_faults k)) is

@@ -1,10 +1,15 @@
-use Rattle.std.proofs.Common.{◌≡◌, ap, ◌∙◌, refl, ◌++◌, true, arith, length, ◌≤◌}
+use Rattle.std.proofs.Common.{◌≡◌, ap, ◌∙◌, sym, rules, refl, ◌++◌, true, arith, length, ◌≤◌}
 use Rattle.rhai_tree.specs.declared.expr.Expr.TheOpen as layer
-use Rattle.rhai_tree.specs.declared.expr.Expr.TheVariants.{outs-Variable}
-use Rattle.rhai_tree.specs.declared.expr.Stmt.TheVariants.{outs-If, outs-Noop}
+use Rattle.rhai_tree.specs.declared.expr.Expr.TheVariants.{outs-Variable, outs-Or}
+use Rattle.rhai_tree.specs.declared.expr.Stmt.TheVariants.{outs-If, outs-Noop, outs-While}
 use Rattle.rhai_check.specs.Context.{around}
+use Rattle.rhai_check.specs.Frame.{tests_of}
+use Rattle.rhai_check.specs.WellFormed.{seen_expr}
 use Rattle.rhai_check.specs.Names.{is_good}
+use Rattle.std.proofs.lemmas.Grind.{common_steps}
 use Rattle.rhai_check.proofs.Offsets.{variable_above}
+use Rattle.rhai_check.proofs.Outcome.{given_ok, err_then, exact_expr_at, exact_stmt_at, resolved_expr_at, refused_expr_at}
+use Rattle.rhai_check.proofs.Outcome.{target_refused, exported_refused, var_passes, var_runs, control_passes, control_refused, loop_passes}
 use Rattle.rhai_check.proofs.Refused.{refused, refuses_expr, refuses_stmt, refuses_first, refuses_later}
 use Rattle.rhai_check.proofs.Walk.{refuses_stmt_at, resolves-expr, resolves-stmt}
 use Rattle.rhai_check.proofs.check.+check.Goals as goal
@@ -53,3 +58,76 @@ expr::check_expr-returns-then-is_good-clause-resolved t c base =
     (resolves-expr c.args.expr.now (layer.Variable c.in-Variable.offset c.in-Variable.name c.in-Variable.namespace c.in-Variable.pos)
     (rw (c.in-Variable.is, outs-Variable) refl))
     ∙ variable_above base c.in-Variable.namespace.path c.in-Variable.offset c.in-Variable.name c.args.names.now none good
+
+pub stmt::check_stmt-returns-in_err-check_expr-in-While-clause-refused : goal.stmt::check_stmt-returns-in_err-check_expr-in-While-clause-refused
+stmt::check_stmt-returns-in_err-check_expr-in-While-clause-refused t c =
+    refused _ _ _ _ c.from_residual-in_err-check_expr-in-While.ensures
+    (refuses_stmt_at c.args.stmt.now (layer.While c.in-While.expr c.in-While.body c.in-While.field-2) (around c.args.names.now c.args.place) _ (rw (c.in-While.is, outs-While) refl)
+    (refuses_first _ _ _ _ _ c.in_err-check_expr-in-While.ensures.refused))
+
+pub stmt::check_stmt-returns-in_ok-check_expr-in-While-clause-exact : goal.stmt::check_stmt-returns-in_ok-check_expr-in-While-clause-exact
+stmt::check_stmt-returns-in_ok-check_expr-in-While-clause-exact t c =
+    exact_stmt_at _ c.args.stmt.now (layer.While c.in-While.expr c.in-While.body c.in-While.field-2) (around c.args.names.now c.args.place) _ (rw (c.in-While.is, outs-While) refl)
+    (loop_passes _ _ _ c.args.place c.args.names.now _ c.in_ok-check_expr-in-While.ensures.exact
+    (rw (c.in_ok-check_expr-in-While.ensures.same, c.looping.ensures) at c.check_block-in-While.ensures.exact)
+    (rw c.in_ok-check_expr-in-While.ensures.same at c.check_block-in-While.ensures.same))
+
+pub stmt::check_stmt-returns-in_ok-check_expr-in-While-clause-refused : goal.stmt::check_stmt-returns-in_ok-check_expr-in-While-clause-refused
+stmt::check_stmt-returns-in_ok-check_expr-in-While-clause-refused t c =
+    err_then _ (λ e h. refuses_stmt_at c.args.stmt.now (layer.While c.in-While.expr c.in-While.body c.in-While.field-2) (around c.args.names.now c.args.place) e (rw (c.in-While.is, outs-While) refl)
+    (refuses_later _ _ _ _ e c.in_ok-check_expr-in-While.ensures.exact h))
+    (rw (c.in_ok-check_expr-in-While.ensures.same, c.looping.ensures) at c.check_block-in-While.ensures.refused)
+
+pub stmt::check_var-returns-then-contains-clause-refused : goal.stmt::check_var-returns-then-contains-clause-refused
+stmt::check_var-returns-then-contains-clause-refused t c =
+    exported_refused (seen_expr c.args.expr.now) c.args.options c.args.pos (around c.args.names.now c.args.place) (sym (c.if-contains.ensures tt))
+
+pub stmt::check_var-returns-clause-declared : goal.stmt::check_var-returns-clause-declared
+stmt::check_var-returns-clause-declared t c =
+    rw (← c.in_ok-check_expr.ensures.same) (search refl)
+
+pub stmt::check_var-returns-clause-exact : goal.stmt::check_var-returns-clause-exact
+stmt::check_var-returns-clause-exact t c =
+    given_ok _ (var_passes (seen_expr c.args.expr.now) c.args.options c.args.pos (around c.args.names.now c.args.place) (sym (c.if-contains.ensures tt))
+    c.in_ok-check_expr.ensures.exact)
+
+pub stmt::check_var-returns-clause-resolved : goal.stmt::check_var-returns-clause-resolved
+stmt::check_var-returns-clause-resolved t c =
+    var_runs _ (tests_of c.args.expr.now) c.args.options c.args.name.now c.args.names.now _ (sym (c.if-contains.ensures tt))
+    c.in_ok-check_expr.ensures.resolved (rw c.in_ok-check_expr.ensures.same at c.declare.ensures.added)
+
+pub stmt::check_control-returns-clause-exact : goal.stmt::check_control-returns-clause-exact
+stmt::check_control-returns-clause-exact t c =
+    let inside : c.args.place.in_loop ≡ true = search rules in
+    control_passes _ c.args.pos (around c.args.names.now c.args.place) _ inside c.check_option.ensures.exact
+
+pub stmt::check_control-returns-clause-refused : goal.stmt::check_control-returns-clause-refused
+stmt::check_control-returns-clause-refused t c =
+    let inside : c.args.place.in_loop ≡ true = search rules in
+    control_refused _ c.args.pos (around c.args.names.now c.args.place) _ _ inside c.check_option.ensures.refused
+
+pub stmt::check_block-returns-clause-same : goal.stmt::check_block-returns-clause-same
+stmt::check_block-returns-clause-same t c = grind (arith, common_steps)
+
+pub expr::check_target-returns-else-is_place-clause-exact : goal.expr::check_target-returns-else-is_place-clause-exact
+expr::check_target-returns-else-is_place-clause-exact t c = tt
+
+pub expr::check_target-returns-else-is_place-clause-refused : goal.expr::check_target-returns-else-is_place-clause-refused
+expr::check_target-returns-else-is_place-clause-refused t c =
+    target_refused (seen_expr c.args.lhs.now) (around c.args.names.now c.args.place) c.first_token.result
+    (sym c.is_place.ensures.seen ∙ c.if-is_place.false) c.first_token.ensures
+
+pub expr::check_expr-returns-in-Or-clause-exact : goal.expr::check_expr-returns-in-Or-clause-exact
+expr::check_expr-returns-in-Or-clause-exact t c =
+    exact_expr_at _ c.args.expr.now (layer.Or c.in-Or.parts c.in-Or.field-1) _ (rw (c.in-Or.is, outs-Or) refl)
+    (rw c.as_slice-in-Or.ensures at c.check_exprs-in-Or.ensures.exact)
+
+pub expr::check_expr-returns-in-Or-clause-resolved : goal.expr::check_expr-returns-in-Or-clause-resolved
+expr::check_expr-returns-in-Or-clause-resolved t c =
+    resolved_expr_at _ c.args.expr.now (layer.Or c.in-Or.parts c.in-Or.field-1) c.args.names.now (rw (c.in-Or.is, outs-Or) refl)
+    (rw c.as_slice-in-Or.ensures at c.check_exprs-in-Or.ensures.resolved)
+
+pub expr::check_expr-returns-in-Or-clause-refused : goal.expr::check_expr-returns-in-Or-clause-refused
+expr::check_expr-returns-in-Or-clause-refused t c =
+    refused_expr_at _ c.args.expr.now (layer.Or c.in-Or.parts c.in-Or.field-1) _ (rw (c.in-Or.is, outs-Or) refl)
+    (rw c.as_slice-in-Or.ensures at c.check_exprs-in-Or.ensures.refused)

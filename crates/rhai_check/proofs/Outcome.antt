@@ -1,0 +1,95 @@
+-- What a call's result says of a form, from one level of the form.
+use Rattle.std.proofs.Common.{◌≡◌, ap, sym, ◌∙◌, subst, List, [], ◌∷◌, ◌++◌, Bool, true, false, IsTrue, refl, Result, Ok, Err}
+use Rattle.std.proofs.Common.{append_assoc, if◌then◌else◌}
+use Rattle.std.specs.Result.{IfErr, OnOk}
+use Rattle.rhai_check.specs.declared.check.CheckFault.{CheckFault}
+use Rattle.rhai_check.specs.declared.check.CheckFault.TheVariants.{BadAssignment, LoopControlOutside, NotYet}
+use Rattle.rhai_check.specs.declared.check.place.Place.{Place}
+use Rattle.rhai_tree.specs.declared.expr.Expr.{Expr, out-Expr}
+use Rattle.rhai_tree.specs.declared.expr.Stmt.{Stmt, out-Stmt}
+use Rattle.rhai_tree.specs.declared.flags.ASTFlags.{ASTFlags}
+use Rattle.rhai_tree.specs.declared.position.Position.{Position}
+use Rattle.rhai_tree.specs.Layers.{ExprLayer, StmtLayer}
+use Rattle.rhai_check.specs.Context.{Context, around}
+use Rattle.rhai_check.specs.Declares as declares
+use Rattle.rhai_check.specs.Declares.{declares_expr, declares_stmt}
+use Rattle.rhai_check.specs.Forms.{is_exported}
+use Rattle.rhai_check.specs.Frame as frame
+use Rattle.rhai_check.specs.Frame.{Tests, tests_of, var_resolves}
+use Rattle.rhai_check.specs.Names.{Name}
+use Rattle.rhai_check.specs.Refusals.{IsFirst, Refuses}
+use Rattle.rhai_check.specs.WellFormed as seen
+use Rattle.rhai_check.specs.WellFormed.{Seen, SeenStmt, seen_expr, seen_stmt, target_faults, control_faults, var_faults}
+use Rattle.rhai_check.proofs.Walk.{expr_faults, stmt_faults, expr_declares, stmt_declares, expr_tests, seen-expr, seen-stmt}
+use Rattle.rhai_check.proofs.Walk.{resolves-expr, refuses_expr_at, refuses_stmt_at}
+
+-- what always holds holds where a call gives no error
+pub given_ok : {A : Type 0} {P : Type 0} (r : Result A CheckFault) → P → OnOk r P
+given_ok (Ok x) p = p
+given_ok (Err e) p = tt
+
+-- what follows from what holds where a call gives no error
+pub ok_then : {A : Type 0} {P Q : Type 0} (r : Result A CheckFault) → (P → Q) → OnOk r P → OnOk r Q
+ok_then (Ok x) f p = f p
+ok_then (Err e) f p = tt
+
+-- what follows from what a call says of its error
+pub err_then : {A : Type 0} {P Q : CheckFault → Type 0} (r : Result A CheckFault) → ((e : CheckFault) → P e → Q e) → IfErr r P → IfErr r Q
+err_then (Ok x) f p = tt
+err_then (Err e) f p = f e p
+
+-- a form without faults
+pub exact_expr_at : {A : Type 0} (r : Result A CheckFault) (e : Expr) (l : ExprLayer) (c : Context) → out-Expr e ≡ l
+    → OnOk r ((seen.expr_step (expr_faults l)).value c ≡ []) → OnOk r ((seen_expr e).value c ≡ [])
+exact_expr_at r e l c is h = subst (λ (s : Seen). OnOk r (s.value c ≡ [])) (sym (seen-expr e l is)) h
+
+pub exact_stmt_at : {A : Type 0} (r : Result A CheckFault) (s : Stmt) (l : StmtLayer) (c d : Context) → out-Stmt s ≡ l
+    → OnOk r (seen.stmt_step (stmt_faults l) c ≡ ([], d)) → OnOk r (seen_stmt s c ≡ ([], d))
+exact_stmt_at r s l c d is h = subst (λ (f : SeenStmt). OnOk r (f c ≡ ([], d))) (sym (seen-stmt s l is)) h
+
+pub resolved_expr_at : {A : Type 0} (r : Result A CheckFault) (e : Expr) (l : ExprLayer) (names : List Name) → out-Expr e ≡ l
+    → OnOk r ((base : List Name) → IsTrue ((frame.expr_step (expr_tests l)).value (base ++ names)))
+    → OnOk r ((base : List Name) → IsTrue ((tests_of e).value (base ++ names)))
+resolved_expr_at r e l names is h =
+    subst (λ (s : Tests). OnOk r ((base : List Name) → IsTrue (s.value (base ++ names)))) (sym (resolves-expr e l is)) h
+
+pub refused_expr_at : {A : Type 0} (r : Result A CheckFault) (e : Expr) (l : ExprLayer) (c : Context) → out-Expr e ≡ l
+    → IfErr r (λ fault. Refuses ((seen.expr_step (expr_faults l)).value c) (declares.expr_step (expr_declares l)) fault)
+    → IfErr r (λ fault. Refuses ((seen_expr e).value c) (declares_expr e) fault)
+refused_expr_at r e l c is h = err_then r (λ fault. refuses_expr_at e l c fault is) h
+
+-- the left side of an assignment that is no place
+pub target_refused : (s : Seen) (c : Context) (pos : Position) → s.is_place ≡ false → pos ≡ s.start
+    → IsFirst (target_faults s c) (BadAssignment pos)
+target_refused s c pos not_place is = rw (not_place, is) refl
+
+-- a variable that is exported, and one that is not
+pub exported_refused : (s : Seen) (options : ASTFlags) (pos : Position) (c : Context) → is_exported options ≡ true
+    → IsFirst (var_faults s options pos c) (NotYet pos)
+exported_refused s options pos c exported = rw exported refl
+
+pub var_passes : (s : Seen) (options : ASTFlags) (pos : Position) (c : Context) → is_exported options ≡ false → s.value c ≡ []
+    → var_faults s options pos c ≡ []
+var_passes s options pos c private h = rw (private, h) refl
+
+pub var_runs : {A : Type 0} (r : Result A CheckFault) (s : Tests) (options : ASTFlags) (name : Name) (names new : List Name)
+    → is_exported options ≡ false → ((base : List Name) → IsTrue (s.value (base ++ names))) → OnOk r (new ≡ names ++ name ∷ [])
+    → OnOk r ((base : List Name) → var_resolves s options name (base ++ names) ≡ (true, base ++ new))
+var_runs (Ok x) s options name names new private h is = λ base. rw (private, h base, is, append_assoc) refl
+var_runs (Err e) s options name names new private h is = tt
+
+-- a `break` or a `continue` in a loop
+pub control_passes : {A : Type 0} (r : Result A CheckFault) (pos : Position) (c : Context) (fs : List CheckFault) → c.in_loop ≡ true
+    → OnOk r (fs ≡ []) → OnOk r (control_faults pos c ++ fs ≡ [])
+control_passes r pos c fs inside h = subst (λ (b : Bool). OnOk r ((if b then [] else LoopControlOutside pos ∷ []) ++ fs ≡ [])) (sym inside) h
+
+pub control_refused : {A : Type 0} (r : Result A CheckFault) (pos : Position) (c : Context) (fs : List CheckFault) (declares : Bool)
+    → c.in_loop ≡ true → IfErr r (λ fault. Refuses fs declares fault) → IfErr r (λ fault. Refuses (control_faults pos c ++ fs) declares fault)
+control_refused r pos c fs declares inside h = subst
+    (λ (b : Bool). IfErr r (λ fault. Refuses ((if b then [] else LoopControlOutside pos ∷ []) ++ fs) declares fault)) (sym inside) h
+
+-- a loop whose condition and body pass
+pub loop_passes : {A : Type 0} (r : Result A CheckFault) (test body : List CheckFault) (place : Place) (names new : List Name)
+    → test ≡ [] → OnOk r (body ≡ []) → OnOk r (new ≡ names) → OnOk r (◌≡◌ {A = List CheckFault × Context} (test ++ body, around names place) ([], around new place))
+loop_passes (Ok x) test body place names new t b same = rw (t, b, same) refl
+loop_passes (Err e) test body place names new t b same = tt
