@@ -81,15 +81,18 @@ var_runs (Err e) s options name names new private h is = tt
 -- a `break` or a `continue` in a loop
 pub control_passes : {A : Type 0} (r : Result A CheckFault) (pos : Position) (c : Context) (fs : List CheckFault) → c.in_loop ≡ true
     → OnOk r (fs ≡ []) → OnOk r (control_faults pos c ++ fs ≡ [])
-control_passes r pos c fs inside h = subst (λ (b : Bool). OnOk r ((if b then [] else LoopControlOutside pos ∷ []) ++ fs ≡ [])) (sym inside) h
+control_passes r pos c fs inside h =
+    subst (λ (b : Bool). OnOk r ((if b then [] else LoopControlOutside pos ∷ []) ++ fs ≡ [])) (sym inside) h
 
 pub control_refused : {A : Type 0} (r : Result A CheckFault) (pos : Position) (c : Context) (fs : List CheckFault) (declares : Bool)
-    → c.in_loop ≡ true → IfErr r (λ fault. Refuses fs declares fault) → IfErr r (λ fault. Refuses (control_faults pos c ++ fs) declares fault)
+    → c.in_loop ≡ true → IfErr r (λ fault. Refuses fs declares fault)
+    → IfErr r (λ fault. Refuses (control_faults pos c ++ fs) declares fault)
 control_refused r pos c fs declares inside h = subst
     (λ (b : Bool). IfErr r (λ fault. Refuses ((if b then [] else LoopControlOutside pos ∷ []) ++ fs) declares fault)) (sym inside) h
 
 -- a loop whose condition and body pass
 pub loop_passes : {A : Type 0} (r : Result A CheckFault) (test body : List CheckFault) (place : Place) (names new : List Name)
-    → test ≡ [] → OnOk r (body ≡ []) → OnOk r (new ≡ names) → OnOk r (◌≡◌ {A = List CheckFault × Context} (test ++ body, around names place) ([], around new place))
+    → test ≡ [] → OnOk r (body ≡ []) → OnOk r (new ≡ names)
+    → OnOk r (◌≡◌ {A = List CheckFault × Context} (test ++ body, around names place) ([], around new place))
 loop_passes (Ok x) test body place names new t b same = rw (t, b, same) refl
 loop_passes (Err e) test body place names new t b same = tt

@@ -59,37 +59,43 @@ expr::check_expr-returns-then-is_good-clause-resolved t c base =
     (rw (c.in-Variable.is, outs-Variable) refl))
     ∙ variable_above base c.in-Variable.namespace.path c.in-Variable.offset c.in-Variable.name c.args.names.now none good
 
-pub stmt::check_stmt-returns-in_err-check_expr-in-While-clause-refused : goal.stmt::check_stmt-returns-in_err-check_expr-in-While-clause-refused
+pub stmt::check_stmt-returns-in_err-check_expr-in-While-clause-refused :
+    goal.stmt::check_stmt-returns-in_err-check_expr-in-While-clause-refused
 stmt::check_stmt-returns-in_err-check_expr-in-While-clause-refused t c =
     refused _ _ _ _ c.from_residual-in_err-check_expr-in-While.ensures
-    (refuses_stmt_at c.args.stmt.now (layer.While c.in-While.expr c.in-While.body c.in-While.field-2) (around c.args.names.now c.args.place) _ (rw (c.in-While.is, outs-While) refl)
+    (refuses_stmt_at c.args.stmt.now (layer.While c.in-While.expr c.in-While.body c.in-While.field-2)
+    (around c.args.names.now c.args.place) _ (rw (c.in-While.is, outs-While) refl)
     (refuses_first _ _ _ _ _ c.in_err-check_expr-in-While.ensures.refused))
 
 pub stmt::check_stmt-returns-in_ok-check_expr-in-While-clause-exact : goal.stmt::check_stmt-returns-in_ok-check_expr-in-While-clause-exact
 stmt::check_stmt-returns-in_ok-check_expr-in-While-clause-exact t c =
-    exact_stmt_at _ c.args.stmt.now (layer.While c.in-While.expr c.in-While.body c.in-While.field-2) (around c.args.names.now c.args.place) _ (rw (c.in-While.is, outs-While) refl)
+    exact_stmt_at _ c.args.stmt.now (layer.While c.in-While.expr c.in-While.body c.in-While.field-2)
+    (around c.args.names.now c.args.place) _ (rw (c.in-While.is, outs-While) refl)
     (loop_passes _ _ _ c.args.place c.args.names.now _ c.in_ok-check_expr-in-While.ensures.exact
     (rw (c.in_ok-check_expr-in-While.ensures.same, c.looping.ensures) at c.check_block-in-While.ensures.exact)
     (rw c.in_ok-check_expr-in-While.ensures.same at c.check_block-in-While.ensures.same))
 
-pub stmt::check_stmt-returns-in_ok-check_expr-in-While-clause-refused : goal.stmt::check_stmt-returns-in_ok-check_expr-in-While-clause-refused
+pub stmt::check_stmt-returns-in_ok-check_expr-in-While-clause-refused :
+    goal.stmt::check_stmt-returns-in_ok-check_expr-in-While-clause-refused
 stmt::check_stmt-returns-in_ok-check_expr-in-While-clause-refused t c =
-    err_then _ (λ e h. refuses_stmt_at c.args.stmt.now (layer.While c.in-While.expr c.in-While.body c.in-While.field-2) (around c.args.names.now c.args.place) e (rw (c.in-While.is, outs-While) refl)
+    err_then _ (λ e h. refuses_stmt_at c.args.stmt.now (layer.While c.in-While.expr c.in-While.body c.in-While.field-2)
+    (around c.args.names.now c.args.place) e (rw (c.in-While.is, outs-While) refl)
     (refuses_later _ _ _ _ e c.in_ok-check_expr-in-While.ensures.exact h))
     (rw (c.in_ok-check_expr-in-While.ensures.same, c.looping.ensures) at c.check_block-in-While.ensures.refused)
 
 pub stmt::check_var-returns-then-contains-clause-refused : goal.stmt::check_var-returns-then-contains-clause-refused
 stmt::check_var-returns-then-contains-clause-refused t c =
-    exported_refused (seen_expr c.args.expr.now) c.args.options c.args.pos (around c.args.names.now c.args.place) (sym (c.if-contains.ensures tt))
+    exported_refused (seen_expr c.args.expr.now) c.args.options c.args.pos (around c.args.names.now c.args.place)
+    (sym (c.if-contains.ensures tt))
 
 pub stmt::check_var-returns-clause-declared : goal.stmt::check_var-returns-clause-declared
 stmt::check_var-returns-clause-declared t c =
-    rw (← c.in_ok-check_expr.ensures.same) (search refl)
+    search (sym c.in_ok-check_expr.ensures.same)
 
 pub stmt::check_var-returns-clause-exact : goal.stmt::check_var-returns-clause-exact
 stmt::check_var-returns-clause-exact t c =
-    given_ok _ (var_passes (seen_expr c.args.expr.now) c.args.options c.args.pos (around c.args.names.now c.args.place) (sym (c.if-contains.ensures tt))
-    c.in_ok-check_expr.ensures.exact)
+    given_ok _ (var_passes (seen_expr c.args.expr.now) c.args.options c.args.pos (around c.args.names.now c.args.place)
+    (sym (c.if-contains.ensures tt)) c.in_ok-check_expr.ensures.exact)
 
 pub stmt::check_var-returns-clause-resolved : goal.stmt::check_var-returns-clause-resolved
 stmt::check_var-returns-clause-resolved t c =

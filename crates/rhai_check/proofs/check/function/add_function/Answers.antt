@@ -1,8 +1,4 @@
-use Rattle.std.proofs.Common.{rules}
 use Rattle.rhai_check.proofs.check.function.add_function.Goals as goal
-
-pub new-requires-clause-formed : goal.new-requires-clause-formed
-new-requires-clause-formed c = search rules
 
 pub new-requires-clause-resolves : goal.new-requires-clause-resolves
 new-requires-clause-resolves c = c.in_ok-check_def.ensures.resolved
