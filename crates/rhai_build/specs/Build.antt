@@ -1,7 +1,8 @@
 -- The forms of the tree that the bench builds. A place is a column of the first line.
-use Rattle.std.specs.Prelude.{◌≡◌, ℕ, List, [], Option, Some, None, false, MatchOption}
+use Rattle.std.specs.Prelude.{◌≡◌, ℕ, List, [], Option, Some, None, false, true, MatchOption}
 use Rattle.std.specs.declared.num.NonZeroUsize.{NonZeroUsize}
 use Rattle.std.specs.Int.NonZero.{non_zero_usize_get}
+use Rattle.rhai_build.specs.declared.Builder.{Builder}
 use Rattle.rhai_tree.specs.Position.{at, none}
 use Rattle.rhai_tree.specs.declared.flags.ASTFlags.{ASTFlags}
 use Rattle.rhai_tree.specs.declared.token.Token.{Token}
@@ -12,6 +13,10 @@ use Rattle.rhai_tree.specs.declared.expr.StmtBlock.{StmtBlock}
 use Rattle.rhai_tree.specs.declared.expr.Expr.{Expr}
 use Rattle.rhai_tree.specs.declared.expr.Expr.TheVariants as expr
 use Rattle.rhai_tree.specs.declared.expr.Stmt.{Stmt}
+
+-- what was made is so, unless memory has run out by then
+abbrev pub Made : Builder → Builder → Type 0 → Type 0
+Made before after fact = after.has_memory ≡ true → (before.has_memory ≡ true) × fact
 
 -- a name at a column
 abbrev pub ident_at : List ℕ → ℕ → Ident

@@ -1,14 +1,13 @@
 //! Expressions.
 
-ghost use Rattle.std.specs.Prelude.{◌≡◌, ◌≢◌, IfOk};
+ghost use Rattle.std.specs.Prelude.{◌≡◌, ◌≢◌};
 ghost use Rattle.rhai_tree.specs.Position.{at as place};
 ghost use Rattle.rhai_tree.specs.declared.expr.Expr.TheVariants as expr;
-ghost use Rattle.rhai_build.specs.Build.{IsVariable, operator_at};
+ghost use Rattle.rhai_build.specs.Build.{IsVariable, Made, operator_at};
 
-use crate::{at, list, no_namespace, shared};
+use crate::{Builder, at, no_namespace};
 use rhai_tree::expr::{Expr, FnCallExpr};
 use rhai_tree::token::Token;
-use std::alloc::{AllocError, Global};
 use std::num::NonZeroUsize;
 
 /// An integer.
@@ -35,64 +34,72 @@ pub fn unit(column: u16) -> Expr
     Expr::Unit(at(column))
 }
 
-/// A variable. Its offset counts from the end of the scope; zero is none, and the name is searched.
-pub fn variable(alloc: Global, name: &str, offset: usize, column: u16) -> Result<Expr, AllocError>
-    requires { column ≢ 0 }
-    ensures { IfOk result (IsVariable name.now offset column) }
-{
-    Ok(Expr::Variable {
-        offset: NonZeroUsize::new(offset),
-        name: shared(alloc, name)?,
-        namespace: no_namespace(alloc),
-        pos: at(column),
-    })
-}
+impl Builder {
+    /// A variable. Its offset counts from the end of the scope; zero is none, and the name is
+    /// searched.
+    pub fn variable(&mut self, name: &str, offset: usize, column: u16) -> Expr
+        requires { column ≢ 0 }
+        ensures { Made self.old self.new (IsVariable name.now offset column result) }
+    {
+        match self.name(name) {
+            Some(name) => Expr::Variable {
+                offset: NonZeroUsize::new(offset),
+                name,
+                namespace: no_namespace(self.alloc),
+                pos: at(column),
+            },
+            None => unit(column),
+        }
+    }
 
-/// A call that was written as an operator.
-pub fn operator<const N: usize>(
-    alloc: Global,
-    token: Token,
-    name: &str,
-    column: u16,
-    args: [Expr; N],
-) -> Result<Expr, AllocError>
-    requires { column ≢ 0 }
-    ensures { IfOk result (λ e. e ≡ operator_at token name.now column args.entry) }
-{
-    let call = FnCallExpr {
-        namespace: no_namespace(alloc),
-        name: shared(alloc, name)?,
-        args: list(alloc, args)?,
-        op_token: Some(token),
-        capture_parent_scope: false,
-    };
-    Ok(Expr::FnCall(call, at(column)))
-}
+    /// A call that was written as an operator.
+    pub fn operator<const N: usize>(
+        &mut self,
+        token: Token,
+        name: &str,
+        column: u16,
+        args: [Expr; N],
+    ) -> Expr
+        requires { column ≢ 0 }
+        ensures { Made self.old self.new (result ≡ operator_at token name.now column args.entry) }
+    {
+        let args = self.list(args);
+        match self.name(name) {
+            Some(name) => {
+                let call = FnCallExpr {
+                    namespace: no_namespace(self.alloc),
+                    name,
+                    args,
+                    op_token: Some(token),
+                    capture_parent_scope: false,
+                };
+                Expr::FnCall(call, at(column))
+            }
+            None => unit(column),
+        }
+    }
 
-/// Operands of `&&`.
-pub fn and<const N: usize>(alloc: Global, column: u16, parts: [Expr; N]) -> Result<Expr, AllocError>
-    requires { column ≢ 0 }
-    ensures { IfOk result (λ e. e ≡ expr.And parts.entry (place 1 column)) }
-{
-    Ok(Expr::And(list(alloc, parts)?, at(column)))
-}
+    /// Operands of `&&`.
+    pub fn and<const N: usize>(&mut self, column: u16, parts: [Expr; N]) -> Expr
+        requires { column ≢ 0 }
+        ensures { Made self.old self.new (result ≡ expr.And parts.entry (place 1 column)) }
+    {
+        Expr::And(self.list(parts), at(column))
+    }
 
-/// Operands of `||`.
-pub fn or<const N: usize>(alloc: Global, column: u16, parts: [Expr; N]) -> Result<Expr, AllocError>
-    requires { column ≢ 0 }
-    ensures { IfOk result (λ e. e ≡ expr.Or parts.entry (place 1 column)) }
-{
-    Ok(Expr::Or(list(alloc, parts)?, at(column)))
-}
+    /// Operands of `||`.
+    pub fn or<const N: usize>(&mut self, column: u16, parts: [Expr; N]) -> Expr
+        requires { column ≢ 0 }
+        ensures { Made self.old self.new (result ≡ expr.Or parts.entry (place 1 column)) }
+    {
+        Expr::Or(self.list(parts), at(column))
+    }
 
-/// Operands of `??`.
-pub fn coalesce<const N: usize>(
-    alloc: Global,
-    column: u16,
-    parts: [Expr; N],
-) -> Result<Expr, AllocError>
-    requires { column ≢ 0 }
-    ensures { IfOk result (λ e. e ≡ expr.Coalesce parts.entry (place 1 column)) }
-{
-    Ok(Expr::Coalesce(list(alloc, parts)?, at(column)))
+    /// Operands of `??`.
+    pub fn coalesce<const N: usize>(&mut self, column: u16, parts: [Expr; N]) -> Expr
+        requires { column ≢ 0 }
+        ensures { Made self.old self.new (result ≡ expr.Coalesce parts.entry (place 1 column)) }
+    {
+        Expr::Coalesce(self.list(parts), at(column))
+    }
 }

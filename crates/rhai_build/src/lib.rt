@@ -2,12 +2,12 @@
 //! counted from 1.
 #![tactic(auto)]
 
-ghost use Rattle.std.specs.Prelude.{◌≡◌, ◌≢◌, IfOk};
+ghost use Rattle.std.specs.Prelude.{◌≡◌, ◌≢◌, IfOk, MatchOption, false, true};
 ghost use Rattle.rhai_tree.specs.Position.{at as place};
-ghost use Rattle.rhai_build.specs.Build.{ident_at, unqualified};
+ghost use Rattle.rhai_build.specs.Build.{Made, unqualified};
 
 use rhai_items::{Items, Shared, Text};
-use rhai_tree::expr::{Ident, Namespace};
+use rhai_tree::expr::{Namespace, Stmt};
 use rhai_tree::position::Position;
 use std::alloc::{AllocError, Global};
 
@@ -22,8 +22,19 @@ pub fn at(column: u16) -> Position
     Position::new(1, column)
 }
 
+/// The namespace of a name without one.
+pub fn no_namespace(alloc: Global) -> Namespace
+    ensures { result ≡ unqualified }
+{
+    Namespace {
+        path: Items::new(alloc),
+        index: None,
+        position: Position::NONE,
+    }
+}
+
 /// A shared copy of a text.
-pub fn shared(alloc: Global, text: &str) -> Result<Shared<Text>, AllocError>
+fn shared(alloc: Global, text: &str) -> Result<Shared<Text>, AllocError>
     ensures { IfOk result (λ t. t ≡ text.now) }
 {
     Shared::new(alloc, Text::from_str(alloc, text)?)
@@ -36,24 +47,65 @@ pub fn list<T: Drop, const N: usize>(alloc: Global, items: [T; N]) -> Result<Ite
     Ok(Items::from_vec(Vec::from_array(alloc, items)?))
 }
 
-/// A name at a column.
-pub fn ident(alloc: Global, name: &str, column: u16) -> Result<Ident, AllocError>
-    requires { column ≢ 0 }
-    ensures { IfOk result (λ i. i ≡ ident_at name.now column) }
-{
-    Ok(Ident {
-        name: shared(alloc, name)?,
-        pos: at(column),
-    })
+/// Makes the parts of a tree. Where memory runs out it goes on, with forms in the place of those
+/// that could not be made, and `finish` answers the want of memory.
+#[derive(Drop)]
+pub struct Builder {
+    alloc: Global,
+    has_memory: bool,
 }
 
-/// The namespace of a name without one.
-pub fn no_namespace(alloc: Global) -> Namespace
-    ensures { result ≡ unqualified }
-{
-    Namespace {
-        path: Items::new(alloc),
-        index: None,
-        position: Position::NONE,
+impl Builder {
+    /// A builder that has made nothing.
+    pub fn new(alloc: Global) -> Builder
+        ensures { result.has_memory ≡ true }
+    {
+        Builder {
+            alloc,
+            has_memory: true,
+        }
+    }
+
+    /// The statements of a tree, or want of memory for them or for one of their parts.
+    pub fn finish<const N: usize>(
+        mut self,
+        statements: [Stmt; N],
+    ) -> Result<Items<Stmt>, AllocError>
+        ensures made { IfOk result (λ it. it ≡ statements.entry) }
+        ensures fed { IfOk result (λ _. self.has_memory ≡ true) }
+    {
+        let statements = self.list(statements);
+        if self.has_memory {
+            Ok(statements)
+        } else {
+            Err(AllocError)
+        }
+    }
+
+    /// A list of the items given.
+    fn list<T: Drop, const N: usize>(&mut self, items: [T; N]) -> Items<T>
+        ensures { Made self.old self.new (result ≡ items) }
+    {
+        match list(self.alloc, items) {
+            Ok(items) => items,
+            Err(AllocError) => {
+                self.has_memory = false;
+                Items::new(self.alloc)
+            }
+        }
+    }
+
+    /// A shared copy of a name, None where there was no memory for it.
+    fn name(&mut self, name: &str) -> Option<Shared<Text>>
+        ensures { MatchOption result (self.new.has_memory ≡ false)
+            (λ text. (text ≡ name.now) × (self.new.has_memory ≡ self.old.has_memory)) }
+    {
+        match shared(self.alloc, name) {
+            Ok(name) => Some(name),
+            Err(AllocError) => {
+                self.has_memory = false;
+                None
+            }
+        }
     }
 }

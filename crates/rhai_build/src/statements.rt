@@ -1,37 +1,84 @@
 //! Statements.
 
-ghost use Rattle.std.specs.Prelude.{◌≡◌, ◌≢◌, IfOk, Option, None, Some};
+ghost use Rattle.std.specs.Prelude.{◌≡◌, ◌≢◌, Option, None, Some};
 ghost use Rattle.rhai_tree.specs.Position.{at as place, none as nowhere};
 ghost use Rattle.rhai_tree.specs.declared.expr.Expr.TheVariants as expr;
 ghost use Rattle.rhai_tree.specs.declared.expr.Stmt.TheVariants as stmt;
 ghost use Rattle.rhai_build.specs.Build.{absent_block, assigned_by, block_at, break_option, constant_option};
-ghost use Rattle.rhai_build.specs.Build.{negated_option, no_options};
+ghost use Rattle.rhai_build.specs.Build.{ident_at, Made, negated_option, no_options};
 
-use crate::{at, list};
+use crate::{Builder, at};
 use bitflags::Flags;
 use rhai_items::Items;
 use rhai_tree::expr::{Expr, Ident, OpAssignment, Stmt, StmtBlock};
 use rhai_tree::flags::ASTFlags;
 use rhai_tree::position::Position;
 use rhai_tree::token::Token;
-use std::alloc::{AllocError, Global};
+use std::alloc::Global;
 
-/// Statements between two braces.
-pub fn block<const N: usize>(
-    alloc: Global,
-    statements: [Stmt; N],
-    opening: u16,
-    closing: u16,
-) -> Result<StmtBlock, AllocError>
-    requires opening { opening ≢ 0 }
-    requires closing { closing ≢ 0 }
-    ensures { IfOk result (λ b. b ≡ block_at statements.entry opening closing) }
-{
-    Ok(StmtBlock {
-        statements: list(alloc, statements)?,
-        position: at(opening),
-        end_position: at(closing),
-    })
+impl Builder {
+    /// Statements between two braces.
+    pub fn block<const N: usize>(
+        &mut self,
+        statements: [Stmt; N],
+        opening: u16,
+        closing: u16,
+    ) -> StmtBlock
+        requires opening { opening ≢ 0 }
+        requires closing { closing ≢ 0 }
+        ensures { Made self.old self.new (result ≡ block_at statements.entry opening closing) }
+    {
+        StmtBlock {
+            statements: self.list(statements),
+            position: at(opening),
+            end_position: at(closing),
+        }
+    }
+
+    /// A declaration of a variable, whose name stands at a column of its own.
+    pub fn let_stmt(&mut self, name: &str, at_name: u16, value: Expr, column: u16) -> Stmt
+        requires at_name { at_name ≢ 0 }
+        requires column { column ≢ 0 }
+        ensures { Made self.old self.new
+            (result ≡ stmt.Var (ident_at name.now at_name) value None no_options (place 1 column)) }
+    {
+        self.declaration(name, at_name, value, ASTFlags::empty(), column)
+    }
+
+    /// A declaration of a constant, whose name stands at a column of its own.
+    pub fn const_stmt(&mut self, name: &str, at_name: u16, value: Expr, column: u16) -> Stmt
+        requires at_name { at_name ≢ 0 }
+        requires column { column ≢ 0 }
+        ensures { Made self.old self.new
+            (result ≡ stmt.Var (ident_at name.now at_name) value None constant_option (place 1 column)) }
+    {
+        self.declaration(name, at_name, value, ASTFlags::CONSTANT, column)
+    }
+
+    fn declaration(
+        &mut self,
+        name: &str,
+        at_name: u16,
+        value: Expr,
+        options: ASTFlags,
+        column: u16,
+    ) -> Stmt
+        requires at_name { at_name ≢ 0 }
+        requires column { column ≢ 0 }
+        ensures { Made self.old self.new
+            (result ≡ stmt.Var (ident_at name.now at_name) value None options (place 1 column)) }
+    {
+        match self.name(name) {
+            Some(name) => {
+                let name = Ident {
+                    name,
+                    pos: at(at_name),
+                };
+                Stmt::Var(name, value, None, options, at(column))
+            }
+            None => Stmt::Noop(at(column)),
+        }
+    }
 }
 
 /// A block that the text does not have.
@@ -43,22 +90,6 @@ pub fn no_block(alloc: Global) -> StmtBlock
         position: Position::NONE,
         end_position: Position::NONE,
     }
-}
-
-/// A declaration of a variable.
-pub fn let_stmt(name: Ident, value: Expr, column: u16) -> Stmt
-    requires { column ≢ 0 }
-    ensures { result ≡ stmt.Var name value None no_options (place 1 column) }
-{
-    Stmt::Var(name, value, None, ASTFlags::empty(), at(column))
-}
-
-/// A declaration of a constant.
-pub fn const_stmt(name: Ident, value: Expr, column: u16) -> Stmt
-    requires { column ≢ 0 }
-    ensures { result ≡ stmt.Var name value None constant_option (place 1 column) }
-{
-    Stmt::Var(name, value, None, ASTFlags::CONSTANT, at(column))
 }
 
 /// An assignment, by an operator where there is one.
