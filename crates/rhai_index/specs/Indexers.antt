@@ -16,7 +16,7 @@ use Rattle.rhai_places.specs.declared.target.Part.{Part}
 use Rattle.rhai_places.specs.declared.target.Part.TheVariants as part
 use Rattle.rhai_places.specs.Refusals.{indexing_text}
 use Rattle.rhai_machine.specs.language.Calls.{placed_if_none, sized}
-use Rattle.rhai_machine.specs.language.Places.{is_constant}
+use Rattle.rhai_machine.specs.language.Places.{is_barred as barred}
 
 -- a call of an indexer on an object: its name, the index, the values after it, whether the object is lent to it, and where
 -- the call stands
@@ -51,9 +51,9 @@ module _ {H : Type 0} where
   abbrev pub asks_indexer : (use_indexers : Bool) → UnionLayer H → Bool
   asks_indexer use_indexers object = use_indexers && not (is_indexed object)
 
-  -- an indexer that is not pure gets no constant that is lent to it
+  -- it gets no constant that is lent to it, unless it is pure
   abbrev pub is_barred : (is_lent is_pure : Bool) → Dynamic H → Bool
-  is_barred is_lent is_pure object = is_lent && (not is_pure && is_constant object.mode)
+  is_barred is_lent is_pure object = is_lent && barred is_pure object
 
   -- ---- what it leaves
 

@@ -103,7 +103,7 @@ fn is_pure_on<H: Host, T: NativeTable<H>>(
 fn is_barred<H: Host>(is_lent: bool, is_pure: bool, object: &Dynamic<H>) -> bool
     ensures { result ≡ is_barred_from is_lent is_pure object.now }
 {
-    is_lent && !is_pure && matches!(object.mode, AccessMode::ReadOnly)
+    is_lent && matches!(object.mode, AccessMode::ReadOnly) && !is_pure
 }
 
 /// The error of an object and an index that do not go together.

@@ -22,11 +22,13 @@ use Rattle.rhai_machine.specs.language.Setting.{Setting}
 use Rattle.rhai_machine.specs.language.State.{Local}
 use Rattle.rhai_machine.specs.language.Places.{Place, InEntry, InCell, Target, target, is_constant, unless_constant, target_in_cell}
 use Rattle.rhai_machine.specs.language.Places.{target_at, target_found, target_of, put}
-use Rattle.rhai_machine.specs.language.Frames.{Attempt, InPlace, AsValue, Assignment, Update, Frame, Core, core, FireUpdate}
+use Rattle.rhai_machine.specs.language.Frames.{Attempt, InPlace, AsValue, Assignment, Update, Frame, Core, core, where_there, QuestionUpdate}
+use Rattle.rhai_machine.specs.language.Frames.{FireUpdate}
+use Rattle.rhai_machine.specs.language.Names.{is_unqualified}
 use Rattle.rhai_machine.specs.language.Calls.{sized, applied, replied, placed_if_none}
 use Rattle.rhai_machine.specs.language.Assignment.{assignment_move, assigned_core, written_core, done, if_fast, says_missing, operation_of}
 use Rattle.rhai_machine.specs.language.Assignment.{native_of, left_in, update_core, assign_core, store_core, changed_core, fault_core}
-use Rattle.rhai_machine.specs.language.Assignment.{value_core, answered_core, lent_core, fire_update}
+use Rattle.rhai_machine.specs.language.Assignment.{value_core, answered_core, lent_core, barred_core, fire_update}
 use Rattle.rhai_laws.specs.Kept.{Stands}
 use Rattle.rhai_laws.specs.Steady.{Moves}
 use Rattle.rhai_laws.proofs.Keeping.{Asked, Keeps, quiet, through, after, calm, put_keeps, put_stands}
@@ -60,9 +62,15 @@ module _ {H : Type 0} where
   target_stands name pos t l is = found_stands name pos (index_of name l.scope) (found name l.scope) t l is
 
 module _ {H : Type 0} (a : Asked) where
+  -- a form that may not be there
+  pub there_keeps : (there : Bool) (c d : Core H) → Keeps a c d → Moves (Keeps a) c (where_there there d)
+  there_keeps true c d h = h
+  there_keeps false c d h = tt
+
   pub assignment_keeps : (form : ExprLayer) (op : OpAssignment) (rhs : Expr) (c : Core H) (k : List (Frame H)) (l : Local H) →
       Keeps a c (calm k l) → Moves (Keeps a) c (assignment_move form op rhs k l)
-  assignment_keeps (layer.Variable offset name namespace pos) op rhs c k l h = through a h (quiet a tt refl (λ t. t))
+  assignment_keeps (layer.Variable offset name namespace pos) op rhs c k l h =
+      there_keeps (is_unqualified namespace.path) c _ (through a h (quiet a tt refl (λ t. t)))
   assignment_keeps _ op rhs c k l h = tt
 
   pub assigned_keeps : (r : Result (Dynamic H) (EvalAltResult H)) (assignment : Assignment) (k : List (Frame H)) (l : Local H) →
@@ -140,6 +148,11 @@ module _ {H : Type 0} (a : Asked) where
     lent_keeps reply v u k l stands =
         through a (put_keeps a u.place v k l stands)
         (answered_keeps u.attempt reply (record u { target = v }) k (put u.place v l) (put_stands u.place v l stands))
+
+    pub barred_keeps : (barred : Bool) (u : Update H) (k : List (Frame H)) (l : Local H) → Stands u.place l →
+        Keeps a (core (QuestionUpdate u) k l) (barred_core s barred u k l)
+    barred_keeps true u k l stands = quiet a tt refl (λ t. t)
+    barred_keeps false u k l stands = quiet a stands refl (λ t. t)
 
     pub fire_update_keeps : (there : Union H) (u : Update H) (k : List (Frame H)) (l : Local H) → Stands u.place l →
         Moves (Keeps a) (core (FireUpdate u) k l) (fire_update s there u k l)

@@ -24,13 +24,13 @@ use Rattle.rhai_state.specs.Scope.{name_of, index_of, new_entry}
 use Rattle.rhai_machine.specs.language.Setting.{Setting}
 use Rattle.rhai_machine.specs.language.State.{Local}
 use Rattle.rhai_machine.specs.language.Values.{flat, through as seen_through, truth, unit_value}
-use Rattle.rhai_machine.specs.language.Names.{read}
+use Rattle.rhai_machine.specs.language.Names.{is_unqualified, read}
 use Rattle.rhai_machine.specs.language.Frames.{Operation, Call, Control, Frame, Core, core, Eval, Exec, Ask, Assign, AskUpdate, Argument}
 use Rattle.rhai_machine.specs.language.Frames.{Question, Fire, QuestionUpdate, FireUpdate, OpenExpr, OpenStmt, Enter, Run, Store, WhileTurn}
 use Rattle.rhai_machine.specs.language.Frames.{DoTurn, Back, Fail, StatementValue, DefineValue, IfCondition, RestOfList, RestoreList, Top}
 use Rattle.rhai_machine.specs.language.Frames.{UnaryOperand, LeftOperand, RightOperand, AndPart, OrPart, CoalescePart, AssignValue}
 use Rattle.rhai_machine.specs.language.Frames.{WhileCondition, WhileBody, DoCondition, DoBody, BreakValue, ReturnValue}
-use Rattle.rhai_machine.specs.language.Places.{target_of}
+use Rattle.rhai_machine.specs.language.Places.{is_barred, target_of}
 use Rattle.rhai_machine.specs.language.Loops.{is_endless, goes_on, while_move, while_core, if_goes_on, do_control, caught}
 use Rattle.rhai_machine.specs.language.Expressions.{literal_of, argument_move, operands_move, expr_move, and_core, and_next, or_core}
 use Rattle.rhai_machine.specs.language.Expressions.{or_next, coalesce_core, coalesce_seen, coalesce_next}
@@ -44,7 +44,7 @@ use Rattle.rhai_laws.specs.Steady.{Moves}
 use Rattle.rhai_laws.proofs.Keeping.{Asked, Grows, Free, Held, begins_through, unwound, Keeps, quiet, through, after, calm, eager, held}
 use Rattle.rhai_laws.proofs.Keeping.{ended_keeps}
 use Rattle.rhai_laws.proofs.Keeping.{entered_around, entered_names, left_names}
-use Rattle.rhai_laws.proofs.KeptAssignments.{assignment_keeps, assigned_keeps, store_keeps, fire_update_keeps}
+use Rattle.rhai_laws.proofs.KeptAssignments.{there_keeps, assignment_keeps, assigned_keeps, store_keeps, barred_keeps, fire_update_keeps}
 
 module _ {H : Type 0} (a : Asked) where
   -- lists
@@ -115,7 +115,8 @@ module _ {H : Type 0} (a : Asked) where
   expr_keeps fast (layer.IntegerConstant n pos) k l = quiet a tt refl (λ t. t)
   expr_keeps fast (layer.Unit pos) k l = quiet a tt refl (λ t. t)
   expr_keeps fast (layer.Variable offset name namespace pos) k l =
-      after a (calm k l) refl (λ t. t) (ended_keeps a (read l.around.cells name pos l.scope) k l)
+      there_keeps a (is_unqualified namespace.path) (core (OpenExpr (layer.Variable offset name namespace pos)) k l) _
+      (after a (calm k l) refl (λ t. t) (ended_keeps a (read l.around.cells name pos l.scope) k l))
   expr_keeps fast (layer.Expr::FnCall call pos) k l = operands_keeps fast call.op_token call call.args pos (layer.Expr::FnCall call pos) k l
   expr_keeps fast (layer.Stmt block) k l = quiet a tt refl (λ t. t)
   expr_keeps fast (layer.And parts pos) k l = after a (calm k l) refl (λ t. t) (and_keeps parts k l)
@@ -299,9 +300,10 @@ module _ {H : Type 0} (a : Asked) where
           assignment_keeps a (out-Expr lhs) op rhs (core (OpenStmt (layer.Assignment op lhs rhs) restoring) k l) k l
           (quiet a tt refl (held a k l))
       stmt_keeps (layer.Var ident value None options pos) restoring k l =
-          after a (eager k l) refl (λ t. t)
+          there_keeps a (not (has_option 8 options)) (core (OpenStmt (layer.Var ident value None options pos) restoring) k l) _
+          (after a (eager k l) refl (λ t. t)
           (define_keeps (not s.offer.allow_shadowing && is_some (index_of ident.name l.scope))
-          (nat_le s.limits.max_variables (length l.scope)) ident value options pos k l refl)
+          (nat_le s.limits.max_variables (length l.scope)) ident value options pos k l refl))
       stmt_keeps (layer.If test body branch pos) restoring k l = quiet a tt refl (held a k l)
       stmt_keeps (layer.While test body pos) restoring k l = quiet a tt refl (held a k l)
       stmt_keeps (layer.Do test body options pos) restoring k l = quiet a tt refl (held a k l)
@@ -322,7 +324,7 @@ module _ {H : Type 0} (a : Asked) where
       move_keeps (Argument e) k l h = argument_keeps (literal_of (out-Expr e)) e k l
       move_keeps (Question call) k l h = λ pure. quiet a tt refl (λ t. t)
       move_keeps (Fire call) k l h = fire_keeps call call.args k l
-      move_keeps (QuestionUpdate u) k l h = λ pure. quiet a h refl (λ t. t)
+      move_keeps (QuestionUpdate u) k l h = λ pure. barred_keeps a s (is_barred pure u.target) u k l h
       move_keeps (FireUpdate u) k l h = fire_update_keeps a s u.target.value u k l h
       move_keeps (OpenExpr form) k l h = expr_keeps s.offer.fast_operators form k l
       move_keeps (OpenStmt form restoring) k l h = stmt_keeps form restoring k l

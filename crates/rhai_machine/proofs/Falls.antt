@@ -25,17 +25,17 @@ use Rattle.rhai_machine.specs.language.Setting.{Setting}
 use Rattle.rhai_machine.specs.language.State.{Local}
 use Rattle.rhai_machine.specs.language.Values.{unit_value, flat, through, truth}
 use Rattle.rhai_machine.specs.language.Frames.{Operation, Attempt, InPlace, AsValue, Assignment, Update, Call, Control, Frame, Core, core}
-use Rattle.rhai_machine.specs.language.Frames.{ended, Eval, Exec, Ask, Assign, AskUpdate, Argument, Question, Fire, QuestionUpdate}
+use Rattle.rhai_machine.specs.language.Frames.{where_there, ended, Eval, Exec, Ask, Assign, AskUpdate, Argument, Question, Fire, QuestionUpdate}
 use Rattle.rhai_machine.specs.language.Frames.{FireUpdate, OpenExpr, OpenStmt, Enter, Run, Store, WhileTurn, DoTurn, Back, Fail}
 use Rattle.rhai_machine.specs.language.Frames.{StatementValue, DefineValue, IfCondition, RestOfList, RestoreList, Top, UnaryOperand}
 use Rattle.rhai_machine.specs.language.Frames.{LeftOperand, RightOperand, AndPart, OrPart, CoalescePart, AssignValue, WhileCondition}
 use Rattle.rhai_machine.specs.language.Frames.{WhileBody, DoCondition, DoBody, BreakValue, ReturnValue}
-use Rattle.rhai_machine.specs.language.Places.{Place, Target, target_of, put}
+use Rattle.rhai_machine.specs.language.Places.{Place, Target, is_barred, target_of, put}
 use Rattle.rhai_machine.specs.language.Assignment.{native_of, assignment_move, assigned_core, written_core, done, if_fast, says_missing}
 use Rattle.rhai_machine.specs.language.Assignment.{operation_of, left_in, update_core, assign_core, store_core, changed_core, fault_core}
-use Rattle.rhai_machine.specs.language.Assignment.{value_core, answered_core, call_update, fire_update}
+use Rattle.rhai_machine.specs.language.Assignment.{value_core, answered_core, barred_core, call_update, fire_update}
 use Rattle.rhai_machine.specs.language.Loops.{is_endless, while_move, while_core, if_goes_on, goes_on, do_control, caught}
-use Rattle.rhai_machine.specs.language.Names.{read}
+use Rattle.rhai_machine.specs.language.Names.{is_unqualified, read}
 use Rattle.rhai_tree.specs.Positions.{position_of}
 use Rattle.rhai_state.specs.Scope.{index_of}
 use Rattle.rhai_machine.specs.language.Expressions.{literal_of, argument_move, operands_move, and_core, and_next, or_core, or_next}
@@ -153,13 +153,19 @@ module _ {H : Type 0} where
     coalesce_falls last [] k l = omega arith
     coalesce_falls last (part ∷ parts) k l = omega arith
 
+    there_falls : (there : Bool) (c d : Core H) → size d < size c → Falls size c (where_there there d)
+    there_falls true c d lt = lt
+    there_falls false c d lt = tt
+
     expr_falls : (fast : Bool) (form : ExprLayer) (k : List (Frame H)) (l : Local H) →
         Falls size (core (OpenExpr form) k l) (expr_move fast form k l)
     expr_falls fast (layer.BoolConstant b pos) k l = omega arith
     expr_falls fast (layer.IntegerConstant n pos) k l = omega arith
     expr_falls fast (layer.Unit pos) k l = omega arith
     expr_falls fast (layer.Variable offset name namespace pos) k l =
-        result_falls (read l.around.cells name pos l.scope) (20 + stack_size k) (stack_size k) (omega arith)
+        there_falls (is_unqualified namespace.path) (core (OpenExpr (layer.Variable offset name namespace pos)) k l)
+        (core (ended (read l.around.cells name pos l.scope)) k l)
+        (result_falls (read l.around.cells name pos l.scope) (20 + stack_size k) (stack_size k) (omega arith))
     expr_falls fast (layer.Expr::FnCall call pos) k l = operands_fall fast call.op_token call call.args pos (layer.Expr::FnCall call pos)
         k l
     expr_falls fast (layer.Stmt block) k l = omega (arith, enter_size block.statements true k)
@@ -178,7 +184,8 @@ module _ {H : Type 0} where
     assignment_falls : (target : ExprLayer) (op : OpAssignment) (rhs : Expr) (form : StmtLayer) (restoring : Bool) (k : List (Frame H))
         (l : Local H) →
         Falls size (core (OpenStmt form restoring) k l) (assignment_move target op rhs k l)
-    assignment_falls (layer.Variable offset name namespace pos) op rhs form restoring k l = omega arith
+    assignment_falls (layer.Variable offset name namespace pos) op rhs form restoring k l =
+        there_falls (is_unqualified namespace.path) (core (OpenStmt form restoring) k l) _ (omega arith)
     assignment_falls _ op rhs form restoring k l = tt
 
     break_falls : (value : Option Expr) (is_break : Bool) (pos : Position) (k : List (Frame H)) (l : Local H) →
@@ -201,8 +208,9 @@ module _ {H : Type 0} where
     stmt_falls (layer.Assignment op lhs rhs) restoring k l =
         assignment_falls (out-Expr lhs) op rhs (layer.Assignment op lhs rhs) restoring k l
     stmt_falls (layer.Var ident value None options pos) restoring k l =
-        define_falls (not s.offer.allow_shadowing && is_some (index_of ident.name l.scope))
-        (nat_le s.limits.max_variables (length l.scope)) ident value options pos k l
+        there_falls (not (has_option 8 options)) (core (OpenStmt (layer.Var ident value None options pos) restoring) k l) _
+        (define_falls (not s.offer.allow_shadowing && is_some (index_of ident.name l.scope))
+        (nat_le s.limits.max_variables (length l.scope)) ident value options pos k l)
     stmt_falls (layer.If test body branch pos) restoring k l = omega arith
     stmt_falls (layer.While test body pos) restoring k l = omega arith
     stmt_falls (layer.Do test body options pos) restoring k l = omega arith
@@ -373,6 +381,11 @@ module _ {H : Type 0} where
     update_native_falls u k l reply left = answered_falls u.attempt reply (record u { target = left_in u left }) k
         (put u.place (left_in u left) l)
 
+    barred_falls : (barred : Bool) (u : Update H) (k : List (Frame H)) (l : Local H) →
+        size (barred_core s barred u k l) < 12 + stack_size k
+    barred_falls true u k l = omega arith
+    barred_falls false u k l = omega arith
+
     fire_update_falls : (v : Union H) (u : Update H) (k : List (Frame H)) (l : Local H) →
         Falls size (core (FireUpdate u) k l) (fire_update s v u k l)
     fire_update_falls (value.Cell id) u k l = omega arith
@@ -440,7 +453,7 @@ module _ {H : Type 0} where
     control_falls (Argument e) k l = argument_falls (literal_of (out-Expr e)) e k l
     control_falls (Question call) k l = λ pure. omega arith
     control_falls (Fire call) k l = fire_falls call call.args k l
-    control_falls (QuestionUpdate u) k l = λ pure. omega arith
+    control_falls (QuestionUpdate u) k l = λ pure. barred_falls (is_barred pure u.target) u k l
     control_falls (FireUpdate u) k l = fire_update_falls u.target.value u k l
     control_falls (OpenExpr form) k l = expr_falls s.offer.fast_operators form k l
     control_falls (OpenStmt form restoring) k l = stmt_falls form restoring k l

@@ -5,13 +5,13 @@ use Rattle.rhai_tree.specs.declared.flags.ASTFlags.{ASTFlags}
 use Rattle.rhai_tree.specs.declared.expr.Stmt.{Stmt}
 use Rattle.rhai_machine.specs.machine.Machine.{Config}
 use Rattle.rhai_machine.specs.language.Frames.{Control, Frame, Core, core, Eval, Run as RunList, WhileTurn, DoTurn, RestOfList}
-use Rattle.rhai_machine.specs.language.Frames.{RestoreList, DoCondition, DoBody}
-use Rattle.rhai_machine.specs.samples.Runs.{Table, alone, nothing_but, entry, integer, unit}
+use Rattle.rhai_machine.specs.language.Frames.{RestoreList, DoCondition, DoBody, Top}
+use Rattle.rhai_machine.specs.samples.Runs.{Table, nothing_but, entry, integer, unit}
 use Rattle.rhai_machine.specs.samples.Loops.{Loops, WaysOut, counted, broken, counted_test, counted_body, continued, continued_test}
 use Rattle.rhai_machine.specs.samples.Loops.{continued_body, waits_test}
 use Rattle.rhai_machine.specs.samples.Trees.{braces, unit_at}
 use Rattle.rhai_machine.specs.samples.Choices.{Choices}
-use Rattle.rhai_machine.proofs.SampleRuns.{opened, placed, by_steps, stretch}
+use Rattle.rhai_machine.proofs.SampleRuns.{opened, placed, by_steps, stretch, script_at}
 
 module _ {S H : Type 0} (table : Table S H) (host : H → List ℕ) where
   pub choices : Choices table host
@@ -32,17 +32,11 @@ module _ {S H : Type 0} (table : Table S H) (host : H → List ℕ) where
 
   -- where the rest of a script begins, over one variable
   abbrev rest_at : List Stmt → List ℕ → ℕ → ℕ → Config S H (Core H)
-  rest_at rest name n count = alone table (RunList rest false unit) (entry name (integer n) ∷ []) count []
+  rest_at rest name n count = script_at table (RunList rest false unit) [] (entry name (integer n) ∷ []) count
 
   -- where a loop does this in a script, over the variable `n`
   abbrev loop_at : Control H → List (Frame H) → List Stmt → ℕ → ℕ → Config S H (Core H)
-  loop_at c k rest n count =
-      record {
-        core = core c (k ++ RestOfList rest false ∷ []) (nothing_but (entry (codes "n") (integer n) ∷ []));
-        table = table.state;
-        count = count;
-        calls = [];
-      }
+  loop_at c k rest n count = script_at table c (k ++ RestOfList rest false ∷ []) (entry (codes "n") (integer n) ∷ []) count
 
   -- where a turn of the `while` begins
   abbrev counts_at : ℕ → ℕ → Config S H (Core H)
@@ -58,7 +52,7 @@ module _ {S H : Type 0} (table : Table S H) (host : H → List ℕ) where
     core = core
         (RunList (drop 1 continued_body.statements) true unit)
         (RestoreList (record { scope_length = 1; imports_length = 0; scope_level = 0 }) ∷ DoBody continued_test continued_body
-        until ∷ RestOfList (drop 2 continued) false ∷ [])
+        until ∷ RestOfList (drop 2 continued) false ∷ Top false ∷ [])
         (record (nothing_but (entry (codes "n") (integer n) ∷ [])) { scope_level = 1 });
     table = table.state;
     count = count;
@@ -67,12 +61,7 @@ module _ {S H : Type 0} (table : Table S H) (host : H → List ℕ) where
 
   -- where a turn of a `while` begins that is all of its script
   abbrev turn_at : Control H → ℕ → Config S H (Core H)
-  turn_at turn count = record {
-    core = core turn (RestOfList [] false ∷ []) (nothing_but []);
-    table = table.state;
-    count = count;
-    calls = [];
-  }
+  turn_at turn count = script_at table turn (RestOfList [] false ∷ []) [] count
 
   abbrev endless_at : ℕ → Config S H (Core H)
   endless_at count = turn_at (WhileTurn (unit_at 1) (braces 6 7 [])) count

@@ -1,6 +1,6 @@
 -- The sample runs. A run computes as far as the tree is a known layer, so it is rewritten by what each form of the tree opens to.
 use Rattle.std.proofs.Common.{refl, zero, suc, sym, subst}
-use Rattle.std.specs.Prelude.{◌≡◌, ℕ, Bool, false, true, List, [], ◌∷◌, drop, codes, Option, Some, None}
+use Rattle.std.specs.Prelude.{◌≡◌, ℕ, Bool, false, true, List, [], ◌∷◌, ◌++◌, drop, codes, Option, Some, None}
 use Rattle.rhai_tree.specs.declared.expr.Expr.TheFolds.{fold_out-Expr, fold_out-FnCallExpr}
 use Rattle.rhai_tree.specs.declared.expr.Expr.TheVariants as expr
 use Rattle.rhai_tree.specs.declared.expr.Stmt.TheVariants as stmt
@@ -8,9 +8,10 @@ use Rattle.rhai_machine.specs.machine.Machine.{Machine, Config, Run, ended, next
 use Rattle.rhai_state.specs.declared.scope.ScopeEntry.{ScopeEntry}
 use Rattle.rhai_tree.specs.declared.expr.Stmt.{Stmt}
 use Rattle.rhai_tree.specs.declared.token.Token.TheVariants.{Plus}
-use Rattle.rhai_machine.specs.language.Frames.{Core, core, Fire, StatementValue, Enter, RestOfList, Run as RunList}
+use Rattle.rhai_machine.specs.language.Frames.{Control, Frame, Core, core, Fire, StatementValue, Enter, RestOfList, Run as RunList}
+use Rattle.rhai_machine.specs.language.Frames.{Top}
 use Rattle.rhai_machine.specs.samples.Trees.{column, int, var, op, value}
-use Rattle.rhai_machine.specs.samples.Runs.{Table, alone, nothing_but, entry, integer, truth, unit}
+use Rattle.rhai_machine.specs.samples.Runs.{Table, nothing_but, entry, integer, truth, unit}
 use Rattle.rhai_machine.specs.samples.Operators.{Sums, Operands}
 use Rattle.rhai_machine.specs.samples.Variables.{Blocks, Variables, scopes}
 use Rattle.rhai_machine.specs.samples.Limits.{Limits}
@@ -77,6 +78,14 @@ module _ {S H Core : Type 0} (M : Machine S H Core) (allows : ℕ → Bool) wher
   stretch zero c d {a} same run = subst (λ x. Run M allows x a) (sym same) run
   stretch (suc n) c d {a} same run = stretch_on n c d a (step M allows c) refl (λ b same. stretch n b d same run) run same
 
+-- where a script stands that does this over these variables
+abbrev pub standing : {S H : Type 0} → Table S H → Control H → List (Frame H) → List (ScopeEntry H) → ℕ → Config S H (Core H)
+standing table control k scope count =
+    record { core = core control k (nothing_but scope); table = table.state; count = count; calls = [] }
+
+abbrev pub script_at : {S H : Type 0} → Table S H → Control H → List (Frame H) → List (ScopeEntry H) → ℕ → Config S H (Core H)
+script_at table control k scope count = standing table control (k ++ Top false ∷ []) scope count
+
 module _ {S H : Type 0} (table : Table S H) (host : H → List ℕ) where
   pub sums : Sums table host
   sums = record {
@@ -102,17 +111,12 @@ module _ {S H : Type 0} (table : Table S H) (host : H → List ℕ) where
   with_x = entry (codes "x") (integer 40) ∷ []
 
   abbrev scopes_at : List Stmt → ℕ → Config S H (Core H)
-  scopes_at stmts count = alone table (RunList stmts false unit) with_x count []
+  scopes_at stmts count = script_at table (RunList stmts false unit) [] with_x count
 
   -- the condition of its `if` holds
   abbrev scopes_chosen : Config S H (Core H)
-  scopes_chosen = record {
-    core = core (Enter (value (op 43 Plus (var 41 (codes "x") ∷ int 45 2 ∷ [])) ∷ []) true)
-        (RestOfList [] false ∷ []) (nothing_but with_x);
-    table = table.state;
-    count = 9;
-    calls = [];
-  }
+  scopes_chosen = script_at table (Enter (value (op 43 Plus (var 41 (codes "x") ∷ int 45 2 ∷ [])) ∷ []) true) (RestOfList [] false ∷ [])
+      with_x 9
 
   pub blocks : Blocks table host
   blocks = record {
@@ -147,25 +151,21 @@ module _ {S H : Type 0} (table : Table S H) (host : H → List ℕ) where
   }
 
   -- the native of `mixed_sum` is about to be called
-  abbrev mixed_fires : Config S H (Core H)
-  mixed_fires = record {
-    core = core
-        (Fire (record { operation = record { name = codes "+"; token = Some Plus; at = column 3 }; args = integer 1 ∷ truth true ∷ [] }))
-        (StatementValue (column 3) ∷ RestOfList [] false ∷ [])
-        (nothing_but []);
-    table = table.state;
-    count = 5;
-    calls = [];
-  }
+  abbrev mixed_fires : (map_exit : Bool) → Config S H (Core H)
+  mixed_fires map_exit = standing table
+      (Fire (record { operation = record { name = codes "+"; token = Some Plus; at = column 3 }; args = integer 1 ∷ truth true ∷ [] }))
+      (StatementValue (column 3) ∷ RestOfList [] false ∷ Top map_exit ∷ []) [] 5
 
   pub called : Called table host
   called = record {
-    missing = λ replies. stretch _ _ 12 _ mixed_fires (simp opened) (by_steps _ _ 9 (simp replies) refl);
-    gives = λ replies. stretch _ _ 12 _ mixed_fires (simp opened) (by_steps _ _ 9 (simp replies) refl);
-    faults = λ replies. stretch _ _ 12 _ mixed_fires (simp opened) (by_steps _ _ 9 (simp replies) refl);
-    placed = λ replies. stretch _ _ 12 _ mixed_fires (simp opened) (by_steps _ _ 9 (simp replies) refl);
-    fits = λ replies. stretch _ _ 12 _ mixed_fires (simp opened) (by_steps _ _ 9 (simp (replies, measured)) refl);
-    too_long = λ replies. stretch _ _ 12 _ mixed_fires (simp opened) (by_steps _ _ 9 (simp (replies, measured)) refl);
+    missing = λ replies. stretch _ _ 12 _ (mixed_fires false) (simp opened) (by_steps _ _ 9 (simp replies) refl);
+    gives = λ replies. stretch _ _ 12 _ (mixed_fires false) (simp opened) (by_steps _ _ 9 (simp replies) refl);
+    faults = λ replies. stretch _ _ 12 _ (mixed_fires false) (simp opened) (by_steps _ _ 9 (simp replies) refl);
+    placed = λ replies. stretch _ _ 12 _ (mixed_fires false) (simp opened) (by_steps _ _ 9 (simp replies) refl);
+    fits = λ replies. stretch _ _ 12 _ (mixed_fires false) (simp opened) (by_steps _ _ 9 (simp (replies, measured)) refl);
+    too_long = λ replies. stretch _ _ 12 _ (mixed_fires false) (simp opened) (by_steps _ _ 9 (simp (replies, measured)) refl);
+    exits = λ replies. stretch _ _ 12 _ (mixed_fires false) (simp opened) (by_steps _ _ 9 (simp replies) refl);
+    exits_with_value = λ replies. stretch _ _ 12 _ (mixed_fires true) (simp opened) (by_steps _ _ 9 (simp replies) refl);
     refused = by_steps _ _ 30 (simp opened) refl;
   }
 

@@ -16,6 +16,7 @@ use Rattle.rhai_tree.specs.Positions.{position_of}
 use Rattle.rhai_values.specs.declared.base.value.Dynamic.{Dynamic}
 use Rattle.rhai_values.specs.declared.base.value.Union.{Union}
 use Rattle.rhai_values.specs.declared.base.value.Union.TheVariants as value
+use Rattle.rhai_values.specs.TypeNames.{type_name_of}
 use Rattle.rhai_state.specs.declared.error.EvalAltResult.{EvalAltResult}
 use Rattle.rhai_state.specs.Scope.{index_of}
 use Rattle.rhai_machine.specs.machine.Machine.{Move, Halt, Go, Charge, Native, AskPure}
@@ -28,17 +29,18 @@ use Rattle.rhai_operators.specs.Answers.{Answer, op_assign_of}
 use Rattle.rhai_tree.specs.declared.expr.OpAssignment.{OpAssignment}
 use Rattle.rhai_values.specs.declared.base.value.AccessMode.TheVariants.{ReadWrite}
 use Rattle.rhai_values.specs.Modes.{with_mode}
-use Rattle.rhai_state.specs.Native.{Reply, Missing, Gives, Faults, Named, request}
+use Rattle.rhai_state.specs.Native.{Reply, Missing, Gives, Faults, Named, OfName, request}
 use Rattle.rhai_machine.specs.language.Frames.{Operation, Call, Attempt, InPlace, AsValue, Assignment, Update, Control, Frame, Core, core}
-use Rattle.rhai_machine.specs.language.Frames.{Eval, Exec, Ask, Assign, AskUpdate, Argument, Question, Fire, QuestionUpdate, FireUpdate}
+use Rattle.rhai_machine.specs.language.Frames.{where_there, Eval, Exec, Ask, Assign, AskUpdate, Argument, Question, Fire, QuestionUpdate, FireUpdate}
 use Rattle.rhai_machine.specs.language.Frames.{OpenExpr, OpenStmt, Enter, Run, Store, WhileTurn, DoTurn, Back, Fail, StatementValue}
 use Rattle.rhai_machine.specs.language.Frames.{DefineValue, IfCondition, RestOfList, RestoreList, Top, UnaryOperand, LeftOperand}
 use Rattle.rhai_machine.specs.language.Frames.{RightOperand, AndPart, OrPart, CoalescePart, AssignValue, WhileCondition, WhileBody}
 use Rattle.rhai_machine.specs.language.Frames.{DoCondition, DoBody, BreakValue, ReturnValue}
-use Rattle.rhai_machine.specs.language.Places.{Place, InEntry, InCell, Target, put, target_of, while_lent}
+use Rattle.rhai_machine.specs.language.Places.{Place, InEntry, InCell, Target, is_barred, put, target_of, while_lent}
 use Rattle.rhai_machine.specs.language.Assignment.{assignment_move, assigned_core, written_core, done, if_fast, left_in, update_core}
 use Rattle.rhai_machine.specs.language.Assignment.{assign_core, store_core, changed_core, fault_core, value_core, answered_core}
-use Rattle.rhai_machine.specs.language.Assignment.{lent_core, call_update, fire_update, native_of, operation_of, says_missing}
+use Rattle.rhai_machine.specs.language.Assignment.{barred_core, question_update, lent_core, call_update, fire_update, native_of, operation_of, says_missing}
+use Rattle.rhai_machine.specs.language.Names.{is_unqualified}
 use Rattle.rhai_machine.specs.language.Loops.{is_endless, while_move, while_core}
 use Rattle.rhai_machine.specs.language.Expressions.{literal_of, argument_move, operands_move, expr_move, and_core, and_next, or_core}
 use Rattle.rhai_machine.specs.language.Expressions.{or_next, coalesce_core, coalesce_seen, coalesce_next}
@@ -127,9 +129,13 @@ module _ {H : Type 0} (t : Option (Dynamic H)) where
     put_same (InEntry index) v l = refl
     put_same (InCell number) v l = refl
 
+    there_same : (there : Bool) (c d : Core H) → c ≡ in_core d → where_there there c ≡ in_move (where_there there d)
+    there_same true c d is = ap Go is
+    there_same false c d is = refl
+
     assignment_same : (form : ExprLayer) (op : OpAssignment) (rhs : Expr) (k : List (Frame H)) (l : Local H) →
         assignment_move form op rhs k (with_local l) ≡ in_move (assignment_move form op rhs k l)
-    assignment_same (layer.Variable offset name namespace pos) op rhs k l = refl
+    assignment_same (layer.Variable offset name namespace pos) op rhs k l = there_same (is_unqualified namespace.path) _ _ refl
     assignment_same _ op rhs k l = refl
 
     assigned_same : (r : Result (Dynamic H) (EvalAltResult H)) (assignment : Assignment) (k : List (Frame H)) (l : Local H) →
@@ -205,6 +211,17 @@ module _ {H : Type 0} (t : Option (Dynamic H)) where
     fire_update_same (value.Cell id) u k l = refl
     fire_update_same _ u k l = call_update_same u k l
 
+    barred_same : (barred : Bool) (u : Update H) (k : List (Frame H)) (l : Local H) →
+        barred_core s barred u k (with_local l) ≡ in_core (barred_core s barred u k l)
+    barred_same true u k l = refl
+    barred_same false u k l = refl
+
+    question_same : (u : Update H) (k : List (Frame H)) (l : Local H) →
+        question_update s u k (with_local l) ≡ in_move (question_update s u k l)
+    question_same u k l =
+        ap (AskPure (OfName (native_of u.attempt u.operator) (type_name_of s.host_type l.around.cells u.target) 2))
+        (fun_ext (λ pure. barred_same (is_barred pure u.target) u k l))
+
     -- loops, and the ways out of them
     while_same : (endless : Bool) (stmts : List Stmt) (test : Expr) (body : StmtBlock) (k : List (Frame H)) (l : Local H) →
         while_move endless stmts test body k (with_local l) ≡ in_move (while_move endless stmts test body k l)
@@ -239,7 +256,7 @@ module _ {H : Type 0} (t : Option (Dynamic H)) where
     expr_same fast (layer.BoolConstant b pos) k l = refl
     expr_same fast (layer.IntegerConstant n pos) k l = refl
     expr_same fast (layer.Unit pos) k l = refl
-    expr_same fast (layer.Variable offset name namespace pos) k l = refl
+    expr_same fast (layer.Variable offset name namespace pos) k l = there_same (is_unqualified namespace.path) _ _ refl
     expr_same fast (layer.Expr::FnCall call pos) k l = operands_same fast call.op_token call call.args pos k l
     expr_same fast (layer.Stmt block) k l = refl
     expr_same fast (layer.And parts pos) k l = ap Go (and_same parts k l)
@@ -262,7 +279,8 @@ module _ {H : Type 0} (t : Option (Dynamic H)) where
     stmt_same (layer.Block block) restoring k l = refl
     stmt_same (layer.Assignment op lhs rhs) restoring k l = assignment_same (out-Expr lhs) op rhs k l
     stmt_same (layer.Var ident value None options pos) restoring k l =
-        ap Go (define_same (not s.offer.allow_shadowing && is_some (index_of ident.name l.scope))
+        there_same (not (has_option 8 options)) _ _
+        (define_same (not s.offer.allow_shadowing && is_some (index_of ident.name l.scope))
         (nat_le s.limits.max_variables (length l.scope)) ident value options pos k l)
     stmt_same (layer.If test body branch pos) restoring k l = refl
     stmt_same (layer.While test body pos) restoring k l = refl
@@ -355,7 +373,7 @@ module _ {H : Type 0} (t : Option (Dynamic H)) where
     move_same (Argument e) k l = argument_same (literal_of (out-Expr e)) e k l
     move_same (Question call) k l = refl
     move_same (Fire call) k l = fire_same call call.args k l
-    move_same (QuestionUpdate u) k l = refl
+    move_same (QuestionUpdate u) k l = question_same u k l
     move_same (FireUpdate u) k l = fire_update_same u.target.value u k l
     move_same (Store assignment v) k l = ap Go (store_same (target_of l.around.cells assignment.name assignment.at l.scope) assignment v
         k l)

@@ -22,9 +22,10 @@ use Rattle.rhai_machine.specs.machine.Machine.{Move, Halt, Go, Native, AskPure}
 use Rattle.rhai_machine.specs.language.Setting.{Setting}
 use Rattle.rhai_machine.specs.language.State.{Local}
 use Rattle.rhai_machine.specs.language.Values.{unit_value}
-use Rattle.rhai_machine.specs.language.Places.{Place, Target, put, while_lent}
-use Rattle.rhai_machine.specs.language.Frames.{Operation, Attempt, InPlace, AsValue, Assignment, Update, Frame, Control, Core, core, Eval}
-use Rattle.rhai_machine.specs.language.Frames.{Assign, AskUpdate, FireUpdate, Back, Fail, AssignValue}
+use Rattle.rhai_machine.specs.language.Places.{Place, Target, is_barred, put, while_lent}
+use Rattle.rhai_machine.specs.language.Frames.{Operation, Attempt, InPlace, AsValue, Assignment, Update, Frame, Control, Core, core, where_there}
+use Rattle.rhai_machine.specs.language.Frames.{Eval, Assign, AskUpdate, FireUpdate, Back, Fail, AssignValue}
+use Rattle.rhai_machine.specs.language.Names.{is_unqualified}
 use Rattle.rhai_machine.specs.language.Calls.{operation_at, placed_if_none, sized, applied, replied}
 
 -- the native of an attempt: in `x += y` first the one named `+=`, and then the one named `+`
@@ -33,10 +34,10 @@ native_of InPlace token = syntax_of token ++ codes "="
 native_of AsValue token = syntax_of token
 
 module _ {H : Type 0} where
-  -- the right side comes first; an assignment to anything but a variable has no step
+  -- the right side comes first; an assignment to anything but a variable without a path has no step
   abbrev pub assignment_move : ExprLayer → OpAssignment → Expr → List (Frame H) → Local H → Move H (Core H)
-  assignment_move (layer.Variable offset name namespace pos) op rhs k l =
-      Go (core (Eval rhs) (AssignValue (record { name = name; at = pos; op = op }) (position_of rhs) ∷ k) l)
+  assignment_move (layer.Variable offset name namespace pos) op rhs k l = where_there (is_unqualified namespace.path)
+      (core (Eval rhs) (AssignValue (record { name = name; at = pos; op = op }) (position_of rhs) ∷ k) l)
   assignment_move _ op rhs k l = Halt
 
   -- its flattened value is there: the variable is charged
@@ -100,11 +101,16 @@ module _ {H : Type 0} where
     store_core (Ok target) assignment v k l = assign_core assignment.op.op assignment target v k l
     store_core (Err e) assignment v k l = core (Fail e) k l
 
-    -- the native of an update is asked whether it is pure, which a target that may be written has no use for, and then called
+    -- the native of an update is called, unless it is barred from its target
+    abbrev pub barred_core : (barred : Bool) → Update H → List (Frame H) → Local H → Core H
+    barred_core true u k l = core (Fail (error.ErrorNonPureMethodCallOnConstant (native_of u.attempt u.operator) u.at)) k l
+    barred_core false u k l = core (FireUpdate u) k l
+
+    -- it is asked first whether it is pure: `op=` may have left a constant to `op`
     abbrev pub question_update : Update H → List (Frame H) → Local H → Move H (Core H)
     question_update u k l =
         AskPure (OfName (native_of u.attempt u.operator) (type_name_of s.host_type l.around.cells u.target) 2)
-        (λ pure. core (FireUpdate u) k l)
+        (λ pure. barred_core (is_barred pure u.target) u k l)
 
     -- the native `op=` changed the target, and its value is only measured
     abbrev pub changed_core : Result (Dynamic H) (EvalAltResult H) → Update H → List (Frame H) → Local H → Core H

@@ -15,9 +15,9 @@ use Rattle.rhai_values.specs.Copy.{plain}
 use Rattle.rhai_machine.specs.machine.Machine.{Move, Halt, Go, Charge}
 use Rattle.rhai_machine.specs.language.State.{Local}
 use Rattle.rhai_machine.specs.language.Values.{unit_value, bool_value}
-use Rattle.rhai_machine.specs.language.Names.{read}
-use Rattle.rhai_machine.specs.language.Frames.{Frame, Core, core, ended, Eval, Argument, Enter, Back, Fail, UnaryOperand, LeftOperand}
-use Rattle.rhai_machine.specs.language.Frames.{AndPart, OrPart, CoalescePart}
+use Rattle.rhai_machine.specs.language.Names.{is_unqualified, read}
+use Rattle.rhai_machine.specs.language.Frames.{Frame, Core, core, where_there, ended, Eval, Argument, Enter, Back, Fail}
+use Rattle.rhai_machine.specs.language.Frames.{UnaryOperand, LeftOperand, AndPart, OrPart, CoalescePart}
 
 module _ {H : Type 0} where
   -- the value of a literal, read-write
@@ -78,7 +78,8 @@ module _ {H : Type 0} where
   expr_move fast (layer.BoolConstant b pos) k l = Go (core (Back (bool_value b)) k l)
   expr_move fast (layer.IntegerConstant n pos) k l = Go (core (Back (plain (value.Int n))) k l)
   expr_move fast (layer.Unit pos) k l = Go (core (Back unit_value) k l)
-  expr_move fast (layer.Variable offset name namespace pos) k l = Go (core (ended (read l.around.cells name pos l.scope)) k l)
+  expr_move fast (layer.Variable offset name namespace pos) k l =
+      where_there (is_unqualified namespace.path) (core (ended (read l.around.cells name pos l.scope)) k l)
   expr_move fast (layer.Expr::FnCall call pos) k l = operands_move fast call.op_token call call.args pos k l
   expr_move fast (layer.Stmt block) k l = Go (core (Enter block.statements true) k l)
   expr_move fast (layer.And parts pos) k l = Go (and_core parts k l)

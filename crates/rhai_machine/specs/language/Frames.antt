@@ -1,5 +1,5 @@
 -- The machine's controls and frames: what it does next, and what waits for the value or the error that comes of it.
-use Rattle.std.specs.Prelude.{ℕ, Bool, List, Option, Result, Ok, Err}
+use Rattle.std.specs.Prelude.{ℕ, Bool, true, false, List, Option, Result, Ok, Err}
 use Rattle.rhai_tree.specs.declared.position.Position.{Position}
 use Rattle.rhai_tree.specs.declared.token.Token.{Token}
 use Rattle.rhai_tree.specs.declared.flags.ASTFlags.{ASTFlags}
@@ -11,6 +11,7 @@ use Rattle.rhai_tree.specs.declared.expr.StmtBlock.{StmtBlock}
 use Rattle.rhai_tree.specs.Layers.{ExprLayer, StmtLayer}
 use Rattle.rhai_values.specs.declared.base.value.Dynamic.{Dynamic}
 use Rattle.rhai_state.specs.declared.error.EvalAltResult.{EvalAltResult}
+use Rattle.rhai_machine.specs.machine.Machine.{Move, Halt, Go}
 use Rattle.rhai_machine.specs.language.State.{Local}
 use Rattle.rhai_machine.specs.language.Places.{Place}
 
@@ -124,6 +125,11 @@ pub record Core (H : Type 0) : Type 0 where
 module _ {H : Type 0} where
   abbrev pub core : Control H → List (Frame H) → Local H → Core H
   core control stack local = record { control = control; stack = stack; local = local }
+
+  -- a form that is there only where this is so has no step elsewhere
+  abbrev pub where_there : Bool → Core H → Move H (Core H)
+  where_there true c = Go c
+  where_there false c = Halt
 
   -- a result comes back
   abbrev pub ended : Result (Dynamic H) (EvalAltResult H) → Control H

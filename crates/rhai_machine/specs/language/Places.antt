@@ -1,5 +1,5 @@
 -- Where a variable's value stands, as it is assigned to.
-use Rattle.std.specs.Prelude.{ℕ, Bool, true, false, ◌||◌, List, Option, Some, None, Result, Ok, Err, slice_get}
+use Rattle.std.specs.Prelude.{ℕ, Bool, true, false, not, ◌&&◌, ◌||◌, List, Option, Some, None, Result, Ok, Err, slice_get}
 use Rattle.rhai_tree.specs.declared.position.Position.{Position}
 use Rattle.rhai_values.specs.declared.base.value.AccessMode.{AccessMode}
 use Rattle.rhai_values.specs.declared.base.value.AccessMode.TheVariants.{ReadWrite, ReadOnly}
@@ -29,6 +29,10 @@ is_constant ReadOnly = true
 is_constant ReadWrite = false
 
 module _ {H : Type 0} where
+  -- a native that is not pure gets no constant that is lent to it
+  abbrev pub is_barred : (is_pure : Bool) → Dynamic H → Bool
+  is_barred is_pure v = is_constant v.mode && not is_pure
+
   abbrev pub target : Place → Dynamic H → Target H
   target place v = record { place = place; value = v }
 

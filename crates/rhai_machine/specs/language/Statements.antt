@@ -20,7 +20,7 @@ use Rattle.rhai_machine.specs.machine.Machine.{Move, Halt, Go}
 use Rattle.rhai_machine.specs.language.Setting.{Setting}
 use Rattle.rhai_machine.specs.language.State.{Local}
 use Rattle.rhai_machine.specs.language.Values.{unit_value}
-use Rattle.rhai_machine.specs.language.Frames.{Saved, Frame, Core, core, Eval, Exec, Enter, Run, WhileTurn, DoTurn, Back, Fail}
+use Rattle.rhai_machine.specs.language.Frames.{Saved, Frame, Core, core, where_there, Eval, Exec, Enter, Run, WhileTurn, DoTurn, Back, Fail}
 use Rattle.rhai_machine.specs.language.Frames.{StatementValue, DefineValue, IfCondition, RestOfList, RestoreList, BreakValue, ReturnValue}
 use Rattle.rhai_machine.specs.language.Assignment.{assignment_move}
 
@@ -101,7 +101,8 @@ module _ {H : Type 0} where
     stmt_move (layer.Block block) restoring k l = Go (core (Enter block.statements true) k l)
     stmt_move (layer.Assignment op lhs rhs) restoring k l = assignment_move (out-Expr lhs) op rhs k l
     stmt_move (layer.Var ident value None options pos) restoring k l =
-        Go (define_core (not s.offer.allow_shadowing && is_some (index_of ident.name l.scope))
+        where_there (not (has_option 8 options))
+        (define_core (not s.offer.allow_shadowing && is_some (index_of ident.name l.scope))
         (nat_le s.limits.max_variables (length l.scope)) ident value options pos k l)
     stmt_move (layer.If test body branch pos) restoring k l = Go (core (Eval test) (IfCondition (position_of test) body branch ∷ k) l)
     stmt_move (layer.While test body pos) restoring k l = Go (core (WhileTurn test body) k l)

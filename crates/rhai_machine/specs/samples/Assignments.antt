@@ -1,20 +1,19 @@
 -- Samples of assignment.
-use Rattle.std.specs.Prelude.{ℕ, pos, true, false, List, [], ◌∷◌, Option, Some, None, Result, Ok, Err, codes}
+use Rattle.std.specs.Prelude.{ℕ, true, false, List, [], ◌∷◌, Option, Some, None, Result, Ok, Err, codes}
 use Rattle.rhai_tree.specs.declared.expr.Stmt.{Stmt}
 use Rattle.rhai_tree.specs.declared.token.Token.TheVariants.{Plus}
 use Rattle.rhai_tree.specs.Position.{none}
-use Rattle.rhai_values.specs.declared.base.value.AccessMode.TheVariants.{ReadOnly}
 use Rattle.rhai_values.specs.declared.base.value.Dynamic.{Dynamic}
-use Rattle.rhai_values.specs.declared.base.value.Union.TheVariants as value_of
 use Rattle.rhai_state.specs.declared.error.EvalAltResult.{EvalAltResult}
 use Rattle.rhai_state.specs.declared.error.EvalAltResult.TheVariants.{ErrorTooManyOperations, ErrorVariableNotFound}
 use Rattle.rhai_state.specs.declared.error.EvalAltResult.TheVariants.{ErrorAssignmentToConstant, ErrorArithmetic, ErrorDataRace}
 use Rattle.rhai_state.specs.declared.error.EvalAltResult.TheVariants.{ErrorDataTooLarge, ErrorFunctionNotFound}
-use Rattle.rhai_state.specs.Native.{Request, Missing, Gives, Faults, Named, request}
+use Rattle.rhai_state.specs.declared.error.EvalAltResult.TheVariants.{ErrorNonPureMethodCallOnConstant}
+use Rattle.rhai_state.specs.Native.{Request, Missing, Gives, Faults, Named, OfName, request}
 use Rattle.rhai_machine.specs.language.Setting.{Setting}
 use Rattle.rhai_machine.specs.samples.Trees.{column, int, bool, var, value, braces, block, let_, const_, assign}
-use Rattle.rhai_machine.specs.samples.Runs.{Table, Replies, Answers, EndsFrom, Returns, Fails, Ends, EndsCalling, usual, limited, integer}
-use Rattle.rhai_machine.specs.samples.Runs.{truth, unit, entry, nothing_but}
+use Rattle.rhai_machine.specs.samples.Runs.{Table, Replies, Answers, EndsFrom, Returns, Fails, Ends, EndsScript, IsImpure, usual, limited}
+use Rattle.rhai_machine.specs.samples.Runs.{integer, fixed, truth, unit, entry, nothing_but}
 use Rattle.rhai_machine.specs.samples.Called.{abc, short_texts}
 use Rattle.rhai_machine.specs.samples.Handles.{one_cell}
 
@@ -75,9 +74,6 @@ plain_update = let_ 1 (codes "x") (int 9 1) ∷ assign 14 (Some Plus) (var 12 (c
 abbrev pub update_called : {H : Type 0} → List ℕ → Dynamic H → Request H
 update_called name operand = request [] (Named name) (Some (integer 1)) (operand ∷ []) (column 14)
 
-abbrev pub constant_five : {H : Type 0} → Dynamic H
-constant_five = record { value = value_of.Int (pos 5); mode = ReadOnly }
-
 module _ {S H : Type 0} (table : Table S H) (host : H → List ℕ) where
   -- the usual setting where built-ins are no quicker than table
   abbrev pub slow_operators : Setting H
@@ -97,7 +93,7 @@ module _ {S H : Type 0} (table : Table S H) (host : H → List ℕ) where
     pub from_block : Returns table (usual host) reached (integer 2) 8 (entry (codes "x") (integer 2) ∷ [])
     -- a constant is refused, and stays
     pub constant : Fails table (usual host) to_constant (ErrorAssignmentToConstant (codes "C") (column 14)) 5
-        (entry (codes "C") (record { value = value_of.Int (pos 1); mode = ReadOnly }) ∷ [])
+        (entry (codes "C") (fixed 1) ∷ [])
     -- the value comes before the variable
     pub unknown : Fails table (usual host) to_unknown (ErrorVariableNotFound (codes "y") (column 1)) 3 []
     pub value_first : Fails table (usual host) of_unknown (ErrorVariableNotFound (codes "z") (column 5)) 2 []
@@ -109,7 +105,7 @@ module _ {S H : Type 0} (table : Table S H) (host : H → List ℕ) where
         (Err (ErrorDataTooLarge (codes "Length of string") (column 3))) 3 (nothing_but (entry (codes "s") abc ∷ []))
     -- a handle is assigned through
     pub in_cell : Changes (Some (integer 5)) through_handle (Ok unit) 3 (Some (integer 7))
-    pub locked : Changes (Some constant_five) through_handle (Err (ErrorAssignmentToConstant (codes "h") (column 1))) 3 (Some constant_five)
+    pub locked : Changes (Some (fixed 5)) through_handle (Err (ErrorAssignmentToConstant (codes "h") (column 1))) 3 (Some (fixed 5))
     pub held : Changes None through_handle (Err (ErrorDataRace (codes "h") (column 1))) 3 None
 
   pub record Updates : Type 0 where
@@ -137,6 +133,11 @@ module _ {S H : Type 0} (table : Table S H) (host : H → List ℕ) where
         (integer 1) → Answers table (update_called (codes "+") (truth true)) (Gives (integer 7)) (integer 9)
         → EndsFrom table 0 (usual host) mixed_update (Ok unit) 7 (entry (codes "x") (integer 7) ∷ [])
         (update_called (codes "+") (truth true) ∷ update_called (codes "+=") (truth true) ∷ [])
+    -- where the first one left a constant, the second is not called unless it is pure
+    pub barred : Answers table (update_called (codes "+=") (truth true)) (Faults (ErrorFunctionNotFound (codes "+= (i64, bool)") none))
+        (fixed 1) → IsImpure table (OfName (codes "+") (codes "i64") 2)
+        → EndsFrom table 0 (usual host) mixed_update (Err (ErrorNonPureMethodCallOnConstant (codes "+") (column 14))) 7
+        (entry (codes "x") (fixed 1) ∷ []) (update_called (codes "+=") (truth true) ∷ [])
     -- the answer is measured at the operator, and the variable where it stands
     pub answer_long : Answers table (update_called (codes "+=") (truth true)) (Gives abc) (integer 9)
         → EndsFrom table 0 (short_texts table host 2) mixed_update (Err (ErrorDataTooLarge (codes "Length of string") (column 14))) 6
@@ -146,7 +147,7 @@ module _ {S H : Type 0} (table : Table S H) (host : H → List ℕ) where
         (entry (codes "x") abc ∷ []) (update_called (codes "+=") (truth true) ∷ [])
     -- a cell is held while a native has its value
     pub lent : Answers table lent_called (Gives unit) (integer 9) →
-        EndsCalling table (usual host) (one_cell table host (Some (integer 5)) []) lends_cell (Ok unit) 4
+        EndsScript table (usual host) false lends_cell 0 (one_cell table host (Some (integer 5)) []) (Ok unit) 4
         (one_cell table host (Some (integer 9)) []) (lent_called ∷ [])
     -- without fast operators the native comes before the built-in
     pub slow : Replies table Missing → EndsFrom table 0 slow_operators plain_update (Ok unit) 6 (entry (codes "x") (integer 3) ∷ [])

@@ -1,17 +1,18 @@
 -- Samples of table: an operator that has no built-in for its operands is a call of the native of its name.
-use Rattle.std.specs.Prelude.{ℕ, true, List, [], ◌∷◌, Some, Ok, Err, codes}
+use Rattle.std.specs.Prelude.{ℕ, true, false, List, [], ◌∷◌, Some, Ok, Err, codes}
 use Rattle.rhai_tree.specs.declared.expr.Stmt.{Stmt}
 use Rattle.rhai_tree.specs.declared.token.Token.TheVariants.{Plus}
 use Rattle.rhai_tree.specs.Position.{none}
 use Rattle.rhai_state.specs.declared.error.EvalAltResult.TheVariants.{ErrorTooManyOperations, ErrorFunctionNotFound}
-use Rattle.rhai_state.specs.declared.error.EvalAltResult.TheVariants.{ErrorArithmetic, ErrorDataTooLarge}
+use Rattle.rhai_state.specs.declared.error.EvalAltResult.TheVariants.{ErrorArithmetic, ErrorDataTooLarge, Exit}
 use Rattle.rhai_values.specs.declared.base.value.AccessMode.TheVariants.{ReadWrite}
 use Rattle.rhai_values.specs.declared.base.value.Dynamic.{Dynamic}
 use Rattle.rhai_values.specs.declared.base.value.Union.TheVariants.{Str}
 use Rattle.rhai_machine.specs.language.Setting.{Setting}
 use Rattle.rhai_state.specs.Native.{Request, Missing, Gives, Faults, Named, request}
 use Rattle.rhai_machine.specs.samples.Trees.{column, int, bool, op, value}
-use Rattle.rhai_machine.specs.samples.Runs.{usual_limits, Table, Replies, EndsFrom, Fails, usual, limited, integer, truth}
+use Rattle.rhai_machine.specs.samples.Runs.{usual_limits, Table, Replies, EndsScript, EndsFrom, Fails, usual, limited, integer, truth}
+use Rattle.rhai_machine.specs.samples.Runs.{nothing_but}
 
 -- `1 + true`
 abbrev pub mixed_sum : List Stmt
@@ -45,5 +46,10 @@ module _ {S H : Type 0} (table : Table S H) (host : H → List ℕ) where
     pub fits : Replies table (Gives abc) → EndsFrom table 0 (short_texts 3) mixed_sum (Ok abc) 5 [] plus_called
     pub too_long : Replies table (Gives abc) → EndsFrom table 0 (short_texts 2) mixed_sum
         (Err (ErrorDataTooLarge (codes "Length of string") (column 3))) 5 [] plus_called
+    -- an exit ends the script with its error, or with its value where that is asked
+    pub exits : Replies table (Faults (Exit (integer 7) (column 9))) →
+        EndsScript table (usual host) false mixed_sum 0 (nothing_but []) (Err (Exit (integer 7) (column 9))) 5 (nothing_but []) plus_called
+    pub exits_with_value : Replies table (Faults (Exit (integer 7) (column 9))) →
+        EndsScript table (usual host) true mixed_sum 0 (nothing_but []) (Ok (integer 7)) 5 (nothing_but []) plus_called
     -- the call is charged before the native, which is then not called
     pub refused : Fails table (limited host 4) mixed_sum (ErrorTooManyOperations (column 3)) 4 []

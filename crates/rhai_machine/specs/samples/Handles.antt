@@ -1,5 +1,5 @@
 -- Samples of variables that are handles of a cell.
-use Rattle.std.specs.Prelude.{ℕ, true, false, List, [], ◌∷◌, Option, Some, None, Result, Ok, Err, codes}
+use Rattle.std.specs.Prelude.{ℕ, true, List, [], ◌∷◌, Option, Some, None, Result, Ok, Err, codes}
 use Rattle.rhai_tree.specs.declared.expr.Stmt.{Stmt}
 use Rattle.rhai_tree.specs.declared.token.Token.TheVariants.{Plus}
 use Rattle.rhai_values.specs.declared.base.value.AccessMode.TheVariants.{ReadWrite}
@@ -8,14 +8,9 @@ use Rattle.rhai_values.specs.declared.base.value.Union.TheVariants.{Cell}
 use Rattle.rhai_state.specs.declared.scope.ScopeEntry.{ScopeEntry}
 use Rattle.rhai_state.specs.declared.error.EvalAltResult.{EvalAltResult}
 use Rattle.rhai_state.specs.declared.error.EvalAltResult.TheVariants.{ErrorDataRace}
-use Rattle.rhai_machine.specs.machine.Machine.{Run, below}
-use Rattle.rhai_state.specs.Limits.{limit_of}
-use Rattle.rhai_state.specs.Limits.{limit_of}
 use Rattle.rhai_machine.specs.language.State.{Local}
-use Rattle.rhai_machine.specs.language.Frames.{Enter, ended}
-use Rattle.rhai_machine.specs.language.Language.{machine}
 use Rattle.rhai_machine.specs.samples.Trees.{column, int, var, op, value, braces, let_, if_, no_else}
-use Rattle.rhai_machine.specs.samples.Runs.{under, Table, alone_in, nothing_but, usual, integer, truth, unit, entry}
+use Rattle.rhai_machine.specs.samples.Runs.{Table, Ends, nothing_but, usual, integer, truth, unit, entry}
 
 -- `h`
 abbrev pub handle_alone : List Stmt
@@ -50,9 +45,7 @@ module _ {S H : Type 0} (table : Table S H) (host : H → List ℕ) where
 
   -- over the cell the script comes to this result, and leaves this count and these further variables
   abbrev pub EndsOver : Option (Dynamic H) → List Stmt → Result (Dynamic H) (EvalAltResult H) → (count : ℕ) → List (ScopeEntry H) → Type 0
-  EndsOver cell script result count others =
-      Run (machine (under (usual host) table)) (below (limit_of 0)) (alone_in table (one_cell cell []) (Enter script false) 0 [])
-      (alone_in table (one_cell cell others) (ended result) count [])
+  EndsOver cell script result count others = Ends table (usual host) (one_cell cell []) script result count (one_cell cell others)
 
   pub record Handles : Type 0 where
     -- the value of a statement, the operands of an operator and the value of a `let` are the cell's value

@@ -1,19 +1,19 @@
 -- What a sample says: how a script that starts with nothing ends, cut at the setting's limit.
 use Rattle.std.specs.Prelude.{◌≡◌, ℕ, Bool, true, false, List, [], ◌∷◌, Some, None, Result, Ok, Err, pos}
 use Rattle.rhai_tree.specs.declared.expr.Stmt.{Stmt}
-use Rattle.rhai_values.specs.declared.base.value.AccessMode.TheVariants.{ReadWrite}
+use Rattle.rhai_values.specs.declared.base.value.AccessMode.TheVariants.{ReadWrite, ReadOnly}
 use Rattle.rhai_values.specs.declared.base.value.Dynamic.{Dynamic}
 use Rattle.rhai_values.specs.declared.base.value.Union.TheVariants as value
 use Rattle.rhai_state.specs.declared.scope.ScopeEntry.{ScopeEntry}
 use Rattle.rhai_state.specs.declared.error.EvalAltResult.{EvalAltResult}
-use Rattle.rhai_state.specs.Native.{Request, Reply, Natives, effect}
-use Rattle.rhai_machine.specs.machine.Machine.{Config, Run, below}
+use Rattle.rhai_state.specs.Native.{Request, Reply, Natives, Purity, effect}
 use Rattle.rhai_state.specs.declared.limits.Limits.{Limits}
-use Rattle.rhai_state.specs.Limits.{limit_of}
-use Rattle.rhai_machine.specs.language.Setting.{Setting, Rules, over}
-use Rattle.rhai_machine.specs.language.State.{Local}
-use Rattle.rhai_machine.specs.language.Frames.{Control, Core, core, ended, Enter, Top}
+use Rattle.rhai_machine.specs.machine.Machine.{Run}
+use Rattle.rhai_machine.specs.machine.Point.{with_calls}
+use Rattle.rhai_machine.specs.language.Setting.{Setting, Rules, cut, over}
+use Rattle.rhai_machine.specs.language.State.{Local, State}
 use Rattle.rhai_machine.specs.language.Language.{machine}
+use Rattle.rhai_machine.specs.language.Script.{start_of_script, end_of_script}
 
 -- a table of natives in a state
 pub record Table (S H : Type 0) : Type 0 where
@@ -24,13 +24,17 @@ pub record Table (S H : Type 0) : Type 0 where
 abbrev pub under : {S H : Type 0} → Setting H → Table S H → Rules S H
 under s table = over s table.natives
 
--- a table whose table all reply so, and change nothing
+-- a table whose natives all reply so, and change nothing
 abbrev pub Replies : {S H : Type 0} → Table S H → Reply H → Type 0
 Replies {S} {H} table reply = (s : S) (q : Request H) → table.natives.gives s q ≡ effect reply q.first s
 
 -- a table that replies so to this one call, and leaves this first argument
 abbrev pub Answers : {S H : Type 0} → Table S H → Request H → Reply H → Dynamic H → Type 0
 Answers table q reply left = table.natives.gives table.state q ≡ effect reply (Some left) table.state
+
+-- a native of the table that is not pure
+abbrev pub IsImpure : {S H : Type 0} → Table S H → Purity → Type 0
+IsImpure table q = table.natives.pure table.state q ≡ false
 
 -- no limit of operations or of data, and a thousand variables
 abbrev pub usual_limits : Limits
@@ -64,9 +68,13 @@ module _ {H : Type 0} where
   abbrev pub limited : (H → List ℕ) → ℕ → Setting H
   limited host limit = record (usual host) { limits = record usual_limits { max_operations = limit } }
 
-  -- an integer that is not negative, and a truth value, that may be written
+  -- an integer that is not negative, and that may be written
   abbrev pub integer : ℕ → Dynamic H
   integer n = record { value = value.Int (pos n); mode = ReadWrite }
+
+  -- one that may not
+  abbrev pub fixed : ℕ → Dynamic H
+  fixed n = record { value = value.Int (pos n); mode = ReadOnly }
 
   abbrev pub truth : Bool → Dynamic H
   truth b = record { value = value.Bool b; mode = ReadWrite }
@@ -97,19 +105,23 @@ module _ {H : Type 0} where
   }
 
 module _ {S H : Type 0} (table : Table S H) where
-  -- a control with nothing below it, in the table' state
-  abbrev pub alone_in : Local H → Control H → ℕ → List (Request H) → Config S H (Core H)
-  alone_in local control count calls = record { core = core control [] local; table = table.state; count = count; calls = calls }
+  -- all that a run changes, in the table's state
+  abbrev pub state : ℕ → Local H → State S H
+  state count local = record { table = table.state; count = count; local = local }
 
-  abbrev pub alone : Control H → List (ScopeEntry H) → ℕ → List (Request H) → Config S H (Core H)
-  alone control scope count calls = alone_in (nothing_but scope) control count calls
+  -- from this count and what is there before the script comes to this result, leaves this count and what is there after, and makes
+  -- these calls
+  abbrev pub EndsScript : Setting H → (map_exit : Bool) → List Stmt → (start : ℕ) → Local H → Result (Dynamic H) (EvalAltResult H) →
+      (count : ℕ) → Local H → List (Request H) → Type 0
+  EndsScript s map_exit script start before result count after calls =
+      Run (machine (under s table)) (cut (under s table)) (with_calls (start_of_script script map_exit (state start before)) [])
+      (with_calls (end_of_script result (state count after)) calls)
 
-  -- from a count the script comes to this result, and leaves this count, these variables and these calls
+  -- it starts with no variable, and leaves these
   abbrev pub EndsFrom : ℕ → Setting H → List Stmt → Result (Dynamic H) (EvalAltResult H) → ℕ → List (ScopeEntry H) → List (Request H) →
       Type 0
   EndsFrom start s script result count scope calls =
-      Run (machine (under s table)) (below (limit_of s.limits.max_operations)) (alone (Enter script false) [] start [])
-      (alone (ended result) scope count calls)
+      EndsScript s false script start (nothing_but []) result count (nothing_but scope) calls
 
   -- the script returns this value and calls no native
   abbrev pub Returns : Setting H → List Stmt → Dynamic H → (count : ℕ) → List (ScopeEntry H) → Type 0
@@ -119,14 +131,6 @@ module _ {S H : Type 0} (table : Table S H) where
   abbrev pub Fails : Setting H → List Stmt → EvalAltResult H → (count : ℕ) → List (ScopeEntry H) → Type 0
   Fails s script e count scope = EndsFrom 0 s script (Err e) count scope []
 
-  -- as a whole script, over the frame of its end, it comes to this result and makes these calls
-  abbrev pub EndsCalling : Setting H → Local H → List Stmt → Result (Dynamic H) (EvalAltResult H) → (count : ℕ) → Local H →
-      List (Request H) → Type 0
-  EndsCalling s before script result count after calls =
-      Run (machine (under s table)) (below (limit_of s.limits.max_operations))
-      (record { core = core (Enter script false) (Top false ∷ []) before; table = table.state; count = 0; calls = [] })
-      (alone_in after (ended result) count calls)
-
-  -- or none
+  -- over what is there before it ends so, and calls no native
   abbrev pub Ends : Setting H → Local H → List Stmt → Result (Dynamic H) (EvalAltResult H) → (count : ℕ) → Local H → Type 0
-  Ends s before script result count after = EndsCalling s before script result count after []
+  Ends s before script result count after = EndsScript s false script 0 before result count after []
