@@ -1,34 +1,35 @@
 -- The native of an update is asked: its charge, its call with the target, and what it leaves.
-use Rattle.std.proofs.Common.{◌≡◌, ◌<◌, ◌≤◌, ◌+◌, ℕ, true, false, List, [], ◌∷◌, Option, Some, None, IfSome, refl, ap}
+use Rattle.std.proofs.Common.{sym, ◌∙◌, ◌≡◌, ◌<◌, ◌≤◌, ◌+◌, ℕ, Bool, true, false, List, [], ◌∷◌, Option, Some, None, IfSome, refl, ap}
 use Rattle.rhai_tree.specs.declared.position.Position.{Position}
 use Rattle.rhai_values.specs.declared.base.value.Dynamic.{Dynamic}
 use Rattle.rhai_values.specs.declared.base.value.Union.{Union}
 use Rattle.rhai_values.specs.declared.base.value.Union.TheVariants as value
 use Rattle.rhai_state.specs.declared.scope.Scope.{Scope}
 use Rattle.rhai_values.specs.declared.cells.CellStore.{CellStore}
+use Rattle.rhai_values.specs.Cells.{cells_of}
 use Rattle.rhai_state.specs.declared.state.GlobalRuntimeState.{GlobalRuntimeState}
 use Rattle.rhai_state.specs.declared.error.EvalAltResult.{EvalAltResult}
 use Rattle.rhai_state.specs.declared.error.EvalAltResult.TheVariants as error
 use Rattle.rhai_state.specs.Errors.{is_out_of_memory}
-use Rattle.rhai_state.specs.Native.{Request, Reply, Faults, Named, Obeys, effect, request}
+use Rattle.rhai_state.specs.Native.{Natives, Request, Reply, Faults, Named, Obeys, effect, request}
 use Rattle.rhai_machine.specs.machine.Machine.{Go, Native}
 use Rattle.rhai_machine.specs.machine.Point.{Point, after}
 use Rattle.rhai_machine.specs.machine.Memory.{here, next, starved, starved_at, ◌⨾◌}
 use Rattle.rhai_machine.specs.language.Setting.{Setting, Rules, limit_under}
 use Rattle.rhai_machine.specs.language.State.{State, Local}
-use Rattle.rhai_machine.specs.language.Values.{is_handle}
+use Rattle.rhai_machine.specs.language.Values.{Cells, is_handle}
 use Rattle.rhai_machine.specs.language.Places.{put, while_lent}
 use Rattle.rhai_machine.specs.language.Frames.{Attempt, InPlace, AsValue, Update, Frame, Core, core, AskUpdate, QuestionUpdate}
 use Rattle.rhai_machine.specs.language.Frames.{FireUpdate, Fail}
-use Rattle.rhai_machine.specs.language.Assignment.{answered_core, call_update, fire_update, left_in, lent_core, native_of}
+use Rattle.rhai_machine.specs.language.Assignment.{answered_core, barred_core, call_update, fire_update, left_in, lent_core, native_of}
 use Rattle.rhai_machine.specs.language.Language.{machine, move, want}
-use Rattle.rhai_machine.specs.language.Runs.{at, Goes, Steps}
-use Rattle.rhai_steps.specs.States.{state_of}
+use Rattle.rhai_machine.specs.language.Runs.{at, with_core, Goes, Steps}
+use Rattle.rhai_steps.specs.States.{local_of, state_of}
 use Rattle.rhai_steps.proofs.Pieces.{charged, faulted, refused, step_by}
 use Rattle.rhai_assign.specs.declared.place.Update as code
 use Rattle.rhai_assign.specs.Follows.{Asked, Comes}
 use Rattle.rhai_assign.specs.Targets.{IsPut, lent_request, standing_at}
-use Rattle.rhai_assign.specs.Updates.{update_of, updating}
+use Rattle.rhai_assign.specs.Updates.{is_barred_for, update_of, updating}
 use Rattle.rhai_assign.proofs.Places.{local_put, standing_charged}
 
 module _ {H : Type 0} (s : Setting H) where
@@ -48,14 +49,33 @@ module _ {H : Type 0} (s : Setting H) where
   wants_answered InPlace pos u k l = refl
   wants_answered AsValue pos u k l = refl
 
+-- what is asked of a table about one target is asked about another that is the same, under the same name
+pub asked_alike : {S H : Type 0} (host : H → List ℕ) (natives : Natives S H) (cells : Cells H) (t : S) (shown name : List ℕ)
+    (seen target : Dynamic H) (r b : Bool) → shown ≡ name → target ≡ seen → r ≡ is_barred_for host natives cells t shown seen → r ≡ b →
+    is_barred_for host natives cells t name target ≡ b
+asked_alike host natives cells t shown name seen target r b named same asked is =
+    ap (is_barred_for host natives cells t name) same ∙ ap (λ n. is_barred_for host natives cells t n seen) (sym named) ∙ sym asked ∙ is
+
 module _ {S H : Type 0} (rules : Rules S H) where
-  -- an update that is charged stands before its native
+  -- the native of an update is barred from its target
+  abbrev barred_in : S → GlobalRuntimeState H → Update H → Bool
+  barred_in t global u = is_barred_for rules.setting.host_type rules.natives (cells_of global.cells) t (native_of u.attempt u.operator)
+      u.target
+
+  -- an update that is charged stands before its native, unless it is barred
+  questions_update : (t : S) (old mid : GlobalRuntimeState H) (scope : Scope H) (this : Option (Dynamic H)) (u : Update H) (barred : Bool) →
+      old.num_operations < limit_under rules → mid ≡ record old { num_operations = old.num_operations + 1 } →
+      barred_in t mid u ≡ barred → (k : List (Frame H)) → Goes rules (at (AskUpdate u) k (state_of t old scope this))
+      (with_core (barred_core rules.setting barred u k (local_of mid scope this)) (state_of t mid scope this))
+  unfolding after
+  questions_update t old mid scope this u barred room counted is k =
+      charged rules t old mid scope this (AskUpdate u) (QuestionUpdate u) u.at (λ j. refl) room counted k ⨾ next (rw is here)
+
   asks_update : (t : S) (old mid : GlobalRuntimeState H) (scope : Scope H) (this : Option (Dynamic H)) (u : Update H) →
       old.num_operations < limit_under rules → mid ≡ record old { num_operations = old.num_operations + 1 } →
+      barred_in t mid u ≡ false →
       (k : List (Frame H)) → Goes rules (at (AskUpdate u) k (state_of t old scope this)) (at (FireUpdate u) k (state_of t mid scope this))
-  unfolding after
-  asks_update t old mid scope this u room counted k =
-      charged rules t old mid scope this (AskUpdate u) (QuestionUpdate u) u.at (λ j. refl) room counted k ⨾ next here
+  asks_update t old mid scope this u room counted free k = questions_update t old mid scope this u false room counted free k
 
   -- a target that is a bare handle is refused
   fires_held : (u : Update H) (k : List (Frame H)) (now : State S H) → is_handle u.target.value ≡ true →
@@ -106,30 +126,48 @@ module _ {S H : Type 0} (rules : Rules S H) where
   pub holds_update : (t : S) (old mid : GlobalRuntimeState H) (scope : Scope H) (this : Option (Dynamic H)) (u : Update H) (name : List ℕ)
       (e : EvalAltResult H) →
       old.num_operations < limit_under rules → mid ≡ record old { num_operations = old.num_operations + 1 } →
-      is_handle u.target.value ≡ true →
+      barred_in t mid u ≡ false → is_handle u.target.value ≡ true →
       name ≡ native_of u.attempt u.operator → (is_out_of_memory e ≡ false → e ≡ error.ErrorDataRace name u.at) →
       Steps rules (AskUpdate u) (state_of t old scope this) (Fail e) (state_of t mid scope this)
   unfolding Steps
-  holds_update t old mid scope this u name e room counted handle named race k =
-      asks_update t old mid scope this u room counted k
+  holds_update t old mid scope this u name e room counted free handle named race k =
+      asks_update t old mid scope this u room counted free k
       ⨾ fires_held u k (state_of t mid scope this) handle
       ⨾ faulted rules e (error.ErrorDataRace (native_of u.attempt u.operator) u.at) (rw named at race) k (state_of t mid scope this)
+
+  -- one whose native is barred from its target
+  pub bars_update : (t : S) (old mid : GlobalRuntimeState H) (scope : Scope H) (this : Option (Dynamic H)) (u : Update H) (name : List ℕ)
+      (e : EvalAltResult H) →
+      old.num_operations < limit_under rules → mid ≡ record old { num_operations = old.num_operations + 1 } →
+      barred_in t mid u ≡ true →
+      name ≡ native_of u.attempt u.operator → (is_out_of_memory e ≡ false → e ≡ error.ErrorNonPureMethodCallOnConstant name u.at) →
+      Steps rules (AskUpdate u) (state_of t old scope this) (Fail e) (state_of t mid scope this)
+  unfolding Steps
+  bars_update t old mid scope this u name e room counted barred named bars k =
+      questions_update t old mid scope this u true room counted barred k
+      ⨾ faulted rules e (error.ErrorNonPureMethodCallOnConstant (native_of u.attempt u.operator) u.at) (rw named at bars) k
+      (state_of t mid scope this)
 
   module _ (t called : S) (old mid : GlobalRuntimeState H) (store : CellStore H) (before later : Scope H) (update : code.Update)
       (w : Dynamic H)
       (room : old.num_operations < limit_under rules) (counted : mid ≡ record old { num_operations = old.num_operations + 1 })
       (plain : is_handle (standing_at update.place before old.cells).value ≡ false)
       (wrote : IsPut update.place w before later mid.cells store) where
-    answers_update : (answer : Option (Reply H)) (name : List ℕ) (rest : List (Dynamic H)) →
+    -- the native of a name is not barred from the target
+    abbrev FreeFor : List ℕ → Type 0
+    FreeFor name = is_barred_for rules.setting.host_type rules.natives (cells_of mid.cells) t name (standing_at update.place before
+        old.cells) ≡ false
+
+    answers_update : (answer : Option (Reply H)) (name : List ℕ) (rest : List (Dynamic H)) → FreeFor name →
         Obeys (rules.natives.gives t (lent_request update.place before mid.cells name rest update.at)) answer (Some w) called →
         (this : Option (Dynamic H)) (attempt : Attempt) (operand : Dynamic H) → name ≡ native_of attempt update.token →
         rest ≡ operand ∷ [] →
         IfSome answer (λ reply. Comes rules (AskUpdate (updating update attempt before old operand)) (state_of t old before this)
         (answered_core rules.setting attempt reply (update_of update attempt w operand))
         (state_of called (record mid { cells = store }) later this))
-    answers_update None name rest obeys this attempt operand named only = tt
-    answers_update (Some reply) name rest obeys this attempt operand named only = λ k.
-        asks_update t old mid before this (updating update attempt before old operand) room counted k
+    answers_update None name rest free obeys this attempt operand named only = tt
+    answers_update (Some reply) name rest free obeys this attempt operand named only = λ k.
+        asks_update t old mid before this (updating update attempt before old operand) room counted (rw named at free) k
         ⨾ fires_update (updating update attempt before old operand) k (state_of t mid before this) reply w called plain
         (rw (standing_charged update.place before old mid _ counted, named, only) at obeys) _
         (ap (λ (l : Local H). record {
@@ -140,17 +178,17 @@ module _ {S H : Type 0} (rules : Rules S H) where
         (local_put update.place w mid store before later this wrote))
 
     -- an update whose native was called, over any attempt whose native has the name
-    pub asked : (answer : Option (Reply H)) (name : List ℕ) (rest : List (Dynamic H)) →
+    pub asked : (answer : Option (Reply H)) (name : List ℕ) (rest : List (Dynamic H)) → FreeFor name →
         Obeys (rules.natives.gives t (lent_request update.place before mid.cells name rest update.at)) answer (Some w) called →
         (this : Option (Dynamic H)) (attempt : Attempt) (operand : Dynamic H) → name ≡ native_of attempt update.token →
         rest ≡ operand ∷ [] →
         Asked rules (updating update attempt before old operand) (state_of t old before this) answer w
         (state_of called (record mid { cells = store }) later this)
     unfolding Steps
-    asked answer name rest obeys this attempt operand named only = record {
-      answered = answers_update answer name rest obeys this attempt operand named only;
+    asked answer name rest free obeys this attempt operand named only = record {
+      answered = answers_update answer name rest free obeys this attempt operand named only;
       starved = λ pos k.
-          asks_update t old mid before this (updating update attempt before old operand) room counted k
+          asks_update t old mid before this (updating update attempt before old operand) room counted (rw named at free) k
           ⨾ fires_starved (updating update attempt before old operand) k (state_of t mid before this)
           (state_of called (record mid { cells = store }) later this) w pos plain
           (ap (λ (l : Local H). record { table = called; count = mid.num_operations; local = l })

@@ -7,7 +7,10 @@ use Rattle.rhai_state.specs.declared.error.EvalAltResult.{EvalAltResult}
 use Rattle.rhai_state.specs.declared.limits.Limits.{Limits}
 use Rattle.rhai_state.specs.declared.state.GlobalRuntimeState.{GlobalRuntimeState}
 use Rattle.rhai_machine.specs.language.State.{Local, HasMemory}
-use Rattle.rhai_machine.specs.language.Values.{unit_value}
+use Rattle.rhai_state.specs.Native.{Natives, OfName}
+use Rattle.rhai_values.specs.TypeNames.{type_name_of}
+use Rattle.rhai_machine.specs.language.Values.{Cells, unit_value}
+use Rattle.rhai_machine.specs.language.Places.{is_barred}
 use Rattle.rhai_machine.specs.language.Frames.{Attempt, Update, Frame, Core, core, ended}
 use Rattle.rhai_machine.specs.language.Calls.{sized}
 use Rattle.rhai_machine.specs.language.Assignment.{says_missing}
@@ -49,6 +52,10 @@ module _ {H : Type 0} where
   -- a fault, unless it says that no function has the name
   abbrev pub other_fault : List ℕ → EvalAltResult H → Option (EvalAltResult H)
   other_fault name e = unless (says_missing name e) e
+
+  -- the native of a name is barred from a target, as the table answers in a state
+  abbrev pub is_barred_for : {S : Type 0} → (H → List ℕ) → Natives S H → Cells H → S → (name : List ℕ) → Dynamic H → Bool
+  is_barred_for host natives cells t name target = is_barred (natives.pure t (OfName name (type_name_of host cells target) 2)) target
 
   -- a core over any stack is the end of a part, want of memory aside
   abbrev pub Becomes : (List (Frame H) → Local H → Core H) → Local H → Result (Dynamic H) (EvalAltResult H) → Local H → Type 0

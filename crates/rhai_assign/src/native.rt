@@ -2,7 +2,7 @@
 //! native and written back.
 
 ghost use Rattle.std.specs.Prelude.{◌≡◌, ◌∷◌, [], Some, true, IfOk, IfErr};
-ghost use Rattle.rhai_values.specs.Cells.{IsNoHandle};
+ghost use Rattle.rhai_values.specs.Cells.{IsNoHandle, cells_of};
 ghost use Rattle.rhai_state.specs.Native.{Obeys, reply_of};
 ghost use Rattle.rhai_machine.specs.language.Setting.{rules_of};
 ghost use Rattle.rhai_machine.specs.language.Frames.{AskUpdate, Fail, InPlace};
@@ -12,7 +12,7 @@ ghost use Rattle.rhai_steps.specs.States.{state_of};
 ghost use Rattle.rhai_assign.specs.Follows.{Asked};
 ghost use Rattle.rhai_assign.specs.Keeps.{Keeps};
 ghost use Rattle.rhai_assign.specs.Targets.{IsPut, lent_request, standing_at, stands_at};
-ghost use Rattle.rhai_assign.specs.Updates.{other_fault, updating};
+ghost use Rattle.rhai_assign.specs.Updates.{is_barred_for, other_fault, updating};
 
 use crate::place::{Place, Update, put, take, value_at};
 use rhai_items::{Shared, Text};
@@ -22,11 +22,11 @@ use rhai_state::scope::Scope;
 use rhai_state::state::GlobalRuntimeState;
 use rhai_state::table::{Answer, NativeTable};
 use rhai_steps::charges::track_operation;
-use rhai_steps::errors::data_race_of;
+use rhai_steps::errors::{data_race_of, non_pure_of};
 use rhai_steps::values::is_bare_handle;
 use rhai_tree::position::Position;
 use rhai_tree::token::Token;
-use rhai_values::base::value::{Dynamic, Host};
+use rhai_values::base::value::{AccessMode, Dynamic, Host};
 use rhai_values::cells::CellStore;
 use std::alloc::{AllocError, Global};
 
@@ -92,7 +92,23 @@ pub(crate) fn unless_missing<H: Host>(
     }
 }
 
-/// Charges an update at its operator, and calls a native with the target.
+/// Whether a native is barred from the target of an update: it is not pure, and the target is a
+/// constant.
+fn is_barred<H: Host, T: NativeTable<H>>(
+    cells: &CellStore<H>,
+    table: &T,
+    name: &str,
+    target: &Dynamic<H>,
+) -> bool
+    ensures { result ≡ is_barred_for H.name_of T.natives (cells_of cells.now) (T.state table.now)
+        name.now target.now }
+{
+    matches!(target.access_mode(), AccessMode::ReadOnly)
+        && !table.is_pure(name, target.type_name(cells), 2)
+}
+
+/// Charges an update at its operator, and calls a native with the target, unless it is barred from
+/// it.
 pub(crate) fn ask_native<H: Host, T: NativeTable<H>>(
     limits: &Limits,
     global: &mut GlobalRuntimeState<H>,
@@ -120,7 +136,11 @@ pub(crate) fn ask_native<H: Host, T: NativeTable<H>>(
         (state_of (T.state table.new) global.new scope.new this)) }
 {
     track_operation(limits, global, update.at)?;
-    if is_bare_handle(value_at(&global.cells, scope, update.place)) {
+    let target = value_at(&global.cells, scope, update.place);
+    if is_barred(&global.cells, &*table, name.get().as_str(), target) {
+        return Err(non_pure_of(name, update.at));
+    }
+    if is_bare_handle(target) {
         return Err(data_race_of(name, update.at));
     }
     Ok(call_in_place(

@@ -122,6 +122,18 @@ pub fn non_pure<H>(alloc: Global, name: &str, pos: Position) -> EvalAltResult<H>
     }
 }
 
+/// The same of a native whose name is shared.
+#[cold]
+#[inline(never)]
+pub fn non_pure_of<H>(name: &Shared<Text>, pos: Position) -> EvalAltResult<H>
+    ensures { is_out_of_memory result ≡ false → result ≡ error.ErrorNonPureMethodCallOnConstant name.now pos }
+{
+    match name.share() {
+        Ok(name) => EvalAltResult::ErrorNonPureMethodCallOnConstant(name, pos),
+        Err(_) => EvalAltResult::ErrorOutOfMemory(pos),
+    }
+}
+
 /// A text that may have several owners.
 pub fn shared_text(alloc: Global, text: &str) -> Result<Shared<Text>, AllocError>
     ensures { IfOk result (λ t. t ≡ text.now) }
