@@ -34,6 +34,11 @@ use Rattle.rhai_machine.specs.language.Unwinding.{down_core, up_core}
 use Rattle.rhai_tree.specs.declared.expr.StmtBlock.{StmtBlock}
 use Rattle.std.specs.Prelude.{OnErr, if◌then◌else◌}
 use Rattle.rhai_values.specs.Cells.{cells_of}
+use Rattle.std.specs.declared.num.NonZeroUsize.{NonZeroUsize}
+use Rattle.rhai_tree.specs.declared.expr.Namespace.{Namespace}
+use Rattle.rhai_check.specs.Forms.{is_exported, is_unqualified}
+use Rattle.rhai_check.specs.Names.{Name}
+use Rattle.rhai_machine.specs.language.Names.{read}
 use Rattle.rhai_machine.specs.language.Values.{flat, truth, unit_value}
 use Rattle.rhai_machine.specs.language.Runs.{at, Goes, Steps, Runs}
 use Rattle.rhai_tree.specs.declared.expr.Ident.{Ident}
@@ -275,6 +280,14 @@ module _ {S H : Type 0} (rules : Rules S H) where
   chooses v true test_at body branch k l told goes = next (rw (← told) goes)
   chooses v false test_at body branch k l told goes = next (rw (← told) goes)
 
+  -- a variable without a path is read
+  pub reads : (offset : Option NonZeroUsize) (name : Name) (namespace : Namespace) (pos : Position) (k : List (Frame H)) (l : State S H)
+      {q : Point S (Core H)} → is_unqualified namespace.path ≡ true →
+      Goes rules (at (ended (read l.local.around.cells name pos l.local.scope)) k l) q →
+      Goes rules (at (OpenExpr (layer.Variable offset name namespace pos)) k l) q
+  unfolding after
+  reads offset name namespace pos k l plain goes = next (rw plain goes)
+
   -- a `let`: refused, or on to its value
   module _ (ident : Ident) (value : Expr) (options : ASTFlags) (pos : Position) (restoring : Bool) (k : List (Frame H))
       (l : State S H) where
@@ -301,14 +314,15 @@ module _ {S H : Type 0} (rules : Rules S H) where
     full = is_full rules.setting.limits l.local.scope
 
     pub not_declared : (e : EvalAltResult H) → (is_out_of_memory e ≡ false → Err e ≡ declarable ident.name pos taken full) →
+        is_exported options ≡ false →
         Goes rules (at (OpenStmt (layer.Var ident value None options pos) restoring) k l) (at (Fail e) k l)
-    not_declared e is = or_wants rules (OpenStmt (layer.Var ident value None options pos) restoring) k l e (λ m.
-        step_by rules _ _ _ (ap Go (refused_core taken full e (is m))) here)
+    not_declared e is kept = or_wants rules (OpenStmt (layer.Var ident value None options pos) restoring) k l e (λ m.
+        step_by rules _ _ _ (rw kept (ap Go (refused_core taken full e (is m)))) here)
 
-    pub begins_value : Ok tt ≡ declarable {H = H} ident.name pos taken full →
+    pub begins_value : Ok tt ≡ declarable {H = H} ident.name pos taken full → is_exported options ≡ false →
         Goes rules (at (OpenStmt (layer.Var ident value None options pos) restoring) k l)
         (at (Eval value) (DefineValue ident options (position_of value) ∷ k) l)
-    begins_value is = step_by rules _ _ _ (ap Go (declared_core taken full is)) here
+    begins_value is kept = step_by rules _ _ _ (rw kept (ap Go (declared_core taken full is))) here
 
   -- the variable is there, or there was no memory for it
   module _ (t : S) (g : GlobalRuntimeState H) (old new : Scope H) (this : Option (Dynamic H)) (ident : Ident) (options : ASTFlags)

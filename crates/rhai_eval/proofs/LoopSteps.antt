@@ -10,7 +10,7 @@ use Rattle.rhai_tree.specs.declared.expr.OpAssignment.{OpAssignment}
 use Rattle.rhai_tree.specs.declared.expr.Expr.TheOpen as layer
 use Rattle.rhai_tree.specs.declared.expr.Namespace.{Namespace}
 use Rattle.std.specs.declared.num.NonZeroUsize.{NonZeroUsize}
-use Rattle.rhai_check.specs.Forms.{is_throw}
+use Rattle.rhai_check.specs.Forms.{is_throw, is_unqualified}
 use Rattle.rhai_check.specs.Names.{Name}
 use Rattle.rhai_tree.specs.Positions.{position_of}
 use Rattle.rhai_tree.specs.declared.expr.StmtBlock.{StmtBlock}
@@ -144,11 +144,11 @@ module _ {S H : Type 0} (rules : Rules S H) where
   -- an assignment to a variable begins with its value
   pub begins_assignment : (op : OpAssignment) (lhs rhs : Expr) (offset : Option NonZeroUsize) (name : Name) (namespace : Namespace)
       (pos : Position) (restoring : Bool) (k : List (Frame H)) (l : State S H) →
-      out-Expr lhs ≡ layer.Variable offset name namespace pos →
+      out-Expr lhs ≡ layer.Variable offset name namespace pos → is_unqualified namespace.path ≡ true →
       Goes rules (at (OpenStmt (layer.Assignment op lhs rhs) restoring) k l)
       (at (Eval rhs) (AssignValue (record { name = name; at = pos; op = op }) (position_of rhs) ∷ k) l)
   unfolding after
-  begins_assignment op lhs rhs offset name namespace pos restoring k l is = next (rw is here)
+  begins_assignment op lhs rhs offset name namespace pos restoring k l is plain = next (rw (is, plain) here)
 
   -- a `break` without a value
   pub breaks_unit : (options : ASTFlags) (is_break : Bool) (v : Dynamic H) (e : EvalAltResult H) (pos : Position) (restoring : Bool)

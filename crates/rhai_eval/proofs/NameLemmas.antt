@@ -4,7 +4,7 @@ use Rattle.std.proofs.Common.{take, map, refl, sym, ap, ◌∙◌}
 use Rattle.std.proofs.lemmas.List.{take-append-drop, take-map, length-map}
 use Rattle.std.proofs.Math.Seq.{take-append_seam}
 use Rattle.rhai_check.specs.Names.{Name, Begins}
-use Rattle.rhai_tree.specs.declared.expr.Expr.{Expr}
+use Rattle.rhai_tree.specs.declared.expr.Expr.{Expr, out-Expr}
 use Rattle.rhai_tree.specs.declared.expr.FnCallExpr.{FnCallExpr}
 use Rattle.rhai_check.specs.Frame.{Test, Tests, Verdict, tests_of, expr_step, stmt_step, call_step, block_step, resolves_expr}
 use Rattle.rhai_check.specs.Frame.{resolves_call, all_resolve_exprs, all_resolve}
@@ -16,10 +16,13 @@ use Rattle.rhai_tree.specs.declared.expr.Stmt.{Stmt, out-Stmt}
 use Rattle.rhai_tree.specs.declared.expr.Expr.TheOpen as layer
 use Rattle.rhai_tree.specs.declared.flags.ASTFlags.{ASTFlags}
 use Rattle.rhai_tree.specs.declared.position.Position.{Position}
-use Rattle.rhai_check.specs.Forms.{is_throw}
-use Rattle.rhai_check.specs.Frame.{resolves_stmt}
-use Rattle.rhai_check.proofs.Walk.{resolves-stmt}
-use Rattle.std.proofs.Common.{not, Option}
+use Rattle.rhai_check.specs.Forms.{is_exported, is_throw, is_unqualified}
+use Rattle.rhai_check.specs.Frame.{resolves_stmt, target_resolves}
+use Rattle.rhai_check.proofs.Walk.{resolves-expr, resolves-stmt}
+use Rattle.std.proofs.Common.{not, Option, None}
+use Rattle.std.specs.declared.num.NonZeroUsize.{NonZeroUsize}
+use Rattle.rhai_tree.specs.declared.expr.Namespace.{Namespace}
+use Rattle.rhai_tree.specs.declared.expr.Ident.{Ident}
 use Rattle.rhai_eval.proofs.Chain.{drop_item}
 
 module _ {H : Type 0} where
@@ -102,6 +105,23 @@ any_item f xs i x lt is h = subst (λ items. IsTrue (any_of (map f items))) (tak
 not_both : (a b : Bool) → IsTrue (not a && b) → a ≡ false
 not_both true b h = cc
 not_both false b h = refl
+
+-- a variable that resolves has no path, and a new one is not exported
+pub plain_name : (e : Expr) (offset : Option NonZeroUsize) (name : Name) (namespace : Namespace) (pos : Position) (names : List Name) →
+    out-Expr e ≡ layer.Variable offset name namespace pos → IsTrue (resolves_expr e names) → is_unqualified namespace.path ≡ true
+plain_name e offset name namespace pos names is h = (both (is_unqualified namespace.path) _
+    (rw (resolves-expr e (layer.Variable offset name namespace pos) is) at h)).0
+
+pub plain_target : (e : Expr) (offset : Option NonZeroUsize) (name : Name) (namespace : Namespace) (pos : Position) (names : List Name) →
+    out-Expr e ≡ layer.Variable offset name namespace pos → IsTrue (target_resolves (tests_of e) names) →
+    is_unqualified namespace.path ≡ true
+plain_target e offset name namespace pos names is h = plain_name e offset name namespace pos names is
+    (both (tests_of e).is_place ((tests_of e).value names) h).1
+
+pub plain_var : (stmt : Stmt) (ident : Ident) (value : Expr) (options : ASTFlags) (pos : Position) (names : List Name) →
+    out-Stmt stmt ≡ layer.Var ident value None options pos → IsTrue (resolves_stmt stmt names).0 → is_exported options ≡ false
+plain_var stmt ident value options pos names is h = not_both (is_exported options) _
+    (rw (resolves-stmt stmt (layer.Var ident value None options pos) is) at h)
 
 -- a `return` that resolves does not throw
 pub plain_return : (stmt : Stmt) (value : Option Expr) (options : ASTFlags) (pos : Position) (names : List Name) →

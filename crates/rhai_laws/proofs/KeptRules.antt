@@ -15,6 +15,7 @@ use Rattle.rhai_tree.specs.declared.expr.Expr.TheOpen as layer
 use Rattle.rhai_tree.specs.Layers.{ExprLayer, StmtLayer}
 use Rattle.rhai_tree.specs.Positions.{position_of}
 use Rattle.rhai_values.specs.declared.base.value.AccessMode.{AccessMode}
+use Rattle.rhai_check.specs.Forms.{is_unqualified, is_exported}
 use Rattle.rhai_values.specs.declared.base.value.Dynamic.{Dynamic}
 use Rattle.rhai_values.specs.declared.base.value.Union.{Union}
 use Rattle.rhai_values.specs.declared.base.value.Union.TheVariants as value
@@ -24,7 +25,7 @@ use Rattle.rhai_state.specs.Scope.{name_of, index_of, new_entry}
 use Rattle.rhai_machine.specs.language.Setting.{Setting}
 use Rattle.rhai_machine.specs.language.State.{Local}
 use Rattle.rhai_machine.specs.language.Values.{flat, through as seen_through, truth, unit_value}
-use Rattle.rhai_machine.specs.language.Names.{is_unqualified, read}
+use Rattle.rhai_machine.specs.language.Names.{read}
 use Rattle.rhai_machine.specs.language.Frames.{Operation, Call, Control, Frame, Core, core, Eval, Exec, Ask, Assign, AskUpdate, Argument}
 use Rattle.rhai_machine.specs.language.Frames.{Question, Fire, QuestionUpdate, FireUpdate, OpenExpr, OpenStmt, Enter, Run, Store, WhileTurn}
 use Rattle.rhai_machine.specs.language.Frames.{DoTurn, Back, Fail, StatementValue, DefineValue, IfCondition, RestOfList, RestoreList, Top}
@@ -300,7 +301,7 @@ module _ {H : Type 0} (a : Asked) where
           assignment_keeps a (out-Expr lhs) op rhs (core (OpenStmt (layer.Assignment op lhs rhs) restoring) k l) k l
           (quiet a tt refl (held a k l))
       stmt_keeps (layer.Var ident value None options pos) restoring k l =
-          there_keeps a (not (has_option 8 options)) (core (OpenStmt (layer.Var ident value None options pos) restoring) k l) _
+          there_keeps a (not (is_exported options)) (core (OpenStmt (layer.Var ident value None options pos) restoring) k l) _
           (after a (eager k l) refl (λ t. t)
           (define_keeps (not s.offer.allow_shadowing && is_some (index_of ident.name l.scope))
           (nat_le s.limits.max_variables (length l.scope)) ident value options pos k l refl))

@@ -13,6 +13,7 @@ use Rattle.rhai_tree.specs.declared.expr.StmtBlock.{StmtBlock}
 use Rattle.rhai_tree.specs.declared.expr.OpAssignment.{OpAssignment}
 use Rattle.rhai_tree.specs.declared.expr.Expr.TheOpen as layer
 use Rattle.rhai_tree.specs.Layers.{ExprLayer, StmtLayer}
+use Rattle.rhai_check.specs.Forms.{is_unqualified, is_exported}
 use Rattle.rhai_values.specs.declared.base.value.Dynamic.{Dynamic}
 use Rattle.rhai_values.specs.declared.base.value.Union.{Union}
 use Rattle.rhai_values.specs.declared.base.value.Union.TheVariants as value
@@ -35,7 +36,7 @@ use Rattle.rhai_machine.specs.language.Assignment.{native_of, assignment_move, a
 use Rattle.rhai_machine.specs.language.Assignment.{operation_of, left_in, update_core, assign_core, store_core, changed_core, fault_core}
 use Rattle.rhai_machine.specs.language.Assignment.{value_core, answered_core, barred_core, call_update, fire_update}
 use Rattle.rhai_machine.specs.language.Loops.{is_endless, while_move, while_core, if_goes_on, goes_on, do_control, caught}
-use Rattle.rhai_machine.specs.language.Names.{is_unqualified, read}
+use Rattle.rhai_machine.specs.language.Names.{read}
 use Rattle.rhai_tree.specs.Positions.{position_of}
 use Rattle.rhai_state.specs.Scope.{index_of}
 use Rattle.rhai_machine.specs.language.Expressions.{literal_of, argument_move, operands_move, and_core, and_next, or_core, or_next}
@@ -208,7 +209,7 @@ module _ {H : Type 0} where
     stmt_falls (layer.Assignment op lhs rhs) restoring k l =
         assignment_falls (out-Expr lhs) op rhs (layer.Assignment op lhs rhs) restoring k l
     stmt_falls (layer.Var ident value None options pos) restoring k l =
-        there_falls (not (has_option 8 options)) (core (OpenStmt (layer.Var ident value None options pos) restoring) k l) _
+        there_falls (not (is_exported options)) (core (OpenStmt (layer.Var ident value None options pos) restoring) k l) _
         (define_falls (not s.offer.allow_shadowing && is_some (index_of ident.name l.scope))
         (nat_le s.limits.max_variables (length l.scope)) ident value options pos k l)
     stmt_falls (layer.If test body branch pos) restoring k l = omega arith

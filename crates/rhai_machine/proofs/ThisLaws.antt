@@ -13,6 +13,7 @@ use Rattle.rhai_tree.specs.declared.expr.StmtBlock.{StmtBlock}
 use Rattle.rhai_tree.specs.declared.expr.Expr.TheOpen as layer
 use Rattle.rhai_tree.specs.Layers.{ExprLayer, StmtLayer}
 use Rattle.rhai_tree.specs.Positions.{position_of}
+use Rattle.rhai_check.specs.Forms.{is_unqualified, is_exported}
 use Rattle.rhai_values.specs.declared.base.value.Dynamic.{Dynamic}
 use Rattle.rhai_values.specs.declared.base.value.Union.{Union}
 use Rattle.rhai_values.specs.declared.base.value.Union.TheVariants as value
@@ -40,7 +41,6 @@ use Rattle.rhai_machine.specs.language.Places.{Place, InEntry, InCell, Target, i
 use Rattle.rhai_machine.specs.language.Assignment.{assignment_move, assigned_core, written_core, done, if_fast, left_in, update_core}
 use Rattle.rhai_machine.specs.language.Assignment.{assign_core, store_core, changed_core, fault_core, value_core, answered_core}
 use Rattle.rhai_machine.specs.language.Assignment.{barred_core, question_update, lent_core, call_update, fire_update, native_of, operation_of, says_missing}
-use Rattle.rhai_machine.specs.language.Names.{is_unqualified}
 use Rattle.rhai_machine.specs.language.Loops.{is_endless, while_move, while_core}
 use Rattle.rhai_machine.specs.language.Expressions.{literal_of, argument_move, operands_move, expr_move, and_core, and_next, or_core}
 use Rattle.rhai_machine.specs.language.Expressions.{or_next, coalesce_core, coalesce_seen, coalesce_next}
@@ -279,7 +279,7 @@ module _ {H : Type 0} (t : Option (Dynamic H)) where
     stmt_same (layer.Block block) restoring k l = refl
     stmt_same (layer.Assignment op lhs rhs) restoring k l = assignment_same (out-Expr lhs) op rhs k l
     stmt_same (layer.Var ident value None options pos) restoring k l =
-        there_same (not (has_option 8 options)) _ _
+        there_same (not (is_exported options)) _ _
         (define_same (not s.offer.allow_shadowing && is_some (index_of ident.name l.scope))
         (nat_le s.limits.max_variables (length l.scope)) ident value options pos k l)
     stmt_same (layer.If test body branch pos) restoring k l = refl

@@ -1,7 +1,8 @@
 //! Statements. Ports upstream's `eval/stmt.rs`; the contracts speak of the machine's runs.
 
-ghost use Rattle.std.specs.Prelude.{◌≡◌, ◌<◌, ◌≤◌, ◌++◌, ◌∷◌, [], ◌||◌, OnOk, IfErr, IsTrue, true, None};
+ghost use Rattle.std.specs.Prelude.{◌≡◌, ◌<◌, ◌≤◌, ◌++◌, ◌∷◌, [], ◌||◌, OnOk, IfErr, IsTrue, true, false, None};
 ghost use Rattle.std.specs.Prelude.{length, map};
+ghost use Rattle.rhai_check.specs.Forms.{is_exported};
 ghost use Rattle.rhai_check.specs.Frame.{tests_of, target_resolves, resolves_expr, resolves_stmt};
 ghost use Rattle.rhai_check.specs.Frame.{resolves_block, all_resolve};
 ghost use Rattle.rhai_check.specs.Names.{Begins};
@@ -263,7 +264,7 @@ impl<H: Host> Engine<H> {
         requires fast { self.now.fast_operators ≡ true }
         ensures counts { OnOk result (run.old.global.num_operations ≤ run.new.global.num_operations) }
         ensures names { OnOk result (names run.new ≡ names run.old ++ ident.now.name ∷ []) }
-        ensures runs { Runs (under H.name_of self.now T.natives)
+        ensures runs { is_exported options ≡ false → Runs (under H.name_of self.now T.natives)
             (OpenStmt (layer.Var ident.now value.now None options pos) restoring)
             (state_in (T.state table.old) run.old) result (state_in (T.state table.new) run.new) }
     {

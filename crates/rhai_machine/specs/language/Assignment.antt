@@ -9,6 +9,7 @@ use Rattle.rhai_tree.specs.Layers.{ExprLayer}
 use Rattle.rhai_tree.specs.Positions.{position_of}
 use Rattle.rhai_tree.specs.Tokens.{syntax_of}
 use Rattle.rhai_values.specs.declared.base.value.AccessMode.TheVariants.{ReadWrite}
+use Rattle.rhai_check.specs.Forms.{is_unqualified}
 use Rattle.rhai_values.specs.declared.base.value.Dynamic.{Dynamic}
 use Rattle.rhai_values.specs.declared.base.value.Union.{Union}
 use Rattle.rhai_values.specs.declared.base.value.Union.TheVariants as value
@@ -25,7 +26,6 @@ use Rattle.rhai_machine.specs.language.Values.{unit_value}
 use Rattle.rhai_machine.specs.language.Places.{Place, Target, is_barred, put, while_lent}
 use Rattle.rhai_machine.specs.language.Frames.{Operation, Attempt, InPlace, AsValue, Assignment, Update, Frame, Control, Core, core, where_there}
 use Rattle.rhai_machine.specs.language.Frames.{Eval, Assign, AskUpdate, FireUpdate, Back, Fail, AssignValue}
-use Rattle.rhai_machine.specs.language.Names.{is_unqualified}
 use Rattle.rhai_machine.specs.language.Calls.{operation_at, placed_if_none, sized, applied, replied}
 
 -- the native of an attempt: in `x += y` first the one named `+=`, and then the one named `+`

@@ -7,6 +7,7 @@ use Rattle.rhai_tree.specs.declared.expr.FnCallExpr.{FnCallExpr}
 use Rattle.rhai_tree.specs.declared.expr.Expr.TheOpen as layer
 use Rattle.rhai_tree.specs.Layers.{ExprLayer}
 use Rattle.rhai_tree.specs.Positions.{position_of, start_of}
+use Rattle.rhai_check.specs.Forms.{is_unqualified}
 use Rattle.rhai_values.specs.declared.base.value.Dynamic.{Dynamic}
 use Rattle.rhai_values.specs.declared.base.value.Union.{Union}
 use Rattle.rhai_values.specs.declared.base.value.Union.TheVariants as value
@@ -15,7 +16,7 @@ use Rattle.rhai_values.specs.Copy.{plain}
 use Rattle.rhai_machine.specs.machine.Machine.{Move, Halt, Go, Charge}
 use Rattle.rhai_machine.specs.language.State.{Local}
 use Rattle.rhai_machine.specs.language.Values.{unit_value, bool_value}
-use Rattle.rhai_machine.specs.language.Names.{is_unqualified, read}
+use Rattle.rhai_machine.specs.language.Names.{read}
 use Rattle.rhai_machine.specs.language.Frames.{Frame, Core, core, where_there, ended, Eval, Argument, Enter, Back, Fail}
 use Rattle.rhai_machine.specs.language.Frames.{UnaryOperand, LeftOperand, AndPart, OrPart, CoalescePart}
 

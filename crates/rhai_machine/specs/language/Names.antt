@@ -1,5 +1,5 @@
 -- What a name means, by name alone: the newest variable of the name.
-use Rattle.std.specs.Prelude.{ℕ, Bool, true, false, List, [], ◌∷◌, Option, Some, None, Result, Ok, Err}
+use Rattle.std.specs.Prelude.{ℕ, List, Option, Some, None, Result, Ok, Err}
 use Rattle.rhai_tree.specs.declared.position.Position.{Position}
 use Rattle.rhai_values.specs.declared.base.value.Dynamic.{Dynamic}
 use Rattle.rhai_values.specs.declared.base.value.Union.{Union}
@@ -10,11 +10,6 @@ use Rattle.rhai_state.specs.declared.error.EvalAltResult.TheVariants as error
 use Rattle.rhai_values.specs.Cells.{value_of_cell}
 use Rattle.rhai_state.specs.Scope.{found}
 use Rattle.rhai_machine.specs.language.Values.{Cells, copied}
-
--- a name without a path
-abbrev pub is_unqualified : (path : List (List ℕ)) → Bool
-is_unqualified [] = true
-is_unqualified (root ∷ path) = false
 
 module _ {H : Type 0} where
   -- a variable that is the handle of a held cell is another's

@@ -10,6 +10,7 @@ use Rattle.rhai_tree.specs.declared.expr.StmtBlock.{StmtBlock}
 use Rattle.rhai_tree.specs.declared.expr.Expr.TheOpen as layer
 use Rattle.rhai_tree.specs.Layers.{StmtLayer}
 use Rattle.rhai_tree.specs.Positions.{position_of}
+use Rattle.rhai_check.specs.Forms.{is_exported}
 use Rattle.rhai_values.specs.declared.base.value.AccessMode.{AccessMode}
 use Rattle.rhai_values.specs.declared.base.value.AccessMode.TheVariants.{ReadWrite, ReadOnly}
 use Rattle.rhai_values.specs.declared.base.value.Dynamic.{Dynamic}
@@ -101,7 +102,7 @@ module _ {H : Type 0} where
     stmt_move (layer.Block block) restoring k l = Go (core (Enter block.statements true) k l)
     stmt_move (layer.Assignment op lhs rhs) restoring k l = assignment_move (out-Expr lhs) op rhs k l
     stmt_move (layer.Var ident value None options pos) restoring k l =
-        where_there (not (has_option 8 options))
+        where_there (not (is_exported options))
         (define_core (not s.offer.allow_shadowing && is_some (index_of ident.name l.scope))
         (nat_le s.limits.max_variables (length l.scope)) ident value options pos k l)
     stmt_move (layer.If test body branch pos) restoring k l = Go (core (Eval test) (IfCondition (position_of test) body branch ∷ k) l)

@@ -6,7 +6,8 @@ use Rattle.rhai_machine.specs.machine.Memory.{here, next, ◌⨾◌}
 use Rattle.rhai_machine.specs.language.Runs.{Steps}
 use Rattle.rhai_steps.proofs.Pieces.{passed, told}
 use Rattle.rhai_eval.specs.States.{under}
-use Rattle.rhai_eval.proofs.Chain.{begins, opens, refuses}
+use Rattle.rhai_eval.proofs.Chain.{begins, opens, reads, refuses}
+use Rattle.rhai_eval.proofs.NameLemmas.{plain_name}
 use Rattle.rhai_eval.proofs.engine.Engine.+eval.Goals as goal
 
 pub run_expr-returns-in_err-track_operation-clause-runs : goal.run_expr-returns-in_err-track_operation-clause-runs
@@ -49,7 +50,8 @@ run_expr-returns-in-Variable-clause-runs g t c k =
     begins rules _ c.args.run.now.global c.track_operation.new.global _ _ c.in_ok-track_operation.ensures.room
     c.in_ok-track_operation.ensures.charged _ (layer.Variable c.in-Variable.offset c.in-Variable.name c.in-Variable.namespace
     c.in-Variable.pos) (rw (c.in-Variable.is, exprs.outs-Variable) refl) k
-    ⨾ next (told rules _ _ c.read_variable.ensures k _)
+    ⨾ reads rules _ _ _ _ k _ (plain_name c.args.expr.now c.in-Variable.offset c.in-Variable.name c.in-Variable.namespace c.in-Variable.pos _
+    (rw (c.in-Variable.is, exprs.outs-Variable) refl) c.requires.resolves) (told rules _ _ c.read_variable.ensures k _)
 
 pub run_expr-returns-in-Stmt-clause-runs : goal.run_expr-returns-in-Stmt-clause-runs
 unfolding after Steps

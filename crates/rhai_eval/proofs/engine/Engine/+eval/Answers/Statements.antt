@@ -1,4 +1,5 @@
 use Rattle.std.proofs.Common.{◌≡◌, ◌+◌, ◌∷◌, drop, map, None, refl, sym, ap, ◌∙◌, arith, rules as common_rules}
+use Rattle.rhai_tree.specs.declared.expr.Stmt.{out-Stmt}
 use Rattle.rhai_tree.specs.declared.expr.Expr.TheOpen as layer
 use Rattle.rhai_tree.specs.declared.expr.Expr.TheVariants as exprs
 use Rattle.rhai_tree.specs.declared.expr.Stmt.TheVariants as stmts
@@ -12,7 +13,7 @@ use Rattle.rhai_laws.proofs.KeptLaws.{names_begin}
 use Rattle.rhai_steps.proofs.Pieces.{passed, exits, told}
 use Rattle.rhai_eval.specs.Memory.{asks_stmt}
 use Rattle.rhai_eval.specs.States.{names, offer_of, under}
-use Rattle.rhai_eval.proofs.NameLemmas.{plain_return, names_restored, rest_resolves, any_item}
+use Rattle.rhai_eval.proofs.NameLemmas.{plain_return, plain_target, plain_var, names_restored, rest_resolves, any_item}
 use Rattle.rhai_eval.proofs.LoopSteps.{begins_assignment}
 use Rattle.rhai_eval.proofs.Chain.{chooses, truth_fails, flat_fails, on_ok_given, drop_item, drop_all, begins_stmt, on_ok, opens_stmt}
 use Rattle.rhai_eval.proofs.Chain.{refuses_stmt, restores, enters_empty, enters_plain, enters_restoring, is_empty_list, is_not_empty}
@@ -107,11 +108,14 @@ pub run_stmt-returns-in-Var-default-default-None-default-default-clause-runs :
 run_stmt-returns-in-Var-default-default-None-default-default-clause-runs g t c =
     let rules = under g.H.Host.name_of c.args.self.now g.T.NativeTable.natives in
     let none : c.in-Var-default-default-None-default-default.field-2 ≡ None = search (common_rules, the_lemmas) in
-    opens_stmt rules _ c.args.run.now.global c.track_operation.new.global _ _ c.in_ok-track_operation.ensures.room
-    c.in_ok-track_operation.ensures.charged _ _ _ _ _ c.run_var.ensures.runs
-    (rw (c.in-Var-default-default-None-default-default.is, stmts.outs-Var) (ap (λ o. layer.Var
+    let form : out-Stmt c.args.stmt.now ≡ layer.Var c.in-Var-default-default-None-default-default.ident
+    c.in-Var-default-default-None-default-default.value None c.in-Var-default-default-None-default-default.options
+    c.in-Var-default-default-None-default-default.pos = rw (c.in-Var-default-default-None-default-default.is, stmts.outs-Var)
+    (ap (λ o. layer.Var
     c.in-Var-default-default-None-default-default.ident c.in-Var-default-default-None-default-default.value o
-    c.in-Var-default-default-None-default-default.options c.in-Var-default-default-None-default-default.pos) none))
+    c.in-Var-default-default-None-default-default.options c.in-Var-default-default-None-default-default.pos) none) in
+    opens_stmt rules _ c.args.run.now.global c.track_operation.new.global _ _ c.in_ok-track_operation.ensures.room
+    c.in_ok-track_operation.ensures.charged _ _ _ _ _ (c.run_var.ensures.runs (plain_var _ _ _ _ _ _ form c.requires.resolves)) form
 
 pub run_expr_stmt-returns-in_err-value-clause-runs : goal.run_expr_stmt-returns-in_err-value-clause-runs
 unfolding after Steps
@@ -157,7 +161,9 @@ run_assignment-returns-in_err-value-clause-runs g t c =
     exits rules _ _ _ _ _ c.from_residual.ensures (λ k.
     begins_assignment rules c.args.op c.args.lhs.now c.args.rhs.now c.in-Variable.offset c.in-Variable.name c.in-Variable.namespace
     c.in-Variable.pos
-    c.args.restoring k _ (rw (c.in-Variable.is, exprs.outs-Variable) refl) ⨾ c.in_err-value.ensures.runs (AssignValue _ _ ∷ k) ⨾ next
+    c.args.restoring k _ (rw (c.in-Variable.is, exprs.outs-Variable) refl)
+    (plain_target c.args.lhs.now c.in-Variable.offset c.in-Variable.name c.in-Variable.namespace c.in-Variable.pos _
+    (rw (c.in-Variable.is, exprs.outs-Variable) refl) c.requires.resolves_target) ⨾ c.in_err-value.ensures.runs (AssignValue _ _ ∷ k) ⨾ next
     here)
 
 pub run_assignment-returns-in_err-value-2-clause-runs : goal.run_assignment-returns-in_err-value-2-clause-runs
@@ -167,7 +173,9 @@ run_assignment-returns-in_err-value-2-clause-runs g t c =
     exits rules _ _ _ _ _ c.from_residual-in_err-value-2.ensures (λ k.
     begins_assignment rules c.args.op c.args.lhs.now c.args.rhs.now c.in-Variable.offset c.in-Variable.name c.in-Variable.namespace
     c.in-Variable.pos
-    c.args.restoring k _ (rw (c.in-Variable.is, exprs.outs-Variable) refl) ⨾ c.in_ok-value.ensures.runs (AssignValue _ _ ∷ k)
+    c.args.restoring k _ (rw (c.in-Variable.is, exprs.outs-Variable) refl)
+    (plain_target c.args.lhs.now c.in-Variable.offset c.in-Variable.name c.in-Variable.namespace c.in-Variable.pos _
+    (rw (c.in-Variable.is, exprs.outs-Variable) refl) c.requires.resolves_target) ⨾ c.in_ok-value.ensures.runs (AssignValue _ _ ∷ k)
     ⨾ flat_fails rules _ _ k _ _ (AssignValue _ _) refl (rw c.position.ensures at c.in_err-value-2.ensures.exact))
 
 pub run_assignment-returns-clause-runs : goal.run_assignment-returns-clause-runs
@@ -176,39 +184,41 @@ run_assignment-returns-clause-runs g t c k =
     let rules = under g.H.Host.name_of c.args.self.now g.T.NativeTable.natives in
     begins_assignment rules c.args.op c.args.lhs.now c.args.rhs.now c.in-Variable.offset c.in-Variable.name c.in-Variable.namespace
     c.in-Variable.pos
-    c.args.restoring k _ (rw (c.in-Variable.is, exprs.outs-Variable) refl) ⨾ c.in_ok-value.ensures.runs (AssignValue _ _ ∷ k)
+    c.args.restoring k _ (rw (c.in-Variable.is, exprs.outs-Variable) refl)
+    (plain_target c.args.lhs.now c.in-Variable.offset c.in-Variable.name c.in-Variable.namespace c.in-Variable.pos _
+    (rw (c.in-Variable.is, exprs.outs-Variable) refl) c.requires.resolves_target) ⨾ c.in_ok-value.ensures.runs (AssignValue _ _ ∷ k)
     ⨾ next (rw (← c.position.ensures, ← (c.in_ok-value-2.ensures.exact tt)) (c.assign_variable.ensures.runs (offer_of c.args.self.now)
     c.run_expr.new.run.this c.requires.fast k))
 
 pub run_var-returns-in_err-may_declare-clause-runs : goal.run_var-returns-in_err-may_declare-clause-runs
 unfolding after Steps
-run_var-returns-in_err-may_declare-clause-runs g t c =
+run_var-returns-in_err-may_declare-clause-runs g t c kept =
     let rules = under g.H.Host.name_of c.args.self.now g.T.NativeTable.natives in
     exits rules _ _ _ _ _ c.from_residual.ensures (λ k.
-    not_declared rules c.args.ident.now c.args.value.now c.args.options c.args.pos c.args.restoring k _ _ c.in_err-may_declare.ensures)
+    not_declared rules c.args.ident.now c.args.value.now c.args.options c.args.pos c.args.restoring k _ _ c.in_err-may_declare.ensures kept)
 
 pub run_var-returns-in_err-given-clause-runs : goal.run_var-returns-in_err-given-clause-runs
 unfolding after Steps
-run_var-returns-in_err-given-clause-runs g t c =
+run_var-returns-in_err-given-clause-runs g t c kept =
     let rules = under g.H.Host.name_of c.args.self.now g.T.NativeTable.natives in
     exits rules _ _ _ _ _ c.from_residual-in_err-given.ensures (λ k.
-    begins_value rules c.args.ident.now c.args.value.now c.args.options c.args.pos c.args.restoring k _ (c.in_ok-may_declare.ensures tt)
+    begins_value rules c.args.ident.now c.args.value.now c.args.options c.args.pos c.args.restoring k _ (c.in_ok-may_declare.ensures tt) kept
     ⨾ c.in_err-given.ensures.runs (DefineValue _ _ _ ∷ k) ⨾ next here)
 
 pub run_var-returns-in_err-given-2-clause-runs : goal.run_var-returns-in_err-given-2-clause-runs
 unfolding after Steps
-run_var-returns-in_err-given-2-clause-runs g t c =
+run_var-returns-in_err-given-2-clause-runs g t c kept =
     let rules = under g.H.Host.name_of c.args.self.now g.T.NativeTable.natives in
     exits rules _ _ _ _ _ c.from_residual-in_err-given-2.ensures (λ k.
-    begins_value rules c.args.ident.now c.args.value.now c.args.options c.args.pos c.args.restoring k _ (c.in_ok-may_declare.ensures tt)
+    begins_value rules c.args.ident.now c.args.value.now c.args.options c.args.pos c.args.restoring k _ (c.in_ok-may_declare.ensures tt) kept
     ⨾ c.in_ok-given.ensures.runs (DefineValue _ _ _ ∷ k)
     ⨾ flat_fails rules _ _ k _ _ (DefineValue _ _ _) refl (rw c.position.ensures at c.in_err-given-2.ensures.exact))
 
 pub run_var-returns-clause-runs : goal.run_var-returns-clause-runs
 unfolding after Steps
-run_var-returns-clause-runs g t c k =
+run_var-returns-clause-runs g t c kept k =
     let rules = under g.H.Host.name_of c.args.self.now g.T.NativeTable.natives in
-    begins_value rules c.args.ident.now c.args.value.now c.args.options c.args.pos c.args.restoring k _ (c.in_ok-may_declare.ensures tt)
+    begins_value rules c.args.ident.now c.args.value.now c.args.options c.args.pos c.args.restoring k _ (c.in_ok-may_declare.ensures tt) kept
     ⨾ c.in_ok-given.ensures.runs (DefineValue _ _ _ ∷ k)
     ⨾ defines rules _ c.run_expr.new.run.global c.run_expr.new.run.scope c.define_variable.new.scope _ c.args.ident.now c.args.options
     _ c.in_ok-given-2.given _
