@@ -10,7 +10,7 @@ use Rattle.rhai_state.specs.declared.error.EvalAltResult.{EvalAltResult}
 use Rattle.rhai_state.specs.declared.error.EvalAltResult.TheVariants as error
 use Rattle.rhai_state.specs.declared.table.Answer.{Answer}
 use Rattle.rhai_state.specs.declared.table.Answer.TheVariants as answer
-use Rattle.rhai_state.specs.Reach.{Reached, Cell, held_by, held_by_error}
+use Rattle.rhai_state.specs.Reach.{Reached, Cell, Holdings, held_by, held_by_first, held_by_error}
 
 -- which native is called: by its name, or by its number
 pub data Key : Type 0 where
@@ -105,16 +105,7 @@ abbrev pub KeepsFirst : {H : Type 0} → Reply H → Option (Dynamic H) → Opti
 KeepsFirst Missing before after = after ≡ before
 KeepsFirst _ before after = ⊤
 
--- what a state of a table holds, and what a value of the host's own type holds, as their author says
-pub record Holdings (S H : Type 0) : Type 0 where
-  pub of_state : S → List Reached
-  pub of_host : H → List Reached
-
--- what a first argument holds, and what a reply holds
-abbrev pub held_by_first : {H : Type 0} → (H → List Reached) → Option (Dynamic H) → List Reached
-held_by_first host None = []
-held_by_first host (Some v) = held_by host v
-
+-- what a reply holds
 abbrev pub held_by_reply : {H : Type 0} → (H → List Reached) → Reply H → List Reached
 held_by_reply host Missing = []
 held_by_reply host (Gives v) = held_by host v
@@ -122,20 +113,20 @@ held_by_reply host (Faults e) = held_by_error host e
 
 -- what a call reaches: what the state and the arguments hold, and what stands in the cells that it reaches; of a held cell no more
 module _ {S H : Type 0} (holds : Holdings S H) (s : S) (q : Request H) where
-  pub data Reaches : Reached → Type 0 where
-    ByState : {r : Reached} → Contains (holds.of_state s) r → Reaches r
-    ByFirst : {r : Reached} → Contains (held_by_first holds.of_host q.first) r → Reaches r
-    ByOthers : {r : Reached} → Contains (flat_map (held_by holds.of_host) q.rest) r → Reaches r
-    ByCell : {r : Reached} (number : ℕ) (v : Dynamic H) → Reaches (Cell number) → value_of_cell q.cells number ≡ Some v →
-        Contains (held_by holds.of_host v) r → Reaches r
+  pub data IsReached : Reached → Type 0 where
+    ByState : {r : Reached} → Contains (holds.of_state s) r → IsReached r
+    ByFirst : {r : Reached} → Contains (held_by_first holds.of_host q.first) r → IsReached r
+    ByOthers : {r : Reached} → Contains (flat_map (held_by holds.of_host) q.rest) r → IsReached r
+    ByCell : {r : Reached} (number : ℕ) (v : Dynamic H) → IsReached (Cell number) → value_of_cell q.cells number ≡ Some v →
+        Contains (held_by holds.of_host v) r → IsReached r
 
-  -- it reaches all that a list has
-  abbrev pub ReachesAll : List Reached → Type 0
-  ReachesAll held = (r : Reached) → Contains held r → Reaches r
+  -- all that a list has is reached
+  abbrev pub AreReached : List Reached → Type 0
+  AreReached held = (r : Reached) → Contains held r → IsReached r
 
   -- these cells are the call's as far as it reaches them, with their marks of being held
   abbrev pub AgreesOn : List (Option (Dynamic H)) → Type 0
-  AgreesOn cells = (number : ℕ) → Reaches (Cell number) → slice_get cells number ≡ slice_get q.cells number
+  AgreesOn cells = (number : ℕ) → IsReached (Cell number) → slice_get cells number ≡ slice_get q.cells number
 
 -- the type of the first argument, the empty text where there is none
 abbrev pub first_type_of : {H : Type 0} → (H → List ℕ) → List (Option (Dynamic H)) → Option (Dynamic H) → List ℕ
@@ -147,18 +138,22 @@ abbrev pub count_of : {H : Type 0} → Option (Dynamic H) → List (Dynamic H) �
 count_of None rest = length rest
 count_of (Some v) rest = 1 + length rest
 
--- what is asked of the purity of the native that a call names
-abbrev pub asked_of : {H : Type 0} → (H → List ℕ) → Key → Request H → Purity
-asked_of host (Named name) q = OfName name (first_type_of host q.cells q.first) (count_of q.first q.rest)
-asked_of host (Numbered number) q = OfNumber number
+-- what is asked of a native's purity, which for a number is the number alone
+abbrev pub purity_of : Key → (first_type : List ℕ) → (count : ℕ) → Purity
+purity_of (Named name) first_type count = OfName name first_type count
+purity_of (Numbered number) first_type count = OfNumber number
+
+-- what is asked of the purity of a call's native
+abbrev pub question_of : {H : Type 0} → (H → List ℕ) → Request H → Purity
+question_of host q = purity_of q.key (first_type_of host q.cells q.first) (count_of q.first q.rest)
 
 -- `host` names the types of the host's values
 module _ {S H : Type 0} (host : H → List ℕ) (natives : Natives S H) (holds : Holdings S H) where
   -- after every answer, want of memory too: a pure native leaves the first argument, and what first argument and state hold was reached
   pub record Leaves (s : S) (q : Request H) (first : Option (Dynamic H)) (state : S) : Type 0 where
-    pub pure_keeps : natives.pure s (asked_of host q.key q) ≡ true → first ≡ q.first
-    pub first_reached : ReachesAll holds s q (held_by_first holds.of_host first)
-    pub state_reached : ReachesAll holds s q (holds.of_state state)
+    pub pure_keeps : natives.pure s (question_of host q) ≡ true → first ≡ q.first
+    pub first_reached : AreReached holds s q (held_by_first holds.of_host first)
+    pub state_reached : AreReached holds s q (holds.of_state state)
 
   -- the law of a call, of the table's function alone
   pub record LawfulCall (s : S) (q : Request H) : Type 0 where
@@ -166,7 +161,7 @@ module _ {S H : Type 0} (host : H → List ℕ) (natives : Natives S H) (holds :
     pub first_no_handle : HasNoHandle (natives.gives s q).first
     pub missing_keeps : KeepsFirst (natives.gives s q).reply q.first (natives.gives s q).first
     pub leaves : Leaves s q (natives.gives s q).first (natives.gives s q).state
-    pub answer_reached : ReachesAll holds s q (held_by_reply holds.of_host (natives.gives s q).reply)
+    pub answer_reached : AreReached holds s q (held_by_reply holds.of_host (natives.gives s q).reply)
     pub reads_reached : (cells : List (Option (Dynamic H))) → AgreesOn holds s q cells →
         natives.gives s (record q { cells = cells }) ≡ natives.gives s q
 

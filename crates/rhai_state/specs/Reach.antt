@@ -14,6 +14,11 @@ pub data Reached : Type 0 where
   Function : ScriptFuncDef → Reached
   Constants : ℕ → Reached
 
+-- what a state of a table holds, and what a value of the host's own type holds, as their author says
+pub record Holdings (S H : Type 0) : Type 0 where
+  pub of_state : S → List Reached
+  pub of_host : H → List Reached
+
 -- what several hold, and what one holds that may be there
 abbrev pub each : List (List Reached) → List Reached
 each held = flat_map (λ h. h) held
@@ -22,7 +27,7 @@ abbrev pub maybe : Option (List Reached) → List Reached
 maybe None = []
 maybe (Some held) = held
 
--- Of the host's own values their author says what they hold.
+-- `host` says what the host's own values hold.
 module _ {H : Type 0} (host : H → List Reached) where
   -- what a value holds, from what its items and its pointer hold
   abbrev pub in_union : layer.Union-F H (List Reached) (List Reached) (List Reached) (List Reached) (List Reached) (List Reached)
@@ -49,6 +54,11 @@ module _ {H : Type 0} (host : H → List Reached) where
       (λ i. i.module)
       (λ m. each m.constants.1 ++ (each m.functions ++ each m.sub_modules.1))
       (λ f. Function f.def ∷ maybe f.environ)
+
+  -- what a first argument holds, if there is one
+  abbrev pub held_by_first : Option (Dynamic H) → List Reached
+  held_by_first None = []
+  held_by_first (Some v) = held_by v
 
   -- what an error holds: its value, or what the error in it holds
   abbrev pub in_error : error.EvalAltResult-F H (List Reached) (List Reached) → List Reached

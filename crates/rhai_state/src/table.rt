@@ -19,12 +19,14 @@ pub enum Answer<H> {
 }
 
 /// A host's natives. A call is a function of the table's state, the native, the position, the
-/// arguments and the cells, want of memory aside: the law that each implementation proves once.
+/// arguments and the cells that they reach, want of memory aside. Each implementation proves once
+/// the law of that function.
 pub trait NativeTable<H: Host> {
     ghost use Rattle.rhai_values.specs.Cells.{cells_of};
     ghost use Rattle.rhai_state.specs.Native.{Natives, OfName, OfNumber, Named, Numbered, Obeys};
-    ghost use Rattle.rhai_state.specs.Native.{HasNoHandle, Holdings, Lawful, Leaves};
-    ghost use Rattle.rhai_state.specs.Native.{reply_of, request, was, left_by};
+    ghost use Rattle.rhai_state.specs.Native.{HasNoHandle, Lawful, Leaves, reply_of, request, was};
+    ghost use Rattle.rhai_state.specs.Native.{left_by};
+    ghost use Rattle.rhai_state.specs.Reach.{Holdings};
 
     /// The state of the table as far as it shows.
     ghost State: { Type 0 };
