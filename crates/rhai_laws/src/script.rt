@@ -6,36 +6,37 @@ ghost use Rattle.rhai_laws.specs.Laws.{GoesWithMemory, GoesUpToMemory, StepsKeep
 ghost use Rattle.rhai_laws.specs.Laws.{VariablesStay};
 
 use rhai_state::table::NativeTable;
+use rhai_values::base::value::Host;
 use std::marker::PhantomData;
 
 /// Where memory was not wanting at the end of a run, the machine takes its steps by itself.
-pub fn script_goes_with_memory<H, T: NativeTable<H>>(of: PhantomData<(H, T)>)
+pub fn script_goes_with_memory<H: Host, T: NativeTable<H>>(of: PhantomData<(H, T)>)
     ensures { (setting : Setting H) → GoesWithMemory (over setting T.natives) }
 {}
 
 /// Else the machine does so up to where memory runs out, and from there the run only unwinds.
-pub fn script_goes_up_to_memory<H, T: NativeTable<H>>(of: PhantomData<(H, T)>)
+pub fn script_goes_up_to_memory<H: Host, T: NativeTable<H>>(of: PhantomData<(H, T)>)
     ensures { (setting : Setting H) → GoesUpToMemory (over setting T.natives) }
 {}
 
 /// A run adds charges alone, up to the limit. Its surroundings stay as they were but for the values
 /// of cells, and `this` stays bound or unbound.
-pub fn script_keeps<H, T: NativeTable<H>>(of: PhantomData<(H, T)>)
+pub fn script_keeps<H: Host, T: NativeTable<H>>(of: PhantomData<(H, T)>)
     ensures { (setting : Setting H) → StepsKeep (over setting T.natives) }
 {}
 
 /// An expression, and a list of statements that restores, leave the names of the variables as they
 /// were.
-pub fn script_names_stay<H, T: NativeTable<H>>(of: PhantomData<(H, T)>)
+pub fn script_names_stay<H: Host, T: NativeTable<H>>(of: PhantomData<(H, T)>)
     ensures { (setting : Setting H) → NamesStay (over setting T.natives) }
 {}
 
 /// A statement, and a list that does not restore, only add variables.
-pub fn script_names_begin<H, T: NativeTable<H>>(of: PhantomData<(H, T)>)
+pub fn script_names_begin<H: Host, T: NativeTable<H>>(of: PhantomData<(H, T)>)
     ensures { (setting : Setting H) → NamesBegin (over setting T.natives) }
 {}
 
 /// There are never more variables than the limit allows.
-pub fn script_variables_stay<H, T: NativeTable<H>>(of: PhantomData<(H, T)>)
+pub fn script_variables_stay<H: Host, T: NativeTable<H>>(of: PhantomData<(H, T)>)
     ensures { (setting : Setting H) → VariablesStay (over setting T.natives) }
 {}

@@ -1,1 +1,4 @@
+pub mod Held
 pub mod Newest
+mod Reached
+mod Tables

@@ -4,5 +4,6 @@ pub mod Lends
 pub mod Limits
 pub mod Native
 pub mod Newest
+pub mod Reach
 pub mod Scope
 pub mod State

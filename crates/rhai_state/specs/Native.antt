@@ -1,14 +1,16 @@
 -- What a table of natives is asked, what it answers, and its law.
 use Rattle.std.proofs.Common.{inl, inr}
-use Rattle.std.specs.Prelude.{◌≡◌, ◌⊎◌, ⊤, ℕ, Bool, List, Option, Some, None}
+use Rattle.std.specs.Prelude.{◌≡◌, ◌⊎◌, ⊤, ℕ, ◌+◌, Bool, true, List, [], length, flat_map, slice_get, Contains, Option, Some, None}
 use Rattle.std.specs.Borrow.{MutBor}
 use Rattle.rhai_tree.specs.declared.position.Position.{Position}
 use Rattle.rhai_values.specs.declared.base.value.Dynamic.{Dynamic}
-use Rattle.rhai_values.specs.Cells.{IsNoHandle}
+use Rattle.rhai_values.specs.Cells.{IsNoHandle, value_of_cell}
+use Rattle.rhai_values.specs.TypeNames.{type_name_of}
 use Rattle.rhai_state.specs.declared.error.EvalAltResult.{EvalAltResult}
 use Rattle.rhai_state.specs.declared.error.EvalAltResult.TheVariants as error
 use Rattle.rhai_state.specs.declared.table.Answer.{Answer}
 use Rattle.rhai_state.specs.declared.table.Answer.TheVariants as answer
+use Rattle.rhai_state.specs.Reach.{Reached, Cell, Holdings, held_by, held_by_first, held_by_error}
 
 -- which native is called: by its name, or by its number
 pub data Key : Type 0 where
@@ -103,8 +105,66 @@ abbrev pub KeepsFirst : {H : Type 0} → Reply H → Option (Dynamic H) → Opti
 KeepsFirst Missing before after = after ≡ before
 KeepsFirst _ before after = ⊤
 
--- the law of a table, of its function alone
-pub record Lawful {S H : Type 0} (natives : Natives S H) : Type 0 where
-  pub allowed : (s : S) (q : Request H) → HasNoHandle q.first → IsAllowed (natives.gives s q).reply
-  pub first_no_handle : (s : S) (q : Request H) → HasNoHandle q.first → HasNoHandle (natives.gives s q).first
-  pub missing_keeps : (s : S) (q : Request H) → KeepsFirst (natives.gives s q).reply q.first (natives.gives s q).first
+-- what a reply holds
+abbrev pub held_by_reply : {H : Type 0} → (H → List Reached) → Reply H → List Reached
+held_by_reply host Missing = []
+held_by_reply host (Gives v) = held_by host v
+held_by_reply host (Faults e) = held_by_error host e
+
+-- what a call reaches: what the state and the arguments hold, and what stands in the cells that it reaches; of a held cell no more
+module _ {S H : Type 0} (holds : Holdings S H) (s : S) (q : Request H) where
+  pub data IsReached : Reached → Type 0 where
+    ByState : {r : Reached} → Contains (holds.of_state s) r → IsReached r
+    ByFirst : {r : Reached} → Contains (held_by_first holds.of_host q.first) r → IsReached r
+    ByOthers : {r : Reached} → Contains (flat_map (held_by holds.of_host) q.rest) r → IsReached r
+    ByCell : {r : Reached} (number : ℕ) (v : Dynamic H) → IsReached (Cell number) → value_of_cell q.cells number ≡ Some v →
+        Contains (held_by holds.of_host v) r → IsReached r
+
+  -- all that a list has is reached
+  abbrev pub AreReached : List Reached → Type 0
+  AreReached held = (r : Reached) → Contains held r → IsReached r
+
+  -- these cells are the call's as far as it reaches them, with their marks of being held
+  abbrev pub AgreesOn : List (Option (Dynamic H)) → Type 0
+  AgreesOn cells = (number : ℕ) → IsReached (Cell number) → slice_get cells number ≡ slice_get q.cells number
+
+-- the type of the first argument, the empty text where there is none
+abbrev pub first_type_of : {H : Type 0} → (H → List ℕ) → List (Option (Dynamic H)) → Option (Dynamic H) → List ℕ
+first_type_of host cells None = []
+first_type_of host cells (Some v) = type_name_of host cells v
+
+-- the number of all arguments
+abbrev pub count_of : {H : Type 0} → Option (Dynamic H) → List (Dynamic H) → ℕ
+count_of None rest = length rest
+count_of (Some v) rest = 1 + length rest
+
+-- what is asked of a native's purity, which for a number is the number alone
+abbrev pub purity_of : Key → (first_type : List ℕ) → (count : ℕ) → Purity
+purity_of (Named name) first_type count = OfName name first_type count
+purity_of (Numbered number) first_type count = OfNumber number
+
+-- what is asked of the purity of a call's native
+abbrev pub question_of : {H : Type 0} → (H → List ℕ) → Request H → Purity
+question_of host q = purity_of q.key (first_type_of host q.cells q.first) (count_of q.first q.rest)
+
+-- `host` names the types of the host's values
+module _ {S H : Type 0} (host : H → List ℕ) (natives : Natives S H) (holds : Holdings S H) where
+  -- after every answer, want of memory too: a pure native leaves the first argument, and what first argument and state hold was reached
+  pub record Leaves (s : S) (q : Request H) (first : Option (Dynamic H)) (state : S) : Type 0 where
+    pub pure_keeps : natives.pure s (question_of host q) ≡ true → first ≡ q.first
+    pub first_reached : AreReached holds s q (held_by_first holds.of_host first)
+    pub state_reached : AreReached holds s q (holds.of_state state)
+
+  -- the law of a call, of the table's function alone
+  pub record LawfulCall (s : S) (q : Request H) : Type 0 where
+    pub allowed : IsAllowed (natives.gives s q).reply
+    pub first_no_handle : HasNoHandle (natives.gives s q).first
+    pub missing_keeps : KeepsFirst (natives.gives s q).reply q.first (natives.gives s q).first
+    pub leaves : Leaves s q (natives.gives s q).first (natives.gives s q).state
+    pub answer_reached : AreReached holds s q (held_by_reply holds.of_host (natives.gives s q).reply)
+    pub reads_reached : (cells : List (Option (Dynamic H))) → AgreesOn holds s q cells →
+        natives.gives s (record q { cells = cells }) ≡ natives.gives s q
+
+  -- the law of a table: of every call whose first argument is no bare handle
+  abbrev pub Lawful : Type 0
+  Lawful = (s : S) (q : Request H) → HasNoHandle q.first → LawfulCall s q

@@ -5,7 +5,7 @@ ghost use Rattle.std.specs.Prelude.{◌≡◌};
 use crate::error::EvalAltResult;
 use rhai_tree::literal::NativeId;
 use rhai_tree::position::Position;
-use rhai_values::base::value::Dynamic;
+use rhai_values::base::value::{Dynamic, Host};
 use rhai_values::cells::CellStore;
 
 /// What a native answers.
@@ -19,11 +19,14 @@ pub enum Answer<H> {
 }
 
 /// A host's natives. A call is a function of the table's state, the native, the position, the
-/// arguments and the cells, want of memory aside: the law that each implementation proves once.
-pub trait NativeTable<H> {
+/// arguments and the cells that they reach, want of memory aside. Each implementation proves once
+/// the law of that function.
+pub trait NativeTable<H: Host> {
     ghost use Rattle.rhai_values.specs.Cells.{cells_of};
     ghost use Rattle.rhai_state.specs.Native.{Natives, OfName, OfNumber, Named, Numbered, Obeys};
-    ghost use Rattle.rhai_state.specs.Native.{HasNoHandle, Lawful, reply_of, request, was, left_by};
+    ghost use Rattle.rhai_state.specs.Native.{HasNoHandle, Lawful, Leaves, reply_of, request, was};
+    ghost use Rattle.rhai_state.specs.Native.{left_by};
+    ghost use Rattle.rhai_state.specs.Reach.{Holdings};
 
     /// The state of the table as far as it shows.
     ghost State: { Type 0 };
@@ -32,6 +35,10 @@ pub trait NativeTable<H> {
 
     /// What a call does, and which natives change nothing.
     ghost natives: { Natives State H };
+
+    /// What a state and a value of the host's own type hold of cells, script functions and tables of
+    /// constants.
+    ghost holds: { Holdings State H };
 
     /// Calls a native by its name. Asked: the first argument is no bare handle of a cell.
     fn call(
@@ -46,7 +53,10 @@ pub trait NativeTable<H> {
         ensures obeys { Obeys (natives.gives (state self.old)
             (request (cells_of cells.now) (Named name.now) (was first.entry) rest.now position))
             (reply_of result) (left_by first.exit) (state self.new) }
-        ensures no_handle { HasNoHandle (left_by first.exit) };
+        ensures no_handle { HasNoHandle (left_by first.exit) }
+        ensures leaves { Leaves H.name_of natives holds (state self.old)
+            (request (cells_of cells.now) (Named name.now) (was first.entry) rest.now position)
+            (left_by first.exit) (state self.new) };
 
     /// Calls a native by its number. Asked: the first argument is no bare handle of a cell.
     fn call_numbered(
@@ -61,7 +71,10 @@ pub trait NativeTable<H> {
         ensures obeys { Obeys (natives.gives (state self.old)
             (request (cells_of cells.now) (Numbered id.number) (was first.entry) rest.now position))
             (reply_of result) (left_by first.exit) (state self.new) }
-        ensures no_handle { HasNoHandle (left_by first.exit) };
+        ensures no_handle { HasNoHandle (left_by first.exit) }
+        ensures leaves { Leaves H.name_of natives holds (state self.old)
+            (request (cells_of cells.now) (Numbered id.number) (was first.entry) rest.now position)
+            (left_by first.exit) (state self.new) };
 
     /// Whether a native of a name, by the type of its first argument (the empty text where there
     /// is none) and the number of its arguments, changes nothing.
@@ -72,5 +85,5 @@ pub trait NativeTable<H> {
     fn is_pure_numbered(&self, id: NativeId) -> bool
         ensures { result ≡ natives.pure (state self.now) (OfNumber id.number) };
 
-    ghost lawful: { Lawful natives };
+    ghost lawful: { Lawful H.name_of natives holds };
 }
