@@ -1,5 +1,6 @@
 pub mod Ends
 pub mod Indexing
+pub mod Lends
 pub mod Memory
 pub mod Search
 pub mod States

@@ -5,4 +5,5 @@ pub mod expr;
 pub mod indexing;
 pub mod loops;
 pub mod script;
+pub mod search;
 pub mod stmt;

@@ -20,7 +20,8 @@ ghost use Rattle.rhai_eval.specs.States.{names, state_in, under};
 
 use crate::context::{Context, give_back, take};
 use crate::engine::Engine;
-use rhai_places::target::Target;
+use crate::eval::search::variable_mut;
+use rhai_places::target::{Part, Target};
 use rhai_state::caches::Caches;
 use rhai_state::error::EvalAltResult;
 use rhai_state::scope::Scope;
@@ -28,7 +29,7 @@ use rhai_state::state::GlobalRuntimeState;
 use rhai_state::table::NativeTable;
 use rhai_steps::charges::track_operation;
 use rhai_steps::values::{bool_value, int_value, unit_value};
-use rhai_steps::variables::{find_variable, read_variable};
+use rhai_steps::variables::read_variable;
 use rhai_tree::expr::Expr;
 use rhai_values::base::value::{Dynamic, Host};
 use std::alloc::Global;
@@ -36,6 +37,9 @@ use std::alloc::Global;
 impl<H: Host> Engine<H> {
     /// The place of the variable that an expression names: the newest of the name. Ports upstream's
     /// `search_scope_only`; asked for a variable alone.
+    ///
+    /// The place is the value that `crate::eval::search::variable_mut` lends, whose clause
+    /// `writes_back` tells what becomes of the scope: behind the engine no clause here repeats it.
     ///
     /// # Errors
     /// `ErrorVariableNotFound` where there is none, and `ErrorDataRace` where it is the handle of a
@@ -59,10 +63,11 @@ impl<H: Host> Engine<H> {
             searched (out-Expr expr.now) (cells_of global.old.cells) (entries_of scope.old) ≡ Some (Err e)) }
         ensures same { global.new ≡ global.old }
     {
-        match expr {
-            Expr::Variable { name, pos, .. } => find_variable(&global.cells, scope, name, *pos),
-            _ => unreachable!(),
-        }
+        let at = variable_mut(scope, &global.cells, expr)?;
+        Ok(Target {
+            at,
+            part: Part::Whole,
+        })
     }
 
     /// The value of an expression, charged first at its position. Ports upstream's `eval_expr`.
