@@ -1,4 +1,5 @@
 pub mod Declaring
+pub mod Lends
 pub mod Loops
 pub mod Saves
 pub mod States

@@ -2,23 +2,23 @@
 
 ghost use Rattle.std.specs.Prelude.{◌≡◌, ℕ, List, Ok, Err, Some, None, false, IsTrue, ◌++◌, ◌∷◌, [], true};
 ghost use Rattle.std.specs.Prelude.{not, ◌&&◌, is_some, take, IfOk, IfErr, OnOk, OnErr};
+ghost use Rattle.std.specs.Borrow.{sem};
 ghost use Rattle.rhai_values.specs.Cells.{cells_of};
 ghost use Rattle.rhai_state.specs.Errors.{is_out_of_memory};
 ghost use Rattle.rhai_state.specs.declared.error.EvalAltResult.TheVariants as error;
-ghost use Rattle.rhai_places.specs.declared.target.Part.TheVariants as part;
 ghost use Rattle.rhai_state.specs.Scope.{entries_of, found, index_of, new_entry};
 ghost use Rattle.rhai_machine.specs.language.State.{Answers};
 ghost use Rattle.rhai_machine.specs.language.Values.{copied, unit_value as unit};
 ghost use Rattle.rhai_machine.specs.language.Names.{looked_up, read, variable_of};
 ghost use Rattle.rhai_machine.specs.language.Statements.{deeper, mode_of as mode_asked};
 ghost use Rattle.rhai_steps.specs.Declaring.{declarable, is_full, is_taken};
+ghost use Rattle.rhai_steps.specs.Lends.{lends_variable, with_value};
 ghost use Rattle.rhai_steps.specs.Saves.{saved_in, saved_now, left_global};
 
 use crate::errors::{data_race_of, variable_exists, variable_not_found};
 use crate::values::{copy, unit_value};
 use bitflags::Flags;
 use rhai_items::{Shared, Text};
-use rhai_places::target::{Part, Target};
 use rhai_state::error::EvalAltResult;
 use rhai_state::limits::Limits;
 use rhai_state::scope::Scope;
@@ -110,16 +110,24 @@ pub fn may_declare<H: Host>(
     Ok(())
 }
 
-/// The place of the newest variable of a name.
+/// The value of the newest variable of a name, to be changed in place. The scope comes first, so that
+/// a clause can tell what becomes of it: what is written stands at the entry that was found, and every
+/// other entry is as it was. Of a variable that is the handle of a cell the handle is lent. At an
+/// error the scope is as it was.
+///
+/// # Errors
+/// `ErrorVariableNotFound` where there is none, and `ErrorDataRace` where it is the handle of a cell
+/// that is held, both at the variable.
 pub fn find_variable<'s, H: Host>(
-    cells: &CellStore<H>,
     scope: &'s mut Scope<H>,
+    cells: &CellStore<H>,
     name: &Shared<Text>,
     pos: Position,
-) -> Result<Target<'s, H>, EvalAltResult<H>>
-    ensures found { IfOk result (λ target. variable_of (cells_of cells.now) name.now pos
-        (found name.now (entries_of scope.old)) ≡ Ok target.at.now) }
-    ensures place { IfOk result (λ target. target.part ≡ part.Whole) }
+) -> Result<&'s mut Dynamic<H>, EvalAltResult<H>>
+    ensures* writes_back { sem 𝓛 (lends_variable H.row scope.entry
+        (with_value scope.entry.now name.now) result) }
+    ensures found { IfOk result (λ value. variable_of (cells_of cells.now) name.now pos
+        (found name.now (entries_of scope.old)) ≡ Ok value.now) }
     ensures missed { IfErr result (λ e. is_out_of_memory e ≡ false →
         variable_of (cells_of cells.now) name.now pos (found name.now (entries_of scope.old)) ≡ Err e) }
 {
@@ -129,10 +137,7 @@ pub fn find_variable<'s, H: Host>(
     if is_held(cells, scope.value_at(index)) {
         return Err(data_race_of(name, pos));
     }
-    Ok(Target {
-        at: scope.value_at_mut(index),
-        part: Part::Whole,
-    })
+    Ok(scope.value_at_mut(index))
 }
 
 /// The mode that a `let` or a `const` asks for.

@@ -1,23 +1,20 @@
 //! The place of a variable in a scope. The contracts cite specs/Search.antt and specs/Lends.antt.
 
-ghost use Rattle.std.specs.Prelude.{◌≡◌, ℕ, List, Some, Ok, Err, IfOk, IfErr, IsTrue, true, false};
+ghost use Rattle.std.specs.Prelude.{◌≡◌, Some, Ok, Err, IfOk, IfErr, true, false};
 ghost use Rattle.std.specs.Borrow.{sem};
 ghost use Rattle.rhai_tree.specs.declared.expr.Expr.{out-Expr};
 ghost use Rattle.rhai_values.specs.Cells.{cells_of};
 ghost use Rattle.rhai_state.specs.Errors.{is_out_of_memory};
-ghost use Rattle.rhai_state.specs.Scope.{entries_of, found};
-ghost use Rattle.rhai_state.specs.declared.error.EvalAltResult.TheVariants as error;
-ghost use Rattle.rhai_machine.specs.language.Names.{looked_up, variable_of};
-ghost use Rattle.rhai_eval.specs.Lends.{lends_variable, with_value, with_variable};
+ghost use Rattle.rhai_state.specs.Scope.{entries_of};
+ghost use Rattle.rhai_steps.specs.Lends.{lends_variable};
+ghost use Rattle.rhai_eval.specs.Lends.{with_variable};
 ghost use Rattle.rhai_eval.specs.Search.{is_variable, searched};
 
-use rhai_items::{Shared, Text};
 use rhai_state::error::EvalAltResult;
 use rhai_state::scope::Scope;
-use rhai_steps::errors::{data_race_of, variable_not_found};
+use rhai_steps::variables::find_variable;
 use rhai_tree::expr::Expr;
-use rhai_tree::position::Position;
-use rhai_values::base::value::{Dynamic, Host, Union};
+use rhai_values::base::value::{Dynamic, Host};
 use rhai_values::cells::CellStore;
 
 /// The value of the variable that an expression names, the newest of the name, to be changed in
@@ -45,44 +42,7 @@ pub fn variable_mut<'s, H: Host>(
         searched (out-Expr expr.now) (cells_of cells.now) (entries_of scope.old) ≡ Some (Err e)) }
 {
     match expr {
-        Expr::Variable { name, pos, .. } => newest_mut(scope, cells, name, *pos),
+        Expr::Variable { name, pos, .. } => find_variable(scope, cells, name, *pos),
         _ => unreachable!(),
-    }
-}
-
-/// The value of the newest variable of a name, to be changed in place.
-fn newest_mut<'s, H: Host>(
-    scope: &'s mut Scope<H>,
-    cells: &CellStore<H>,
-    name: &Shared<Text>,
-    pos: Position,
-) -> Result<&'s mut Dynamic<H>, EvalAltResult<H>>
-    ensures* writes_back { sem 𝓛 (lends_variable H.row scope.entry
-        (with_value scope.entry.now name.now) result) }
-    ensures found { IfOk result (λ value. variable_of (cells_of cells.now) name.now pos
-        (found name.now (entries_of scope.old)) ≡ Ok value.now) }
-    ensures missed { IfErr result (λ e. is_out_of_memory e ≡ false →
-        variable_of (cells_of cells.now) name.now pos (found name.now (entries_of scope.old)) ≡ Err e) }
-{
-    let Some(index) = scope.search(name.get().as_str()) else {
-        return Err(variable_not_found(name, pos));
-    };
-    if is_held(cells, scope.value_at(index)) {
-        return Err(data_race_of(name, pos));
-    }
-    Ok(scope.value_at_mut(index))
-}
-
-/// Whether a value is the handle of a cell that is held.
-fn is_held<H: Host>(cells: &CellStore<H>, value: &Dynamic<H>) -> bool
-    ensures held { IsTrue result → (name : List ℕ) → (pos : _) →
-        looked_up (cells_of cells.now) name pos value.now.value value.now
-        ≡ Err (error.ErrorDataRace name pos) }
-    ensures free { result ≡ false → (name : List ℕ) → (pos : _) →
-        looked_up (cells_of cells.now) name pos value.now.value value.now ≡ Ok value.now }
-{
-    match &value.value {
-        Union::Cell(id) => cells.get(*id).is_none(),
-        _ => false,
     }
 }
