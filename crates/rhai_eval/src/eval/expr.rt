@@ -62,6 +62,7 @@ impl<H: Host> Engine<H> {
         ensures missed { IfErr result (λ e. is_out_of_memory e ≡ false →
             searched (out-Expr expr.now) (cells_of global.old.cells) (entries_of scope.old) ≡ Some (Err e)) }
         ensures same { global.new ≡ global.old }
+        ensures caches { _caches.new ≡ _caches.old }
     {
         let at = variable_mut(scope, &global.cells, expr)?;
         Ok(Target {
@@ -78,7 +79,7 @@ impl<H: Host> Engine<H> {
         &self,
         alloc: Global,
         global: &mut GlobalRuntimeState<H>,
-        caches: &mut Caches<H>,
+        _caches: &mut Caches<H>,
         table: &mut T,
         scope: &mut Scope<H>,
         _this: Option<&mut Dynamic<H>>,
@@ -93,10 +94,11 @@ impl<H: Host> Engine<H> {
             (state_of (T.state table.old) global.old scope.old (was _this.entry))
             (state_of (T.state table.new) global.new scope.new (was _this.entry)) }
         ensures names { names_in scope.new ≡ names_in scope.old }
+        ensures caches { _caches.new ≡ _caches.old }
     {
-        let mut run = take(alloc, global, caches, scope);
+        let mut run = take(alloc, global, scope);
         let result = self.run_expr(alloc, &mut run, table, expr);
-        give_back(run, global, caches, scope);
+        give_back(run, global, scope);
         result
     }
 

@@ -35,7 +35,7 @@ impl<H: Host> Engine<H> {
         &self,
         alloc: Global,
         global: &mut GlobalRuntimeState<H>,
-        caches: &mut Caches<H>,
+        _caches: &mut Caches<H>,
         table: &mut T,
         scope: &mut Scope<H>,
         tree: &CheckedTree,
@@ -60,10 +60,11 @@ impl<H: Host> Engine<H> {
         ensures begins { Begins (names_in scope.old) (names_in scope.new) }
         ensures variables { length (names_in scope.old) ≤ self.now.limits.max_variables →
             length (names_in scope.new) ≤ self.now.limits.max_variables }
+        ensures caches { _caches.new ≡ _caches.old }
     {
-        let mut run = take(alloc, global, caches, scope);
+        let mut run = take(alloc, global, scope);
         let outcome = self.run_stmt_block(alloc, &mut run, table, tree.statements(), false);
-        give_back(run, global, caches, scope);
+        give_back(run, global, scope);
         top(outcome, map_exit_to_return_value)
     }
 }

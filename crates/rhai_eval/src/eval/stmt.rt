@@ -46,7 +46,7 @@ impl<H: Host> Engine<H> {
         &self,
         alloc: Global,
         global: &mut GlobalRuntimeState<H>,
-        caches: &mut Caches<H>,
+        _caches: &mut Caches<H>,
         table: &mut T,
         scope: &mut Scope<H>,
         _this: Option<&mut Dynamic<H>>,
@@ -65,10 +65,11 @@ impl<H: Host> Engine<H> {
         ensures names { OnOk result (names_in scope.new ≡ (resolves_stmt stmt.now (names_in scope.old)).1) }
         ensures variables { length (names_in scope.old) ≤ self.now.limits.max_variables →
             length (names_in scope.new) ≤ self.now.limits.max_variables }
+        ensures caches { _caches.new ≡ _caches.old }
     {
-        let mut run = take(alloc, global, caches, scope);
+        let mut run = take(alloc, global, scope);
         let result = self.run_stmt(alloc, &mut run, table, stmt, rewind_scope);
-        give_back(run, global, caches, scope);
+        give_back(run, global, scope);
         result
     }
 
@@ -82,7 +83,7 @@ impl<H: Host> Engine<H> {
         &self,
         alloc: Global,
         global: &mut GlobalRuntimeState<H>,
-        caches: &mut Caches<H>,
+        _caches: &mut Caches<H>,
         table: &mut T,
         scope: &mut Scope<H>,
         _this: Option<&mut Dynamic<H>>,
@@ -101,10 +102,11 @@ impl<H: Host> Engine<H> {
         ensures restores { IsTrue restore_orig_state → names_in scope.new ≡ names_in scope.old }
         ensures variables { length (names_in scope.old) ≤ self.now.limits.max_variables →
             length (names_in scope.new) ≤ self.now.limits.max_variables }
+        ensures caches { _caches.new ≡ _caches.old }
     {
-        let mut run = take(alloc, global, caches, scope);
+        let mut run = take(alloc, global, scope);
         let result = self.run_stmt_block(alloc, &mut run, table, statements, restore_orig_state);
-        give_back(run, global, caches, scope);
+        give_back(run, global, scope);
         result
     }
 
