@@ -15,6 +15,7 @@ ghost use Rattle.rhai_steps.specs.States.{state_of};
 ghost use Rattle.rhai_laws.specs.Kept.{Kept};
 ghost use Rattle.rhai_eval.specs.Ends.{EndsAs};
 ghost use Rattle.rhai_eval.specs.Memory.{asks_expr};
+ghost use Rattle.rhai_eval.specs.Plain.{Plain};
 ghost use Rattle.rhai_eval.specs.Search.{is_variable, searched};
 ghost use Rattle.rhai_eval.specs.States.{names, state_in, under};
 
@@ -87,6 +88,7 @@ impl<H: Host> Engine<H> {
     ) -> Result<Dynamic<H>, EvalAltResult<H>>
         requires resolves { IsTrue (resolves_expr expr.now (names_in scope.old)) }
         requires fast { self.now.fast_operators ≡ true }
+        requires plain { Plain self.now global.old }
         ensures ends { EndsAs (under H.name_of self.now T.natives) (Eval expr.now)
             (state_of (T.state table.old) global.old scope.old (was _this.entry)) result
             (state_of (T.state table.new) global.new scope.new (was _this.entry)) }

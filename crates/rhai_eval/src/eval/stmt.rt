@@ -16,6 +16,7 @@ ghost use Rattle.rhai_steps.specs.States.{state_of};
 ghost use Rattle.rhai_laws.specs.Kept.{Kept};
 ghost use Rattle.rhai_eval.specs.Ends.{EndsAs};
 ghost use Rattle.rhai_eval.specs.Memory.{asks_expr, asks_block, asks_stmt, may_ask};
+ghost use Rattle.rhai_eval.specs.Plain.{Plain};
 ghost use Rattle.rhai_eval.specs.States.{names, state_in, under};
 
 use crate::context::{Context, give_back, take};
@@ -55,6 +56,7 @@ impl<H: Host> Engine<H> {
     ) -> Result<Dynamic<H>, EvalAltResult<H>>
         requires resolves { IsTrue (resolves_stmt stmt.now (names_in scope.old)).0 }
         requires fast { self.now.fast_operators ≡ true }
+        requires plain { Plain self.now global.old }
         ensures ends { EndsAs (under H.name_of self.now T.natives) (Exec stmt.now rewind_scope)
             (state_of (T.state table.old) global.old scope.old (was _this.entry)) result
             (state_of (T.state table.new) global.new scope.new (was _this.entry)) }
@@ -92,6 +94,7 @@ impl<H: Host> Engine<H> {
     ) -> Result<Dynamic<H>, EvalAltResult<H>>
         requires resolves { IsTrue (all_resolve (map resolves_stmt statements.now) (names_in scope.old)).0 }
         requires fast { self.now.fast_operators ≡ true }
+        requires plain { Plain self.now global.old }
         ensures ends { EndsAs (under H.name_of self.now T.natives) (Enter statements.now restore_orig_state)
             (state_of (T.state table.old) global.old scope.old (was _this.entry)) result
             (state_of (T.state table.new) global.new scope.new (was _this.entry)) }
