@@ -3,7 +3,6 @@ use Rattle.std.proofs.Common.{◌≡◌, Option, None, Result, refl}
 use Rattle.rhai_state.specs.declared.scope.Scope.{Scope}
 use Rattle.rhai_values.specs.declared.base.value.Dynamic.{Dynamic}
 use Rattle.rhai_state.specs.declared.error.EvalAltResult.{EvalAltResult}
-use Rattle.rhai_state.specs.declared.caches.Caches.{Caches}
 use Rattle.rhai_state.specs.declared.state.GlobalRuntimeState.{GlobalRuntimeState}
 use Rattle.rhai_machine.specs.language.Setting.{Rules}
 use Rattle.rhai_machine.specs.language.State.{State}
@@ -29,13 +28,13 @@ module _ {S H : Type 0} (rules : Rules S H) where
   }
 
   -- a run over values that were taken from a caller and given back, whatever the caller's `this`
-  pub lent : (c : Control H) (t u : S) (taken left : Context H) (global after : GlobalRuntimeState H) (caches : Caches H)
+  pub lent : (c : Control H) (t u : S) (taken left : Context H) (global after : GlobalRuntimeState H)
       (scope names : Scope H)
       (r : Result (Dynamic H) (EvalAltResult H)) (this : Option (Dynamic H)) →
-      taken ≡ record { global = global; caches = caches; scope = scope; this = None } → after ≡ left.global → names ≡ left.scope →
+      taken ≡ record { global = global; scope = scope; this = None } → after ≡ left.global → names ≡ left.scope →
       Sound c (local_of global scope None) →
       Runs rules c (state_in t taken) r (state_in u left) → Runs rules c (state_of t global scope this) r (state_of u after names this)
-  lent c t u taken left global after caches scope names r this is given variables sound runs =
+  lent c t u taken left global after scope names r this is given variables sound runs =
       let start : Runs rules c (state_of t global scope None) r (state_in u left) = rw is at runs in
       let none = still_none left.this (kept rules c (ended r) _ _ sound start).bound in
       rw (given, variables) (with_this rules c t u global left.global scope left.scope r None left.this this refl none start)

@@ -37,7 +37,7 @@ module _ {H : Type 0} where
   abbrev pub under : {S : Type 0} → (H → List ℕ) → Engine H → Natives S H → Rules S H
   under host engine natives = rules_of engine.limits host (offer_of engine) natives
 
-  -- all that a run changes, caches aside
+  -- all that a run changes
   abbrev pub state_in : {S : Type 0} → S → Context H → State S H
   state_in table run = state_of table run.global run.scope run.this
 

@@ -3,7 +3,6 @@
 ghost use Rattle.std.specs.Prelude.{◌≡◌, None};
 
 use rhai_items::Items;
-use rhai_state::caches::Caches;
 use rhai_state::scope::Scope;
 use rhai_state::state::GlobalRuntimeState;
 use rhai_values::base::value::{Dynamic, Host};
@@ -11,11 +10,10 @@ use rhai_values::cells::CellStore;
 use std::alloc::Global;
 use std::mem::replace;
 
-/// The state of a run: what stays beside the variables, the caches, the variables and `this`.
+/// The state of a run: what stays beside the variables, the variables and `this`.
 #[derive(Drop)]
 pub(crate) struct Context<H> {
     pub(crate) global: GlobalRuntimeState<H>,
-    pub(crate) caches: Caches<H>,
     pub(crate) scope: Scope<H>,
     pub(crate) this: Option<Dynamic<H>>,
 }
@@ -42,14 +40,12 @@ fn nothing<H: Host>(alloc: Global) -> GlobalRuntimeState<H> {
 pub(crate) fn take<H: Host>(
     alloc: Global,
     global: &mut GlobalRuntimeState<H>,
-    caches: &mut Caches<H>,
     scope: &mut Scope<H>,
 ) -> Context<H>
-    ensures { result ≡ record { global = global.old; caches = caches.old; scope = scope.old; this = None } }
+    ensures { result ≡ record { global = global.old; scope = scope.old; this = None } }
 {
     Context {
         global: replace(global, nothing(alloc)),
-        caches: replace(caches, Caches::off(alloc)),
         scope: replace(scope, Scope::new(alloc)),
         this: None,
     }
@@ -59,14 +55,11 @@ pub(crate) fn take<H: Host>(
 pub(crate) fn give_back<H: Host>(
     run: Context<H>,
     global: &mut GlobalRuntimeState<H>,
-    caches: &mut Caches<H>,
     scope: &mut Scope<H>,
 )
     ensures global { global.new ≡ run.global }
-    ensures caches { caches.new ≡ run.caches }
     ensures scope { scope.new ≡ run.scope }
 {
-    *global = run.global;
-    *caches = run.caches;
-    *scope = run.scope;
+    drop(replace(global, run.global));
+    drop(replace(scope, run.scope));
 }

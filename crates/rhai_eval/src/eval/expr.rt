@@ -15,6 +15,7 @@ ghost use Rattle.rhai_steps.specs.States.{state_of};
 ghost use Rattle.rhai_laws.specs.Kept.{Kept};
 ghost use Rattle.rhai_eval.specs.Ends.{EndsAs};
 ghost use Rattle.rhai_eval.specs.Memory.{asks_expr};
+ghost use Rattle.rhai_eval.specs.Plain.{Plain};
 ghost use Rattle.rhai_eval.specs.Search.{is_variable, searched};
 ghost use Rattle.rhai_eval.specs.States.{names, state_in, under};
 
@@ -62,6 +63,7 @@ impl<H: Host> Engine<H> {
         ensures missed { IfErr result (λ e. is_out_of_memory e ≡ false →
             searched (out-Expr expr.now) (cells_of global.old.cells) (entries_of scope.old) ≡ Some (Err e)) }
         ensures same { global.new ≡ global.old }
+        ensures caches { _caches.new ≡ _caches.old }
     {
         let at = variable_mut(scope, &global.cells, expr)?;
         Ok(Target {
@@ -78,7 +80,7 @@ impl<H: Host> Engine<H> {
         &self,
         alloc: Global,
         global: &mut GlobalRuntimeState<H>,
-        caches: &mut Caches<H>,
+        _caches: &mut Caches<H>,
         table: &mut T,
         scope: &mut Scope<H>,
         _this: Option<&mut Dynamic<H>>,
@@ -86,6 +88,7 @@ impl<H: Host> Engine<H> {
     ) -> Result<Dynamic<H>, EvalAltResult<H>>
         requires resolves { IsTrue (resolves_expr expr.now (names_in scope.old)) }
         requires fast { self.now.fast_operators ≡ true }
+        requires plain { Plain self.now global.old }
         ensures ends { EndsAs (under H.name_of self.now T.natives) (Eval expr.now)
             (state_of (T.state table.old) global.old scope.old (was _this.entry)) result
             (state_of (T.state table.new) global.new scope.new (was _this.entry)) }
@@ -93,10 +96,11 @@ impl<H: Host> Engine<H> {
             (state_of (T.state table.old) global.old scope.old (was _this.entry))
             (state_of (T.state table.new) global.new scope.new (was _this.entry)) }
         ensures names { names_in scope.new ≡ names_in scope.old }
+        ensures caches { _caches.new ≡ _caches.old }
     {
-        let mut run = take(alloc, global, caches, scope);
+        let mut run = take(alloc, global, scope);
         let result = self.run_expr(alloc, &mut run, table, expr);
-        give_back(run, global, caches, scope);
+        give_back(run, global, scope);
         result
     }
 

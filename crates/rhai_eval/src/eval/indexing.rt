@@ -48,9 +48,10 @@ impl<H: Host> Engine<H> {
         use_indexers: bool,
     ) -> Result<Target<'t, H>, EvalAltResult<H>>
         requires { IsNoHandle target.old.value }
-        ensures { Indexes self.now.limits H.name_of T.natives T.state
+        ensures indexes { Indexes self.now.limits H.name_of T.natives T.state
             (access self.now idx_pos op_pos add_if_not_found) use_indexers
             global.old table.old target.old idx.old global.new table.new idx.new result }
+        ensures caches { _caches.new ≡ _caches.old }
     {
         let how = Access {
             idx_pos,
@@ -94,6 +95,7 @@ impl<H: Host> Engine<H> {
         ensures calls { Calls self.now.limits H.name_of T.natives T.state (reading index.old pos) by_itself
             global.old table.old object.old global.new table.new object.new result }
         ensures index { index.new ≡ index.old }
+        ensures caches { _caches.new ≡ _caches.old }
     {
         indexers::call_indexer_get(alloc, &self.limits, global, table, object, index, pos)
     }
@@ -123,6 +125,7 @@ impl<H: Host> Engine<H> {
             global.old table.old object.old global.new table.new object.new result }
         ensures index { index.new ≡ index.old }
         ensures new_val { new_val.new ≡ new_val.old }
+        ensures caches { _caches.new ≡ _caches.old }
     {
         indexers::call_indexer_set(
             alloc,

@@ -10,6 +10,7 @@ ghost use Rattle.rhai_machine.specs.language.Script.{end_of_script};
 ghost use Rattle.rhai_steps.specs.States.{state_of};
 ghost use Rattle.rhai_laws.specs.Kept.{Kept};
 ghost use Rattle.rhai_eval.specs.Memory.{may_ask};
+ghost use Rattle.rhai_eval.specs.Plain.{Plain};
 ghost use Rattle.rhai_eval.specs.States.{under};
 
 use crate::context::{give_back, take};
@@ -35,13 +36,14 @@ impl<H: Host> Engine<H> {
         &self,
         alloc: Global,
         global: &mut GlobalRuntimeState<H>,
-        caches: &mut Caches<H>,
+        _caches: &mut Caches<H>,
         table: &mut T,
         scope: &mut Scope<H>,
         tree: &CheckedTree,
         map_exit_to_return_value: bool,
     ) -> Result<Dynamic<H>, EvalAltResult<H>>
         requires fast { self.now.fast_operators ≡ true }
+        requires plain { Plain self.now global.old }
         ensures ends { EndsAsMachine (under H.name_of self.now T.natives) tree.now.0 map_exit_to_return_value
             (state_of (T.state table.old) global.old scope.old None) result
             (state_of (T.state table.new) global.new scope.new None) }
@@ -60,10 +62,11 @@ impl<H: Host> Engine<H> {
         ensures begins { Begins (names_in scope.old) (names_in scope.new) }
         ensures variables { length (names_in scope.old) ≤ self.now.limits.max_variables →
             length (names_in scope.new) ≤ self.now.limits.max_variables }
+        ensures caches { _caches.new ≡ _caches.old }
     {
-        let mut run = take(alloc, global, caches, scope);
+        let mut run = take(alloc, global, scope);
         let outcome = self.run_stmt_block(alloc, &mut run, table, tree.statements(), false);
-        give_back(run, global, caches, scope);
+        give_back(run, global, scope);
         top(outcome, map_exit_to_return_value)
     }
 }

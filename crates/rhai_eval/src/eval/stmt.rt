@@ -17,6 +17,7 @@ ghost use Rattle.rhai_steps.specs.States.{state_of};
 ghost use Rattle.rhai_laws.specs.Kept.{Kept};
 ghost use Rattle.rhai_eval.specs.Ends.{EndsAs};
 ghost use Rattle.rhai_eval.specs.Memory.{asks_expr, asks_block, asks_stmt, may_ask};
+ghost use Rattle.rhai_eval.specs.Plain.{Plain};
 ghost use Rattle.rhai_eval.specs.States.{names, state_in, under};
 
 use crate::context::{Context, give_back, take};
@@ -47,7 +48,7 @@ impl<H: Host> Engine<H> {
         &self,
         alloc: Global,
         global: &mut GlobalRuntimeState<H>,
-        caches: &mut Caches<H>,
+        _caches: &mut Caches<H>,
         table: &mut T,
         scope: &mut Scope<H>,
         _this: Option<&mut Dynamic<H>>,
@@ -56,6 +57,7 @@ impl<H: Host> Engine<H> {
     ) -> Result<Dynamic<H>, EvalAltResult<H>>
         requires resolves { IsTrue (resolves_stmt stmt.now (names_in scope.old)).0 }
         requires fast { self.now.fast_operators ≡ true }
+        requires plain { Plain self.now global.old }
         ensures ends { EndsAs (under H.name_of self.now T.natives) (Exec stmt.now rewind_scope)
             (state_of (T.state table.old) global.old scope.old (was _this.entry)) result
             (state_of (T.state table.new) global.new scope.new (was _this.entry)) }
@@ -66,10 +68,11 @@ impl<H: Host> Engine<H> {
         ensures names { OnOk result (names_in scope.new ≡ (resolves_stmt stmt.now (names_in scope.old)).1) }
         ensures variables { length (names_in scope.old) ≤ self.now.limits.max_variables →
             length (names_in scope.new) ≤ self.now.limits.max_variables }
+        ensures caches { _caches.new ≡ _caches.old }
     {
-        let mut run = take(alloc, global, caches, scope);
+        let mut run = take(alloc, global, scope);
         let result = self.run_stmt(alloc, &mut run, table, stmt, rewind_scope);
-        give_back(run, global, caches, scope);
+        give_back(run, global, scope);
         result
     }
 
@@ -83,7 +86,7 @@ impl<H: Host> Engine<H> {
         &self,
         alloc: Global,
         global: &mut GlobalRuntimeState<H>,
-        caches: &mut Caches<H>,
+        _caches: &mut Caches<H>,
         table: &mut T,
         scope: &mut Scope<H>,
         _this: Option<&mut Dynamic<H>>,
@@ -92,6 +95,7 @@ impl<H: Host> Engine<H> {
     ) -> Result<Dynamic<H>, EvalAltResult<H>>
         requires resolves { IsTrue (all_resolve (map resolves_stmt statements.now) (names_in scope.old)).0 }
         requires fast { self.now.fast_operators ≡ true }
+        requires plain { Plain self.now global.old }
         ensures ends { EndsAs (under H.name_of self.now T.natives) (Enter statements.now restore_orig_state)
             (state_of (T.state table.old) global.old scope.old (was _this.entry)) result
             (state_of (T.state table.new) global.new scope.new (was _this.entry)) }
@@ -102,10 +106,11 @@ impl<H: Host> Engine<H> {
         ensures restores { IsTrue restore_orig_state → names_in scope.new ≡ names_in scope.old }
         ensures variables { length (names_in scope.old) ≤ self.now.limits.max_variables →
             length (names_in scope.new) ≤ self.now.limits.max_variables }
+        ensures caches { _caches.new ≡ _caches.old }
     {
-        let mut run = take(alloc, global, caches, scope);
+        let mut run = take(alloc, global, scope);
         let result = self.run_stmt_block(alloc, &mut run, table, statements, restore_orig_state);
-        give_back(run, global, caches, scope);
+        give_back(run, global, scope);
         result
     }
 

@@ -9,7 +9,7 @@ pub returns-clause-ends : goal.returns-clause-ends
 returns-clause-ends g c =
     let rules = under g.H.Host.name_of c.args.self.now g.T.NativeTable.natives in
     let runs = lent rules (Eval c.args.expr.now) _ _ c.take-run.result c.run_expr-result.new.run c.args.global.now c.give_back.new.global
-    c.args.caches.now c.args.scope.now c.give_back.new.scope
+    c.args.scope.now c.give_back.new.scope
     c.run_expr-result.result (was c.args._this) c.take-run.ensures c.give_back.ensures.global c.give_back.ensures.scope tt
     c.run_expr-result.ensures.runs in
     ends_as rules (Eval c.args.expr.now) _ _ c.run_expr-result.result runs
@@ -18,7 +18,7 @@ pub returns-clause-kept : goal.returns-clause-kept
 returns-clause-kept g c =
     let rules = under g.H.Host.name_of c.args.self.now g.T.NativeTable.natives in
     let runs = lent rules (Eval c.args.expr.now) _ _ c.take-run.result c.run_expr-result.new.run c.args.global.now c.give_back.new.global
-    c.args.caches.now c.args.scope.now c.give_back.new.scope
+    c.args.scope.now c.give_back.new.scope
     c.run_expr-result.result (was c.args._this) c.take-run.ensures c.give_back.ensures.global c.give_back.ensures.scope tt
     c.run_expr-result.ensures.runs in
     kept rules (Eval c.args.expr.now) (ended c.run_expr-result.result) _ _ tt runs
@@ -27,7 +27,7 @@ pub returns-clause-names : goal.returns-clause-names
 returns-clause-names g c =
     let rules = under g.H.Host.name_of c.args.self.now g.T.NativeTable.natives in
     let runs = lent rules (Eval c.args.expr.now) _ _ c.take-run.result c.run_expr-result.new.run c.args.global.now c.give_back.new.global
-    c.args.caches.now c.args.scope.now c.give_back.new.scope
+    c.args.scope.now c.give_back.new.scope
     c.run_expr-result.result (was c.args._this) c.take-run.ensures c.give_back.ensures.global c.give_back.ensures.scope tt
     c.run_expr-result.ensures.runs in
     names_stay rules (Eval c.args.expr.now) (ended c.run_expr-result.result) _ _ tt tt runs

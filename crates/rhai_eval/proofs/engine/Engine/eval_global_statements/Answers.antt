@@ -11,7 +11,7 @@ pub returns-clause-ends : goal.returns-clause-ends
 returns-clause-ends g c =
     let rules = under g.H.Host.name_of c.args.self.now g.T.NativeTable.natives in
     let runs = lent rules (Enter c.args.tree.now.0 false) _ _ c.take-run.result c.run_stmt_block-outcome.new.run c.args.global.now
-    c.give_back.new.global c.args.caches.now c.args.scope.now c.give_back.new.scope
+    c.give_back.new.global c.args.scope.now c.give_back.new.scope
     c.run_stmt_block-outcome.result None c.take-run.ensures c.give_back.ensures.global c.give_back.ensures.scope tt
     (rw c.statements.ensures.value at c.run_stmt_block-outcome.ensures.runs) in
     let goes = script_goes rules c.args.tree.now.0 c.args.map_exit_to_return_value _ _ c.run_stmt_block-outcome.result c.top.result runs
@@ -22,7 +22,7 @@ pub returns-clause-two_limits : goal.returns-clause-two_limits
 returns-clause-two_limits g c =
     let rules = under g.H.Host.name_of c.args.self.now g.T.NativeTable.natives in
     let runs = lent rules (Enter c.args.tree.now.0 false) _ _ c.take-run.result c.run_stmt_block-outcome.new.run c.args.global.now
-    c.give_back.new.global c.args.caches.now c.args.scope.now c.give_back.new.scope
+    c.give_back.new.global c.args.scope.now c.give_back.new.scope
     c.run_stmt_block-outcome.result None c.take-run.ensures c.give_back.ensures.global c.give_back.ensures.scope tt
     (rw c.statements.ensures.value at c.run_stmt_block-outcome.ensures.runs) in
     let goes = script_goes rules c.args.tree.now.0 c.args.map_exit_to_return_value _ _ c.run_stmt_block-outcome.result c.top.result runs
@@ -34,7 +34,7 @@ pub returns-clause-up_to : goal.returns-clause-up_to
 returns-clause-up_to g c =
     let rules = under g.H.Host.name_of c.args.self.now g.T.NativeTable.natives in
     let runs = lent rules (Enter c.args.tree.now.0 false) _ _ c.take-run.result c.run_stmt_block-outcome.new.run c.args.global.now
-    c.give_back.new.global c.args.caches.now c.args.scope.now c.give_back.new.scope
+    c.give_back.new.global c.args.scope.now c.give_back.new.scope
     c.run_stmt_block-outcome.result None c.take-run.ensures c.give_back.ensures.global c.give_back.ensures.scope tt
     (rw c.statements.ensures.value at c.run_stmt_block-outcome.ensures.runs) in
     let goes = script_goes rules c.args.tree.now.0 c.args.map_exit_to_return_value _ _ c.run_stmt_block-outcome.result c.top.result runs
@@ -45,7 +45,7 @@ pub returns-clause-kept : goal.returns-clause-kept
 returns-clause-kept g c =
     let rules = under g.H.Host.name_of c.args.self.now g.T.NativeTable.natives in
     let runs = lent rules (Enter c.args.tree.now.0 false) _ _ c.take-run.result c.run_stmt_block-outcome.new.run c.args.global.now
-    c.give_back.new.global c.args.caches.now c.args.scope.now c.give_back.new.scope
+    c.give_back.new.global c.args.scope.now c.give_back.new.scope
     c.run_stmt_block-outcome.result None c.take-run.ensures c.give_back.ensures.global c.give_back.ensures.scope tt
     (rw c.statements.ensures.value at c.run_stmt_block-outcome.ensures.runs) in
     kept rules (Enter c.args.tree.now.0 false) (ended c.run_stmt_block-outcome.result) _ _ tt runs
@@ -54,7 +54,7 @@ pub returns-clause-begins : goal.returns-clause-begins
 returns-clause-begins g c =
     let rules = under g.H.Host.name_of c.args.self.now g.T.NativeTable.natives in
     let runs = lent rules (Enter c.args.tree.now.0 false) _ _ c.take-run.result c.run_stmt_block-outcome.new.run c.args.global.now
-    c.give_back.new.global c.args.caches.now c.args.scope.now c.give_back.new.scope
+    c.give_back.new.global c.args.scope.now c.give_back.new.scope
     c.run_stmt_block-outcome.result None c.take-run.ensures c.give_back.ensures.global c.give_back.ensures.scope tt
     (rw c.statements.ensures.value at c.run_stmt_block-outcome.ensures.runs) in
     names_begin rules (Enter c.args.tree.now.0 false) (ended c.run_stmt_block-outcome.result) _ _ tt runs
@@ -63,7 +63,7 @@ pub returns-clause-variables : goal.returns-clause-variables
 returns-clause-variables g c =
     let rules = under g.H.Host.name_of c.args.self.now g.T.NativeTable.natives in
     let runs = lent rules (Enter c.args.tree.now.0 false) _ _ c.take-run.result c.run_stmt_block-outcome.new.run c.args.global.now
-    c.give_back.new.global c.args.caches.now c.args.scope.now c.give_back.new.scope
+    c.give_back.new.global c.args.scope.now c.give_back.new.scope
     c.run_stmt_block-outcome.result None c.take-run.ensures c.give_back.ensures.global c.give_back.ensures.scope tt
     (rw c.statements.ensures.value at c.run_stmt_block-outcome.ensures.runs) in
     variables_stay rules (Enter c.args.tree.now.0 false) (ended c.run_stmt_block-outcome.result) _ _ tt runs

@@ -9,7 +9,7 @@ pub returns-clause-ends : goal.returns-clause-ends
 returns-clause-ends g c =
     let rules = under g.H.Host.name_of c.args.self.now g.T.NativeTable.natives in
     let runs = lent rules (Exec c.args.stmt.now c.args.rewind_scope) _ _ c.take-run.result c.run_stmt-result.new.run c.args.global.now
-    c.give_back.new.global c.args.caches.now c.args.scope.now c.give_back.new.scope
+    c.give_back.new.global c.args.scope.now c.give_back.new.scope
     c.run_stmt-result.result (was c.args._this) c.take-run.ensures c.give_back.ensures.global c.give_back.ensures.scope tt
     c.run_stmt-result.ensures.runs in
     ends_as rules (Exec c.args.stmt.now c.args.rewind_scope) _ _ c.run_stmt-result.result runs
@@ -18,7 +18,7 @@ pub returns-clause-kept : goal.returns-clause-kept
 returns-clause-kept g c =
     let rules = under g.H.Host.name_of c.args.self.now g.T.NativeTable.natives in
     let runs = lent rules (Exec c.args.stmt.now c.args.rewind_scope) _ _ c.take-run.result c.run_stmt-result.new.run c.args.global.now
-    c.give_back.new.global c.args.caches.now c.args.scope.now c.give_back.new.scope
+    c.give_back.new.global c.args.scope.now c.give_back.new.scope
     c.run_stmt-result.result (was c.args._this) c.take-run.ensures c.give_back.ensures.global c.give_back.ensures.scope tt
     c.run_stmt-result.ensures.runs in
     kept rules (Exec c.args.stmt.now c.args.rewind_scope) (ended c.run_stmt-result.result) _ _ tt runs
@@ -27,7 +27,7 @@ pub returns-clause-begins : goal.returns-clause-begins
 returns-clause-begins g c =
     let rules = under g.H.Host.name_of c.args.self.now g.T.NativeTable.natives in
     let runs = lent rules (Exec c.args.stmt.now c.args.rewind_scope) _ _ c.take-run.result c.run_stmt-result.new.run c.args.global.now
-    c.give_back.new.global c.args.caches.now c.args.scope.now c.give_back.new.scope
+    c.give_back.new.global c.args.scope.now c.give_back.new.scope
     c.run_stmt-result.result (was c.args._this) c.take-run.ensures c.give_back.ensures.global c.give_back.ensures.scope tt
     c.run_stmt-result.ensures.runs in
     names_begin rules (Exec c.args.stmt.now c.args.rewind_scope) (ended c.run_stmt-result.result) _ _ tt runs
@@ -36,7 +36,7 @@ pub returns-clause-variables : goal.returns-clause-variables
 returns-clause-variables g c =
     let rules = under g.H.Host.name_of c.args.self.now g.T.NativeTable.natives in
     let runs = lent rules (Exec c.args.stmt.now c.args.rewind_scope) _ _ c.take-run.result c.run_stmt-result.new.run c.args.global.now
-    c.give_back.new.global c.args.caches.now c.args.scope.now c.give_back.new.scope
+    c.give_back.new.global c.args.scope.now c.give_back.new.scope
     c.run_stmt-result.result (was c.args._this) c.take-run.ensures c.give_back.ensures.global c.give_back.ensures.scope tt
     c.run_stmt-result.ensures.runs in
     variables_stay rules (Exec c.args.stmt.now c.args.rewind_scope) (ended c.run_stmt-result.result) _ _ tt runs

@@ -10,7 +10,7 @@ pub returns-clause-ends : goal.returns-clause-ends
 returns-clause-ends g c =
     let rules = under g.H.Host.name_of c.args.self.now g.T.NativeTable.natives in
     let runs = lent rules (Enter c.args.statements.now c.args.restore_orig_state) _ _ c.take-run.result c.run_stmt_block-result.new.run
-    c.args.global.now c.give_back.new.global c.args.caches.now c.args.scope.now c.give_back.new.scope
+    c.args.global.now c.give_back.new.global c.args.scope.now c.give_back.new.scope
     c.run_stmt_block-result.result (was c.args._this) c.take-run.ensures c.give_back.ensures.global c.give_back.ensures.scope tt
     c.run_stmt_block-result.ensures.runs in
     ends_as rules (Enter c.args.statements.now c.args.restore_orig_state) _ _ c.run_stmt_block-result.result runs
@@ -19,7 +19,7 @@ pub returns-clause-kept : goal.returns-clause-kept
 returns-clause-kept g c =
     let rules = under g.H.Host.name_of c.args.self.now g.T.NativeTable.natives in
     let runs = lent rules (Enter c.args.statements.now c.args.restore_orig_state) _ _ c.take-run.result c.run_stmt_block-result.new.run
-    c.args.global.now c.give_back.new.global c.args.caches.now c.args.scope.now c.give_back.new.scope
+    c.args.global.now c.give_back.new.global c.args.scope.now c.give_back.new.scope
     c.run_stmt_block-result.result (was c.args._this) c.take-run.ensures c.give_back.ensures.global c.give_back.ensures.scope tt
     c.run_stmt_block-result.ensures.runs in
     kept rules (Enter c.args.statements.now c.args.restore_orig_state) (ended c.run_stmt_block-result.result) _ _ tt runs
@@ -28,7 +28,7 @@ pub returns-clause-begins : goal.returns-clause-begins
 returns-clause-begins g c =
     let rules = under g.H.Host.name_of c.args.self.now g.T.NativeTable.natives in
     let runs = lent rules (Enter c.args.statements.now c.args.restore_orig_state) _ _ c.take-run.result c.run_stmt_block-result.new.run
-    c.args.global.now c.give_back.new.global c.args.caches.now c.args.scope.now c.give_back.new.scope
+    c.args.global.now c.give_back.new.global c.args.scope.now c.give_back.new.scope
     c.run_stmt_block-result.result (was c.args._this) c.take-run.ensures c.give_back.ensures.global c.give_back.ensures.scope tt
     c.run_stmt_block-result.ensures.runs in
     names_begin rules (Enter c.args.statements.now c.args.restore_orig_state) (ended c.run_stmt_block-result.result) _ _ tt runs
@@ -37,7 +37,7 @@ pub returns-clause-variables : goal.returns-clause-variables
 returns-clause-variables g c =
     let rules = under g.H.Host.name_of c.args.self.now g.T.NativeTable.natives in
     let runs = lent rules (Enter c.args.statements.now c.args.restore_orig_state) _ _ c.take-run.result c.run_stmt_block-result.new.run
-    c.args.global.now c.give_back.new.global c.args.caches.now c.args.scope.now c.give_back.new.scope
+    c.args.global.now c.give_back.new.global c.args.scope.now c.give_back.new.scope
     c.run_stmt_block-result.result (was c.args._this) c.take-run.ensures c.give_back.ensures.global c.give_back.ensures.scope tt
     c.run_stmt_block-result.ensures.runs in
     variables_stay rules (Enter c.args.statements.now c.args.restore_orig_state) (ended c.run_stmt_block-result.result) _ _ tt runs
@@ -46,7 +46,7 @@ pub returns-clause-restores : goal.returns-clause-restores
 returns-clause-restores g c =
     let rules = under g.H.Host.name_of c.args.self.now g.T.NativeTable.natives in
     let runs = lent rules (Enter c.args.statements.now c.args.restore_orig_state) _ _ c.take-run.result c.run_stmt_block-result.new.run
-    c.args.global.now c.give_back.new.global c.args.caches.now c.args.scope.now c.give_back.new.scope
+    c.args.global.now c.give_back.new.global c.args.scope.now c.give_back.new.scope
     c.run_stmt_block-result.result (was c.args._this) c.take-run.ensures c.give_back.ensures.global c.give_back.ensures.scope tt
     c.run_stmt_block-result.ensures.runs in
     λ restoring. let adds : AddsNone {H = g.row.H.Denot} (Enter c.args.statements.now c.args.restore_orig_state) = rw restoring tt in
