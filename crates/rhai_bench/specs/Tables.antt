@@ -1,6 +1,7 @@
 -- What the bench's tables answer.
-use Rattle.std.specs.Prelude.{true, refl}
-use Rattle.rhai_state.specs.Native.{Effect, Request, Missing, Natives, Lawful, effect}
+use Rattle.std.specs.Prelude.{ℕ, List, [], true, refl}
+use Rattle.rhai_state.specs.Native.{Effect, Request, Missing, Natives, Leaves, Lawful, ByState, ByFirst, effect}
+use Rattle.rhai_state.specs.Reach.{Holdings}
 
 -- the state of a table that has none
 abbrev pub Stateless : Type 0
@@ -16,5 +17,20 @@ missing s q = effect Missing q.first s
 abbrev pub none : {H : Type 0} → Natives Stateless H
 none = record { gives = missing; pure = λ s q. true }
 
-pub none_lawful : {H : Type 0} → Lawful (none {H = H})
-none_lawful = record { allowed = λ s q h. tt; first_no_handle = λ s q h. h; missing_keeps = λ s q. refl }
+-- neither the table nor a value of the host's own holds anything
+abbrev pub nothing : {H : Type 0} → Holdings Stateless H
+nothing = record { of_state = λ s. []; of_host = λ h. [] }
+
+-- it leaves the first argument and the state
+pub none_leaves : {H : Type 0} (host : H → List ℕ) (q : Request H) → Leaves host none nothing stateless q q.first stateless
+none_leaves host q = record { pure_keeps = λ p. refl; first_reached = λ r held. ByFirst held; state_reached = λ r held. ByState held }
+
+pub none_lawful : {H : Type 0} (host : H → List ℕ) → Lawful host none nothing
+none_lawful host s q h = record {
+  allowed = tt;
+  first_no_handle = h;
+  missing_keeps = refl;
+  leaves = none_leaves host q;
+  answer_reached = λ r held. ByState held;
+  reads_reached = λ cells agrees. refl;
+}

@@ -20,13 +20,15 @@ fn missing_at(_first: &mut Dynamic<Pair>) -> Answer<Pair>
 }
 
 impl NativeTable<Pair> for NoNatives {
-    ghost use Rattle.rhai_bench.specs.Tables.{Stateless, stateless, none, none_lawful};
+    ghost use Rattle.rhai_bench.specs.Tables.{Stateless, stateless, none, none_lawful, nothing};
 
     ghost State = { Stateless };
 
     ghost state = { λ t. stateless };
 
     ghost natives = { none };
+
+    ghost holds = { nothing };
 
     fn call(
         &mut self,
@@ -64,5 +66,5 @@ impl NativeTable<Pair> for NoNatives {
         true
     }
 
-    ghost lawful = { none_lawful };
+    ghost lawful = { none_lawful _ };
 }

@@ -1,4 +1,4 @@
 pub mod Held
 pub mod Newest
-mod Reached
+pub mod Reached
 mod Tables

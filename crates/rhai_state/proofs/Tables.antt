@@ -13,7 +13,7 @@ use Rattle.rhai_state.specs.Native.{Named, effect, request}
 use Rattle.rhai_state.specs.Reach.{Reached, Cell, Holdings, held_by_first}
 use Rattle.rhai_state.proofs.Held.{held-handle, held-runtime}
 
-module _ {H : Type 0} (names : H → List ℕ) (host : H → List Reached) where
+module _ {H : Type 0} (names : H → List ℕ) (own : H → List Reached) where
   -- a table that keeps the first argument, and gives it back in the next call's fault
   abbrev pub kept : Option (Dynamic H) → Position → Reply H
   kept None at = Missing
@@ -23,7 +23,7 @@ module _ {H : Type 0} (names : H → List ℕ) (host : H → List Reached) where
   keeper = record { gives = λ s q. effect (kept s q.at) q.first q.first; pure = λ s p. true }
 
   abbrev pub keeps : Holdings (Option (Dynamic H)) H
-  keeps = record { of_state = held_by_first host; of_host = host }
+  keeps = record { of_state = held_by_first own; of_host = own }
 
   pub keeper_is_lawful : Lawful names keeper keeps
   keeper_is_lawful None q h = record {
@@ -45,14 +45,14 @@ module _ {H : Type 0} (names : H → List ℕ) (host : H → List Reached) where
 
   -- the state of a table that has none, and holds nothing
   abbrev pub nothing : Holdings (Unit {0}) H
-  nothing = record { of_state = λ s. []; of_host = host }
+  nothing = record { of_state = λ s. []; of_host = own }
 
-module _ {H : Type 0} (names : H → List ℕ) (host : H → List Reached) (at : Position) where
+module _ {H : Type 0} (names : H → List ℕ) (own : H → List Reached) (at : Position) where
   -- a call without arguments
   abbrev pub bare : Request H
   bare = request [] (Named []) None [] at
 
-  reaches_nothing : {r : Reached} → IsReached (nothing names host) tt bare r → ⊥
+  reaches_nothing : {r : Reached} → IsReached (nothing names own) tt bare r → ⊥
   reaches_nothing (ByState (k, below, is)) = absurd (omega (arith, below))
   reaches_nothing (ByFirst (k, below, is)) = absurd (omega (arith, below))
   reaches_nothing (ByOthers (k, below, is)) = absurd (omega (arith, below))
@@ -65,7 +65,7 @@ module _ {H : Type 0} (names : H → List ℕ) (host : H → List Reached) (at :
     pure = λ s p. true;
   }
 
-  pub inventor_is_unlawful : Lawful names inventor (nothing names host) → ⊥
+  pub inventor_is_unlawful : Lawful names inventor (nothing names own) → ⊥
   inventor_is_unlawful lawful =
       reaches_nothing ((lawful tt bare tt).answer_reached (Cell 0) (rw (held-runtime, held-handle) (0, omega arith, refl)))
 
@@ -81,7 +81,7 @@ module _ {H : Type 0} (names : H → List ℕ) (host : H → List Reached) (at :
   is_missing Missing = true
   is_missing _ = false
 
-  pub peeper_is_unlawful : Lawful names peeper (nothing names host) → ⊥
+  pub peeper_is_unlawful : Lawful names peeper (nothing names own) → ⊥
   peeper_is_unlawful lawful =
       let same = (lawful tt bare tt).reads_reached (Some (plain value.Unit) ∷ []) (λ number cell. absurd (reaches_nothing cell)) in
       false≢true (ap (λ e. is_missing e.reply) same)
@@ -94,7 +94,7 @@ module _ {H : Type 0} (names : H → List ℕ) (host : H → List Reached) (at :
   is_there None = false
   is_there (Some v) = true
 
-  pub taker_is_unlawful : Lawful names taker (nothing names host) → ⊥
+  pub taker_is_unlawful : Lawful names taker (nothing names own) → ⊥
   taker_is_unlawful lawful =
       let call = request [] (Named []) (Some (plain value.Unit)) [] at in
       false≢true (ap is_there ((lawful tt call tt).leaves.pure_keeps refl))

@@ -107,9 +107,9 @@ KeepsFirst _ before after = ⊤
 
 -- what a reply holds
 abbrev pub held_by_reply : {H : Type 0} → (H → List Reached) → Reply H → List Reached
-held_by_reply host Missing = []
-held_by_reply host (Gives v) = held_by host v
-held_by_reply host (Faults e) = held_by_error host e
+held_by_reply own Missing = []
+held_by_reply own (Gives v) = held_by own v
+held_by_reply own (Faults e) = held_by_error own e
 
 -- what a call reaches: what the state and the arguments hold, and what stands in the cells that it reaches; of a held cell no more
 module _ {S H : Type 0} (holds : Holdings S H) (s : S) (q : Request H) where

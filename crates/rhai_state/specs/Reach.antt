@@ -27,15 +27,15 @@ abbrev pub maybe : Option (List Reached) → List Reached
 maybe None = []
 maybe (Some held) = held
 
--- `host` says what the host's own values hold.
-module _ {H : Type 0} (host : H → List Reached) where
+-- `own` says what a value of the host's own type holds
+module _ {H : Type 0} (own : H → List Reached) where
   -- what a value holds, from what its items and its pointer hold
   abbrev pub in_union : layer.Union-F H (List Reached) (List Reached) (List Reached) (List Reached) (List Reached) (List Reached)
       (List Reached) (List Reached) → List Reached
   in_union (layer.Array items) = each items
   in_union (layer.Map entries) = each entries.1
   in_union (layer.FnPtr pointer) = pointer
-  in_union (layer.Host value) = host value
+  in_union (layer.Host value) = own value
   in_union (layer.Cell id) = Cell id.number ∷ []
   in_union _ = []
 

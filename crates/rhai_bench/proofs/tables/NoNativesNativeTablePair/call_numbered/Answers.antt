@@ -1,4 +1,5 @@
 use Rattle.std.proofs.Common.{refl}
+use Rattle.rhai_bench.specs.Tables.{none_leaves}
 use Rattle.rhai_bench.proofs.tables.NoNativesNativeTablePair.call_numbered.Goals as goal
 
 pub returns-in-Some-clause-obeys : goal.returns-in-Some-clause-obeys
@@ -6,3 +7,6 @@ returns-in-Some-clause-obeys c = rw (c.in-Some.is, c.missing_at.ensures.first, c
 
 pub returns-in-Some-clause-no_handle : goal.returns-in-Some-clause-no_handle
 returns-in-Some-clause-no_handle c = rw (c.in-Some.is, c.missing_at.ensures.first) (rw c.in-Some.is at c.requires)
+
+pub returns-in-Some-clause-leaves : goal.returns-in-Some-clause-leaves
+returns-in-Some-clause-leaves c = rw (c.in-Some.is, c.missing_at.ensures.first) (none_leaves _ _)
