@@ -1,5 +1,5 @@
 -- What a host is told of a part's run.
-use Rattle.std.proofs.Common.{◌≡◌, Option, None, Result, refl}
+use Rattle.std.proofs.Common.{◌≡◌, Bool, Option, None, Result, refl}
 use Rattle.rhai_state.specs.declared.scope.Scope.{Scope}
 use Rattle.rhai_values.specs.declared.base.value.Dynamic.{Dynamic}
 use Rattle.rhai_state.specs.declared.error.EvalAltResult.{EvalAltResult}
@@ -30,8 +30,9 @@ module _ {S H : Type 0} (rules : Rules S H) where
   -- a run over values that were taken from a caller and given back, whatever the caller's `this`
   pub lent : (c : Control H) (t u : S) (taken left : Context H) (global after : GlobalRuntimeState H)
       (scope names : Scope H)
-      (r : Result (Dynamic H) (EvalAltResult H)) (this : Option (Dynamic H)) →
-      taken ≡ record { global = global; scope = scope; this = None } → after ≡ left.global → names ≡ left.scope →
+      (r : Result (Dynamic H) (EvalAltResult H)) (this : Option (Dynamic H)) {search : Bool} →
+      taken ≡ record { global = global; scope = scope; this = None } → after ≡ record left.global { always_search_scope = search } →
+      names ≡ left.scope →
       Sound c (local_of global scope None) →
       Runs rules c (state_in t taken) r (state_in u left) → Runs rules c (state_of t global scope this) r (state_of u after names this)
   lent c t u taken left global after scope names r this is given variables sound runs =

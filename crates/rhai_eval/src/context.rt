@@ -18,8 +18,10 @@ pub(crate) struct Context<H> {
     pub(crate) this: Option<Dynamic<H>>,
 }
 
-/// A state with nothing in it, for which no memory is asked.
-fn nothing<H: Host>(alloc: Global) -> GlobalRuntimeState<H> {
+/// A state with nothing in it but whether variables are searched for. No memory is asked for it.
+fn nothing<H: Host>(alloc: Global, always_search_scope: bool) -> GlobalRuntimeState<H>
+    ensures { result.always_search_scope ≡ always_search_scope }
+{
     GlobalRuntimeState {
         lib: Items::new(alloc),
         imports: Items::new(alloc),
@@ -29,37 +31,43 @@ fn nothing<H: Host>(alloc: Global) -> GlobalRuntimeState<H> {
         num_operations: 0,
         num_modules_loaded: 0,
         source: None,
-        always_search_scope: false,
+        always_search_scope,
         cells: CellStore::new(alloc),
         constant_tables: Items::new(alloc),
     }
 }
 
 /// Takes a caller's values into the state of a run, without `this`. Empty ones stay in their places
-/// until `give_back`.
+/// until `give_back`, and whether variables are searched for stays there.
 pub(crate) fn take<H: Host>(
     alloc: Global,
     global: &mut GlobalRuntimeState<H>,
     scope: &mut Scope<H>,
 ) -> Context<H>
-    ensures { result ≡ record { global = global.old; scope = scope.old; this = None } }
+    ensures run { result ≡ record { global = global.old; scope = scope.old; this = None } }
+    ensures search { global.new.always_search_scope ≡ global.old.always_search_scope }
 {
+    let empty = nothing(alloc, global.always_search_scope);
     Context {
-        global: replace(global, nothing(alloc)),
+        global: replace(global, empty),
         scope: replace(scope, Scope::new(alloc)),
         this: None,
     }
 }
 
-/// Puts the values of a run back in their places.
+/// Puts the values of a run back in their places. No run changes whether its caller's variables are
+/// searched for.
 pub(crate) fn give_back<H: Host>(
     run: Context<H>,
     global: &mut GlobalRuntimeState<H>,
     scope: &mut Scope<H>,
 )
-    ensures global { global.new ≡ run.global }
+    ensures global { global.new ≡ record run.global
+        { always_search_scope = global.old.always_search_scope } }
     ensures scope { scope.new ≡ run.scope }
 {
-    drop(replace(global, run.global));
+    let mut left = run.global;
+    left.always_search_scope = global.always_search_scope;
+    drop(replace(global, left));
     drop(replace(scope, run.scope));
 }

@@ -97,6 +97,7 @@ impl<H: Host> Engine<H> {
             (state_of (T.state table.new) global.new scope.new (was _this.entry)) }
         ensures names { names_in scope.new ≡ names_in scope.old }
         ensures caches { _caches.new ≡ _caches.old }
+        ensures search { global.new.always_search_scope ≡ global.old.always_search_scope }
     {
         let mut run = take(alloc, global, scope);
         let result = self.run_expr(alloc, &mut run, table, expr);

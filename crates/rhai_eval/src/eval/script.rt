@@ -63,6 +63,7 @@ impl<H: Host> Engine<H> {
         ensures variables { length (names_in scope.old) ≤ self.now.limits.max_variables →
             length (names_in scope.new) ≤ self.now.limits.max_variables }
         ensures caches { _caches.new ≡ _caches.old }
+        ensures search { global.new.always_search_scope ≡ global.old.always_search_scope }
     {
         let mut run = take(alloc, global, scope);
         let outcome = self.run_stmt_block(alloc, &mut run, table, tree.statements(), false);

@@ -69,6 +69,7 @@ impl<H: Host> Engine<H> {
         ensures variables { length (names_in scope.old) ≤ self.now.limits.max_variables →
             length (names_in scope.new) ≤ self.now.limits.max_variables }
         ensures caches { _caches.new ≡ _caches.old }
+        ensures search { global.new.always_search_scope ≡ global.old.always_search_scope }
     {
         let mut run = take(alloc, global, scope);
         let result = self.run_stmt(alloc, &mut run, table, stmt, rewind_scope);
@@ -107,6 +108,7 @@ impl<H: Host> Engine<H> {
         ensures variables { length (names_in scope.old) ≤ self.now.limits.max_variables →
             length (names_in scope.new) ≤ self.now.limits.max_variables }
         ensures caches { _caches.new ≡ _caches.old }
+        ensures search { global.new.always_search_scope ≡ global.old.always_search_scope }
     {
         let mut run = take(alloc, global, scope);
         let result = self.run_stmt_block(alloc, &mut run, table, statements, restore_orig_state);

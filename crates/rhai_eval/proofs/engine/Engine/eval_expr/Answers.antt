@@ -1,3 +1,5 @@
+use Rattle.std.proofs.Common.{ap, ◌∙◌}
+use Rattle.rhai_state.specs.declared.state.GlobalRuntimeState.{GlobalRuntimeState}
 use Rattle.rhai_state.specs.Native.{was}
 use Rattle.rhai_machine.specs.language.Frames.{ended, Eval}
 use Rattle.rhai_laws.proofs.KeptLaws.{kept, names_stay}
@@ -10,7 +12,7 @@ returns-clause-ends g c =
     let rules = under g.H.Host.name_of c.args.self.now g.T.NativeTable.natives in
     let runs = lent rules (Eval c.args.expr.now) _ _ c.take-run.result c.run_expr-result.new.run c.args.global.now c.give_back.new.global
     c.args.scope.now c.give_back.new.scope
-    c.run_expr-result.result (was c.args._this) c.take-run.ensures c.give_back.ensures.global c.give_back.ensures.scope tt
+    c.run_expr-result.result (was c.args._this) c.take-run.ensures.run c.give_back.ensures.global c.give_back.ensures.scope tt
     c.run_expr-result.ensures.runs in
     ends_as rules (Eval c.args.expr.now) _ _ c.run_expr-result.result runs
 
@@ -19,7 +21,7 @@ returns-clause-kept g c =
     let rules = under g.H.Host.name_of c.args.self.now g.T.NativeTable.natives in
     let runs = lent rules (Eval c.args.expr.now) _ _ c.take-run.result c.run_expr-result.new.run c.args.global.now c.give_back.new.global
     c.args.scope.now c.give_back.new.scope
-    c.run_expr-result.result (was c.args._this) c.take-run.ensures c.give_back.ensures.global c.give_back.ensures.scope tt
+    c.run_expr-result.result (was c.args._this) c.take-run.ensures.run c.give_back.ensures.global c.give_back.ensures.scope tt
     c.run_expr-result.ensures.runs in
     kept rules (Eval c.args.expr.now) (ended c.run_expr-result.result) _ _ tt runs
 
@@ -28,6 +30,10 @@ returns-clause-names g c =
     let rules = under g.H.Host.name_of c.args.self.now g.T.NativeTable.natives in
     let runs = lent rules (Eval c.args.expr.now) _ _ c.take-run.result c.run_expr-result.new.run c.args.global.now c.give_back.new.global
     c.args.scope.now c.give_back.new.scope
-    c.run_expr-result.result (was c.args._this) c.take-run.ensures c.give_back.ensures.global c.give_back.ensures.scope tt
+    c.run_expr-result.result (was c.args._this) c.take-run.ensures.run c.give_back.ensures.global c.give_back.ensures.scope tt
     c.run_expr-result.ensures.runs in
     names_stay rules (Eval c.args.expr.now) (ended c.run_expr-result.result) _ _ tt tt runs
+
+pub returns-clause-search : goal.returns-clause-search
+returns-clause-search g c = ap (λ (global : GlobalRuntimeState _). global.always_search_scope) c.give_back.ensures.global
+    ∙ c.take-run.ensures.search

@@ -1,4 +1,5 @@
-use Rattle.std.proofs.Common.{None, false}
+use Rattle.std.proofs.Common.{None, false, ap, ◌∙◌}
+use Rattle.rhai_state.specs.declared.state.GlobalRuntimeState.{GlobalRuntimeState}
 use Rattle.rhai_machine.specs.language.Frames.{ended, Enter}
 use Rattle.rhai_laws.proofs.KeptLaws.{kept, names_begin, variables_stay}
 use Rattle.rhai_laws.proofs.WantLaws.{runs_up_to_memory}
@@ -12,7 +13,7 @@ returns-clause-ends g c =
     let rules = under g.H.Host.name_of c.args.self.now g.T.NativeTable.natives in
     let runs = lent rules (Enter c.args.tree.now.0 false) _ _ c.take-run.result c.run_stmt_block-outcome.new.run c.args.global.now
     c.give_back.new.global c.args.scope.now c.give_back.new.scope
-    c.run_stmt_block-outcome.result None c.take-run.ensures c.give_back.ensures.global c.give_back.ensures.scope tt
+    c.run_stmt_block-outcome.result None c.take-run.ensures.run c.give_back.ensures.global c.give_back.ensures.scope tt
     (rw c.statements.ensures.value at c.run_stmt_block-outcome.ensures.runs) in
     let goes = script_goes rules c.args.tree.now.0 c.args.map_exit_to_return_value _ _ c.run_stmt_block-outcome.result c.top.result runs
     c.top.ensures.value c.top.ensures.error in
@@ -23,7 +24,7 @@ returns-clause-two_limits g c =
     let rules = under g.H.Host.name_of c.args.self.now g.T.NativeTable.natives in
     let runs = lent rules (Enter c.args.tree.now.0 false) _ _ c.take-run.result c.run_stmt_block-outcome.new.run c.args.global.now
     c.give_back.new.global c.args.scope.now c.give_back.new.scope
-    c.run_stmt_block-outcome.result None c.take-run.ensures c.give_back.ensures.global c.give_back.ensures.scope tt
+    c.run_stmt_block-outcome.result None c.take-run.ensures.run c.give_back.ensures.global c.give_back.ensures.scope tt
     (rw c.statements.ensures.value at c.run_stmt_block-outcome.ensures.runs) in
     let goes = script_goes rules c.args.tree.now.0 c.args.map_exit_to_return_value _ _ c.run_stmt_block-outcome.result c.top.result runs
     c.top.ensures.value c.top.ensures.error in
@@ -35,7 +36,7 @@ returns-clause-up_to g c =
     let rules = under g.H.Host.name_of c.args.self.now g.T.NativeTable.natives in
     let runs = lent rules (Enter c.args.tree.now.0 false) _ _ c.take-run.result c.run_stmt_block-outcome.new.run c.args.global.now
     c.give_back.new.global c.args.scope.now c.give_back.new.scope
-    c.run_stmt_block-outcome.result None c.take-run.ensures c.give_back.ensures.global c.give_back.ensures.scope tt
+    c.run_stmt_block-outcome.result None c.take-run.ensures.run c.give_back.ensures.global c.give_back.ensures.scope tt
     (rw c.statements.ensures.value at c.run_stmt_block-outcome.ensures.runs) in
     let goes = script_goes rules c.args.tree.now.0 c.args.map_exit_to_return_value _ _ c.run_stmt_block-outcome.result c.top.result runs
     c.top.ensures.value c.top.ensures.error in
@@ -46,7 +47,7 @@ returns-clause-kept g c =
     let rules = under g.H.Host.name_of c.args.self.now g.T.NativeTable.natives in
     let runs = lent rules (Enter c.args.tree.now.0 false) _ _ c.take-run.result c.run_stmt_block-outcome.new.run c.args.global.now
     c.give_back.new.global c.args.scope.now c.give_back.new.scope
-    c.run_stmt_block-outcome.result None c.take-run.ensures c.give_back.ensures.global c.give_back.ensures.scope tt
+    c.run_stmt_block-outcome.result None c.take-run.ensures.run c.give_back.ensures.global c.give_back.ensures.scope tt
     (rw c.statements.ensures.value at c.run_stmt_block-outcome.ensures.runs) in
     kept rules (Enter c.args.tree.now.0 false) (ended c.run_stmt_block-outcome.result) _ _ tt runs
 
@@ -55,7 +56,7 @@ returns-clause-begins g c =
     let rules = under g.H.Host.name_of c.args.self.now g.T.NativeTable.natives in
     let runs = lent rules (Enter c.args.tree.now.0 false) _ _ c.take-run.result c.run_stmt_block-outcome.new.run c.args.global.now
     c.give_back.new.global c.args.scope.now c.give_back.new.scope
-    c.run_stmt_block-outcome.result None c.take-run.ensures c.give_back.ensures.global c.give_back.ensures.scope tt
+    c.run_stmt_block-outcome.result None c.take-run.ensures.run c.give_back.ensures.global c.give_back.ensures.scope tt
     (rw c.statements.ensures.value at c.run_stmt_block-outcome.ensures.runs) in
     names_begin rules (Enter c.args.tree.now.0 false) (ended c.run_stmt_block-outcome.result) _ _ tt runs
 
@@ -64,6 +65,10 @@ returns-clause-variables g c =
     let rules = under g.H.Host.name_of c.args.self.now g.T.NativeTable.natives in
     let runs = lent rules (Enter c.args.tree.now.0 false) _ _ c.take-run.result c.run_stmt_block-outcome.new.run c.args.global.now
     c.give_back.new.global c.args.scope.now c.give_back.new.scope
-    c.run_stmt_block-outcome.result None c.take-run.ensures c.give_back.ensures.global c.give_back.ensures.scope tt
+    c.run_stmt_block-outcome.result None c.take-run.ensures.run c.give_back.ensures.global c.give_back.ensures.scope tt
     (rw c.statements.ensures.value at c.run_stmt_block-outcome.ensures.runs) in
     variables_stay rules (Enter c.args.tree.now.0 false) (ended c.run_stmt_block-outcome.result) _ _ tt runs
+
+pub returns-clause-search : goal.returns-clause-search
+returns-clause-search g c = ap (λ (global : GlobalRuntimeState _). global.always_search_scope) c.give_back.ensures.global
+    ∙ c.take-run.ensures.search

@@ -1,3 +1,5 @@
+use Rattle.std.proofs.Common.{ap, ◌∙◌}
+use Rattle.rhai_state.specs.declared.state.GlobalRuntimeState.{GlobalRuntimeState}
 use Rattle.rhai_state.specs.Native.{was}
 use Rattle.rhai_machine.specs.language.Frames.{ended, Enter}
 use Rattle.rhai_laws.specs.Kept.{AddsNone}
@@ -11,7 +13,7 @@ returns-clause-ends g c =
     let rules = under g.H.Host.name_of c.args.self.now g.T.NativeTable.natives in
     let runs = lent rules (Enter c.args.statements.now c.args.restore_orig_state) _ _ c.take-run.result c.run_stmt_block-result.new.run
     c.args.global.now c.give_back.new.global c.args.scope.now c.give_back.new.scope
-    c.run_stmt_block-result.result (was c.args._this) c.take-run.ensures c.give_back.ensures.global c.give_back.ensures.scope tt
+    c.run_stmt_block-result.result (was c.args._this) c.take-run.ensures.run c.give_back.ensures.global c.give_back.ensures.scope tt
     c.run_stmt_block-result.ensures.runs in
     ends_as rules (Enter c.args.statements.now c.args.restore_orig_state) _ _ c.run_stmt_block-result.result runs
 
@@ -20,7 +22,7 @@ returns-clause-kept g c =
     let rules = under g.H.Host.name_of c.args.self.now g.T.NativeTable.natives in
     let runs = lent rules (Enter c.args.statements.now c.args.restore_orig_state) _ _ c.take-run.result c.run_stmt_block-result.new.run
     c.args.global.now c.give_back.new.global c.args.scope.now c.give_back.new.scope
-    c.run_stmt_block-result.result (was c.args._this) c.take-run.ensures c.give_back.ensures.global c.give_back.ensures.scope tt
+    c.run_stmt_block-result.result (was c.args._this) c.take-run.ensures.run c.give_back.ensures.global c.give_back.ensures.scope tt
     c.run_stmt_block-result.ensures.runs in
     kept rules (Enter c.args.statements.now c.args.restore_orig_state) (ended c.run_stmt_block-result.result) _ _ tt runs
 
@@ -29,7 +31,7 @@ returns-clause-begins g c =
     let rules = under g.H.Host.name_of c.args.self.now g.T.NativeTable.natives in
     let runs = lent rules (Enter c.args.statements.now c.args.restore_orig_state) _ _ c.take-run.result c.run_stmt_block-result.new.run
     c.args.global.now c.give_back.new.global c.args.scope.now c.give_back.new.scope
-    c.run_stmt_block-result.result (was c.args._this) c.take-run.ensures c.give_back.ensures.global c.give_back.ensures.scope tt
+    c.run_stmt_block-result.result (was c.args._this) c.take-run.ensures.run c.give_back.ensures.global c.give_back.ensures.scope tt
     c.run_stmt_block-result.ensures.runs in
     names_begin rules (Enter c.args.statements.now c.args.restore_orig_state) (ended c.run_stmt_block-result.result) _ _ tt runs
 
@@ -38,7 +40,7 @@ returns-clause-variables g c =
     let rules = under g.H.Host.name_of c.args.self.now g.T.NativeTable.natives in
     let runs = lent rules (Enter c.args.statements.now c.args.restore_orig_state) _ _ c.take-run.result c.run_stmt_block-result.new.run
     c.args.global.now c.give_back.new.global c.args.scope.now c.give_back.new.scope
-    c.run_stmt_block-result.result (was c.args._this) c.take-run.ensures c.give_back.ensures.global c.give_back.ensures.scope tt
+    c.run_stmt_block-result.result (was c.args._this) c.take-run.ensures.run c.give_back.ensures.global c.give_back.ensures.scope tt
     c.run_stmt_block-result.ensures.runs in
     variables_stay rules (Enter c.args.statements.now c.args.restore_orig_state) (ended c.run_stmt_block-result.result) _ _ tt runs
 
@@ -47,7 +49,11 @@ returns-clause-restores g c =
     let rules = under g.H.Host.name_of c.args.self.now g.T.NativeTable.natives in
     let runs = lent rules (Enter c.args.statements.now c.args.restore_orig_state) _ _ c.take-run.result c.run_stmt_block-result.new.run
     c.args.global.now c.give_back.new.global c.args.scope.now c.give_back.new.scope
-    c.run_stmt_block-result.result (was c.args._this) c.take-run.ensures c.give_back.ensures.global c.give_back.ensures.scope tt
+    c.run_stmt_block-result.result (was c.args._this) c.take-run.ensures.run c.give_back.ensures.global c.give_back.ensures.scope tt
     c.run_stmt_block-result.ensures.runs in
     λ restoring. let adds : AddsNone {H = g.row.H.Denot} (Enter c.args.statements.now c.args.restore_orig_state) = rw restoring tt in
     names_stay rules (Enter c.args.statements.now c.args.restore_orig_state) (ended c.run_stmt_block-result.result) _ _ adds tt runs
+
+pub returns-clause-search : goal.returns-clause-search
+returns-clause-search g c = ap (λ (global : GlobalRuntimeState _). global.always_search_scope) c.give_back.ensures.global
+    ∙ c.take-run.ensures.search
