@@ -14,7 +14,7 @@ use Rattle.rhai_values.specs.TypeNames.{type_name_of}
 use Rattle.rhai_values.specs.Cells.{value_of_cell, with_held, with_value}
 use Rattle.rhai_places.specs.declared.target.Part.{Part}
 use Rattle.rhai_places.specs.declared.target.Part.TheVariants as part
-use Rattle.rhai_places.specs.Refusals.{indexing_text}
+use Rattle.rhai_state.specs.Errors.{indexing_text}
 use Rattle.rhai_machine.specs.language.Calls.{placed_if_none, sized}
 use Rattle.rhai_machine.specs.language.Places.{is_barred as barred}
 

@@ -4,13 +4,12 @@
 ghost use Rattle.std.specs.Prelude.{◌≡◌, ◌<◌, ◌∷◌, [], length, slice_get, Some, true, false, IfOk, IfErr};
 ghost use Rattle.std.specs.Prelude.{IfSome, is_some};
 ghost use Rattle.rhai_values.specs.Cells.{cells_of};
-ghost use Rattle.rhai_state.specs.Errors.{is_out_of_memory};
+ghost use Rattle.rhai_state.specs.Errors.{indexing_text, is_out_of_memory};
 ghost use Rattle.rhai_values.specs.Layers.{layer_of};
 ghost use Rattle.rhai_values.specs.Cells.{IsNoHandle};
 ghost use Rattle.rhai_state.specs.Native.{reply_of};
 ghost use Rattle.rhai_values.specs.TypeNames.{type_name_of};
 ghost use Rattle.rhai_state.specs.declared.error.EvalAltResult.TheVariants as error;
-ghost use Rattle.rhai_places.specs.Refusals.{indexing_text};
 ghost use Rattle.rhai_machine.specs.language.State.{Answers, HasMemory};
 ghost use Rattle.rhai_index.specs.Calls.{Asked, Calls, Leaves, LendsNoHandle};
 ghost use Rattle.rhai_index.specs.Indexers.{beside_change, by_itself, called, cell_of, indexer_result};

@@ -150,15 +150,20 @@ module _ {S H : Type 0} (table : Table S H) (host : H → List ℕ) where
     nothing = by_steps _ _ 30 refl refl;
   }
 
-  -- the native of `mixed_sum` is about to be called
-  abbrev mixed_fires : (map_exit : Bool) → Config S H (Core H)
-  mixed_fires map_exit = standing table
-      (Fire (record { operation = record { name = codes "+"; token = Some Plus; at = column 3 }; args = integer 1 ∷ truth true ∷ [] }))
+  -- the native of `mixed_sum` is about to be called, under a name
+  abbrev sum_fires : List ℕ → (map_exit : Bool) → Config S H (Core H)
+  sum_fires name map_exit = standing table
+      (Fire (record { operation = record { name = name; token = Some Plus; at = column 3 }; args = integer 1 ∷ truth true ∷ [] }))
       (StatementValue (column 3) ∷ RestOfList [] false ∷ Top map_exit ∷ []) [] 5
+
+  abbrev mixed_fires : (map_exit : Bool) → Config S H (Core H)
+  mixed_fires map_exit = sum_fires (codes "+") map_exit
 
   pub called : Called table host
   called = record {
     missing = λ replies. stretch _ _ 12 _ (mixed_fires false) (simp opened) (by_steps _ _ 9 (simp replies) refl);
+    no_property = λ replies. stretch _ _ 12 _ (sum_fires (codes "get$a") false) (simp opened) (by_steps _ _ 9 (simp replies) refl);
+    no_index = λ replies. stretch _ _ 12 _ (sum_fires (codes "index$get$") false) (simp opened) (by_steps _ _ 9 (simp replies) refl);
     gives = λ replies. stretch _ _ 12 _ (mixed_fires false) (simp opened) (by_steps _ _ 9 (simp replies) refl);
     faults = λ replies. stretch _ _ 12 _ (mixed_fires false) (simp opened) (by_steps _ _ 9 (simp replies) refl);
     placed = λ replies. stretch _ _ 12 _ (mixed_fires false) (simp opened) (by_steps _ _ 9 (simp replies) refl);

@@ -1,7 +1,7 @@
 -- The errors of what is refused, and what holds of an error where memory may have been wanting.
-use Rattle.std.specs.Prelude.{◌≡◌, ℕ, false, List, ◌++◌, Option, codes}
+use Rattle.std.specs.Prelude.{◌≡◌, ℕ, false, List, Option, codes}
 use Rattle.rhai_tree.specs.declared.position.Position.{Position}
-use Rattle.rhai_state.specs.Errors.{is_out_of_memory}
+use Rattle.rhai_state.specs.Errors.{indexing_text, is_out_of_memory}
 use Rattle.rhai_values.specs.TypeNames.{type_name_of}
 use Rattle.rhai_state.specs.declared.error.EvalAltResult.{EvalAltResult}
 use Rattle.rhai_state.specs.declared.error.EvalAltResult.TheVariants as error
@@ -9,10 +9,6 @@ use Rattle.rhai_values.specs.declared.base.value.Dynamic.{Dynamic}
 use Rattle.rhai_places.specs.declared.spot.Access.{Access}
 use Rattle.rhai_places.specs.declared.spot.Refusal.{Refusal}
 use Rattle.rhai_places.specs.declared.spot.Refusal.TheVariants as refusal
-
--- the text of an object and an index that do not go together
-abbrev pub indexing_text : (object index : List ℕ) → List ℕ
-indexing_text object index = object ++ codes " [" ++ index ++ codes "]"
 
 module _ {H : Type 0} where
   -- an error is the one told, or no memory was left

@@ -3,6 +3,7 @@
 ghost use Rattle.std.specs.Prelude.{◌≡◌, [], ◌++◌, codes, IfOk};
 ghost use Rattle.rhai_values.specs.Cells.{cells_of};
 ghost use Rattle.rhai_state.specs.declared.error.EvalAltResult.TheVariants as error;
+ghost use Rattle.rhai_state.specs.Errors.{indexing_text as indexed_text};
 ghost use Rattle.rhai_places.specs.Refusals as spec;
 ghost use Rattle.rhai_places.specs.Refusals.{IsTold, refused};
 
@@ -66,8 +67,8 @@ fn refusal_error<H: Host>(
 }
 
 /// The text of an object and an index that do not go together.
-fn indexing_text(alloc: Global, object: &str, index: &str) -> Result<Text, AllocError>
-    ensures { IfOk result (λ t. t ≡ spec.indexing_text object.now index.now) }
+pub fn indexing_text(alloc: Global, object: &str, index: &str) -> Result<Text, AllocError>
+    ensures { IfOk result (λ t. t ≡ indexed_text object.now index.now) }
 {
     let mut text = String::from_str(alloc, object)?;
     text.push_str(" [")?;

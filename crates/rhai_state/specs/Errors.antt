@@ -1,8 +1,12 @@
 -- What an error says of itself: its name, its position, and whether a script may catch it.
-use Rattle.std.specs.Prelude.{ℕ, Bool, true, false, not, ◌||◌, List, codes}
+use Rattle.std.specs.Prelude.{ℕ, Bool, true, false, not, ◌||◌, List, ◌++◌, codes}
 use Rattle.rhai_tree.specs.declared.position.Position.{Position}
 use Rattle.rhai_state.specs.declared.error.EvalAltResult.{EvalAltResult, ErrorInFunctionCall'}
 use Rattle.rhai_state.specs.declared.error.EvalAltResult.TheVariants as error
+
+-- the text of an object and an index that do not go together
+abbrev pub indexing_text : (object index : List ℕ) → List ℕ
+indexing_text object index = object ++ codes " [" ++ index ++ codes "]"
 
 module _ {H : Type 0} where
   -- the position of an error

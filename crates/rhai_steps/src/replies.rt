@@ -3,7 +3,7 @@
 ghost use Rattle.std.specs.Prelude.{◌≡◌, ◌<◌, ◌≤◌, ◌+◌, ◌∷◌, ◌++◌, [], Some, IfOk, IfErr, IfSome, OnOk};
 ghost use Rattle.std.specs.Prelude.{is_some, true, false, codes};
 ghost use Rattle.std.specs.String.{string_bytes};
-ghost use Rattle.rhai_state.specs.Errors.{is_out_of_memory};
+ghost use Rattle.rhai_state.specs.Errors.{indexing_text as indexing_text_of, is_out_of_memory};
 ghost use Rattle.rhai_values.specs.Cells.{cells_of};
 ghost use Rattle.rhai_state.specs.declared.error.EvalAltResult.TheVariants as error;
 ghost use Rattle.rhai_state.specs.Native.{Missing, reply_of};
@@ -14,10 +14,14 @@ ghost use Rattle.rhai_machine.specs.language.Calls.{applied as applied_at, built
 ghost use Rattle.rhai_machine.specs.language.Calls.{call_at, operation_at, not_found as not_found_at};
 ghost use Rattle.rhai_machine.specs.language.Calls.{placed_if_none, replied as replied_at};
 ghost use Rattle.rhai_machine.specs.language.Calls.{signature as signature_of, sized as sized_at, types_of};
+ghost use Rattle.rhai_machine.specs.language.Calls.{names_indexer, property_named, second};
+ghost use Rattle.rhai_values.specs.TypeNames.{type_name_of};
+ghost use Rattle.std.specs.Option.{option_copied};
 
-use crate::errors::data_too_large;
+use crate::errors::{data_too_large, shared_text};
 use rhai_items::{Items, Shared, Text};
 use rhai_operators::{builtin_binary, builtin_unary};
+use rhai_places::errors::indexing_text;
 use rhai_state::error::EvalAltResult;
 use rhai_state::limits::Limits;
 use rhai_state::table::Answer;
@@ -64,7 +68,55 @@ fn signature<H: Host>(
     Shared::new(alloc, Text::from_string(text))
 }
 
-/// No function of the name takes these arguments.
+/// The property that a getter or a setter is of, by its name.
+fn property_of(name: &str) -> Option<&str>
+    ensures { option_copied result ≡ property_named name.now }
+{
+    match name.strip_prefix("get$") {
+        Some(property) => Some(property),
+        None => name.strip_prefix("set$"),
+    }
+}
+
+/// Whether a name is an indexer's.
+fn is_indexer(name: &str) -> bool
+    ensures { result ≡ names_indexer name.now }
+{
+    name == "index$get$" || name == "index$set$"
+}
+
+/// A property that is not there.
+fn unknown_property<H>(alloc: Global, property: &str, pos: Position) -> EvalAltResult<H>
+    ensures { is_out_of_memory result ≡ false → result ≡ error.ErrorDotExpr property.now pos }
+{
+    match shared_text(alloc, property) {
+        Ok(text) => EvalAltResult::ErrorDotExpr(text, pos),
+        Err(_) => EvalAltResult::ErrorOutOfMemory(pos),
+    }
+}
+
+/// The types of an object and of the index behind it, the empty text where there is none.
+fn indexed_types<H: Host>(
+    alloc: Global,
+    cells: &CellStore<H>,
+    object: &Dynamic<H>,
+    rest: &[Dynamic<H>],
+) -> Result<Shared<Text>, AllocError>
+    ensures { IfOk result (λ text. text ≡ indexing_text_of
+        (type_name_of H.name_of (cells_of cells.now) object.now)
+        (second (types_of H.name_of (cells_of cells.now) (object.now ∷ rest.now)))) }
+{
+    let index = if rest.len() == 0 {
+        ""
+    } else {
+        rest[0].type_name(cells)
+    };
+    let text = indexing_text(alloc, object.type_name(cells), index)?;
+    Shared::new(alloc, text)
+}
+
+/// No native takes these arguments: a getter or a setter is of a property that is not there, an
+/// indexer's values do not go together, and of any other name there is no such function.
 #[cold]
 #[inline(never)]
 fn not_found<H: Host>(
@@ -78,6 +130,15 @@ fn not_found<H: Host>(
     ensures { is_out_of_memory result ≡ false → result ≡ not_found_at H.name_of (cells_of cells.now)
         name.now (first.now ∷ rest.now) pos }
 {
+    if let Some(property) = property_of(name) {
+        return unknown_property(alloc, property, pos);
+    }
+    if is_indexer(name) {
+        return match indexed_types(alloc, cells, first, rest) {
+            Ok(text) => EvalAltResult::ErrorIndexingType(text, pos),
+            Err(_) => EvalAltResult::ErrorOutOfMemory(pos),
+        };
+    }
     match signature(alloc, cells, name, first, rest) {
         Ok(text) => EvalAltResult::ErrorFunctionNotFound(text, pos),
         Err(_) => EvalAltResult::ErrorOutOfMemory(pos),

@@ -1,5 +1,9 @@
 -- The rules of calls: built-in operators, and natives.
-use Rattle.std.specs.Prelude.{ℕ, List, [], ◌∷◌, ◌++◌, Option, Some, None, Result, Ok, Err, length, codes, nat_eq, if◌then◌else◌}
+use Rattle.std.specs.Prelude.{ℕ, Bool, true, false, ◌||◌, List, [], ◌∷◌, ◌++◌, Option, Some, None, Result, Ok, Err, length, drop}
+use Rattle.std.specs.Prelude.{codes, nat_eq, if◌then◌else◌}
+use Rattle.std.specs.List.{starts_with}
+use Rattle.std.specs.Option.{option_or}
+use Rattle.std.specs.Str.{bytes_eq}
 use Rattle.rhai_tree.specs.declared.position.Position.{Position}
 use Rattle.rhai_tree.specs.declared.token.Token.{Token}
 use Rattle.rhai_values.specs.declared.base.value.Dynamic.{Dynamic}
@@ -9,7 +13,7 @@ use Rattle.rhai_state.specs.declared.error.EvalAltResult.{EvalAltResult}
 use Rattle.rhai_state.specs.declared.limits.Limits.{Limits}
 use Rattle.rhai_state.specs.declared.error.EvalAltResult.TheVariants as error
 use Rattle.rhai_state.specs.Native.{Reply, Missing, Gives, Faults, Named, OfName, request}
-use Rattle.rhai_state.specs.Errors.{position_of, at_position}
+use Rattle.rhai_state.specs.Errors.{indexing_text, position_of, at_position}
 use Rattle.rhai_values.specs.TypeNames.{type_name_of}
 use Rattle.rhai_values.specs.DataSize.{too_large}
 use Rattle.rhai_operators.specs.Answers.{unary_of, binary_of}
@@ -33,6 +37,23 @@ listed (text ∷ texts) = text ++ more texts
 abbrev pub signature : List ℕ → List (List ℕ) → List ℕ
 signature name types = name ++ (codes " (" ++ (listed types ++ codes ")"))
 
+-- what is behind a prefix, where a text begins with it
+abbrev pub behind : (prefix text : List ℕ) → Option (List ℕ)
+behind prefix text = if starts_with nat_eq text prefix then Some (drop (length prefix) text) else None
+
+-- the property that a getter or a setter is of, by its name
+abbrev pub property_named : List ℕ → Option (List ℕ)
+property_named name = option_or (behind (codes "get$") name) (behind (codes "set$") name)
+
+-- the name of an indexer
+abbrev pub names_indexer : List ℕ → Bool
+names_indexer name = bytes_eq name (codes "index$get$") || bytes_eq name (codes "index$set$")
+
+-- the second of some types, the empty text where there is none
+abbrev pub second : List (List ℕ) → List ℕ
+second (x ∷ y ∷ types) = y
+second _ = []
+
 -- an operator's name, and where it stands
 abbrev pub operation_at : List ℕ → Token → Position → Operation
 operation_at name token at = record { name = name; token = Some token; at = at }
@@ -42,14 +63,21 @@ module _ {H : Type 0} where
   types_of host cells [] = []
   types_of host cells (v ∷ vs) = type_name_of host cells v ∷ types_of host cells vs
 
-  -- no function of the name takes these arguments
-  abbrev pub not_found : (H → List ℕ) → Cells H → List ℕ → List (Dynamic H) → Position → EvalAltResult H
-  not_found host cells name args at = error.ErrorFunctionNotFound (signature name (types_of host cells args)) at
+  -- a property that is not there; two values that do not go together; or no function of the name takes these types
+  abbrev pub unknown : Option (List ℕ) → (indexes : Bool) → (name first : List ℕ) → List (List ℕ) → Position → EvalAltResult H
+  unknown (Some property) indexes name first types at = error.ErrorDotExpr property at
+  unknown None true name first types at = error.ErrorIndexingType (indexing_text first (second types)) at
+  unknown None false name first types at = error.ErrorFunctionNotFound (signature name types) at
 
   -- the type of the first argument, the empty text where there is none
   abbrev pub first_type : (H → List ℕ) → Cells H → List (Dynamic H) → List ℕ
   first_type host cells [] = []
   first_type host cells (v ∷ vs) = type_name_of host cells v
+
+  -- there is no such native: a name that was written as an operator may be a getter's, a setter's or an indexer's
+  abbrev pub not_found : (H → List ℕ) → Cells H → List ℕ → List (Dynamic H) → Position → EvalAltResult H
+  not_found host cells name args at =
+      unknown (property_named name) (names_indexer name) name (first_type host cells args) (types_of host cells args) at
 
   -- an error stands where it says, or here where it does not say
   abbrev pub placed_if_none : Position → EvalAltResult H → EvalAltResult H

@@ -1,16 +1,18 @@
 -- Samples of table: an operator that has no built-in for its operands is a call of the native of its name.
 use Rattle.std.specs.Prelude.{ℕ, true, false, List, [], ◌∷◌, Some, Ok, Err, codes}
+use Rattle.rhai_tree.specs.declared.expr.Expr.TheVariants as expr
 use Rattle.rhai_tree.specs.declared.expr.Stmt.{Stmt}
 use Rattle.rhai_tree.specs.declared.token.Token.TheVariants.{Plus}
 use Rattle.rhai_tree.specs.Position.{none}
 use Rattle.rhai_state.specs.declared.error.EvalAltResult.TheVariants.{ErrorTooManyOperations, ErrorFunctionNotFound}
-use Rattle.rhai_state.specs.declared.error.EvalAltResult.TheVariants.{ErrorArithmetic, ErrorDataTooLarge, Exit}
+use Rattle.rhai_state.specs.declared.error.EvalAltResult.TheVariants.{ErrorArithmetic, ErrorDataTooLarge, ErrorDotExpr}
+use Rattle.rhai_state.specs.declared.error.EvalAltResult.TheVariants.{ErrorIndexingType, Exit}
 use Rattle.rhai_values.specs.declared.base.value.AccessMode.TheVariants.{ReadWrite}
 use Rattle.rhai_values.specs.declared.base.value.Dynamic.{Dynamic}
 use Rattle.rhai_values.specs.declared.base.value.Union.TheVariants.{Str}
 use Rattle.rhai_machine.specs.language.Setting.{Setting}
 use Rattle.rhai_state.specs.Native.{Request, Missing, Gives, Faults, Named, request}
-use Rattle.rhai_machine.specs.samples.Trees.{column, int, bool, op, value}
+use Rattle.rhai_machine.specs.samples.Trees.{column, unqualified, int, bool, op, value}
 use Rattle.rhai_machine.specs.samples.Runs.{usual_limits, Table, Replies, EndsScript, EndsFrom, Fails, usual, limited, integer, truth}
 use Rattle.rhai_machine.specs.samples.Runs.{nothing_but}
 
@@ -18,9 +20,22 @@ use Rattle.rhai_machine.specs.samples.Runs.{nothing_but}
 abbrev pub mixed_sum : List Stmt
 mixed_sum = value (op 3 Plus (int 1 1 ∷ bool 5 true ∷ [])) ∷ []
 
+-- the same by hand, with another name under the operator
+abbrev pub renamed_sum : List ℕ → List Stmt
+renamed_sum name = value (expr.FnCall (record {
+  namespace = unqualified;
+  name = name;
+  args = int 1 1 ∷ bool 5 true ∷ [];
+  op_token = Some Plus;
+  capture_parent_scope = false;
+}) (column 3)) ∷ []
+
 -- its one call
+abbrev pub sum_called : {H : Type 0} → List ℕ → List (Request H)
+sum_called name = request [] (Named name) (Some (integer 1)) (truth true ∷ []) (column 3) ∷ []
+
 abbrev pub plus_called : {H : Type 0} → List (Request H)
-plus_called = request [] (Named (codes "+")) (Some (integer 1)) (truth true ∷ []) (column 3) ∷ []
+plus_called = sum_called (codes "+")
 
 -- a text of three bytes
 abbrev pub abc : {H : Type 0} → Dynamic H
@@ -35,6 +50,11 @@ module _ {S H : Type 0} (table : Table S H) (host : H → List ℕ) where
     -- where there is no such native the error names the operator and its operands' types
     pub missing : Replies table Missing → EndsFrom table 0 (usual host) mixed_sum
         (Err (ErrorFunctionNotFound (codes "+ (i64, bool)") (column 3))) 5 [] plus_called
+    -- a getter's name is of a property that is not there, and an indexer's of values that do not go together
+    pub no_property : Replies table Missing → EndsFrom table 0 (usual host) (renamed_sum (codes "get$a"))
+        (Err (ErrorDotExpr (codes "a") (column 3))) 5 [] (sum_called (codes "get$a"))
+    pub no_index : Replies table Missing → EndsFrom table 0 (usual host) (renamed_sum (codes "index$get$"))
+        (Err (ErrorIndexingType (codes "i64 [bool]") (column 3))) 5 [] (sum_called (codes "index$get$"))
     -- what a native gives is the value
     pub gives : Replies table (Gives (integer 7)) → EndsFrom table 0 (usual host) mixed_sum (Ok (integer 7)) 5 [] plus_called
     -- a fault without a position stands at the operator, and one with a position where it says
