@@ -317,12 +317,13 @@ module _ {S H : Type 0} (rules : Rules S H) where
         is_exported options ≡ false →
         Goes rules (at (OpenStmt (layer.Var ident value None options pos) restoring) k l) (at (Fail e) k l)
     not_declared e is kept = or_wants rules (OpenStmt (layer.Var ident value None options pos) restoring) k l e (λ m.
-        step_by rules _ _ _ (rw kept (ap Go (refused_core taken full e (is m)))) here)
+        step_by rules _ _ (Go (core (Fail e) k l.local)) (rw kept (ap Go (refused_core taken full e (is m)))) here)
 
     pub begins_value : Ok tt ≡ declarable {H = H} ident.name pos taken full → is_exported options ≡ false →
         Goes rules (at (OpenStmt (layer.Var ident value None options pos) restoring) k l)
         (at (Eval value) (DefineValue ident options (position_of value) ∷ k) l)
-    begins_value is kept = step_by rules _ _ _ (rw kept (ap Go (declared_core taken full is))) here
+    begins_value is kept = step_by rules _ _ (Go (core (Eval value) (DefineValue ident options (position_of value) ∷ k) l.local))
+        (rw kept (ap Go (declared_core taken full is))) here
 
   -- the variable is there, or there was no memory for it
   module _ (t : S) (g : GlobalRuntimeState H) (old new : Scope H) (this : Option (Dynamic H)) (ident : Ident) (options : ASTFlags)

@@ -110,7 +110,7 @@ not_both false b h = refl
 pub plain_name : (e : Expr) (offset : Option NonZeroUsize) (name : Name) (namespace : Namespace) (pos : Position) (names : List Name) →
     out-Expr e ≡ layer.Variable offset name namespace pos → IsTrue (resolves_expr e names) → is_unqualified namespace.path ≡ true
 plain_name e offset name namespace pos names is h = (both (is_unqualified namespace.path) _
-    (rw (resolves-expr e (layer.Variable offset name namespace pos) is) at h)).0
+    (subst (λ (t : Tests). IsTrue (t.value names)) (resolves-expr e (layer.Variable offset name namespace pos) is) h)).0
 
 pub plain_target : (e : Expr) (offset : Option NonZeroUsize) (name : Name) (namespace : Namespace) (pos : Position) (names : List Name) →
     out-Expr e ≡ layer.Variable offset name namespace pos → IsTrue (target_resolves (tests_of e) names) →
