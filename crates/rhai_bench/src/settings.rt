@@ -1,6 +1,6 @@
 //! What is set for a run.
 
-ghost use Rattle.std.specs.Prelude.{◌≡◌, true};
+ghost use Rattle.std.specs.Prelude.{◌≡◌, [], true};
 ghost use Rattle.rhai_state.specs.Caches.{depth_of, is_on};
 
 use crate::host::Pair;
@@ -49,6 +49,8 @@ impl Settings {
         ensures fast_operators { result.fast_operators ≡ true }
         ensures shadowing { result.allow_shadowing ≡ self.now.allow_shadowing }
         ensures map_property { result.fail_on_invalid_map_property ≡ self.now.fail_on_invalid_map_property }
+        ensures global_modules { result.global_modules ≡ [] }
+        ensures global_sub_modules { result.global_sub_modules ≡ ([], []) }
     {
         let mut engine = Engine::new(alloc);
         engine.limits = self.limits;
