@@ -82,8 +82,12 @@ fn tell_target(alloc: Global, out: &mut Sheet, form: &str, target: Target<'_, St
     if form == "target" {
         describe(alloc, out, target);
     } else {
-        out.show(target.as_ref());
+        show(out, target);
     }
+}
+
+fn show(out: &mut Sheet, target: Target<'_, Stone>) {
+    out.show(target.as_ref());
 }
 
 /// The kind of a target, what it shows, and what is taken from it.

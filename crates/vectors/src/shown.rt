@@ -58,10 +58,11 @@ impl Sheet {
         self.remember(wrote);
     }
 
-    /// Appends an error as it is printed.
-    pub fn print_error(&mut self, error: &EvalAltResult<Stone>) {
+    /// Appends an error as it is printed, and lets go of it.
+    pub fn print_error(&mut self, error: EvalAltResult<Stone>) {
         let wrote = write!(self.text, "{error:?}");
         self.remember(wrote);
+        let_go(error);
     }
 
     /// Appends a value as it is printed, after the word `constant` where it is read-only.
@@ -87,6 +88,7 @@ impl Sheet {
     /// Appends an error, and lets go of it.
     pub fn tell_error(&mut self, error: EvalAltResult<Stone>) {
         self.show_error(&error);
+        let_go(error);
     }
 
     /// Appends `error`, its name, what it says, and its place if it has one.
@@ -138,3 +140,6 @@ impl Sheet {
         }
     }
 }
+
+/// Lets go of an error.
+fn let_go(_error: EvalAltResult<Stone>) {}

@@ -13,11 +13,16 @@ use std::mem::size_of;
 /// What a call with a value, an error or a type answers, by its first word.
 pub fn answer(line: &mut Reader<'_>, out: &mut Sheet) {
     match line.word() {
-        "print" => out.print(&line.value()),
-        "error" => out.print_error(&error(line)),
+        "print" => print(line, out),
+        "error" => out.print_error(error(line)),
         "size" => out.write(measured(line)),
         _ => line.want("a call with a value, an error or a type"),
     }
+}
+
+fn print(line: &mut Reader<'_>, out: &mut Sheet) {
+    let value = line.value();
+    out.print(&value);
 }
 
 /// The next error: `overflow PLACE`, `runtime VALUE PLACE`, or `call NAME PLACE PLACE` for an error
