@@ -93,8 +93,9 @@ fn tell<W: Write>(name: &str, number: usize, verdict: Verdict, out: &mut W) -> i
     match verdict {
         Verdict::Agrees => Ok(Kind::Agrees),
         Verdict::Differs(found) => {
-            writeln!(out, "{name}.txt:{number}: it came to {found}")?;
-            Ok(Kind::Differs)
+            let wrote = writeln!(out, "{name}.txt:{number}: it came to {found}");
+            drop(found);
+            wrote.map(|()| Kind::Differs)
         }
         Verdict::Unread(wanted) => {
             writeln!(out, "{name}.txt:{number}: {wanted} is wanted")?;

@@ -35,6 +35,7 @@ pub fn answer(line: &mut Reader<'_>, out: &mut Sheet) {
         cells: cells(line),
     };
     tell(line.allocator(), out, form, &mut call);
+    drop(call);
 }
 
 /// The value that is to be put, where the form has one.
@@ -88,6 +89,7 @@ fn tell_target(alloc: Global, out: &mut Sheet, form: &str, target: Target<'_, St
 
 fn show(out: &mut Sheet, target: Target<'_, Stone>) {
     out.show(target.as_ref());
+    drop(target);
 }
 
 /// The kind of a target, what it shows, and what is taken from it.
@@ -122,7 +124,9 @@ fn put_back(
     part: &mut Dynamic<Stone>,
 ) -> Result<(), EvalAltResult<Stone>> {
     swap(target.as_mut(), part);
-    target.propagate_changed_value(alloc, Position::new(1, 9))
+    let put = target.propagate_changed_value(alloc, Position::new(1, 9));
+    drop(target);
+    put
 }
 
 /// Writes why nothing was put.

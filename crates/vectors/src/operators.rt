@@ -40,7 +40,9 @@ pub fn answer(line: &mut Reader<'_>, out: &mut Sheet) {
     let form = line.word();
     let op = operator(line);
     let x = line.value();
-    match applied(line, form, op, &x) {
+    let found = applied(line, form, op, &x);
+    drop(x);
+    match found {
         Some(found) => out.tell(found),
         None => out.write("none"),
     }
@@ -51,8 +53,18 @@ fn applied(line: &mut Reader<'_>, form: &str, op: Token, x: &Dynamic<Stone>) -> 
     let alloc = line.allocator();
     match form {
         "unary" => builtin_unary(alloc, op, x),
-        "binary" => builtin_binary(alloc, op, x, &line.value()),
-        "assign" => builtin_op_assign(alloc, op, x, &line.value()),
+        "binary" => {
+            let y = line.value();
+            let found = builtin_binary(alloc, op, x, &y);
+            drop(y);
+            found
+        }
+        "assign" => {
+            let y = line.value();
+            let found = builtin_op_assign(alloc, op, x, &y);
+            drop(y);
+            found
+        }
         _ => {
             line.want("binary, unary or assign");
             None

@@ -62,7 +62,7 @@ impl Sheet {
     pub fn print_error(&mut self, error: EvalAltResult<Stone>) {
         let wrote = write!(self.text, "{error:?}");
         self.remember(wrote);
-        let_go(error);
+        drop(error);
     }
 
     /// Appends a value as it is printed, after the word `constant` where it is read-only.
@@ -83,12 +83,13 @@ impl Sheet {
 
     fn tell_value(&mut self, value: Dynamic<Stone>) {
         self.show(&value);
+        drop(value);
     }
 
     /// Appends an error, and lets go of it.
     pub fn tell_error(&mut self, error: EvalAltResult<Stone>) {
         self.show_error(&error);
-        let_go(error);
+        drop(error);
     }
 
     /// Appends `error`, its name, what it says, and its place if it has one.
@@ -140,6 +141,3 @@ impl Sheet {
         }
     }
 }
-
-/// Lets go of an error.
-fn let_go(_error: EvalAltResult<Stone>) {}

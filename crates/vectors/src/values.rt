@@ -23,6 +23,7 @@ pub fn answer(line: &mut Reader<'_>, out: &mut Sheet) {
 fn print(line: &mut Reader<'_>, out: &mut Sheet) {
     let value = line.value();
     out.print(&value);
+    drop(value);
 }
 
 /// The next error: `overflow PLACE`, `runtime VALUE PLACE`, or `call NAME PLACE PLACE` for an error

@@ -209,6 +209,11 @@ fn entered(
     key: &str,
     value: Dynamic<Stone>,
 ) -> Result<(), AllocError> {
-    let key = shared(alloc, key)?;
-    entries.insert(key, value)
+    match shared(alloc, key) {
+        Ok(key) => entries.insert(key, value),
+        Err(error) => {
+            drop(value);
+            Err(error)
+        }
+    }
 }
