@@ -54,11 +54,19 @@ fn run_scripts<W: Write>(alloc: Global, scripts: Items<Script>, out: &mut W) -> 
 {
     let mut status = 0;
     for script in scripts.into_vec() {
-        let outcome = script.run(alloc, Way::USUAL)?;
-        write_line(out, &outcome.ending)?;
-        status = outcome.ending.status();
+        status = run_script(alloc, script, out)?;
     }
     Ok(status)
+}
+
+fn run_script<W: Write>(alloc: Global, script: Script, out: &mut W) -> io::Result<u8>
+    ensures { IfOk result (λ s. s ≤ 2) }
+{
+    let outcome = script.run(alloc, Way::USUAL)?;
+    let wrote = write_line(out, &outcome.ending);
+    let status = outcome.ending.status();
+    drop(outcome);
+    wrote.map(|()| status)
 }
 
 /// Prints how the program is called, and answers the status of wrong arguments.

@@ -1,7 +1,7 @@
 //! The rows of the bench: scripts under a number, run one after the other.
 
 use crate::script::Script;
-use rhai_eval::base::Items;
+use rhai_eval::base::{Items, Stmt};
 use std::alloc::{AllocError, Global};
 
 pub mod loops;
@@ -12,14 +12,67 @@ mod variables;
 /// decimal digits, without zeros in front.
 pub fn scripts(alloc: Global, row: &str) -> Result<Option<Items<Script>>, AllocError> {
     let scripts = match row {
-        "1" => operators::sum_under_limits(alloc)?,
-        "11" => loops::continued(alloc)?,
-        "20" => variables::hidden_and_constant(alloc)?,
-        "26" => variables::blocks_under_limits(alloc)?,
-        "27" => operators::refused_operands(alloc)?,
-        "28" => loops::turns_under_limits(alloc)?,
-        "29" => loops::left_early(alloc)?,
+        "1" => operators::sum_under_limits(alloc),
+        "11" => loops::continued(alloc),
+        "20" => variables::hidden_and_constant(alloc),
+        "26" => variables::blocks_under_limits(alloc),
+        "27" => operators::refused_operands(alloc),
+        "28" => loops::turns_under_limits(alloc),
+        "29" => loops::left_early(alloc),
         _ => return Ok(None),
     };
-    Ok(Some(scripts))
+    scripts.map(Some)
+}
+
+/// The scripts of a row as they are made. Where memory runs out it goes on, without those that could
+/// not be made, and `finish` answers the want of memory.
+#[derive(Drop)]
+struct Row {
+    alloc: Global,
+    scripts: Items<Script>,
+    has_memory: bool,
+}
+
+impl Row {
+    /// A row without scripts.
+    fn new(alloc: Global) -> Row {
+        Row {
+            alloc,
+            scripts: Items::new(alloc),
+            has_memory: true,
+        }
+    }
+
+    /// The scripts, or want of memory for one of them.
+    fn finish(self) -> Result<Items<Script>, AllocError> {
+        if self.has_memory {
+            Ok(self.scripts)
+        } else {
+            Err(AllocError)
+        }
+    }
+
+    /// Adds a script under the usual settings.
+    fn add(&mut self, tree: Result<Items<Stmt>, AllocError>) {
+        match tree {
+            Ok(statements) => self.push(Script::new(self.alloc, statements)),
+            Err(AllocError) => self.has_memory = false,
+        }
+    }
+
+    /// Adds a script under a limit of operations.
+    fn add_limited(&mut self, tree: Result<Items<Stmt>, AllocError>, count: u64) {
+        match tree {
+            Ok(statements) => {
+                self.push(Script::with_max_operations(self.alloc, statements, count));
+            }
+            Err(AllocError) => self.has_memory = false,
+        }
+    }
+
+    fn push(&mut self, script: Script) {
+        if self.scripts.push(script).is_err() {
+            self.has_memory = false;
+        }
+    }
 }

@@ -23,6 +23,14 @@ enum Verdict {
     Unread(&'static str),
 }
 
+/// Whether a line agrees.
+#[derive(Clone, Copy)]
+enum Kind {
+    Agrees,
+    Differs,
+    Unread,
+}
+
 impl Tally {
     /// The exit status: 0 where all lines agree, 1 where a line differs, and 3 where one could not
     /// be read.
@@ -45,13 +53,13 @@ impl Tally {
         }
     }
 
-    fn count(&mut self, verdict: &Verdict) {
-        let kind = match verdict {
-            Verdict::Agrees => &mut self.agree,
-            Verdict::Differs(_) => &mut self.differ,
-            Verdict::Unread(_) => &mut self.unread,
+    fn count(&mut self, kind: Kind) {
+        let count = match kind {
+            Kind::Agrees => &mut self.agree,
+            Kind::Differs => &mut self.differ,
+            Kind::Unread => &mut self.unread,
         };
-        *kind = kind.saturating_add(1);
+        *count = count.saturating_add(1);
     }
 }
 
@@ -70,13 +78,7 @@ pub fn compare_lines<W: Write>(
             continue;
         }
         let verdict = judge(alloc, subject, line)?;
-        let number = at.saturating_add(1);
-        match &verdict {
-            Verdict::Agrees => {}
-            Verdict::Differs(found) => writeln!(out, "{name}.txt:{number}: it came to {found}")?,
-            Verdict::Unread(wanted) => writeln!(out, "{name}.txt:{number}: {wanted} is wanted")?,
-        }
-        tally.count(&verdict);
+        tally.count(tell(name, at.saturating_add(1), verdict, out)?);
     }
     writeln!(
         out,
@@ -84,6 +86,22 @@ pub fn compare_lines<W: Write>(
         tally.agree, tally.differ
     )?;
     Ok(tally)
+}
+
+/// Prints the number of a line that differs or cannot be read, and says which it is.
+fn tell<W: Write>(name: &str, number: usize, verdict: Verdict, out: &mut W) -> io::Result<Kind> {
+    match verdict {
+        Verdict::Agrees => Ok(Kind::Agrees),
+        Verdict::Differs(found) => {
+            let wrote = writeln!(out, "{name}.txt:{number}: it came to {found}");
+            drop(found);
+            wrote.map(|()| Kind::Differs)
+        }
+        Verdict::Unread(wanted) => {
+            writeln!(out, "{name}.txt:{number}: {wanted} is wanted")?;
+            Ok(Kind::Unread)
+        }
+    }
 }
 
 /// Compares one line, `CALL = ANSWER`, with what the call answers.

@@ -1,6 +1,6 @@
 //! The host's own value in the vectors, and the cells that their handles lead to.
 
-use crate::reader::Fault;
+use crate::reader::Reader;
 use rhai_values::base::value::{CellId, Dynamic, Host, Union};
 use rhai_values::cells::CellStore;
 use std::alloc::{AllocError, Global};
@@ -26,16 +26,21 @@ impl Host for Stone {
 }
 
 /// Two cells: `cell 0` with the value 2, and `cell 1`, which is held.
-pub fn cells(alloc: Global) -> Result<CellStore<Stone>, Fault> {
-    let mut cells = CellStore::new(alloc);
-    add_cell(&mut cells, 2)?;
-    let held = add_cell(&mut cells, 1)?;
-    cells.take(held);
-    Ok(cells)
+pub fn cells(line: &mut Reader<'_>) -> CellStore<Stone> {
+    let mut cells = CellStore::new(line.allocator());
+    add_cell(line, &mut cells, 2);
+    let held = add_cell(line, &mut cells, 1);
+    drop(cells.take(held));
+    cells
 }
 
-/// Adds a cell with an integer.
-fn add_cell(cells: &mut CellStore<Stone>, number: i64) -> Result<CellId, Fault> {
-    let added = cells.add(Dynamic::new(Union::Int(number)));
-    added.map_err(|_| Fault::NoMemory)
+/// Adds a cell with an integer. Where there is no memory for it, it answers the first.
+fn add_cell(line: &mut Reader<'_>, cells: &mut CellStore<Stone>, number: i64) -> CellId {
+    match cells.add(Dynamic::new(Union::Int(number))).ok() {
+        Some(added) => added,
+        None => {
+            line.starve();
+            CellId { number: 0 }
+        }
+    }
 }

@@ -1,37 +1,52 @@
 //! What an index leads to, and what is put back there.
 
 use crate::host::{Stone, cells};
-use crate::reader::{Fault, Reader};
-use crate::shown::{shown_error, shown_value, write_value};
+use crate::reader::Reader;
+use crate::shown::Sheet;
 use rhai_places::indexing::get_indexed_mut;
 use rhai_places::spot::Access;
 use rhai_places::target::Target;
+use rhai_state::error::EvalAltResult;
 use rhai_tree::position::Position;
-use rhai_values::base::value::Dynamic;
+use rhai_values::base::value::{Dynamic, Union};
+use rhai_values::cells::CellStore;
 use std::alloc::Global;
-use std::mem::replace;
+use std::mem::swap;
+
+/// An object, and a value to be put where its index leads.
+#[derive(Drop)]
+struct Call {
+    object: Dynamic<Stone>,
+    index: Dynamic<Stone>,
+    part: Dynamic<Stone>,
+    cells: CellStore<Stone>,
+}
 
 /// What a call with an object and an index answers: `index` what the index leads to, `strict` the
 /// same where a missing key is an error, and `insert` where it is inserted; `target` the kind of
 /// target, what it shows, and what is taken from it; and `put` the object after a third value was
 /// put where the index leads.
-pub fn answer(line: &mut Reader<'_>) -> Result<String, Fault> {
-    let alloc = line.allocator();
-    let cells = cells(alloc)?;
+pub fn answer(line: &mut Reader<'_>, out: &mut Sheet) {
     let form = line.word();
-    let mut object = line.value()?;
-    let index = line.value()?;
-    let part = part(line, form)?;
-    let how = access(form);
-    let told = match get_indexed_mut(&mut object, alloc, &cells, &index, how) {
-        Ok(target) => told_by(alloc, target, form, part)?,
-        Err(error) => shown_error(alloc, &error)?,
+    let mut call = Call {
+        object: line.value(),
+        index: line.value(),
+        part: part(line, form),
+        cells: cells(line),
     };
+    tell(line.allocator(), out, form, &mut call);
+    drop(call);
+}
+
+/// The value that is to be put, where the form has one.
+fn part(line: &mut Reader<'_>, form: &str) -> Dynamic<Stone> {
     if form == "put" {
-        object_after(alloc, &object, told.as_str())
-    } else {
-        Ok(told)
+        return line.value();
     }
+    if !["index", "strict", "insert", "target"].contains(&form) {
+        line.want("index, strict, insert, target or put");
+    }
+    Dynamic::new(Union::Unit)
 }
 
 /// How the object of a call is indexed. The operator is at 1:2, and the index at 1:3.
@@ -44,65 +59,45 @@ fn access(form: &str) -> Access {
     }
 }
 
-/// The value that is to be put, where the form has one.
-fn part(line: &mut Reader<'_>, form: &str) -> Result<Option<Dynamic<Stone>>, Fault> {
+/// What a call answers.
+fn tell(alloc: Global, out: &mut Sheet, form: &str, call: &mut Call) {
     if form == "put" {
-        Ok(Some(line.value()?))
-    } else if ["index", "strict", "insert", "target"].contains(&form) {
-        Ok(None)
+        let put = put(alloc, call);
+        out.show(&call.object);
+        tell_refusal(out, put);
     } else {
-        Err(Fault::Wanted("index, strict, insert, target or put"))
+        look(alloc, out, form, call);
     }
 }
 
-/// What a target answers: what it shows, or after a value was put there nothing or the error.
-fn told_by(
-    alloc: Global,
-    target: Target<'_, Stone>,
-    form: &str,
-    part: Option<Dynamic<Stone>>,
-) -> Result<String, Fault> {
-    match part {
-        Some(part) => put_back(alloc, target, part),
-        None if form == "target" => described(alloc, target),
-        None => shown_value(alloc, target.as_ref()),
+/// Writes what the index leads to.
+fn look(alloc: Global, out: &mut Sheet, form: &str, call: &mut Call) {
+    let how = access(form);
+    match get_indexed_mut(&mut call.object, alloc, &call.cells, &call.index, how) {
+        Ok(target) => tell_target(alloc, out, form, target),
+        Err(error) => out.tell_error(error),
     }
 }
 
-/// Puts a value into a target and back, at 1:9. Answers nothing, or the error.
-fn put_back(
-    alloc: Global,
-    mut target: Target<'_, Stone>,
-    part: Dynamic<Stone>,
-) -> Result<String, Fault> {
-    drop(replace(target.as_mut(), part));
-    match target.propagate_changed_value(alloc, Position::new(1, 9)) {
-        Ok(()) => Ok(String::new(alloc)),
-        Err(error) => shown_error(alloc, &error),
+fn tell_target(alloc: Global, out: &mut Sheet, form: &str, target: Target<'_, Stone>) {
+    if form == "target" {
+        describe(alloc, out, target);
+    } else {
+        show(out, target);
     }
 }
 
-/// An object, and after it the error that was told, if there was one.
-fn object_after(alloc: Global, object: &Dynamic<Stone>, told: &str) -> Result<String, Fault> {
-    let mut text = shown_value(alloc, object)?;
-    if !told.is_empty() {
-        text.push_str(" and ")?;
-        text.push_str(told)?;
-    }
-    Ok(text)
+fn show(out: &mut Sheet, target: Target<'_, Stone>) {
+    out.show(target.as_ref());
+    drop(target);
 }
 
 /// The kind of a target, what it shows, and what is taken from it.
-fn described(alloc: Global, target: Target<'_, Stone>) -> Result<String, Fault> {
-    let mut text = String::from_str(alloc, kind(&target))?;
-    write_value(&mut text, target.as_ref())?;
-    text.push_str(" taken as ")?;
-    let taken = match target.take_or_clone(alloc) {
-        Ok(taken) => shown_value(alloc, &taken)?,
-        Err(error) => shown_error(alloc, &error)?,
-    };
-    text.push_str(taken.as_str())?;
-    Ok(text)
+fn describe(alloc: Global, out: &mut Sheet, target: Target<'_, Stone>) {
+    out.write(kind(&target));
+    out.show(target.as_ref());
+    out.write(" taken as ");
+    out.tell(target.take_or_clone(alloc));
 }
 
 /// The word before what a target shows.
@@ -112,5 +107,32 @@ fn kind(target: &Target<'_, Stone>) -> &'static str {
         (_, true, _) => "temporary ",
         (_, _, true) => "place ",
         _ => "part ",
+    }
+}
+
+/// Puts the part of a call where its index leads.
+fn put(alloc: Global, call: &mut Call) -> Result<(), EvalAltResult<Stone>> {
+    let how = access("put");
+    let target = get_indexed_mut(&mut call.object, alloc, &call.cells, &call.index, how)?;
+    put_back(alloc, target, &mut call.part)
+}
+
+/// Puts a value into a target and back, at 1:9.
+fn put_back(
+    alloc: Global,
+    mut target: Target<'_, Stone>,
+    part: &mut Dynamic<Stone>,
+) -> Result<(), EvalAltResult<Stone>> {
+    swap(target.as_mut(), part);
+    let put = target.propagate_changed_value(alloc, Position::new(1, 9));
+    drop(target);
+    put
+}
+
+/// Writes why nothing was put.
+fn tell_refusal(out: &mut Sheet, put: Result<(), EvalAltResult<Stone>>) {
+    if let Err(error) = put {
+        out.write(" and ");
+        out.tell_error(error);
     }
 }

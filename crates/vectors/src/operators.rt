@@ -1,9 +1,15 @@
 //! The built-in operators.
 
-use crate::reader::{Fault, Reader};
-use crate::shown::{shown_error, shown_value, text};
+use crate::host::Stone;
+use crate::reader::Reader;
+use crate::shown::Sheet;
 use rhai_operators::{builtin_binary, builtin_op_assign, builtin_unary};
+use rhai_state::error::EvalAltResult;
 use rhai_tree::token::Token;
+use rhai_values::base::value::Dynamic;
+
+/// What an operator answers: nothing where it has no built-in for its operands.
+type Answer = Option<Result<Dynamic<Stone>, EvalAltResult<Stone>>>;
 
 /// The operators, each of them written as scripts write it.
 const OPERATORS: [Token; 20] = [
@@ -30,33 +36,54 @@ const OPERATORS: [Token; 20] = [
 ];
 
 /// What `binary OP X Y`, `unary OP X` or `assign OP X Y` answers: a value, an error, or `none`.
-pub fn answer(line: &mut Reader<'_>) -> Result<String, Fault> {
-    let alloc = line.allocator();
+pub fn answer(line: &mut Reader<'_>, out: &mut Sheet) {
     let form = line.word();
-    let op = operator(line)?;
-    let x = line.value()?;
-    let answer = match form {
-        "unary" => builtin_unary(alloc, op, &x),
-        "binary" => builtin_binary(alloc, op, &x, &line.value()?),
-        "assign" => builtin_op_assign(alloc, op, &x, &line.value()?),
-        _ => return Err(Fault::Wanted("binary, unary or assign")),
-    };
-    match answer {
-        Some(Ok(value)) => shown_value(alloc, &value),
-        Some(Err(error)) => shown_error(alloc, &error),
-        None => text(alloc, "none"),
+    let op = operator(line);
+    let x = line.value();
+    let found = applied(line, form, op, &x);
+    drop(x);
+    match found {
+        Some(found) => out.tell(found),
+        None => out.write("none"),
+    }
+}
+
+/// What an operator gives for an operand, and for the next one where the form has two.
+fn applied(line: &mut Reader<'_>, form: &str, op: Token, x: &Dynamic<Stone>) -> Answer {
+    let alloc = line.allocator();
+    match form {
+        "unary" => builtin_unary(alloc, op, x),
+        "binary" => {
+            let y = line.value();
+            let found = builtin_binary(alloc, op, x, &y);
+            drop(y);
+            found
+        }
+        "assign" => {
+            let y = line.value();
+            let found = builtin_op_assign(alloc, op, x, &y);
+            drop(y);
+            found
+        }
+        _ => {
+            line.want("binary, unary or assign");
+            None
+        }
     }
 }
 
 /// The next operator. `negate` is the minus before one operand.
-pub fn operator(line: &mut Reader<'_>) -> Result<Token, Fault> {
+pub fn operator(line: &mut Reader<'_>) -> Token {
     let word = line.word();
     if word == "negate" {
-        return Ok(Token::UnaryMinus);
+        return Token::UnaryMinus;
     }
-    OPERATORS
-        .iter()
-        .copied()
-        .find(|op| op.as_str() == word)
-        .ok_or(Fault::Wanted("an operator"))
+    let op = OPERATORS.iter().copied().find(|op| op.as_str() == word);
+    match op {
+        Some(op) => op,
+        None => {
+            line.want("an operator");
+            Token::Plus
+        }
+    }
 }

@@ -2,39 +2,81 @@
 
 mod literals;
 
+use rhai_items::{Boxed, Items, Shared, Text};
 use rhai_tree::position::Position;
 use std::alloc::{AllocError, Global};
 
 /// Why a line has no answer.
-#[derive(Drop)]
+#[derive(Clone, Copy)]
 pub enum Fault {
     /// The line has something else where this is wanted.
     Wanted(&'static str),
     NoMemory,
 }
 
-impl From<AllocError> for Fault {
-    fn from(_error: AllocError) -> Fault {
-        Fault::NoMemory
-    }
-}
-
-/// What is left of a line.
+/// What is left of a line. It remembers its first fault, which `finish` answers; after it nothing
+/// is left, and it reads something harmless where it finds nothing. So code that reads has no ways
+/// out between its steps, and drops nothing there.
 #[derive(Drop)]
 pub struct Reader<'a> {
     alloc: Global,
     rest: &'a str,
+    fault: Option<Fault>,
 }
 
 impl<'a> Reader<'a> {
     /// All of a line.
     pub fn new(alloc: Global, line: &'a str) -> Reader<'a> {
-        Reader { alloc, rest: line }
+        Reader {
+            alloc,
+            rest: line,
+            fault: None,
+        }
     }
 
     /// Where values are made.
     pub fn allocator(&self) -> Global {
         self.alloc
+    }
+
+    /// The first fault. It is one where the line goes on.
+    pub fn finish(mut self) -> Result<(), Fault> {
+        if !self.rest.is_empty() {
+            self.want("the end of the call");
+        }
+        match self.fault {
+            None => Ok(()),
+            Some(fault) => Err(fault),
+        }
+    }
+
+    /// Remembers a fault, and that nothing is left.
+    fn fail(&mut self, fault: Fault) {
+        if self.fault.is_none() {
+            self.fault = Some(fault);
+        }
+        self.rest = "";
+    }
+
+    /// Remembers that something else stands where this is wanted.
+    pub fn want(&mut self, wanted: &'static str) {
+        self.fail(Fault::Wanted(wanted));
+    }
+
+    /// Remembers want of memory.
+    pub fn starve(&mut self) {
+        self.fail(Fault::NoMemory);
+    }
+
+    /// What was read, or something harmless where this is wanted.
+    fn or_want<T: Copy>(&mut self, read: Option<T>, wanted: &'static str, harmless: T) -> T {
+        match read {
+            Some(read) => read,
+            None => {
+                self.want(wanted);
+                harmless
+            }
+        }
     }
 
     /// The next word, up to a space, which is passed over. At the end it is empty.
@@ -45,39 +87,28 @@ impl<'a> Reader<'a> {
     }
 
     /// Passes over a word that has to be the next.
-    pub fn pass_word(&mut self, word: &'static str) -> Result<(), Fault> {
-        if self.word() == word {
-            Ok(())
-        } else {
-            Err(Fault::Wanted(word))
+    pub fn pass_word(&mut self, word: &'static str) {
+        if self.word() != word {
+            self.want(word);
         }
     }
 
     /// The next whole number from zero on.
-    pub fn count(&mut self) -> Result<usize, Fault> {
-        self.word()
-            .parse()
-            .map_err(|_| Fault::Wanted("a whole number from zero on"))
+    pub fn count(&mut self) -> usize {
+        let read = self.word().parse().ok();
+        self.or_want(read, "a whole number from zero on", 0)
     }
 
     /// The next place, as `1:2` for the second column of the first line.
-    pub fn place(&mut self) -> Result<Position, Fault> {
+    pub fn place(&mut self) -> Position {
         let (line, column) = self.word().split_once(':').unwrap_or(("", ""));
         let line = line.parse().unwrap_or(0);
         let column = column.parse().unwrap_or(0);
         if line == 0 || column == 0 {
-            return Err(Fault::Wanted("a place, as 1:2,"));
+            self.want("a place, as 1:2,");
+            return Position::NONE;
         }
-        Ok(Position::new(line, column))
-    }
-
-    /// Fails where the line goes on.
-    pub fn end(&self) -> Result<(), Fault> {
-        if self.rest.is_empty() {
-            Ok(())
-        } else {
-            Err(Fault::Wanted("the end of the call"))
-        }
+        Position::new(line, column)
     }
 
     /// Passes over a text where it stands next, and says whether it did.
@@ -92,18 +123,53 @@ impl<'a> Reader<'a> {
     }
 
     /// Passes over a text that has to stand next.
-    fn expect(&mut self, text: &'static str) -> Result<(), Fault> {
-        if self.passes(text) {
-            Ok(())
-        } else {
-            Err(Fault::Wanted(text))
+    fn expect(&mut self, text: &'static str) {
+        if !self.passes(text) {
+            self.want(text);
         }
     }
 
     /// The text up to a mark, which is passed over.
-    fn up_to(&mut self, mark: &'static str) -> Result<&'a str, Fault> {
-        let (text, rest) = self.rest.split_once(mark).ok_or(Fault::Wanted(mark))?;
-        self.rest = rest;
-        Ok(text)
+    fn up_to(&mut self, mark: &'static str) -> &'a str {
+        match self.rest.split_once(mark) {
+            Some((text, rest)) => {
+                self.rest = rest;
+                text
+            }
+            None => {
+                self.want(mark);
+                ""
+            }
+        }
     }
+
+    /// A value behind a pointer of its own, None where there was no memory for it.
+    pub fn boxed<T: Drop>(&mut self, value: T) -> Option<Boxed<T>> {
+        let made = Boxed::new(self.alloc, value).ok();
+        if made.is_none() {
+            self.starve();
+        }
+        made
+    }
+
+    /// A shared copy of a text, None where there was no memory for it.
+    pub fn shared(&mut self, text: &str) -> Option<Shared<Text>> {
+        let made = shared(self.alloc, text).ok();
+        if made.is_none() {
+            self.starve();
+        }
+        made
+    }
+
+    /// Appends an item to a list.
+    fn push<T: Drop>(&mut self, items: &mut Items<T>, item: T) {
+        if items.push(item).is_err() {
+            self.starve();
+        }
+    }
+}
+
+/// A shared copy of a text.
+pub fn shared(alloc: Global, text: &str) -> Result<Shared<Text>, AllocError> {
+    Shared::new(alloc, Text::from_str(alloc, text)?)
 }

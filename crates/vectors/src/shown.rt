@@ -2,64 +2,142 @@
 
 use crate::host::Stone;
 use crate::reader::Fault;
-use rhai_state::error::EvalAltResult;
+use rhai_check::check::CheckFault;
+use rhai_state::error::{Bounds, EvalAltResult, TypeMismatch};
+use rhai_tree::position::Position;
 use rhai_values::base::value::{AccessMode, Dynamic};
 use std::alloc::{AllocError, Global};
 use std::fmt::Write;
 
-/// Appends a value as it is printed, after the word `constant` where it is read-only.
-pub fn write_value(out: &mut String, value: &Dynamic<Stone>) -> Result<(), AllocError> {
-    if value.access_mode() == AccessMode::ReadOnly {
-        out.push_str("constant ")?;
-    }
-    write!(out, "{value:?}")
+/// An answer as it is written. Where memory runs out it goes on, and `finish` answers the want.
+#[derive(Drop)]
+pub struct Sheet {
+    text: String,
+    has_memory: bool,
 }
 
-/// Appends `error`, its name, what it says, and its place if it has one.
-pub fn write_error(out: &mut String, error: &EvalAltResult<Stone>) -> Result<(), AllocError> {
-    write!(out, "error {}", error.name())?;
-    match error {
-        EvalAltResult::ErrorOutOfMemory(_) => return Err(AllocError),
-        EvalAltResult::ErrorArrayBounds(bounds, _)
-        | EvalAltResult::ErrorStringBounds(bounds, _)
-        | EvalAltResult::ErrorBitFieldBounds(bounds, _) => {
-            let bounds = bounds.get();
-            write!(out, " {} {}", bounds.length, bounds.index)?;
+impl Sheet {
+    /// An answer of which nothing is written.
+    pub fn new(alloc: Global) -> Sheet {
+        Sheet {
+            text: String::new(alloc),
+            has_memory: true,
         }
-        EvalAltResult::ErrorMismatchDataType(types, _) => {
-            let types = types.get();
-            let found = types.found.as_str();
-            write!(out, " {found:?} for {:?}", types.wanted.as_str())?;
-        }
-        EvalAltResult::ErrorArithmetic(text, _)
-        | EvalAltResult::ErrorIndexingType(text, _)
-        | EvalAltResult::ErrorPropertyNotFound(text, _) => {
-            write!(out, " {:?}", text.get().as_str())?;
-        }
-        _ => {}
     }
-    let position = error.position();
-    match (position.line(), position.position()) {
-        (Some(line), Some(column)) => write!(out, " at {line}:{column}"),
-        _ => Ok(()),
+
+    /// The answer, or want of memory for a part of it.
+    pub fn finish(self) -> Result<String, Fault> {
+        if self.has_memory {
+            Ok(self.text)
+        } else {
+            Err(Fault::NoMemory)
+        }
     }
-}
 
-/// A value alone.
-pub fn shown_value(alloc: Global, value: &Dynamic<Stone>) -> Result<String, Fault> {
-    let mut text = String::new(alloc);
-    write_value(&mut text, value)?;
-    Ok(text)
-}
+    fn remember(&mut self, wrote: Result<(), AllocError>) {
+        if wrote.is_err() {
+            self.has_memory = false;
+        }
+    }
 
-/// An error alone.
-pub fn shown_error(alloc: Global, error: &EvalAltResult<Stone>) -> Result<String, Fault> {
-    let mut text = String::new(alloc);
-    write_error(&mut text, error)?;
-    Ok(text)
-}
+    /// Appends a text as it is.
+    pub fn write(&mut self, text: &str) {
+        let wrote = self.text.push_str(text);
+        self.remember(wrote);
+    }
 
-/// A text that a line has as it is.
-pub fn text(alloc: Global, text: &str) -> Result<String, Fault> {
-    Ok(String::from_str(alloc, text)?)
+    /// Appends a text in quotes.
+    fn quote(&mut self, text: &str) {
+        let wrote = write!(self.text, " {text:?}");
+        self.remember(wrote);
+    }
+
+    /// Appends a value as it is printed.
+    pub fn print(&mut self, value: &Dynamic<Stone>) {
+        let wrote = write!(self.text, "{value:?}");
+        self.remember(wrote);
+    }
+
+    /// Appends an error as it is printed, and lets go of it.
+    pub fn print_error(&mut self, error: EvalAltResult<Stone>) {
+        let wrote = write!(self.text, "{error:?}");
+        self.remember(wrote);
+        drop(error);
+    }
+
+    /// Appends a value as it is printed, after the word `constant` where it is read-only.
+    pub fn show(&mut self, value: &Dynamic<Stone>) {
+        if value.access_mode() == AccessMode::ReadOnly {
+            self.write("constant ");
+        }
+        self.print(value);
+    }
+
+    /// Appends a value or an error.
+    pub fn tell(&mut self, found: Result<Dynamic<Stone>, EvalAltResult<Stone>>) {
+        match found {
+            Ok(value) => self.tell_value(value),
+            Err(error) => self.tell_error(error),
+        }
+    }
+
+    fn tell_value(&mut self, value: Dynamic<Stone>) {
+        self.show(&value);
+        drop(value);
+    }
+
+    /// Appends an error, and lets go of it.
+    pub fn tell_error(&mut self, error: EvalAltResult<Stone>) {
+        self.show_error(&error);
+        drop(error);
+    }
+
+    /// Appends `error`, its name, what it says, and its place if it has one.
+    fn show_error(&mut self, error: &EvalAltResult<Stone>) {
+        self.write("error ");
+        self.write(error.name());
+        self.show_parts(error);
+        self.place(error.position());
+    }
+
+    /// Appends what an error says.
+    fn show_parts(&mut self, error: &EvalAltResult<Stone>) {
+        match error {
+            EvalAltResult::ErrorOutOfMemory(_) => self.has_memory = false,
+            EvalAltResult::ErrorArrayBounds(bounds, _)
+            | EvalAltResult::ErrorStringBounds(bounds, _)
+            | EvalAltResult::ErrorBitFieldBounds(bounds, _) => self.show_bounds(bounds.get()),
+            EvalAltResult::ErrorMismatchDataType(types, _) => self.show_types(types.get()),
+            EvalAltResult::ErrorArithmetic(text, _)
+            | EvalAltResult::ErrorIndexingType(text, _)
+            | EvalAltResult::ErrorPropertyNotFound(text, _) => self.quote(text.get().as_str()),
+            _ => {}
+        }
+    }
+
+    fn show_bounds(&mut self, bounds: &Bounds) {
+        let wrote = write!(self.text, " {} {}", bounds.length, bounds.index);
+        self.remember(wrote);
+    }
+
+    fn show_types(&mut self, types: &TypeMismatch) {
+        self.quote(types.found.as_str());
+        self.write(" for");
+        self.quote(types.wanted.as_str());
+    }
+
+    /// Appends a fault of the checker, and its place.
+    pub fn fault(&mut self, fault: CheckFault) {
+        let wrote = write!(self.text, "{fault}");
+        self.remember(wrote);
+        self.place(fault.position());
+    }
+
+    /// Appends a place, if there is one.
+    fn place(&mut self, position: Position) {
+        if let (Some(line), Some(column)) = (position.line(), position.position()) {
+            let wrote = write!(self.text, " at {line}:{column}");
+            self.remember(wrote);
+        }
+    }
 }

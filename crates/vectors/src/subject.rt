@@ -1,6 +1,7 @@
 //! What the files are about.
 
 use crate::reader::{Fault, Reader};
+use crate::shown::Sheet;
 use crate::{indexing, operators, tree, values};
 use std::alloc::Global;
 
@@ -35,13 +36,19 @@ impl Subject {
     /// What the call of a line answers, as a text.
     pub fn answer(self, alloc: Global, call: &str) -> Result<String, Fault> {
         let mut line = Reader::new(alloc, call);
-        let answer = match self {
-            Subject::Operators => operators::answer(&mut line)?,
-            Subject::Indexing => indexing::answer(&mut line)?,
-            Subject::Values => values::answer(&mut line)?,
-            Subject::Tree => tree::answer(&mut line)?,
-        };
-        line.end()?;
-        Ok(answer)
+        let mut out = Sheet::new(alloc);
+        self.tell(&mut line, &mut out);
+        line.finish()?;
+        out.finish()
+    }
+
+    /// Reads a call and writes what it answers.
+    fn tell(self, line: &mut Reader<'_>, out: &mut Sheet) {
+        match self {
+            Subject::Operators => operators::answer(line, out),
+            Subject::Indexing => indexing::answer(line, out),
+            Subject::Values => values::answer(line, out),
+            Subject::Tree => tree::answer(line, out),
+        }
     }
 }

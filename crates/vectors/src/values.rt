@@ -1,69 +1,108 @@
 //! Values and errors as they are printed, and how small they are.
 
 use crate::host::Stone;
-use crate::reader::{Fault, Reader};
+use crate::reader::{Reader, shared};
+use crate::shown::Sheet;
 use rhai_items::Boxed;
 use rhai_state::error::{EvalAltResult, FunctionCallError};
 use rhai_tree::position::Position;
 use rhai_values::base::value::Dynamic;
+use std::alloc::{AllocError, Global};
 use std::mem::size_of;
 
 /// What a call with a value, an error or a type answers, by its first word.
-pub fn answer(line: &mut Reader<'_>) -> Result<String, Fault> {
+pub fn answer(line: &mut Reader<'_>, out: &mut Sheet) {
     match line.word() {
-        "print" => printed(line),
-        "error" => printed_error(line),
-        "size" => measured(line),
-        _ => Err(Fault::Wanted("a call with a value, an error or a type")),
+        "print" => print(line, out),
+        "error" => out.print_error(error(line)),
+        "size" => out.write(measured(line)),
+        _ => line.want("a call with a value, an error or a type"),
     }
 }
 
-fn printed(line: &mut Reader<'_>) -> Result<String, Fault> {
-    let value = line.value()?;
-    Ok(format!(in line.allocator(); "{value:?}")?)
-}
-
-fn printed_error(line: &mut Reader<'_>) -> Result<String, Fault> {
-    let error = error(line)?;
-    Ok(format!(in line.allocator(); "{error:?}")?)
+fn print(line: &mut Reader<'_>, out: &mut Sheet) {
+    let value = line.value();
+    out.print(&value);
+    drop(value);
 }
 
 /// The next error: `overflow PLACE`, `runtime VALUE PLACE`, or `call NAME PLACE PLACE` for an error
 /// of a `for` at the first place, in a call at the second.
-fn error(line: &mut Reader<'_>) -> Result<EvalAltResult<Stone>, Fault> {
+fn error(line: &mut Reader<'_>) -> EvalAltResult<Stone> {
     match line.word() {
-        "overflow" => {
-            let mut error = EvalAltResult::ErrorStackOverflow(Position::NONE);
-            error.set_position(line.place()?);
-            Ok(error)
+        "overflow" => overflow(line.place()),
+        "runtime" => runtime(line),
+        "call" => in_call(line),
+        _ => {
+            line.want("overflow, runtime or call");
+            EvalAltResult::ErrorFor(Position::NONE)
         }
-        "runtime" => {
-            let value = Boxed::new(line.allocator(), line.value()?)?;
-            Ok(EvalAltResult::ErrorRuntime(value, line.place()?))
-        }
-        "call" => {
-            let name = line.word();
-            let call = FunctionCallError {
-                name: line.shared(name)?,
-                source: line.shared("")?,
-                error: EvalAltResult::ErrorFor(line.place()?),
-            };
-            let call = Boxed::new(line.allocator(), call)?;
-            Ok(EvalAltResult::ErrorInFunctionCall(call, line.place()?))
-        }
-        _ => Err(Fault::Wanted("overflow, runtime or call")),
     }
 }
 
+fn overflow(place: Position) -> EvalAltResult<Stone> {
+    let mut error = EvalAltResult::ErrorStackOverflow(Position::NONE);
+    error.set_position(place);
+    error
+}
+
+fn runtime(line: &mut Reader<'_>) -> EvalAltResult<Stone> {
+    let value = line.value();
+    let value = line.boxed(value);
+    let place = line.place();
+    match value {
+        Some(value) => EvalAltResult::ErrorRuntime(value, place),
+        None => EvalAltResult::ErrorOutOfMemory(place),
+    }
+}
+
+fn in_call(line: &mut Reader<'_>) -> EvalAltResult<Stone> {
+    let name = line.word();
+    let called = called(line.allocator(), name, line.place()).ok();
+    let place = line.place();
+    match called {
+        Some(called) => EvalAltResult::ErrorInFunctionCall(called, place),
+        None => {
+            line.starve();
+            EvalAltResult::ErrorOutOfMemory(place)
+        }
+    }
+}
+
+/// An error of a `for` at a place, in a call of a name.
+fn called(
+    alloc: Global,
+    name: &str,
+    place: Position,
+) -> Result<Boxed<FunctionCallError<Stone>>, AllocError> {
+    let call = FunctionCallError {
+        name: shared(alloc, name)?,
+        source: shared(alloc, "")?,
+        error: EvalAltResult::ErrorFor(place),
+    };
+    Boxed::new(alloc, call)
+}
+
 /// Whether a type has at most so many bytes, as `size Dynamic <= 32`.
-fn measured(line: &mut Reader<'_>) -> Result<String, Fault> {
-    let size = match line.word() {
+fn measured(line: &mut Reader<'_>) -> &'static str {
+    let size = size(line);
+    line.pass_word("<=");
+    if size <= line.count() {
+        "true"
+    } else {
+        "false"
+    }
+}
+
+/// How many bytes the next type has.
+fn size(line: &mut Reader<'_>) -> usize {
+    match line.word() {
         "Dynamic" => size_of::<Dynamic<Stone>>(),
         "EvalAltResult" => size_of::<EvalAltResult<Stone>>(),
         "Result" => size_of::<Result<Dynamic<Stone>, EvalAltResult<Stone>>>(),
-        _ => return Err(Fault::Wanted("Dynamic, EvalAltResult or Result")),
-    };
-    line.pass_word("<=")?;
-    let fits = size <= line.count()?;
-    Ok(format!(in line.allocator(); "{fits}")?)
+        _ => {
+            line.want("Dynamic, EvalAltResult or Result");
+            0
+        }
+    }
 }

@@ -1,7 +1,7 @@
 //! Loops, and what ends them early.
 
+use crate::rows::Row;
 use crate::script::Script;
-use rhai_build::list;
 use rhai_eval::base::Items;
 use rhai_samples::loops::{
     break_at_the_top, continued_until, decrements, empty_loop, integer_and_true, return_at_the_top,
@@ -11,36 +11,41 @@ use std::alloc::{AllocError, Global};
 
 /// A loop without an end, which the limit of operations ends.
 pub fn endless(alloc: Global) -> Result<Items<Script>, AllocError> {
-    list(
-        alloc,
-        [Script::with_max_operations(alloc, empty_loop(alloc)?, 10)],
-    )
+    let mut row = Row::new(alloc);
+    row.add_limited(empty_loop(alloc), 10);
+    row.finish()
 }
 
 /// A `continue` that starts the next turn without a test of the condition.
 pub(crate) fn continued(alloc: Global) -> Result<Items<Script>, AllocError> {
-    list(alloc, [Script::new(alloc, continued_until(alloc)?)])
+    let mut row = Row::new(alloc);
+    row.add(continued_until(alloc));
+    row.finish()
 }
 
 /// Three turns: twenty-five operations are one too few.
 pub(crate) fn turns_under_limits(alloc: Global) -> Result<Items<Script>, AllocError> {
-    let passed = Script::new(alloc, three_turns(alloc)?);
-    let refused = Script::with_max_operations(alloc, three_turns(alloc)?, 25);
-    list(alloc, [passed, refused])
+    let mut row = Row::new(alloc);
+    row.add(three_turns(alloc));
+    row.add_limited(three_turns(alloc), 25);
+    row.finish()
 }
 
 /// A loop's value, a `return` at the top, and operands that are not reached or of a wrong type.
 pub(crate) fn left_early(alloc: Global) -> Result<Items<Script>, AllocError> {
-    let broken = Script::new(alloc, value_of_a_loop(alloc)?);
-    let returned = Script::new(alloc, return_at_the_top(alloc)?);
-    let either = Script::new(alloc, true_or_integer(alloc)?);
-    let both = Script::new(alloc, integer_and_true(alloc)?);
-    list(alloc, [broken, returned, either, both])
+    let mut row = Row::new(alloc);
+    row.add(value_of_a_loop(alloc));
+    row.add(return_at_the_top(alloc));
+    row.add(true_or_integer(alloc));
+    row.add(integer_and_true(alloc));
+    row.finish()
 }
 
 /// A `break` that stands in no loop.
 pub fn outside_of_loops(alloc: Global) -> Result<Items<Script>, AllocError> {
-    list(alloc, [Script::new(alloc, break_at_the_top(alloc)?)])
+    let mut row = Row::new(alloc);
+    row.add(break_at_the_top(alloc));
+    row.finish()
 }
 
 /// A million decrements of a variable.

@@ -1,7 +1,7 @@
 //! Operators, and what they refuse.
 
+use crate::rows::Row;
 use crate::script::Script;
-use rhai_build::list;
 use rhai_eval::base::Items;
 use rhai_samples::operators::{
     integer_as_condition, sum, sum_of_two_types, sum_with_unknown_name, unit_or_integer,
@@ -10,20 +10,24 @@ use std::alloc::{AllocError, Global};
 
 /// The sum of two integers: three operations are too few, four are enough.
 pub(crate) fn sum_under_limits(alloc: Global) -> Result<Items<Script>, AllocError> {
-    let refused = Script::with_max_operations(alloc, sum(alloc)?, 3);
-    let passed = Script::with_max_operations(alloc, sum(alloc)?, 4);
-    list(alloc, [refused, passed])
+    let mut row = Row::new(alloc);
+    row.add_limited(sum(alloc), 3);
+    row.add_limited(sum(alloc), 4);
+    row.finish()
 }
 
 /// Operands and a condition of a wrong type, and a name that means nothing.
 pub(crate) fn refused_operands(alloc: Global) -> Result<Items<Script>, AllocError> {
-    let operands = Script::new(alloc, sum_of_two_types(alloc)?);
-    let name = Script::new(alloc, sum_with_unknown_name(alloc)?);
-    let condition = Script::new(alloc, integer_as_condition(alloc)?);
-    list(alloc, [operands, name, condition])
+    let mut row = Row::new(alloc);
+    row.add(sum_of_two_types(alloc));
+    row.add(sum_with_unknown_name(alloc));
+    row.add(integer_as_condition(alloc));
+    row.finish()
 }
 
 /// The first of two values that is not `()`.
 pub fn first_that_is_there(alloc: Global) -> Result<Items<Script>, AllocError> {
-    list(alloc, [Script::new(alloc, unit_or_integer(alloc)?)])
+    let mut row = Row::new(alloc);
+    row.add(unit_or_integer(alloc));
+    row.finish()
 }

@@ -2,160 +2,218 @@
 //! of a cell, and `stone` for the host's value.
 
 use crate::host::Stone;
-use crate::reader::{Fault, Reader};
-use rhai_items::{Boxed, Items, Shared, Table, Text};
+use crate::reader::{Reader, shared};
+use rhai_items::{Items, Shared, Table, Text};
 use rhai_values::base::value::{AccessMode, CellId, Dynamic, FnPtr, FnPtrKind, Union};
+use std::alloc::{AllocError, Global};
 
 /// How deep arrays and maps may stand in one another.
 const DEPTH: usize = 4;
 
 impl<'a> Reader<'a> {
     /// The next value, and the space after it. After `constant` it is read-only.
-    pub fn value(&mut self) -> Result<Dynamic<Stone>, Fault> {
+    pub fn value(&mut self) -> Dynamic<Stone> {
         let constant = self.passes("constant ");
-        let mut value = self.nested(DEPTH)?;
+        let mut value = self.nested(DEPTH);
         if constant {
             value.set_access_mode(AccessMode::ReadOnly);
         }
         self.passes(" ");
-        Ok(value)
+        value
     }
 
     /// A value in which arrays and maps are at most so deep.
     #[cycle(nested)]
-    fn nested(&mut self, depth: usize) -> Result<Dynamic<Stone>, Fault> {
+    fn nested(&mut self, depth: usize) -> Dynamic<Stone> {
+        Dynamic::new(self.content(depth))
+    }
+
+    /// What such a value holds.
+    #[cycle(nested)]
+    fn content(&mut self, depth: usize) -> Union<Stone> {
         let Some(inner) = depth.checked_sub(1) else {
-            return Err(Fault::Wanted("a value that is less deep"));
+            self.want("a value that is less deep");
+            return Union::Unit;
         };
-        let value = match self.rest.chars().next() {
-            Some('[') => self.array(inner)?,
-            Some('#') => self.map(inner)?,
-            Some('"') => Union::Str(self.text()?),
-            Some('\'') => Union::Char(self.character()?),
-            Some('-' | '0'..='9') => self.integer_or_range()?,
-            _ => self.named()?,
-        };
-        Ok(Dynamic::new(value))
+        match self.rest.chars().next() {
+            Some('[') => self.array(inner),
+            Some('#') => self.map(inner),
+            Some('"') => self.quoted(),
+            Some('\'') => Union::Char(self.character()),
+            Some('-' | '0'..='9') => self.integer_or_range(),
+            _ => self.named(),
+        }
     }
 
     #[cycle(nested)]
-    fn array(&mut self, depth: usize) -> Result<Union<Stone>, Fault> {
+    fn array(&mut self, depth: usize) -> Union<Stone> {
         let mut items = Items::new(self.alloc);
-        self.expect("[")?;
+        self.expect("[");
         for _ in 0..self.rest.len() {
-            if self.passes("]") {
-                return Ok(Union::Array(Boxed::new(self.alloc, items)?));
+            if self.rest.starts_with(']') {
+                break;
             }
-            items.push(self.nested(depth)?)?;
+            let item = self.nested(depth);
+            self.push(&mut items, item);
             self.passes(", ");
         }
-        Err(Fault::Wanted("]"))
+        self.expect("]");
+        self.array_of(items)
+    }
+
+    fn array_of(&mut self, items: Items<Dynamic<Stone>>) -> Union<Stone> {
+        match self.boxed(items) {
+            Some(items) => Union::Array(items),
+            None => Union::Unit,
+        }
     }
 
     #[cycle(nested)]
-    fn map(&mut self, depth: usize) -> Result<Union<Stone>, Fault> {
+    fn map(&mut self, depth: usize) -> Union<Stone> {
         let mut entries = Table::new(self.alloc);
-        self.expect("#{")?;
+        self.expect("#{");
         for _ in 0..self.rest.len() {
-            if self.passes("}") {
-                return Ok(Union::Map(Boxed::new(self.alloc, entries)?));
+            if self.rest.starts_with('}') {
+                break;
             }
-            let key = self.up_to(": ")?;
-            let key = self.shared(key)?;
-            entries.insert(key, self.nested(depth)?)?;
+            let key = self.up_to(": ");
+            let value = self.nested(depth);
+            self.enter(&mut entries, key, value);
             self.passes(", ");
         }
-        Err(Fault::Wanted("}"))
+        self.expect("}");
+        self.map_of(entries)
+    }
+
+    /// Puts a value under a key.
+    fn enter(&mut self, entries: &mut Table<Dynamic<Stone>>, key: &str, value: Dynamic<Stone>) {
+        if entered(self.alloc, entries, key, value).is_err() {
+            self.starve();
+        }
+    }
+
+    fn map_of(&mut self, entries: Table<Dynamic<Stone>>) -> Union<Stone> {
+        match self.boxed(entries) {
+            Some(entries) => Union::Map(entries),
+            None => Union::Unit,
+        }
     }
 
     /// A text in quotes, without escapes.
-    fn text(&mut self) -> Result<Shared<Text>, Fault> {
-        self.expect("\"")?;
-        let text = self.up_to("\"")?;
-        self.shared(text)
+    fn text(&mut self) -> &'a str {
+        self.expect("\"");
+        self.up_to("\"")
     }
 
-    /// A shared copy of a text.
-    pub fn shared(&self, text: &str) -> Result<Shared<Text>, Fault> {
-        let text = Text::from_str(self.alloc, text)?;
-        Ok(Shared::new(self.alloc, text)?)
+    fn quoted(&mut self) -> Union<Stone> {
+        let text = self.text();
+        match self.shared(text) {
+            Some(text) => Union::Str(text),
+            None => Union::Unit,
+        }
     }
 
     /// A character in quotes; the one escape is the end of a line.
-    fn character(&mut self) -> Result<char, Fault> {
-        self.expect("'")?;
-        let written = self.up_to("'")?;
+    fn character(&mut self) -> char {
+        self.expect("'");
+        let written = self.up_to("'");
         if written == "\\n" {
-            return Ok('\n');
+            return '\n';
         }
-        written
-            .parse()
-            .map_err(|_| Fault::Wanted("a character in quotes"))
+        self.or_want(written.parse().ok(), "a character in quotes", ' ')
     }
 
-    fn integer(&mut self) -> Result<i64, Fault> {
-        let wanted = Fault::Wanted("an integer");
+    fn integer(&mut self) -> i64 {
         let end = self.rest.find(|c: char| c != '-' && !c.is_ascii_digit());
         let end = end.unwrap_or(self.rest.len());
-        let Some((digits, rest)) = self.rest.split_at_checked(end) else {
-            return Err(wanted);
-        };
+        let (digits, rest) = self.rest.split_at_checked(end).unwrap_or(("", ""));
         self.rest = rest;
-        digits.parse().map_err(|_| wanted)
+        self.or_want(digits.parse().ok(), "an integer", 0)
     }
 
-    fn integer_or_range(&mut self) -> Result<Union<Stone>, Fault> {
-        let start = self.integer()?;
+    fn integer_or_range(&mut self) -> Union<Stone> {
+        let start = self.integer();
         if self.passes("..=") {
-            Ok(Union::InclusiveRange(start, self.integer()?))
+            Union::InclusiveRange(start, self.integer())
         } else if self.passes("..") {
-            Ok(Union::ExclusiveRange(start, self.integer()?))
+            Union::ExclusiveRange(start, self.integer())
         } else {
-            Ok(Union::Int(start))
+            Union::Int(start)
         }
     }
 
     /// A value that begins with a word of its own.
-    fn named(&mut self) -> Result<Union<Stone>, Fault> {
+    fn named(&mut self) -> Union<Stone> {
         if self.passes("()") {
-            Ok(Union::Unit)
+            Union::Unit
         } else if self.passes("true") {
-            Ok(Union::Bool(true))
+            Union::Bool(true)
         } else if self.passes("false") {
-            Ok(Union::Bool(false))
+            Union::Bool(false)
         } else if self.passes("stone") {
-            Ok(Union::Host(Stone { weight: 7 }))
+            Union::Host(Stone { weight: 7 })
         } else if self.passes("cell ") {
-            let number = self.count()?;
-            Ok(Union::Cell(CellId { number }))
+            let number = self.count();
+            Union::Cell(CellId { number })
         } else if self.passes("blob[") {
             self.blob()
         } else if self.passes("Fn(") {
             self.pointer()
         } else {
-            Err(Fault::Wanted("a value"))
+            self.want("a value");
+            Union::Unit
         }
     }
 
     /// The bytes of a blob, as `01 ff]`.
-    fn blob(&mut self) -> Result<Union<Stone>, Fault> {
+    fn blob(&mut self) -> Union<Stone> {
         let mut bytes = Items::new(self.alloc);
-        for digits in self.up_to("]")?.split_whitespace() {
-            let byte = u8::from_str_radix(digits, 16);
-            bytes.push(byte.map_err(|_| Fault::Wanted("a byte, as ff,"))?)?;
+        for digits in self.up_to("]").split_whitespace() {
+            let byte = u8::from_str_radix(digits, 16).ok();
+            let byte = self.or_want(byte, "a byte, as ff,", 0);
+            self.push(&mut bytes, byte);
         }
-        Ok(Union::Blob(Boxed::new(self.alloc, bytes)?))
+        match self.boxed(bytes) {
+            Some(bytes) => Union::Blob(bytes),
+            None => Union::Unit,
+        }
     }
 
     /// The name of a function, as `"name")`.
-    fn pointer(&mut self) -> Result<Union<Stone>, Fault> {
-        let name = self.text()?;
-        self.expect(")")?;
+    fn pointer(&mut self) -> Union<Stone> {
+        let name = self.text();
+        self.expect(")");
+        match self.shared(name) {
+            Some(name) => self.pointer_to(name),
+            None => Union::Unit,
+        }
+    }
+
+    fn pointer_to(&mut self, name: Shared<Text>) -> Union<Stone> {
         let pointer = FnPtr {
             name,
             curry: Items::new(self.alloc),
             kind: FnPtrKind::Name,
         };
-        Ok(Union::FnPtr(Boxed::new(self.alloc, pointer)?))
+        match self.boxed(pointer) {
+            Some(pointer) => Union::FnPtr(pointer),
+            None => Union::Unit,
+        }
+    }
+}
+
+/// Puts a value under a key.
+fn entered(
+    alloc: Global,
+    entries: &mut Table<Dynamic<Stone>>,
+    key: &str,
+    value: Dynamic<Stone>,
+) -> Result<(), AllocError> {
+    match shared(alloc, key) {
+        Ok(key) => entries.insert(key, value),
+        Err(error) => {
+            drop(value);
+            Err(error)
+        }
     }
 }
