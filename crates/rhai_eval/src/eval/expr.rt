@@ -75,7 +75,8 @@ impl<H: Host> Engine<H> {
     /// The value of an expression, charged first at its position. Ports upstream's `eval_expr`.
     ///
     /// The expression is a part of a checked tree, above the variables that the scope has there. No
-    /// form that is there reads or writes `this`, so it is left alone.
+    /// form that is there reads or writes `this`, so it is left alone. Asked besides: no modules,
+    /// libraries or imports, of which the machine has no rule yet (`Plain`).
     pub fn eval_expr<T: NativeTable<H>>(
         &self,
         alloc: Global,

@@ -32,6 +32,8 @@ impl<H: Host> Engine<H> {
     /// Ends exactly as the step machine does that is cut at the first charge past the limit of
     /// operations, or with `ErrorOutOfMemory`: then the run is the machine's own up to where memory
     /// ran out, and unwinds from there.
+    ///
+    /// Asked: no modules, libraries or imports, of which the machine has no rule yet (`Plain`).
     pub fn eval_global_statements<T: NativeTable<H>>(
         &self,
         alloc: Global,

@@ -43,7 +43,8 @@ impl<H: Host> Engine<H> {
     /// is set. Ports upstream's `eval_stmt`.
     ///
     /// The statement is a part of a checked tree, above the variables that the scope has there. No
-    /// form that is there reads or writes `this`, so it is left alone.
+    /// form that is there reads or writes `this`, so it is left alone. Asked besides: no modules,
+    /// libraries or imports, of which the machine has no rule yet (`Plain`).
     pub fn eval_stmt<T: NativeTable<H>>(
         &self,
         alloc: Global,
@@ -82,7 +83,8 @@ impl<H: Host> Engine<H> {
     /// of memory included. Ports upstream's `eval_stmt_block`.
     ///
     /// The statements are a part of a checked tree, above the variables that the scope has there. No
-    /// form that is there reads or writes `this`, so it is left alone.
+    /// form that is there reads or writes `this`, so it is left alone. Asked besides: no modules,
+    /// libraries or imports, of which the machine has no rule yet (`Plain`).
     pub fn eval_stmt_block<T: NativeTable<H>>(
         &self,
         alloc: Global,
