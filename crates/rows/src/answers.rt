@@ -17,13 +17,17 @@ use std::io::Write;
 /// - `prints NAME`: a value or a place of that name
 pub fn answer(alloc: Global, call: &str) -> io::Result<Vec<u8>> {
     let mut out = Vec::new(alloc);
+    write_answer(alloc, call, &mut out)?;
+    Ok(out)
+}
+
+fn write_answer(alloc: Global, call: &str, out: &mut Vec<u8>) -> io::Result<()> {
     let (form, rest) = call.split_once(' ').unwrap_or((call, ""));
     match form {
-        "scripts" => write_number(alloc, rest, &mut out)?,
-        "run" => write_run(alloc, rest, &mut out)?,
-        "refuses" => write_refusals(alloc, rest, &mut out)?,
-        "prints" => write_sample(alloc, rest, &mut out)?,
-        _ => write_ways(alloc, form, rest, &mut out)?,
+        "scripts" => write_number(alloc, rest, out),
+        "run" => write_run(alloc, rest, out),
+        "refuses" => write_refusals(alloc, rest, out),
+        "prints" => write_sample(alloc, rest, out),
+        _ => write_ways(alloc, form, rest, out),
     }
-    Ok(out)
 }

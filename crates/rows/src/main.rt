@@ -48,16 +48,27 @@ fn compare_lines<W: Write>(alloc: Global, lines: &str, out: &mut W) -> io::Resul
         if line.is_empty() || line.starts_with("//") {
             continue;
         }
-        let (call, wanted) = line.split_once(" = ").unwrap_or((line, ""));
-        let found = answer(alloc, call)?;
-        if found.as_slice() == wanted.as_bytes() {
+        if agrees(alloc, at, line, out)? {
             tally.agree = tally.agree.saturating_add(1);
         } else {
             tally.differ = tally.differ.saturating_add(1);
-            write_difference(out, at, found.as_slice())?;
         }
     }
     Ok(tally)
+}
+
+/// Whether the call of a line answers what the line says. Where it does not, prints what it does.
+fn agrees<W: Write>(alloc: Global, at: usize, line: &str, out: &mut W) -> io::Result<bool> {
+    let (call, wanted) = line.split_once(" = ").unwrap_or((line, ""));
+    let found = answer(alloc, call)?;
+    let agrees = found.as_slice() == wanted.as_bytes();
+    let wrote = if agrees {
+        Ok(())
+    } else {
+        write_difference(out, at, found.as_slice())
+    };
+    drop(found);
+    wrote.map(|()| agrees)
 }
 
 /// Writes what a line came to whose answer is another.

@@ -16,12 +16,28 @@ use std::io::Write;
 /// The scripts of a list: those of a row by its number, and of lists that no row has by their names.
 fn scripts_of(alloc: Global, list: &str) -> Result<Option<Items<Script>>, AllocError> {
     let scripts = match list {
-        "endless" => endless(alloc)?,
-        "outside" => outside_of_loops(alloc)?,
-        "coalesced" => first_that_is_there(alloc)?,
+        "endless" => endless(alloc),
+        "outside" => outside_of_loops(alloc),
+        "coalesced" => first_that_is_there(alloc),
         row => return scripts(alloc, row),
     };
-    Ok(Some(scripts))
+    scripts.map(Some)
+}
+
+/// A script by its list and its number there, as `26 1`.
+fn script_of(alloc: Global, name: &str) -> Result<Option<Script>, AllocError> {
+    let (list, number) = name.split_once(' ').unwrap_or((name, ""));
+    match scripts_of(alloc, list)? {
+        Some(scripts) => Ok(numbered(scripts, number)),
+        None => Ok(None),
+    }
+}
+
+/// The script of a number, counted from 1.
+fn numbered(scripts: Items<Script>, number: &str) -> Option<Script> {
+    let number: usize = number.parse().unwrap_or(0);
+    let before = number.checked_sub(1).unwrap_or(usize::MAX);
+    scripts.into_vec().into_iter().nth(before)
 }
 
 /// Writes how many scripts a list has.
@@ -46,18 +62,25 @@ pub fn write_ways(alloc: Global, form: &str, name: &str, out: &mut Vec<u8>) -> i
     Ok(())
 }
 
-/// Writes what a script comes to in one of the ways. A script is named by its list and its number
-/// there, as `26 1`.
+/// Writes what a script comes to in one of the ways.
 fn write_way(alloc: Global, form: &str, name: &str, way: Way, out: &mut Vec<u8>) -> io::Result<()> {
-    let (list, number) = name.split_once(' ').unwrap_or((name, ""));
-    let before = number.parse::<usize>().unwrap_or(0).checked_sub(1);
-    let (Some(before), Some(scripts)) = (before, scripts_of(alloc, list)?) else {
-        return write!(out, "no script");
-    };
-    match scripts.into_vec().into_iter().nth(before) {
-        Some(script) => write_outcome(form, &script.run(alloc, way)?, out),
+    match script_of(alloc, name)? {
+        Some(script) => write_script(alloc, form, script, way, out),
         None => write!(out, "no script"),
     }
+}
+
+fn write_script(
+    alloc: Global,
+    form: &str,
+    script: Script,
+    way: Way,
+    out: &mut Vec<u8>,
+) -> io::Result<()> {
+    let outcome = script.run(alloc, way)?;
+    let wrote = write_outcome(form, &outcome, out);
+    drop(outcome);
+    wrote
 }
 
 fn write_outcome(form: &str, outcome: &Outcome, out: &mut Vec<u8>) -> io::Result<()> {

@@ -15,7 +15,7 @@ pub fn write_sample(alloc: Global, name: &str, out: &mut Vec<u8>) -> io::Result<
         "place" => write_place(out, Position::new(1, 6)),
         "no place" => write_place(out, Position::NONE),
         _ => match plain(name) {
-            Some(value) => write_value(out, &Dynamic::new(value)),
+            Some(value) => write_union(value, out),
             None => write_with_parts(alloc, name, out),
         },
     }
@@ -23,9 +23,16 @@ pub fn write_sample(alloc: Global, name: &str, out: &mut Vec<u8>) -> io::Result<
 
 fn write_with_parts(alloc: Global, name: &str, out: &mut Vec<u8>) -> io::Result<()> {
     match with_parts(alloc, name)? {
-        Some(value) => write_value(out, &Dynamic::new(value)),
+        Some(value) => write_union(value, out),
         None => write!(out, "no value"),
     }
+}
+
+fn write_union(value: Union<Pair>, out: &mut Vec<u8>) -> io::Result<()> {
+    let value = Dynamic::new(value);
+    let wrote = write_value(out, &value);
+    drop(value);
+    wrote
 }
 
 /// The values without parts.
@@ -47,14 +54,14 @@ fn plain(name: &str) -> Option<Union<Pair>> {
 /// The values with parts.
 fn with_parts(alloc: Global, name: &str) -> Result<Option<Union<Pair>>, AllocError> {
     let value = match name {
-        "a text" => Union::Str(shared(alloc, "a\"b")?),
-        "an array" => array(alloc)?,
-        "an empty array" => Union::Array(Boxed::new(alloc, Items::new(alloc))?),
-        "bytes" => Union::Blob(Boxed::new(alloc, Items::from_slice(alloc, &[1, 255])?)?),
-        "a pointer" => pointer(alloc)?,
+        "a text" => shared(alloc, "a\"b").map(Union::Str),
+        "an array" => array(alloc),
+        "an empty array" => array_of(alloc, Items::new(alloc)),
+        "bytes" => bytes(alloc),
+        "a pointer" => pointer(alloc),
         _ => return Ok(None),
     };
-    Ok(Some(value))
+    value.map(Some)
 }
 
 fn shared(alloc: Global, text: &str) -> Result<Shared<Text>, AllocError> {
@@ -62,11 +69,18 @@ fn shared(alloc: Global, text: &str) -> Result<Shared<Text>, AllocError> {
 }
 
 fn array(alloc: Global) -> Result<Union<Pair>, AllocError> {
-    let text = Dynamic::new(Union::Str(shared(alloc, "x")?));
-    let mut items = Items::new(alloc);
-    items.push(Dynamic::new(Union::Int(1)))?;
-    items.push(text)?;
+    let text = Union::Str(shared(alloc, "x")?);
+    let items = Vec::from_array(alloc, [Dynamic::new(Union::Int(1)), Dynamic::new(text)])?;
+    array_of(alloc, Items::from_vec(items))
+}
+
+fn array_of(alloc: Global, items: Items<Dynamic<Pair>>) -> Result<Union<Pair>, AllocError> {
     Ok(Union::Array(Boxed::new(alloc, items)?))
+}
+
+fn bytes(alloc: Global) -> Result<Union<Pair>, AllocError> {
+    let bytes = Items::from_slice(alloc, &[1, 255])?;
+    Ok(Union::Blob(Boxed::new(alloc, bytes)?))
 }
 
 fn pointer(alloc: Global) -> Result<Union<Pair>, AllocError> {
