@@ -23,7 +23,8 @@ use Rattle.rhai_machine.specs.language.Setting.{Setting}
 use Rattle.rhai_machine.specs.language.State.{Local}
 use Rattle.rhai_machine.specs.language.Places.{Place, InEntry, InCell, Target, target, is_constant, unless_constant, target_in_cell}
 use Rattle.rhai_machine.specs.language.Places.{target_at, target_found, target_of, put}
-use Rattle.rhai_machine.specs.language.Frames.{Attempt, InPlace, AsValue, Assignment, Update, Frame, Core, core, where_there, QuestionUpdate}
+use Rattle.rhai_machine.specs.language.Frames.{Attempt, InPlace, AsValue, Assignment, Update, Frame}
+use Rattle.rhai_machine.specs.language.Frames.{Core, core, where_there, QuestionUpdate}
 use Rattle.rhai_machine.specs.language.Frames.{FireUpdate}
 use Rattle.rhai_machine.specs.language.Calls.{sized, applied, replied, placed_if_none}
 use Rattle.rhai_machine.specs.language.Assignment.{assignment_move, assigned_core, written_core, done, if_fast, says_missing, operation_of}

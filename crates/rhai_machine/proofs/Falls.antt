@@ -26,7 +26,8 @@ use Rattle.rhai_machine.specs.language.Setting.{Setting}
 use Rattle.rhai_machine.specs.language.State.{Local}
 use Rattle.rhai_machine.specs.language.Values.{unit_value, flat, through, truth}
 use Rattle.rhai_machine.specs.language.Frames.{Operation, Attempt, InPlace, AsValue, Assignment, Update, Call, Control, Frame, Core, core}
-use Rattle.rhai_machine.specs.language.Frames.{where_there, ended, Eval, Exec, Ask, Assign, AskUpdate, Argument, Question, Fire, QuestionUpdate}
+use Rattle.rhai_machine.specs.language.Frames.{where_there, ended, Eval, Exec, Ask, Assign}
+use Rattle.rhai_machine.specs.language.Frames.{AskUpdate, Argument, Question, Fire, QuestionUpdate}
 use Rattle.rhai_machine.specs.language.Frames.{FireUpdate, OpenExpr, OpenStmt, Enter, Run, Store, WhileTurn, DoTurn, Back, Fail}
 use Rattle.rhai_machine.specs.language.Frames.{StatementValue, DefineValue, IfCondition, RestOfList, RestoreList, Top, UnaryOperand}
 use Rattle.rhai_machine.specs.language.Frames.{LeftOperand, RightOperand, AndPart, OrPart, CoalescePart, AssignValue, WhileCondition}

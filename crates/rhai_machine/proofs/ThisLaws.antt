@@ -32,7 +32,8 @@ use Rattle.rhai_values.specs.declared.base.value.AccessMode.TheVariants.{ReadWri
 use Rattle.rhai_values.specs.Modes.{with_mode}
 use Rattle.rhai_state.specs.Native.{Reply, Missing, Gives, Faults, Named, OfName, request}
 use Rattle.rhai_machine.specs.language.Frames.{Operation, Call, Attempt, InPlace, AsValue, Assignment, Update, Control, Frame, Core, core}
-use Rattle.rhai_machine.specs.language.Frames.{where_there, Eval, Exec, Ask, Assign, AskUpdate, Argument, Question, Fire, QuestionUpdate, FireUpdate}
+use Rattle.rhai_machine.specs.language.Frames.{where_there, Eval, Exec, Ask, Assign, AskUpdate}
+use Rattle.rhai_machine.specs.language.Frames.{Argument, Question, Fire, QuestionUpdate, FireUpdate}
 use Rattle.rhai_machine.specs.language.Frames.{OpenExpr, OpenStmt, Enter, Run, Store, WhileTurn, DoTurn, Back, Fail, StatementValue}
 use Rattle.rhai_machine.specs.language.Frames.{DefineValue, IfCondition, RestOfList, RestoreList, Top, UnaryOperand, LeftOperand}
 use Rattle.rhai_machine.specs.language.Frames.{RightOperand, AndPart, OrPart, CoalescePart, AssignValue, WhileCondition, WhileBody}
@@ -40,7 +41,8 @@ use Rattle.rhai_machine.specs.language.Frames.{DoCondition, DoBody, BreakValue, 
 use Rattle.rhai_machine.specs.language.Places.{Place, InEntry, InCell, Target, is_barred, put, target_of, while_lent}
 use Rattle.rhai_machine.specs.language.Assignment.{assignment_move, assigned_core, written_core, done, if_fast, left_in, update_core}
 use Rattle.rhai_machine.specs.language.Assignment.{assign_core, store_core, changed_core, fault_core, value_core, answered_core}
-use Rattle.rhai_machine.specs.language.Assignment.{barred_core, question_update, lent_core, call_update, fire_update, native_of, operation_of, says_missing}
+use Rattle.rhai_machine.specs.language.Assignment.{barred_core, question_update, lent_core, call_update, fire_update}
+use Rattle.rhai_machine.specs.language.Assignment.{native_of, operation_of, says_missing}
 use Rattle.rhai_machine.specs.language.Loops.{is_endless, while_move, while_core}
 use Rattle.rhai_machine.specs.language.Expressions.{literal_of, argument_move, operands_move, expr_move, and_core, and_next, or_core}
 use Rattle.rhai_machine.specs.language.Expressions.{or_next, coalesce_core, coalesce_seen, coalesce_next}

@@ -7,7 +7,8 @@ use Rattle.rhai_values.specs.declared.base.value.Dynamic.{Dynamic}
 use Rattle.rhai_values.specs.declared.base.value.FnPtrKind.TheFolds.{fold-Union, fold-roll-Union, fold_out-Dynamic, fold_out-Union}
 use Rattle.rhai_values.specs.declared.base.value.Union.{Union}
 use Rattle.rhai_values.specs.declared.base.value.Union.TheVariants as value
-use Rattle.rhai_values.specs.declared.base.value.Union.TheVariants.{outs-Bool, outs-Cell, outs-Host, outs-Int, outs-Str, outs-Unit, rolls-Array}
+use Rattle.rhai_values.specs.declared.base.value.Union.TheVariants.{outs-Bool, outs-Cell, outs-Host, outs-Int}
+use Rattle.rhai_values.specs.declared.base.value.Union.TheVariants.{outs-Str, outs-Unit, rolls-Array}
 use Rattle.rhai_values.specs.Copy.{plain}
 use Rattle.rhai_state.specs.declared.error.EvalAltResult.TheFolds.{fold_out-EvalAltResult}
 use Rattle.rhai_state.specs.declared.error.EvalAltResult.TheVariants as error

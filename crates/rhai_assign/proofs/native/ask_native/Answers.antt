@@ -23,7 +23,8 @@ returns-in_err-track_operation-clause-refused g c =
 pub returns-then-is_bare_handle-clause-refused : goal.returns-then-is_bare_handle-clause-refused
 returns-then-is_bare_handle-clause-refused g c offer this attempt operand named =
     let rules : Rules _ _ = rules_of c.args.limits.now g.H.Host.name_of offer g.T.NativeTable.natives in
-    let same = standing_uncharged c.args.update.place c.args.scope.now c.args.global.now c.track_operation.new.global c.value_at-target.result.now
+    let same = standing_uncharged c.args.update.place c.args.scope.now c.args.global.now c.track_operation.new.global
+    c.value_at-target.result.now
     (c.args.global.now.num_operations + 1) c.in_ok-track_operation.ensures.charged c.value_at-target.ensures in
     holds_update rules (g.T.NativeTable.state c.args.table.now) c.args.global.now c.track_operation.new.global c.args.scope.now this
     (updating c.args.update attempt c.args.scope.now c.args.global.now operand) c.args.name.now c.data_race_of.result
@@ -35,7 +36,8 @@ returns-then-is_bare_handle-clause-refused g c offer this attempt operand named 
 pub returns-then-is_barred-clause-refused : goal.returns-then-is_barred-clause-refused
 returns-then-is_barred-clause-refused g c offer this attempt operand named =
     let rules : Rules _ _ = rules_of c.args.limits.now g.H.Host.name_of offer g.T.NativeTable.natives in
-    let same = standing_uncharged c.args.update.place c.args.scope.now c.args.global.now c.track_operation.new.global c.value_at-target.result.now
+    let same = standing_uncharged c.args.update.place c.args.scope.now c.args.global.now c.track_operation.new.global
+    c.value_at-target.result.now
     (c.args.global.now.num_operations + 1) c.in_ok-track_operation.ensures.charged c.value_at-target.ensures in
     bars_update rules (g.T.NativeTable.state c.args.table.now) c.args.global.now c.track_operation.new.global c.args.scope.now this
     (updating c.args.update attempt c.args.scope.now c.args.global.now operand) c.args.name.now c.non_pure_of.result
@@ -57,7 +59,8 @@ returns-clause-keeps g c =
 pub returns-clause-asked : goal.returns-clause-asked
 returns-clause-asked g c offer =
     let rules : Rules _ _ = rules_of c.args.limits.now g.H.Host.name_of offer g.T.NativeTable.natives in
-    let same = standing_uncharged c.args.update.place c.args.scope.now c.args.global.now c.track_operation.new.global c.value_at-target.result.now
+    let same = standing_uncharged c.args.update.place c.args.scope.now c.args.global.now c.track_operation.new.global
+    c.value_at-target.result.now
     (c.args.global.now.num_operations + 1) c.in_ok-track_operation.ensures.charged c.value_at-target.ensures in
     asked rules (g.T.NativeTable.state c.args.table.now) (g.T.NativeTable.state c.call_in_place.new.table)
     c.args.global.now c.track_operation.new.global c.call_in_place.new.cells c.args.scope.now c.call_in_place.new.scope c.args.update

@@ -50,7 +50,8 @@ run_expr-returns-in-Variable-clause-runs g t c k =
     begins rules _ c.args.run.now.global c.track_operation.new.global _ _ c.in_ok-track_operation.ensures.room
     c.in_ok-track_operation.ensures.charged _ (layer.Variable c.in-Variable.offset c.in-Variable.name c.in-Variable.namespace
     c.in-Variable.pos) (rw (c.in-Variable.is, exprs.outs-Variable) refl) k
-    ⨾ reads rules _ _ _ _ k _ (plain_name c.args.expr.now c.in-Variable.offset c.in-Variable.name c.in-Variable.namespace c.in-Variable.pos _
+    ⨾ reads rules _ _ _ _ k _ (plain_name c.args.expr.now c.in-Variable.offset c.in-Variable.name c.in-Variable.namespace
+    c.in-Variable.pos _
     (rw (c.in-Variable.is, exprs.outs-Variable) refl) c.requires.resolves) (told rules _ _ c.read_variable.ensures k _)
 
 pub run_expr-returns-in-Stmt-clause-runs : goal.run_expr-returns-in-Stmt-clause-runs

@@ -202,7 +202,8 @@ unfolding after Steps
 run_var-returns-in_err-given-clause-runs g t c kept =
     let rules = under g.H.Host.name_of c.args.self.now g.T.NativeTable.natives in
     exits rules _ _ _ _ _ c.from_residual-in_err-given.ensures (λ k.
-    begins_value rules c.args.ident.now c.args.value.now c.args.options c.args.pos c.args.restoring k _ (c.in_ok-may_declare.ensures tt) kept
+    begins_value rules c.args.ident.now c.args.value.now c.args.options c.args.pos c.args.restoring k _
+    (c.in_ok-may_declare.ensures tt) kept
     ⨾ c.in_err-given.ensures.runs (DefineValue _ _ _ ∷ k) ⨾ next here)
 
 pub run_var-returns-in_err-given-2-clause-runs : goal.run_var-returns-in_err-given-2-clause-runs
@@ -210,7 +211,8 @@ unfolding after Steps
 run_var-returns-in_err-given-2-clause-runs g t c kept =
     let rules = under g.H.Host.name_of c.args.self.now g.T.NativeTable.natives in
     exits rules _ _ _ _ _ c.from_residual-in_err-given-2.ensures (λ k.
-    begins_value rules c.args.ident.now c.args.value.now c.args.options c.args.pos c.args.restoring k _ (c.in_ok-may_declare.ensures tt) kept
+    begins_value rules c.args.ident.now c.args.value.now c.args.options c.args.pos c.args.restoring k _
+    (c.in_ok-may_declare.ensures tt) kept
     ⨾ c.in_ok-given.ensures.runs (DefineValue _ _ _ ∷ k)
     ⨾ flat_fails rules _ _ k _ _ (DefineValue _ _ _) refl (rw c.position.ensures at c.in_err-given-2.ensures.exact))
 
@@ -218,7 +220,8 @@ pub run_var-returns-clause-runs : goal.run_var-returns-clause-runs
 unfolding after Steps
 run_var-returns-clause-runs g t c kept k =
     let rules = under g.H.Host.name_of c.args.self.now g.T.NativeTable.natives in
-    begins_value rules c.args.ident.now c.args.value.now c.args.options c.args.pos c.args.restoring k _ (c.in_ok-may_declare.ensures tt) kept
+    begins_value rules c.args.ident.now c.args.value.now c.args.options c.args.pos c.args.restoring k _
+    (c.in_ok-may_declare.ensures tt) kept
     ⨾ c.in_ok-given.ensures.runs (DefineValue _ _ _ ∷ k)
     ⨾ defines rules _ c.run_expr.new.run.global c.run_expr.new.run.scope c.define_variable.new.scope _ c.args.ident.now c.args.options
     _ c.in_ok-given-2.given _
