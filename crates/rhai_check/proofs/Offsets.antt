@@ -9,6 +9,8 @@ use Rattle.std.specs.Int.NonZero.{non_zero_usize_get}
 use Rattle.std.specs.declared.num.NonZeroUsize.{NonZeroUsize}
 use Rattle.rhai_check.specs.Forms.{is_unqualified}
 use Rattle.rhai_check.specs.Names.{Name, further, offset_of, stands, is_good}
+use Rattle.rhai_check.specs.Reading.{sound, found_in_variable}
+use Rattle.rhai_tree.specs.declared.position.Position.{Position}
 
 -- the offset after one more name
 abbrev pub moved : ℕ → Bool → ℕ
@@ -68,14 +70,13 @@ good_above : (base : List Name) (offset : Option NonZeroUsize) (name : Name) (na
 good_above base None name names e = refl
 good_above base (Some offset) name names e = stands_above base name (non_zero_usize_get offset) names e
 
-both : (a b : Bool) → a ≡ true → b ≡ true → (a && b) ≡ true
-both a b p q = rw (p, q)
-
 unqualified : (path : List Name) → length path ≤ 0 → is_unqualified path ≡ true
 unqualified [] none = refl
 unqualified (root ∷ path) none = absurd (omega arith)
 
 -- a good offset is good above more names
 pub variable_above : (base : List Name) (path : List Name) (offset : Option NonZeroUsize) (name : Name) (names : List Name)
-    → length path ≤ 0 → is_good offset name names ≡ true → (is_unqualified path && is_good offset name (base ++ names)) ≡ true
-variable_above base path offset name names none good = both _ _ (unqualified path none) (good_above base offset name names good)
+    (pos : Position) → length path ≤ 0 → is_good offset name names ≡ true
+    → found_in_variable sound offset name path pos (base ++ names) ≡ true
+variable_above base path offset name names pos none good =
+    rw (unqualified path none, good_above base offset name names good) refl

@@ -14,14 +14,14 @@ use Rattle.rhai_check.specs.Context.{Context, around}
 use Rattle.rhai_check.specs.Declares as declares
 use Rattle.rhai_check.specs.Declares.{declares_expr, declares_stmt}
 use Rattle.rhai_check.specs.Forms.{is_exported}
-use Rattle.rhai_check.specs.Frame as frame
-use Rattle.rhai_check.specs.Frame.{Tests, tests_of, var_resolves}
+use Rattle.rhai_check.specs.Reading as walk
+use Rattle.rhai_check.specs.Reading.{faulty, sound}
+use Rattle.rhai_check.specs.Frame.{tests_of, var_resolves}
 use Rattle.rhai_check.specs.Names.{Name}
 use Rattle.rhai_check.specs.Refusals.{IsFirst, Refuses}
-use Rattle.rhai_check.specs.WellFormed as seen
-use Rattle.rhai_check.specs.WellFormed.{Seen, SeenStmt, seen_expr, seen_stmt, target_faults, control_faults, var_faults}
+use Rattle.rhai_check.specs.WellFormed.{seen_expr, seen_stmt, target_faults, control_faults, var_faults}
 use Rattle.rhai_check.proofs.Walk.{expr_faults, stmt_faults, expr_declares, stmt_declares, expr_tests, seen-expr, seen-stmt}
-use Rattle.rhai_check.proofs.Walk.{resolves-expr, refuses_expr_at, refuses_stmt_at}
+use Rattle.rhai_check.proofs.Walk.{Seen, SeenStmt, Tests, resolves-expr, refuses_expr_at, refuses_stmt_at}
 
 -- what always holds holds where a call gives no error
 pub given_ok : {A : Type 0} {P : Type 0} (r : Result A CheckFault) → P → OnOk r P
@@ -40,21 +40,21 @@ err_then (Err e) f p = f e p
 
 -- a form without faults
 pub exact_expr_at : {A : Type 0} (r : Result A CheckFault) (e : Expr) (l : ExprLayer) (c : Context) → out-Expr e ≡ l
-    → OnOk r ((seen.expr_step (expr_faults l)).value c ≡ []) → OnOk r ((seen_expr e).value c ≡ [])
+    → OnOk r ((walk.expr_step faulty (expr_faults l)).value c ≡ []) → OnOk r ((seen_expr e).value c ≡ [])
 exact_expr_at r e l c is h = subst (λ (s : Seen). OnOk r (s.value c ≡ [])) (sym (seen-expr e l is)) h
 
 pub exact_stmt_at : {A : Type 0} (r : Result A CheckFault) (s : Stmt) (l : StmtLayer) (c d : Context) → out-Stmt s ≡ l
-    → OnOk r (seen.stmt_step (stmt_faults l) c ≡ ([], d)) → OnOk r (seen_stmt s c ≡ ([], d))
+    → OnOk r (walk.stmt_step faulty (stmt_faults l) c ≡ ([], d)) → OnOk r (seen_stmt s c ≡ ([], d))
 exact_stmt_at r s l c d is h = subst (λ (f : SeenStmt). OnOk r (f c ≡ ([], d))) (sym (seen-stmt s l is)) h
 
 pub resolved_expr_at : {A : Type 0} (r : Result A CheckFault) (e : Expr) (l : ExprLayer) (names : List Name) → out-Expr e ≡ l
-    → OnOk r ((base : List Name) → IsTrue ((frame.expr_step (expr_tests l)).value (base ++ names)))
+    → OnOk r ((base : List Name) → IsTrue ((walk.expr_step sound (expr_tests l)).value (base ++ names)))
     → OnOk r ((base : List Name) → IsTrue ((tests_of e).value (base ++ names)))
 resolved_expr_at r e l names is h =
     subst (λ (s : Tests). OnOk r ((base : List Name) → IsTrue (s.value (base ++ names)))) (sym (resolves-expr e l is)) h
 
 pub refused_expr_at : {A : Type 0} (r : Result A CheckFault) (e : Expr) (l : ExprLayer) (c : Context) → out-Expr e ≡ l
-    → IfErr r (λ fault. Refuses ((seen.expr_step (expr_faults l)).value c) (declares.expr_step (expr_declares l)) fault)
+    → IfErr r (λ fault. Refuses ((walk.expr_step faulty (expr_faults l)).value c) (declares.expr_step (expr_declares l)) fault)
     → IfErr r (λ fault. Refuses ((seen_expr e).value c) (declares_expr e) fault)
 refused_expr_at r e l c is h = err_then r (λ fault. refuses_expr_at e l c fault is) h
 
@@ -72,11 +72,12 @@ pub var_passes : (s : Seen) (options : ASTFlags) (pos : Position) (c : Context) 
     → var_faults s options pos c ≡ []
 var_passes s options pos c private h = rw (private, h) refl
 
-pub var_runs : {A : Type 0} (r : Result A CheckFault) (s : Tests) (options : ASTFlags) (name : Name) (names new : List Name)
+pub var_runs : {A : Type 0} (r : Result A CheckFault) (s : Tests) (options : ASTFlags) (pos : Position) (name : Name)
+    → (names new : List Name)
     → is_exported options ≡ false → ((base : List Name) → IsTrue (s.value (base ++ names))) → OnOk r (new ≡ names ++ name ∷ [])
-    → OnOk r ((base : List Name) → var_resolves s options name (base ++ names) ≡ (true, base ++ new))
-var_runs (Ok x) s options name names new private h is = λ base. rw (private, h base, is, append_assoc) refl
-var_runs (Err e) s options name names new private h is = tt
+    → OnOk r ((base : List Name) → var_resolves s options pos name (base ++ names) ≡ (true, base ++ new))
+var_runs (Ok x) s options pos name names new private h is = λ base. rw (private, h base, is, append_assoc) refl
+var_runs (Err e) s options pos name names new private h is = tt
 
 -- a `break` or a `continue` in a loop
 pub control_passes : {A : Type 0} (r : Result A CheckFault) (pos : Position) (c : Context) (fs : List CheckFault) → c.in_loop ≡ true

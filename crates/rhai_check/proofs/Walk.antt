@@ -12,12 +12,28 @@ use Rattle.rhai_tree.specs.declared.expr.Stmt.{Stmt, out-Stmt}
 use Rattle.rhai_check.specs.Context.{Context}
 use Rattle.rhai_check.specs.Declares as declares
 use Rattle.rhai_check.specs.Declares.{any_of, declares_expr, declares_call, declares_block, declares_stmt}
-use Rattle.rhai_check.specs.Frame as frame
-use Rattle.rhai_check.specs.Frame.{Test, Tests, Verdict, tests_of, resolves_call, resolves_block, resolves_stmt}
+use Rattle.rhai_check.specs.Reading as walk
+use Rattle.rhai_check.specs.Reading.{faulty, sound}
+use Rattle.rhai_check.specs.Frame.{tests_of, resolves_stmt}
 use Rattle.rhai_tree.specs.Layers.{ExprLayer, StmtLayer}
 use Rattle.rhai_check.specs.Refusals.{Refuses}
-use Rattle.rhai_check.specs.WellFormed as seen
-use Rattle.rhai_check.specs.WellFormed.{Seen, SeenCall, SeenStmt, seen_expr, seen_call, seen_block, seen_stmt}
+use Rattle.rhai_check.specs.WellFormed.{seen_expr, seen_call, seen_block, seen_stmt}
+
+-- what is seen of forms for their faults, and for whether they may run
+abbrev pub Seen : Type 0
+Seen = walk.Seen faulty
+
+abbrev pub SeenCall : Type 0
+SeenCall = walk.SeenCall faulty
+
+abbrev pub SeenStmt : Type 0
+SeenStmt = walk.SeenStmt faulty
+
+abbrev pub Tests : Type 0
+Tests = walk.Seen sound
+
+abbrev pub Verdict : Type 0
+Verdict = walk.SeenStmt sound
 
 -- the faults of the parts of one level
 abbrev pub expr_faults : ExprLayer → layer.Expr-F Seen SeenStmt (Unit {0}) SeenCall (Unit {0}) Seen
@@ -38,23 +54,23 @@ stmt_declares = map-Stmt Expr Stmt ConditionalExpr FnCallExpr MapEntry StmtBlock
     declares_expr declares_stmt (λ conditional. tt) declares_call (λ entry. tt) declares_block
 
 -- whether the parts of one level may run
-abbrev pub expr_tests : ExprLayer → layer.Expr-F Tests Verdict (Unit {0}) Test (Unit {0}) Test
-expr_tests = map-Expr Expr Stmt ConditionalExpr FnCallExpr MapEntry StmtBlock Tests Verdict (Unit {0}) Test (Unit {0}) Test
-    tests_of resolves_stmt (λ conditional. tt) resolves_call (λ entry. tt) resolves_block
+abbrev pub expr_tests : ExprLayer → layer.Expr-F Tests Verdict (Unit {0}) (walk.SeenCall sound) (Unit {0}) Tests
+expr_tests = map-Expr Expr Stmt ConditionalExpr FnCallExpr MapEntry StmtBlock Tests Verdict (Unit {0}) (walk.SeenCall sound) (Unit {0})
+    Tests tests_of resolves_stmt (λ conditional. tt) (walk.seen_call sound) (λ entry. tt) (walk.seen_block sound)
 
-abbrev pub stmt_tests : StmtLayer → layer.Stmt-F Tests Verdict (Unit {0}) Test (Unit {0}) Test
-stmt_tests = map-Stmt Expr Stmt ConditionalExpr FnCallExpr MapEntry StmtBlock Tests Verdict (Unit {0}) Test (Unit {0}) Test
-    tests_of resolves_stmt (λ conditional. tt) resolves_call (λ entry. tt) resolves_block
+abbrev pub stmt_tests : StmtLayer → layer.Stmt-F Tests Verdict (Unit {0}) (walk.SeenCall sound) (Unit {0}) Tests
+stmt_tests = map-Stmt Expr Stmt ConditionalExpr FnCallExpr MapEntry StmtBlock Tests Verdict (Unit {0}) (walk.SeenCall sound) (Unit {0})
+    Tests tests_of resolves_stmt (λ conditional. tt) (walk.seen_call sound) (λ entry. tt) (walk.seen_block sound)
 
-pub seen-expr : (e : Expr) (l : ExprLayer) → out-Expr e ≡ l → seen_expr e ≡ seen.expr_step (expr_faults l)
+pub seen-expr : (e : Expr) (l : ExprLayer) → out-Expr e ≡ l → seen_expr e ≡ walk.expr_step faulty (expr_faults l)
 seen-expr e l is = fold_out-Expr Seen SeenStmt (Unit {0}) SeenCall (Unit {0}) Seen
-    seen.expr_step seen.stmt_step (λ conditional. tt) seen.call_step (λ entry. tt) seen.block_step e
-    ∙ ap (λ (k : ExprLayer). seen.expr_step (expr_faults k)) is
+    (walk.expr_step faulty) (walk.stmt_step faulty) (λ conditional. tt) (walk.call_step faulty) (λ entry. tt) (walk.block_step faulty) e
+    ∙ ap (λ (k : ExprLayer). walk.expr_step faulty (expr_faults k)) is
 
-pub seen-stmt : (s : Stmt) (l : StmtLayer) → out-Stmt s ≡ l → seen_stmt s ≡ seen.stmt_step (stmt_faults l)
+pub seen-stmt : (s : Stmt) (l : StmtLayer) → out-Stmt s ≡ l → seen_stmt s ≡ walk.stmt_step faulty (stmt_faults l)
 seen-stmt s l is = fold_out-Stmt Seen SeenStmt (Unit {0}) SeenCall (Unit {0}) Seen
-    seen.expr_step seen.stmt_step (λ conditional. tt) seen.call_step (λ entry. tt) seen.block_step s
-    ∙ ap (λ (k : StmtLayer). seen.stmt_step (stmt_faults k)) is
+    (walk.expr_step faulty) (walk.stmt_step faulty) (λ conditional. tt) (walk.call_step faulty) (λ entry. tt) (walk.block_step faulty) s
+    ∙ ap (λ (k : StmtLayer). walk.stmt_step faulty (stmt_faults k)) is
 
 declares-expr : (e : Expr) (l : ExprLayer) → out-Expr e ≡ l → declares_expr e ≡ declares.expr_step (expr_declares l)
 declares-expr e l is = fold_out-Expr Bool Bool (Unit {0}) Bool (Unit {0}) Bool
@@ -66,31 +82,32 @@ declares-stmt s l is = fold_out-Stmt Bool Bool (Unit {0}) Bool (Unit {0}) Bool
     declares.expr_step declares.stmt_step (λ conditional. tt) (λ call. any_of call.args) (λ entry. tt) (λ block. any_of block.statements) s
     ∙ ap (λ (k : StmtLayer). declares.stmt_step (stmt_declares k)) is
 
-pub resolves-expr : (e : Expr) (l : ExprLayer) → out-Expr e ≡ l → tests_of e ≡ frame.expr_step (expr_tests l)
-resolves-expr e l is = fold_out-Expr Tests Verdict (Unit {0}) Test (Unit {0}) Test
-    frame.expr_step frame.stmt_step (λ conditional. tt) frame.call_step (λ entry. tt) frame.block_step e
-    ∙ ap (λ (k : ExprLayer). frame.expr_step (expr_tests k)) is
+pub resolves-expr : (e : Expr) (l : ExprLayer) → out-Expr e ≡ l → tests_of e ≡ walk.expr_step sound (expr_tests l)
+resolves-expr e l is = fold_out-Expr Tests Verdict (Unit {0}) (walk.SeenCall sound) (Unit {0}) Tests
+    (walk.expr_step sound) (walk.stmt_step sound) (λ conditional. tt) (walk.call_step sound) (λ entry. tt) (walk.block_step sound) e
+    ∙ ap (λ (k : ExprLayer). walk.expr_step sound (expr_tests k)) is
 
-pub resolves-stmt : (s : Stmt) (l : StmtLayer) → out-Stmt s ≡ l → resolves_stmt s ≡ frame.stmt_step (stmt_tests l)
-resolves-stmt s l is = fold_out-Stmt Tests Verdict (Unit {0}) Test (Unit {0}) Test
-    frame.expr_step frame.stmt_step (λ conditional. tt) frame.call_step (λ entry. tt) frame.block_step s
-    ∙ ap (λ (k : StmtLayer). frame.stmt_step (stmt_tests k)) is
+pub resolves-stmt : (s : Stmt) (l : StmtLayer) → out-Stmt s ≡ l → resolves_stmt s ≡ walk.stmt_step sound (stmt_tests l)
+resolves-stmt s l is = fold_out-Stmt Tests Verdict (Unit {0}) (walk.SeenCall sound) (Unit {0}) Tests
+    (walk.expr_step sound) (walk.stmt_step sound) (λ conditional. tt) (walk.call_step sound) (λ entry. tt) (walk.block_step sound) s
+    ∙ ap (λ (k : StmtLayer). walk.stmt_step sound (stmt_tests k)) is
 
 -- what refuses one level refuses the form
 pub refuses_expr_at : (e : Expr) (l : ExprLayer) (c : Context) (fault : CheckFault) → out-Expr e ≡ l
-    → Refuses ((seen.expr_step (expr_faults l)).value c) (declares.expr_step (expr_declares l)) fault
+    → Refuses ((walk.expr_step faulty (expr_faults l)).value c) (declares.expr_step (expr_declares l)) fault
     → Refuses ((seen_expr e).value c) (declares_expr e) fault
 refuses_expr_at e l c fault is h =
-    let faults : (seen_expr e).value c ≡ (seen.expr_step (expr_faults l)).value c = ap (λ (s : Seen). s.value c) (seen-expr e l is) in
+    let faults : (seen_expr e).value c ≡ (walk.expr_step faulty (expr_faults l)).value c =
+    ap (λ (s : Seen). s.value c) (seen-expr e l is) in
     let declaring = declares-expr e l is in
     subst (λ (fs : List CheckFault). Refuses fs (declares_expr e) fault) (sym faults)
-    (subst (λ (d : Bool). Refuses ((seen.expr_step (expr_faults l)).value c) d fault) (sym declaring) h)
+    (subst (λ (d : Bool). Refuses ((walk.expr_step faulty (expr_faults l)).value c) d fault) (sym declaring) h)
 
 pub refuses_stmt_at : (s : Stmt) (l : StmtLayer) (c : Context) (fault : CheckFault) → out-Stmt s ≡ l
-    → Refuses (seen.stmt_step (stmt_faults l) c).0 (declares.stmt_step (stmt_declares l)) fault
+    → Refuses (walk.stmt_step faulty (stmt_faults l) c).0 (declares.stmt_step (stmt_declares l)) fault
     → Refuses (seen_stmt s c).0 (declares_stmt s) fault
 refuses_stmt_at s l c fault is h =
-    let faults : (seen_stmt s c).0 ≡ (seen.stmt_step (stmt_faults l) c).0 = ap (λ (f : SeenStmt). (f c).0) (seen-stmt s l is) in
+    let faults : (seen_stmt s c).0 ≡ (walk.stmt_step faulty (stmt_faults l) c).0 = ap (λ (f : SeenStmt). (f c).0) (seen-stmt s l is) in
     let declaring = declares-stmt s l is in
     subst (λ (fs : List CheckFault). Refuses fs (declares_stmt s) fault) (sym faults)
-    (subst (λ (d : Bool). Refuses (seen.stmt_step (stmt_faults l) c).0 d fault) (sym declaring) h)
+    (subst (λ (d : Bool). Refuses (walk.stmt_step faulty (stmt_faults l) c).0 d fault) (sym declaring) h)

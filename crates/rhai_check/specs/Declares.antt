@@ -1,10 +1,6 @@
 -- Whether a part of a tree declares a variable: the checker needs memory for the names alone.
 use Rattle.std.specs.Prelude.{Bool, true, false, ◌||◌, List, [], ◌∷◌, map, Option, Some, None}
-use Rattle.rhai_tree.specs.declared.expr.Expr.{Expr}
-use Rattle.rhai_tree.specs.declared.expr.FnCallExpr.{FnCallExpr}
-use Rattle.rhai_tree.specs.declared.expr.StmtBlock.{StmtBlock}
-use Rattle.rhai_tree.specs.declared.expr.Stmt.{Stmt}
-use Rattle.rhai_tree.specs.declared.function.ScriptFuncDef.{ScriptFuncDef}
+use Rattle.rhai_check.specs.Types.{Expr, FnCallExpr, ScriptFuncDef, Stmt, StmtBlock}
 use Rattle.rhai_tree.specs.declared.expr.Expr.TheOpen as layer
 use Rattle.rhai_tree.specs.declared.expr.Expr.TheFolds.{fold-Expr, fold-FnCallExpr, fold-StmtBlock, fold-Stmt}
 

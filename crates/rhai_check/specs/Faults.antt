@@ -1,6 +1,5 @@
 -- The faults of a tree.
-use Rattle.rhai_tree.specs.declared.position.Position.{Position}
-use Rattle.rhai_check.specs.declared.check.CheckFault.{CheckFault}
+use Rattle.rhai_check.specs.Types.{CheckFault, Position}
 use Rattle.rhai_check.specs.declared.check.CheckFault.TheVariants.{BadOffset, BadImportOffset, BadChain, BadAssignment, BadSwitch}
 use Rattle.rhai_check.specs.declared.check.CheckFault.TheVariants.{BadMapKey, BadCatch, LoopControlOutside, ExportNotGlobal, EvalCall}
 use Rattle.rhai_check.specs.declared.check.CheckFault.TheVariants.{NotAnExpression, QualifiedMethod, NoMemory, NotYet}

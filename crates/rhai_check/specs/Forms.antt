@@ -3,7 +3,7 @@ use Rattle.std.specs.Prelude.{ℕ, Bool, true, false, ◌&&◌, ◌||◌, not, �
 use Rattle.std.specs.Int.RustNames.{bit_and}
 use Rattle.std.specs.Str.{bytes_eq}
 use Rattle.rhai_tree.specs.declared.expr.Namespace.{Namespace}
-use Rattle.rhai_tree.specs.declared.flags.ASTFlags.{ASTFlags}
+use Rattle.rhai_check.specs.Types.{ASTFlags}
 use Rattle.rhai_tree.specs.declared.token.Token.{Token}
 use Rattle.rhai_check.specs.Names.{Name}
 

@@ -4,5 +4,7 @@ pub mod Faults
 pub mod Forms
 pub mod Frame
 pub mod Names
+pub mod Reading
 pub mod Refusals
+pub mod Types
 pub mod WellFormed

@@ -1,6 +1,6 @@
 -- What the checker may answer where it does not pass a part.
 use Rattle.std.specs.Prelude.{◌≡◌, Bool, IsTrue, List, [], ◌∷◌}
-use Rattle.rhai_check.specs.declared.check.CheckFault.{CheckFault}
+use Rattle.rhai_check.specs.Types.{CheckFault}
 use Rattle.rhai_check.specs.declared.check.CheckFault.TheVariants.{BadOffset, BadImportOffset, BadChain, BadAssignment, BadSwitch}
 use Rattle.rhai_check.specs.declared.check.CheckFault.TheVariants.{BadMapKey, BadCatch, LoopControlOutside, ExportNotGlobal, EvalCall}
 use Rattle.rhai_check.specs.declared.check.CheckFault.TheVariants.{NotAnExpression, QualifiedMethod, NoMemory, NotYet}

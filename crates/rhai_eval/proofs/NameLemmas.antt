@@ -6,7 +6,9 @@ use Rattle.std.proofs.Math.Seq.{take-append_seam}
 use Rattle.rhai_check.specs.Names.{Name, Begins}
 use Rattle.rhai_tree.specs.declared.expr.Expr.{Expr, out-Expr}
 use Rattle.rhai_tree.specs.declared.expr.FnCallExpr.{FnCallExpr}
-use Rattle.rhai_check.specs.Frame.{Test, Tests, Verdict, tests_of, expr_step, stmt_step, call_step, block_step, resolves_expr}
+use Rattle.rhai_check.specs.Frame.{tests_of, resolves_expr}
+use Rattle.rhai_check.specs.Reading as walk
+use Rattle.rhai_check.specs.Reading.{sound}
 use Rattle.rhai_check.specs.Frame.{resolves_call, all_resolve_exprs, all_resolve}
 use Rattle.rhai_tree.specs.declared.expr.Expr.TheFolds.{fold_out-FnCallExpr}
 use Rattle.rhai_state.specs.declared.scope.ScopeEntry.{ScopeEntry}
@@ -19,7 +21,7 @@ use Rattle.rhai_tree.specs.declared.position.Position.{Position}
 use Rattle.rhai_check.specs.Forms.{is_exported, is_throw, is_unqualified}
 use Rattle.rhai_check.specs.Frame.{resolves_stmt, target_resolves}
 use Rattle.rhai_check.proofs.Walk.{resolves-expr, resolves-stmt}
-use Rattle.std.proofs.Common.{not, Option, None}
+use Rattle.std.proofs.Common.{if◌then◌else◌, Option, None}
 use Rattle.std.specs.declared.num.NonZeroUsize.{NonZeroUsize}
 use Rattle.rhai_tree.specs.declared.expr.Namespace.{Namespace}
 use Rattle.rhai_tree.specs.declared.expr.Ident.{Ident}
@@ -39,24 +41,38 @@ both true true h = (refl, refl)
 both true false h = (refl, h)
 both false b h = (h, cc)
 
+-- what resolves under a test has the test
+holds_then : (test b : Bool) → IsTrue (if test then b else false) → IsTrue test × IsTrue b
+holds_then true b h = (refl, h)
+holds_then false b h = (h, cc)
+
+fails_then : (test b : Bool) → IsTrue (if test then false else b) → (test ≡ false) × IsTrue b
+fails_then true b h = (cc, cc)
+fails_then false b h = (refl, h)
+
+place_then : (place b : Bool) → IsTrue (if place then b else (false && b)) → IsTrue b
+place_then true b h = h
+place_then false b h = cc
+
 two_resolve : (left right : Expr) (names : List Name) → IsTrue (all_resolve_exprs (map tests_of (left ∷ right ∷ [])) names) →
     IsTrue (resolves_expr left names) × IsTrue (resolves_expr right names)
 two_resolve left right names h =
     let first = both (resolves_expr left names) (resolves_expr right names && true) h in
     (first.0, (both (resolves_expr right names) true first.1).0)
 
-operands_of_call : (call : FnCallExpr) (names : List Name) → IsTrue (resolves_call call names) →
+operands_of_call : (call : FnCallExpr) (pos : Position) (names : List Name) → IsTrue (resolves_call call pos names) →
     IsTrue (all_resolve_exprs (map tests_of call.args) names)
-operands_of_call call names h =
-    let opened = fold_out-FnCallExpr Tests Verdict (Unit {0}) Test (Unit {0}) Test expr_step stmt_step (λ conditional. tt) call_step
-    (λ entry. tt) block_step call in
-    (both _ _ (rw opened at h)).1
+operands_of_call call pos names h =
+    let opened = fold_out-FnCallExpr (walk.Seen sound) (walk.SeenStmt sound) (Unit {0}) (walk.SeenCall sound) (Unit {0}) (walk.Seen sound)
+    (walk.expr_step sound) (walk.stmt_step sound) (λ conditional. tt) (walk.call_step sound) (λ entry. tt) (walk.block_step sound)
+    call in
+    (holds_then _ _ (fails_then _ _ (subst (λ (s : walk.SeenCall sound). IsTrue (s.value pos names)) opened h)).1).1
 
 -- the operands of a call that resolves do
-pub operands_resolve : (call : FnCallExpr) (left right : Expr) (names : List Name) → call.args ≡ left ∷ right ∷ [] →
-    IsTrue (resolves_call call names) →
+pub operands_resolve : (call : FnCallExpr) (pos : Position) (left right : Expr) (names : List Name) → call.args ≡ left ∷ right ∷ [] →
+    IsTrue (resolves_call call pos names) →
     IsTrue (resolves_expr left names) × IsTrue (resolves_expr right names)
-operands_resolve call left right names is h = two_resolve left right names (rw is at (operands_of_call call names h))
+operands_resolve call pos left right names is h = two_resolve left right names (rw is at (operands_of_call call pos names h))
 
 -- each of the parts that resolve does
 later_resolve : (before after : List Expr) (names : List Name) → IsTrue (all_resolve_exprs (map tests_of (before ++ after)) names) →
@@ -80,7 +96,7 @@ rest_of_list : (first : Bool) (rest whole : Bool × List Name) → (first && res
 rest_of_list true rest whole e h = e
 rest_of_list false rest whole e h = cc
 
-pub rest_resolves : (part : Verdict) (parts : List Verdict) (names after : List Name) (whole : Bool × List Name) →
+pub rest_resolves : (part : walk.SeenStmt sound) (parts : List (walk.SeenStmt sound)) (names after : List Name) (whole : Bool × List Name) →
     all_resolve (part ∷ parts) names ≡ whole → IsTrue whole.0 → after ≡ (part names).1 → all_resolve parts after ≡ whole
 rest_resolves part parts names after whole e h is = rw is (rest_of_list (part names).0 (all_resolve parts (part names).1) whole e h)
 
@@ -102,30 +118,26 @@ pub any_item : {A : Type 0} (f : A → Bool) (xs : List A) (i : ℕ) (x : A) →
 any_item f xs i x lt is h = subst (λ items. IsTrue (any_of (map f items))) (take-append-drop i xs)
     (any_later f (take i xs) (drop i xs) (rw (drop_item xs i x lt is) (or_left (f x) (any_of (map f (drop (i + 1) xs))) h)))
 
-not_both : (a b : Bool) → IsTrue (not a && b) → a ≡ false
-not_both true b h = cc
-not_both false b h = refl
-
 -- a variable that resolves has no path, and a new one is not exported
 pub plain_name : (e : Expr) (offset : Option NonZeroUsize) (name : Name) (namespace : Namespace) (pos : Position) (names : List Name) →
     out-Expr e ≡ layer.Variable offset name namespace pos → IsTrue (resolves_expr e names) → is_unqualified namespace.path ≡ true
-plain_name e offset name namespace pos names is h = (both (is_unqualified namespace.path) _
-    (subst (λ (t : Tests). IsTrue (t.value names)) (resolves-expr e (layer.Variable offset name namespace pos) is) h)).0
+plain_name e offset name namespace pos names is h = (holds_then (is_unqualified namespace.path) _
+    (subst (λ (t : walk.Seen sound). IsTrue (t.value names)) (resolves-expr e (layer.Variable offset name namespace pos) is) h)).0
 
 pub plain_target : (e : Expr) (offset : Option NonZeroUsize) (name : Name) (namespace : Namespace) (pos : Position) (names : List Name) →
     out-Expr e ≡ layer.Variable offset name namespace pos → IsTrue (target_resolves (tests_of e) names) →
     is_unqualified namespace.path ≡ true
 plain_target e offset name namespace pos names is h = plain_name e offset name namespace pos names is
-    (both (tests_of e).is_place ((tests_of e).value names) h).1
+    (place_then (tests_of e).is_place ((tests_of e).value names) h)
 
 pub plain_var : (stmt : Stmt) (ident : Ident) (value : Expr) (options : ASTFlags) (pos : Position) (names : List Name) →
     out-Stmt stmt ≡ layer.Var ident value None options pos → IsTrue (resolves_stmt stmt names).0 → is_exported options ≡ false
-plain_var stmt ident value options pos names is h = not_both (is_exported options) _
-    (rw (resolves-stmt stmt (layer.Var ident value None options pos) is) at h)
+plain_var stmt ident value options pos names is h = (fails_then (is_exported options) _
+    (rw (resolves-stmt stmt (layer.Var ident value None options pos) is) at h)).0
 
 -- a `return` that resolves does not throw
 pub plain_return : (stmt : Stmt) (value : Option Expr) (options : ASTFlags) (pos : Position) (names : List Name) →
     out-Stmt stmt ≡ layer.Return value options pos →
     IsTrue (resolves_stmt stmt names).0 → is_throw options ≡ false
-plain_return stmt value options pos names is h = not_both (is_throw options) _
-    (rw (resolves-stmt stmt (layer.Return value options pos) is) at h)
+plain_return stmt value options pos names is h = (fails_then (is_throw options) _
+    (rw (resolves-stmt stmt (layer.Return value options pos) is) at h)).0

@@ -9,7 +9,7 @@ ghost use Rattle.rhai_check.specs.Frame.{option_resolves, all_resolve_exprs};
 ghost use Rattle.rhai_check.specs.Names.{Name, is_good};
 ghost use Rattle.rhai_check.specs.Refusals.{Refuses};
 ghost use Rattle.rhai_check.specs.WellFormed.{seen_expr, seen_call, target_faults, faults_in_option};
-ghost use Rattle.rhai_check.specs.WellFormed.{faults_in_all, variable_faults};
+ghost use Rattle.rhai_check.specs.WellFormed.{faults_in_all};
 
 use crate::check::CheckFault;
 use crate::check::names::is_good;
@@ -175,7 +175,7 @@ fn check_call(
     ensures same { OnOk result (names.new ≡ names.old) }
     ensures exact { OnOk result ((seen_call call.now).value pos (around names.old place) ≡ []) }
     ensures resolved { OnOk result ((base : List Name) → IsTrue
-        (resolves_call call.now (base ++ names.old))) }
+        (resolves_call call.now pos (base ++ names.old))) }
     ensures refused { IfErr result (λ fault. Refuses ((seen_call call.now).value pos
         (around names.old place)) (declares_call call.now) fault) }
 {

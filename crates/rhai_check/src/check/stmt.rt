@@ -8,8 +8,8 @@ ghost use Rattle.rhai_check.specs.Frame.{tests_of, resolves_stmt, resolves_block
 ghost use Rattle.rhai_check.specs.Frame.{option_resolves, var_resolves};
 ghost use Rattle.rhai_check.specs.Names.{Name, Begins};
 ghost use Rattle.rhai_check.specs.Refusals.{Refuses};
-ghost use Rattle.rhai_check.specs.WellFormed.{seen_expr, seen_stmt, seen_block, faults_in_list, faults_in_option};
-ghost use Rattle.rhai_check.specs.WellFormed.{control_faults, var_faults};
+ghost use Rattle.rhai_check.specs.WellFormed.{seen_expr, seen_stmt, seen_block, faults_in_list};
+ghost use Rattle.rhai_check.specs.WellFormed.{faults_in_option, control_faults, var_faults};
 
 use crate::check::CheckFault;
 use crate::check::expr::{check_expr, check_option, check_target};
@@ -75,7 +75,7 @@ fn check_var(
     ensures declared { OnOk result (names.new ≡ names.old ++ name.now ∷ []) }
     ensures exact { OnOk result (var_faults (seen_expr expr.now) options pos (around names.old place) ≡ []) }
     ensures resolved { OnOk result ((base : List Name) → var_resolves (tests_of expr.now) options
-        name.now (base ++ names.old) ≡ (true, base ++ names.new)) }
+        pos name.now (base ++ names.old) ≡ (true, base ++ names.new)) }
     ensures refused { IfErr result (λ fault. Refuses (var_faults (seen_expr expr.now) options pos
         (around names.old place)) true fault) }
 {

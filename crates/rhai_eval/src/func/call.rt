@@ -45,7 +45,7 @@ impl<H: Host> Engine<H> {
         call: &FnCallExpr,
         pos: Position,
     ) -> Result<Dynamic<H>, EvalAltResult<H>>
-        requires resolves { IsTrue (resolves_call call.now (names run.old)) }
+        requires resolves { IsTrue (resolves_call call.now pos (names run.old)) }
         requires fast { self.now.fast_operators ≡ true }
         ensures counts { OnOk result (run.old.global.num_operations ≤ run.new.global.num_operations) }
         ensures names { OnOk result (names run.new ≡ names run.old) }

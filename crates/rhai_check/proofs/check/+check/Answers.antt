@@ -57,7 +57,7 @@ expr::check_expr-returns-then-is_good-clause-resolved t c base =
     ap (λ v. v.value (base ++ c.args.names.now))
     (resolves-expr c.args.expr.now (layer.Variable c.in-Variable.offset c.in-Variable.name c.in-Variable.namespace c.in-Variable.pos)
     (rw (c.in-Variable.is, outs-Variable) refl))
-    ∙ variable_above base c.in-Variable.namespace.path c.in-Variable.offset c.in-Variable.name c.args.names.now none good
+    ∙ variable_above base c.in-Variable.namespace.path c.in-Variable.offset c.in-Variable.name c.args.names.now c.in-Variable.pos none good
 
 pub stmt::check_stmt-returns-in_err-check_expr-in-While-clause-refused :
     goal.stmt::check_stmt-returns-in_err-check_expr-in-While-clause-refused
@@ -99,7 +99,7 @@ stmt::check_var-returns-clause-exact t c =
 
 pub stmt::check_var-returns-clause-resolved : goal.stmt::check_var-returns-clause-resolved
 stmt::check_var-returns-clause-resolved t c =
-    var_runs _ (tests_of c.args.expr.now) c.args.options c.args.name.now c.args.names.now _ (sym (c.if-contains.ensures tt))
+    var_runs _ (tests_of c.args.expr.now) c.args.options c.args.pos c.args.name.now c.args.names.now _ (sym (c.if-contains.ensures tt))
     c.in_ok-check_expr.ensures.resolved (rw c.in_ok-check_expr.ensures.same at c.declare.ensures.added)
 
 pub stmt::check_control-returns-clause-exact : goal.stmt::check_control-returns-clause-exact

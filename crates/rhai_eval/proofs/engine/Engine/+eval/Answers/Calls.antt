@@ -12,8 +12,8 @@ use Rattle.rhai_eval.proofs.engine.Engine.+eval.Goals as goal
 pub run_fn_call_expr-run_binary-requires : goal.run_fn_call_expr-run_binary-requires
 run_fn_call_expr-run_binary-requires g t c =
     let args = rw c.in-Some-right.is at c.operands_of.ensures in
-    let resolved = operands_resolve c.args.call.now c.operands_of.result.0.now c.in-Some-right.right.now (names c.args.run.now) args
-    c.requires.resolves in
+    let resolved = operands_resolve c.args.call.now c.args.pos c.operands_of.result.0.now c.in-Some-right.right.now
+    (names c.args.run.now) args c.requires.resolves in
     λ κs lives. (omega arith, (lives.0, (lives.1, (c.in-Some.is, (args, (resolved.0, (resolved.1, c.requires.fast)))))))
 
 pub run_arg-returns-in-Some-clause-runs : goal.run_arg-returns-in-Some-clause-runs

@@ -1,0 +1,202 @@
+-- One walk over a tree, which is read in two ways: for the faults that stand in it, and for whether a part may run above some names.
+use Rattle.std.specs.Prelude.{Bool, true, false, ◌&&◌, if◌then◌else◌, List, [], ◌∷◌, ◌++◌, length, map, Option, Some, None}
+use Rattle.std.specs.declared.num.NonZeroUsize.{NonZeroUsize}
+use Rattle.rhai_check.specs.Types.{ASTFlags, CheckFault, Expr, FnCallExpr, Position, Stmt, StmtBlock}
+use Rattle.rhai_check.specs.declared.check.CheckFault.TheVariants.{BadOffset, BadAssignment, LoopControlOutside, EvalCall, NotYet}
+use Rattle.rhai_tree.specs.declared.expr.Expr.TheOpen as layer
+use Rattle.rhai_tree.specs.declared.expr.Expr.TheFolds.{fold-Expr, fold-FnCallExpr, fold-StmtBlock, fold-Stmt}
+use Rattle.rhai_check.specs.Context.{Context, inside, looping, declaring}
+use Rattle.rhai_check.specs.Forms.{is_unqualified, is_eval_call, is_operator_call, is_exported, is_throw}
+use Rattle.rhai_check.specs.Names.{Name, is_good}
+use Rattle.rhai_tree.specs.Positions.{first_or, start_of_name, start_of_operands, start_of_call, first_shared}
+
+-- A way of reading a tree: what it keeps of what surrounds a form, and what it gathers of a form's parts.
+pub record Reading : Type 1 where
+  pub Around : Type 0
+  pub names : Around → List Name
+  pub in_loop : Around → Bool
+  pub declaring : Name → Around → Around
+  pub looping : Around → Around
+  pub inside : Around → Around
+  pub Found : Type 0
+  pub none : Found
+  pub both : Found → Found → Found
+  pub fault : CheckFault → Found
+
+-- the faults that stand, in the order of the tree
+abbrev pub faulty : Reading
+faulty = record {
+  Around = Context;
+  names = λ c. c.names;
+  in_loop = λ c. c.in_loop;
+  declaring = declaring;
+  looping = looping;
+  inside = inside;
+  Found = List CheckFault;
+  none = [];
+  both = λ one other. one ++ other;
+  fault = λ fault. fault ∷ [];
+}
+
+-- whether none stands above some names, wherever the form is
+abbrev pub sound : Reading
+sound = record {
+  Around = List Name;
+  names = λ names. names;
+  in_loop = λ names. true;
+  declaring = λ name names. names ++ name ∷ [];
+  looping = λ names. names;
+  inside = λ names. names;
+  Found = Bool;
+  none = true;
+  both = λ one other. one && other;
+  fault = λ fault. false;
+}
+
+module _ (r : Reading) where
+  -- what is found of a form in what surrounds it
+  abbrev pub Finds : Type 0
+  Finds = r.Around → r.Found
+
+  -- what is seen of an expression or a block: where it starts, whether it may be assigned to, and what is found of it
+  pub record Seen : Type 0 where
+    pub start : Position
+    pub is_place : Bool
+    pub value : Finds
+
+  -- what is seen of a call: its first operand's start, where it is written between two, and what is found
+  -- of it where its name or operator stands
+  pub record SeenCall : Type 0 where
+    pub operand : Option Position
+    pub value : Position → Finds
+
+  -- what is seen of a statement: what is found of it, and what surrounds the next one
+  abbrev pub SeenStmt : Type 0
+  SeenStmt = r.Around → r.Found × r.Around
+
+  abbrev pub start_in : Seen → Position
+  start_in seen = seen.start
+
+  -- a form of which nothing is found, and one that is not there yet
+  abbrev pub nothing : Finds
+  nothing c = r.none
+
+  abbrev pub not_yet : Position → Finds
+  not_yet pos c = r.fault (NotYet pos)
+
+  -- variables, `this` and chains are places, and nothing else is
+  abbrev pub place : Position → Finds → Seen
+  place start value = record { start = start; is_place = true; value = value }
+
+  abbrev pub plain : Position → Finds → Seen
+  plain start value = record { start = start; is_place = false; value = value }
+
+  -- the left side of an assignment is a place
+  abbrev pub found_in_target : Seen → Finds
+  found_in_target lhs c = if lhs.is_place then lhs.value c else r.both (r.fault (BadAssignment lhs.start)) (lhs.value c)
+
+  -- an expression that may be left out
+  abbrev pub found_in_option : Option Seen → Finds
+  found_in_option None c = r.none
+  found_in_option (Some part) c = part.value c
+
+  -- a list of expressions
+  abbrev pub found_in_all : List Seen → Finds
+  found_in_all [] c = r.none
+  found_in_all (part ∷ parts) c = r.both (part.value c) (found_in_all parts c)
+
+  -- a list of statements, each after the ones before it
+  abbrev pub found_in_list : List SeenStmt → SeenStmt
+  found_in_list [] c = (r.none, c)
+  found_in_list (part ∷ parts) c =
+      (r.both (part c).0 (found_in_list parts (part c).1).0, (found_in_list parts (part c).1).1)
+
+  -- a variable's name must be the newest of its name at its offset
+  abbrev pub found_in_variable : Option NonZeroUsize → Name → List Name → Position → Finds
+  found_in_variable offset name path pos c =
+      if is_unqualified path then (if is_good offset name (r.names c) then r.none else r.fault (BadOffset pos)) else r.fault (NotYet pos)
+
+  -- `break` and `continue` stand in a loop of their function
+  abbrev pub found_in_control : Position → Finds
+  found_in_control pos c = if r.in_loop c then r.none else r.fault (LoopControlOutside pos)
+
+  -- a variable that is exported is not there yet
+  abbrev pub found_in_var : Seen → ASTFlags → Position → Finds
+  found_in_var expr options pos c = if is_exported options then r.fault (NotYet pos) else expr.value c
+
+  abbrev pub expr_step : layer.Expr-F Seen SeenStmt (Unit {0}) SeenCall (Unit {0}) Seen → Seen
+  expr_step (layer.DynamicConstant value pos) = plain pos (not_yet pos)
+  expr_step (layer.BoolConstant value pos) = plain pos nothing
+  expr_step (layer.IntegerConstant value pos) = plain pos nothing
+  expr_step (layer.CharConstant value pos) = plain pos (not_yet pos)
+  expr_step (layer.StringConstant value pos) = plain pos (not_yet pos)
+  expr_step (layer.Unit pos) = plain pos nothing
+  expr_step (layer.InterpolatedString parts pos) = plain pos (not_yet pos)
+  expr_step (layer.Array items pos) = plain pos (not_yet pos)
+  expr_step (layer.Map entries template pos) = plain pos (not_yet pos)
+  expr_step (layer.ThisPtr pos) = place pos (not_yet pos)
+  expr_step (layer.Variable offset name namespace pos) =
+      place (start_of_name namespace.path namespace.position pos) (found_in_variable offset name namespace.path pos)
+  expr_step (layer.Property name pos) = plain pos (not_yet pos)
+  expr_step (layer.MethodCall call pos) = plain pos (not_yet pos)
+  expr_step (layer.Expr::FnCall call pos) = plain (start_of_call call.operand pos) (call.value pos)
+  expr_step (layer.Stmt block) = block
+  expr_step (layer.Dot lhs rhs options pos) = place lhs.start (not_yet pos)
+  expr_step (layer.Index lhs rhs options pos) = place lhs.start (not_yet pos)
+  expr_step (layer.And parts pos) = plain (first_or pos (map start_in parts)) (found_in_all parts)
+  expr_step (layer.Or parts pos) = plain (first_or pos (map start_in parts)) (found_in_all parts)
+  expr_step (layer.Coalesce parts pos) = plain (first_or pos (map start_in parts)) (found_in_all parts)
+
+  abbrev pub call_step : layer.FnCallExpr-F Seen SeenStmt (Unit {0}) SeenCall (Unit {0}) Seen → SeenCall
+  call_step call = record {
+    operand = start_of_operands call.op_token (map start_in call.args);
+    value = λ pos c.
+        if is_eval_call call.namespace call.name (length call.args) then r.fault (EvalCall pos)
+        else if is_operator_call call.namespace call.op_token call.capture_parent_scope (length call.args)
+        then found_in_all call.args c
+        else r.fault (NotYet pos);
+  }
+
+  -- what a block declares ends with it
+  abbrev pub block_step : layer.StmtBlock-F Seen SeenStmt (Unit {0}) SeenCall (Unit {0}) Seen → Seen
+  block_step block = record {
+    start = block.position;
+    is_place = false;
+    value = λ c. (found_in_list block.statements (r.inside c)).0;
+  }
+
+  abbrev pub stmt_step : layer.Stmt-F Seen SeenStmt (Unit {0}) SeenCall (Unit {0}) Seen → SeenStmt
+  stmt_step (layer.Noop pos) c = (r.none, c)
+  stmt_step (layer.Expr expr) c = (expr.value c, c)
+  stmt_step (layer.Stmt::FnCall call pos) c = (r.fault (NotYet pos), c)
+  stmt_step (layer.Block block) c = (block.value c, c)
+  stmt_step (layer.Assignment op lhs rhs) c = (r.both (found_in_target lhs c) (rhs.value c), c)
+  stmt_step (layer.Var ident expr None options pos) c = (found_in_var expr options pos c, r.declaring ident.name c)
+  stmt_step (layer.Var ident expr (Some offset) options pos) c = (r.fault (NotYet pos), c)
+  stmt_step (layer.If expr body branch pos) c = (r.both (expr.value c) (r.both (body.value c) (branch.value c)), c)
+  stmt_step (layer.Switch expr expressions cases ranges def_case pos) c = (r.fault (NotYet pos), c)
+  stmt_step (layer.While expr body pos) c = (r.both (expr.value c) (body.value (r.looping c)), c)
+  stmt_step (layer.Do expr body options pos) c = (r.both (expr.value c) (body.value (r.looping c)), c)
+  stmt_step (layer.For name counter expr body pos) c = (r.fault (NotYet pos), c)
+  stmt_step (layer.BreakLoop expr options pos) c = (r.both (found_in_control pos c) (found_in_option expr c), c)
+  stmt_step (layer.TryCatch body variable branch pos) c = (r.fault (NotYet pos), c)
+  stmt_step (layer.Return expr options pos) c = (if is_throw options then r.fault (NotYet pos) else found_in_option expr c, c)
+  stmt_step (layer.Import expr alias pos) c = (r.fault (NotYet pos), c)
+  stmt_step (layer.Export name alias pos) c = (r.fault (NotYet pos), c)
+  stmt_step (layer.Share variables) c = (r.fault (NotYet (first_shared variables)), c)
+
+  abbrev pub seen_expr : Expr → Seen
+  seen_expr = fold-Expr Seen SeenStmt (Unit {0}) SeenCall (Unit {0}) Seen expr_step stmt_step (λ conditional. tt) call_step (λ entry. tt)
+      block_step
+
+  abbrev pub seen_call : FnCallExpr → SeenCall
+  seen_call = fold-FnCallExpr Seen SeenStmt (Unit {0}) SeenCall (Unit {0}) Seen expr_step stmt_step (λ conditional. tt) call_step
+      (λ entry. tt) block_step
+
+  abbrev pub seen_block : StmtBlock → Seen
+  seen_block = fold-StmtBlock Seen SeenStmt (Unit {0}) SeenCall (Unit {0}) Seen expr_step stmt_step (λ conditional. tt) call_step
+      (λ entry. tt) block_step
+
+  abbrev pub seen_stmt : Stmt → SeenStmt
+  seen_stmt = fold-Stmt Seen SeenStmt (Unit {0}) SeenCall (Unit {0}) Seen expr_step stmt_step (λ conditional. tt) call_step (λ entry. tt)
+      block_step
