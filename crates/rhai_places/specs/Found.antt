@@ -4,17 +4,12 @@ use Rattle.rhai_items.specs.Lookup.{place_of, rank, with_entry}
 use Rattle.rhai_values.specs.Cells.{value_of_cell}
 use Rattle.rhai_values.specs.Copy.{plain}
 use Rattle.rhai_state.specs.Errors.{is_out_of_memory}
-use Rattle.rhai_state.specs.declared.error.EvalAltResult.{EvalAltResult}
+use Rattle.rhai_places.specs.Types.{Access, Dynamic, EvalAltResult, Part, Refusal, Spot}
 use Rattle.rhai_state.specs.declared.error.EvalAltResult.TheVariants as error
-use Rattle.rhai_values.specs.declared.base.value.Dynamic.{Dynamic}
 use Rattle.rhai_values.specs.declared.base.value.Union.TheVariants as value
 use Rattle.rhai_values.specs.declared.base.value.FnPtrKind.TheOpen as layer
 use Rattle.rhai_values.specs.Layers.{UnionLayer, layer_of}
-use Rattle.rhai_places.specs.declared.spot.Access.{Access}
-use Rattle.rhai_places.specs.declared.spot.Refusal.{Refusal}
-use Rattle.rhai_places.specs.declared.spot.Spot.{Spot}
 use Rattle.rhai_places.specs.declared.spot.Spot.TheVariants as spot
-use Rattle.rhai_places.specs.declared.target.Part.{Part}
 use Rattle.rhai_places.specs.Indexing.{located}
 use Rattle.rhai_places.specs.Refusals.{IsTold, refused}
 use Rattle.rhai_places.specs.Targets.{place_at, with_place, part_at}

@@ -7,9 +7,8 @@ use Rattle.rhai_items.specs.Lookup.{place_of}
 use Rattle.rhai_state.specs.declared.error.Bounds.{Bounds}
 use Rattle.rhai_values.specs.declared.base.value.FnPtrKind.TheOpen as layer
 use Rattle.rhai_values.specs.Layers.{UnionLayer}
-use Rattle.rhai_places.specs.declared.spot.Spot.{Spot}
+use Rattle.rhai_places.specs.Types.{Refusal, Spot}
 use Rattle.rhai_places.specs.declared.spot.Spot.TheVariants as spot
-use Rattle.rhai_places.specs.declared.spot.Refusal.{Refusal}
 use Rattle.rhai_places.specs.declared.spot.Refusal.TheVariants as refusal
 
 abbrev pub bounds : ℕ → ℤ → Bounds

@@ -1,8 +1,7 @@
 -- Laws of places: what is written is read, and what stands elsewhere stays.
 use Rattle.std.specs.Prelude.{◌≡◌, Some}
 use Rattle.rhai_values.specs.Layers.{layer_of}
-use Rattle.rhai_values.specs.declared.base.value.Dynamic.{Dynamic}
-use Rattle.rhai_places.specs.declared.spot.Spot.{Spot}
+use Rattle.rhai_places.specs.Types.{Dynamic, Spot}
 use Rattle.rhai_places.specs.Parts.{IsPlace, value_at, with_value}
 
 module _ (H : Type 0) where

@@ -4,10 +4,8 @@ use Rattle.std.specs.Borrow.{Lends, follows_so, MutBor, RattleType, Fml, GName}
 use mathlib.Core.Option as maybe
 use Rattle.rhai_values.specs.contracts.base.value.Dynamic as dynamic
 use Rattle.rhai_values.specs.contracts.base.value.Union as union
-use Rattle.rhai_values.specs.declared.base.value.Dynamic.{Dynamic}
+use Rattle.rhai_places.specs.Types.{Dynamic, EvalAltResult, Spot}
 use Rattle.rhai_values.specs.declared.base.value.Union.{Union, out-Union}
-use Rattle.rhai_state.specs.declared.error.EvalAltResult.{EvalAltResult}
-use Rattle.rhai_places.specs.declared.spot.Spot.{Spot}
 use Rattle.rhai_places.specs.declared.target.Target.{Target}
 use Rattle.rhai_places.specs.Parts.{with_value_in}
 use Rattle.rhai_places.specs.Found.{EndsBy}

@@ -8,4 +8,4 @@ pub mod Parts
 pub mod PutBack
 pub mod Refusals
 pub mod Targets
-pub mod Vectors
+pub mod Types

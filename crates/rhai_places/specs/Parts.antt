@@ -1,12 +1,10 @@
 -- Spots in a value: the places that hold a value, and the parts that are read.
 use Rattle.std.specs.Prelude.{ℕ, ◌<◌, ◌≤◌, pos, ⊤, Bool, true, false, length, slice_get, slice_set, slice_index, Option, None}
 use Rattle.std.specs.Str.{chars}
-use Rattle.rhai_values.specs.declared.base.value.Dynamic.{Dynamic}
-use Rattle.rhai_values.specs.declared.base.value.Union.{Union}
+use Rattle.rhai_places.specs.Types.{Dynamic, Spot, Union}
 use Rattle.rhai_values.specs.declared.base.value.Union.TheVariants as value
 use Rattle.rhai_values.specs.declared.base.value.FnPtrKind.TheOpen as layer
 use Rattle.rhai_values.specs.Layers.{UnionLayer, layer_of}
-use Rattle.rhai_places.specs.declared.spot.Spot.{Spot}
 use Rattle.rhai_places.specs.declared.spot.Spot.TheVariants as spot
 use Rattle.rhai_places.specs.Bits.{bit, field}
 use Rattle.rhai_places.specs.Characters.{char_of, slice_of}

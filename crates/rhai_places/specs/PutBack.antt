@@ -1,16 +1,12 @@
 -- Parts of values that are put back.
 use Rattle.std.specs.Prelude.{◌≡◌, ℕ, ◌%◌, ℤ, Bool, true, false, List, slice_set, Option, Some, None, option_map, codes, []}
 use Rattle.std.specs.Int.{w64, cast_unsigned}
-use Rattle.rhai_tree.specs.declared.position.Position.{Position}
+use Rattle.rhai_places.specs.Types.{Dynamic, EvalAltResult, Position, Spot, Union}
 use Rattle.rhai_state.specs.Errors.{is_out_of_memory}
 use Rattle.rhai_values.specs.TypeNames.{own_type_name}
-use Rattle.rhai_state.specs.declared.error.EvalAltResult.{EvalAltResult}
-use Rattle.rhai_values.specs.declared.base.value.Dynamic.{Dynamic}
-use Rattle.rhai_values.specs.declared.base.value.Union.{Union}
 use Rattle.rhai_values.specs.declared.base.value.Union.TheVariants as value
 use Rattle.rhai_values.specs.declared.base.value.FnPtrKind.TheOpen as layer
 use Rattle.rhai_values.specs.Layers.{UnionLayer, layer_of}
-use Rattle.rhai_places.specs.declared.spot.Spot.{Spot}
 use Rattle.rhai_places.specs.declared.spot.Spot.TheVariants as spot
 use Rattle.rhai_places.specs.Bits.{with_bit, with_field}
 use Rattle.rhai_places.specs.Characters.{with_char, with_slice}

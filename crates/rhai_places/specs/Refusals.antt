@@ -1,13 +1,9 @@
 -- The errors of what is refused, and what holds of an error where memory may have been wanting.
 use Rattle.std.specs.Prelude.{◌≡◌, ℕ, false, List, Option, codes}
-use Rattle.rhai_tree.specs.declared.position.Position.{Position}
+use Rattle.rhai_places.specs.Types.{Access, Dynamic, EvalAltResult, Position, Refusal}
 use Rattle.rhai_state.specs.Errors.{indexing_text, is_out_of_memory}
 use Rattle.rhai_values.specs.TypeNames.{type_name_of}
-use Rattle.rhai_state.specs.declared.error.EvalAltResult.{EvalAltResult}
 use Rattle.rhai_state.specs.declared.error.EvalAltResult.TheVariants as error
-use Rattle.rhai_values.specs.declared.base.value.Dynamic.{Dynamic}
-use Rattle.rhai_places.specs.declared.spot.Access.{Access}
-use Rattle.rhai_places.specs.declared.spot.Refusal.{Refusal}
 use Rattle.rhai_places.specs.declared.spot.Refusal.TheVariants as refusal
 
 module _ {H : Type 0} where

@@ -1,15 +1,11 @@
 -- What a target shows, and what it puts back into its place.
 use Rattle.std.specs.Prelude.{ℕ, ⊤, Bool, true, false, List, Option, Some}
-use Rattle.rhai_tree.specs.declared.position.Position.{Position}
+use Rattle.rhai_places.specs.Types.{Dynamic, EvalAltResult, Part, Position, Spot}
 use Rattle.rhai_values.specs.Copy.{copy_of, plain}
-use Rattle.rhai_state.specs.declared.error.EvalAltResult.{EvalAltResult}
-use Rattle.rhai_values.specs.declared.base.value.Dynamic.{Dynamic}
 use Rattle.rhai_values.specs.declared.base.value.Union.TheVariants as value
 use Rattle.rhai_values.specs.declared.base.value.FnPtrKind.TheOpen as layer
 use Rattle.rhai_values.specs.Layers.{UnionLayer, layer_of}
-use Rattle.rhai_places.specs.declared.spot.Spot.{Spot}
 use Rattle.rhai_places.specs.declared.spot.Spot.TheVariants as spot
-use Rattle.rhai_places.specs.declared.target.Part.{Part}
 use Rattle.rhai_places.specs.declared.target.Part.TheVariants as part
 use Rattle.rhai_places.specs.Parts.{IsPart, value_at, with_value, part_of}
 use Rattle.rhai_places.specs.PutBack.{put_back, is_of_text, IsNotPut}

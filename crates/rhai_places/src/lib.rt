@@ -11,6 +11,5 @@ pub mod locate;
 pub mod part;
 pub mod place;
 pub mod put;
-pub mod samples;
 pub mod spot;
 pub mod target;
