@@ -1,11 +1,7 @@
 -- What a call of an indexer does, as one record.
 use Rattle.std.specs.Prelude.{◌≡◌, ◌<◌, ◌≤◌, ◌+◌, ℕ, Bool, List, Option, Some, None, Result, Err, IfSome}
-use Rattle.rhai_state.specs.declared.error.EvalAltResult.{EvalAltResult}
+use Rattle.rhai_index.specs.Types.{CellId, Dynamic, EvalAltResult, GlobalRuntimeState, Limits}
 use Rattle.rhai_state.specs.declared.error.EvalAltResult.TheVariants as error
-use Rattle.rhai_values.specs.declared.base.value.CellId.{CellId}
-use Rattle.rhai_values.specs.declared.base.value.Dynamic.{Dynamic}
-use Rattle.rhai_state.specs.declared.limits.Limits.{Limits}
-use Rattle.rhai_state.specs.declared.state.GlobalRuntimeState.{GlobalRuntimeState}
 use Rattle.rhai_values.specs.Cells.{cells_of}
 use Rattle.rhai_values.specs.Layers.{layer_of}
 use Rattle.rhai_state.specs.Limits.{limit_of}

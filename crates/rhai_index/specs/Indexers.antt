@@ -2,17 +2,13 @@
 use Rattle.std.specs.Prelude.{ℕ, Bool, true, false, not, ◌&&◌, List, [], ◌∷◌, Option, Some, None, Result, Ok, Err, codes, length}
 use Rattle.rhai_tree.specs.declared.position.Position.{Position}
 use Rattle.rhai_tree.specs.Position.{none}
-use Rattle.rhai_state.specs.declared.error.EvalAltResult.{EvalAltResult}
+use Rattle.rhai_index.specs.Types.{CellId, Dynamic, EvalAltResult, Limits, Part}
 use Rattle.rhai_state.specs.declared.error.EvalAltResult.TheVariants as error
-use Rattle.rhai_values.specs.declared.base.value.CellId.{CellId}
-use Rattle.rhai_values.specs.declared.base.value.Dynamic.{Dynamic}
 use Rattle.rhai_values.specs.declared.base.value.FnPtrKind.TheOpen as layer
-use Rattle.rhai_state.specs.declared.limits.Limits.{Limits}
 use Rattle.rhai_values.specs.Layers.{UnionLayer}
 use Rattle.rhai_state.specs.Native.{Request, Reply, Missing, Gives, Faults, Effect, Natives, Named, OfName, effect, request}
 use Rattle.rhai_values.specs.TypeNames.{type_name_of}
 use Rattle.rhai_values.specs.Cells.{value_of_cell, with_held, with_value}
-use Rattle.rhai_places.specs.declared.target.Part.{Part}
 use Rattle.rhai_places.specs.declared.target.Part.TheVariants as part
 use Rattle.rhai_state.specs.Errors.{indexing_text}
 use Rattle.rhai_machine.specs.language.Calls.{placed_if_none, sized}

@@ -1,20 +1,14 @@
 -- What following an index does, as one record.
 use Rattle.std.specs.Prelude.{◌≡◌, ◌<◌, ◌≤◌, ◌+◌, ℕ, Bool, true, false, List, Some, Result, Ok, Err, IfOk, IfErr, MatchResult}
 use Rattle.rhai_tree.specs.Position.{none}
-use Rattle.rhai_state.specs.declared.error.EvalAltResult.{EvalAltResult}
+use Rattle.rhai_index.specs.Types.{Dynamic, EvalAltResult, GlobalRuntimeState, Limits, Part, Spot, Target}
 use Rattle.rhai_state.specs.declared.error.EvalAltResult.TheVariants as error
-use Rattle.rhai_values.specs.declared.base.value.Dynamic.{Dynamic}
-use Rattle.rhai_state.specs.declared.limits.Limits.{Limits}
-use Rattle.rhai_state.specs.declared.state.GlobalRuntimeState.{GlobalRuntimeState}
 use Rattle.rhai_values.specs.Cells.{cells_of}
 use Rattle.rhai_state.specs.Errors.{is_out_of_memory}
 use Rattle.rhai_values.specs.Layers.{layer_of}
 use Rattle.rhai_state.specs.Limits.{limit_of}
 use Rattle.rhai_state.specs.Native.{Effect, Natives}
 use Rattle.rhai_places.specs.declared.spot.Access.{Access}
-use Rattle.rhai_places.specs.declared.spot.Spot.{Spot}
-use Rattle.rhai_places.specs.declared.target.Part.{Part}
-use Rattle.rhai_places.specs.declared.target.Target.{Target}
 use Rattle.rhai_places.specs.Found.{found as found_by, takes_memory, through, IsFound, IsMissed}
 use Rattle.rhai_places.specs.Targets.{IsFit}
 use Rattle.rhai_machine.specs.language.State.{HasMemory}

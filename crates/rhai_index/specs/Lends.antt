@@ -2,10 +2,7 @@
 use Rattle.std.specs.Prelude.{◌≡◌, ⊤, Bool, true, false, Result, IsOk, OnErr}
 use Rattle.std.specs.Borrow.{follows_so, MutBor, RattleType, Fml}
 use Rattle.rhai_values.specs.contracts.base.value.Dynamic as dynamic
-use Rattle.rhai_values.specs.declared.base.value.Dynamic.{Dynamic}
-use Rattle.rhai_state.specs.declared.error.EvalAltResult.{EvalAltResult}
-use Rattle.rhai_places.specs.declared.spot.Spot.{Spot}
-use Rattle.rhai_places.specs.declared.target.Target.{Target}
+use Rattle.rhai_index.specs.Types.{Dynamic, EvalAltResult, Spot, Target}
 use Rattle.rhai_places.specs.Found.{EndsBy}
 use Rattle.rhai_places.specs.Lends.{result_name}
 

@@ -2,3 +2,4 @@ pub mod Calls
 pub mod Indexers
 pub mod Indexes
 pub mod Lends
+pub mod Types

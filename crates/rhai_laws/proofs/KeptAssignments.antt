@@ -27,7 +27,7 @@ use Rattle.rhai_machine.specs.language.Frames.{Attempt, InPlace, AsValue, Assign
 use Rattle.rhai_machine.specs.language.Frames.{Core, core, where_there, QuestionUpdate}
 use Rattle.rhai_machine.specs.language.Frames.{FireUpdate}
 use Rattle.rhai_machine.specs.language.Calls.{sized, applied, replied, placed_if_none}
-use Rattle.rhai_machine.specs.language.Assignment.{assignment_move, assigned_core, written_core, done, if_fast, says_missing, operation_of}
+use Rattle.rhai_machine.specs.language.Assignment.{assignment_move, written_core, done, if_fast, says_missing, operation_of}
 use Rattle.rhai_machine.specs.language.Assignment.{native_of, left_in, update_core, assign_core, store_core, changed_core, fault_core}
 use Rattle.rhai_machine.specs.language.Assignment.{value_core, answered_core, lent_core, barred_core, fire_update}
 use Rattle.rhai_laws.specs.Kept.{Stands}
@@ -73,11 +73,6 @@ module _ {H : Type 0} (a : Asked) where
   assignment_keeps (layer.Variable offset name namespace pos) op rhs c k l h =
       there_keeps (is_unqualified namespace.path) c _ (through a h (quiet a tt refl (λ t. t)))
   assignment_keeps _ op rhs c k l h = tt
-
-  pub assigned_keeps : (r : Result (Dynamic H) (EvalAltResult H)) (assignment : Assignment) (k : List (Frame H)) (l : Local H) →
-      Keeps a (calm k l) (assigned_core r assignment k l)
-  assigned_keeps (Ok v) assignment k l = quiet a tt refl (λ t. t)
-  assigned_keeps (Err e) assignment k l = quiet a tt refl (λ t. t)
 
   written_keeps : (r : Result (Dynamic H) (EvalAltResult H)) (place : Place) (k : List (Frame H)) (l : Local H) → Stands place l →
       Keeps a (calm k l) (written_core r place k l)

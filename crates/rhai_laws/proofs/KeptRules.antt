@@ -26,6 +26,7 @@ use Rattle.rhai_machine.specs.language.Setting.{Setting}
 use Rattle.rhai_machine.specs.language.State.{Local}
 use Rattle.rhai_machine.specs.language.Values.{flat, through as seen_through, truth, unit_value}
 use Rattle.rhai_machine.specs.language.Names.{read}
+use Rattle.rhai_machine.specs.language.Frames.{on_value}
 use Rattle.rhai_machine.specs.language.Frames.{Operation, Call, Control, Frame, Core, core, Eval, Exec, Ask, Assign, AskUpdate, Argument}
 use Rattle.rhai_machine.specs.language.Frames.{Question, Fire, QuestionUpdate, FireUpdate, OpenExpr, OpenStmt, Enter, Run, Store, WhileTurn}
 use Rattle.rhai_machine.specs.language.Frames.{DoTurn, Back, Fail, StatementValue, DefineValue, IfCondition, RestOfList, RestoreList, Top}
@@ -37,15 +38,15 @@ use Rattle.rhai_machine.specs.language.Expressions.{literal_of, argument_move, o
 use Rattle.rhai_machine.specs.language.Expressions.{or_next, coalesce_core, coalesce_seen, coalesce_next}
 use Rattle.rhai_machine.specs.language.Calls.{operator_core, builtin_of, fire_first, fire_move, replied, applied}
 use Rattle.rhai_machine.specs.language.Statements.{has_option, mode_of, enter_core, run_core, chosen_core, defined_core, define_core}
-use Rattle.rhai_machine.specs.language.Statements.{stmt_move, break_core, return_move, returned_core}
-use Rattle.rhai_machine.specs.language.Unwinding.{up_core, down_core, topped, unary_core, left_core, right_core, operated, call_of}
+use Rattle.rhai_machine.specs.language.Statements.{stmt_move, break_core, return_move}
+use Rattle.rhai_machine.specs.language.Unwinding.{up_core, down_core, topped, operated, call_of}
 use Rattle.rhai_machine.specs.language.Language.{move_at}
 use Rattle.rhai_laws.specs.Kept.{Sound, names_of}
 use Rattle.rhai_laws.specs.Steady.{Moves}
 use Rattle.rhai_laws.proofs.Keeping.{Asked, Grows, Free, Held, begins_through, unwound, Keeps, quiet, through, after, calm, eager, held}
 use Rattle.rhai_laws.proofs.Keeping.{ended_keeps}
 use Rattle.rhai_laws.proofs.Keeping.{entered_around, entered_names, left_names}
-use Rattle.rhai_laws.proofs.KeptAssignments.{there_keeps, assignment_keeps, assigned_keeps, store_keeps, barred_keeps, fire_update_keeps}
+use Rattle.rhai_laws.proofs.KeptAssignments.{there_keeps, assignment_keeps, store_keeps, barred_keeps, fire_update_keeps}
 
 module _ {H : Type 0} (a : Asked) where
   -- lists
@@ -79,21 +80,23 @@ module _ {H : Type 0} (a : Asked) where
   and_keeps [] k l = quiet a tt refl (λ t. t)
   and_keeps (part ∷ parts) k l = quiet a tt refl (λ t. t)
 
-  and_next_keeps : (r : Result Bool (EvalAltResult H)) (parts : List Expr) (k : List (Frame H)) (l : Local H) →
-      Keeps a (calm k l) (and_next r parts k l)
-  and_next_keeps (Ok true) parts k l = and_keeps parts k l
-  and_next_keeps (Ok false) parts k l = quiet a tt refl (λ t. t)
-  and_next_keeps (Err e) parts k l = quiet a tt refl (λ t. t)
+  -- what a value leads to keeps it, and so does an error
+  on_keeps : {A : Type 0} (r : Result A (EvalAltResult H)) (go : A → Core H) (k : List (Frame H)) (l : Local H) →
+      ((x : A) → Keeps a (calm k l) (go x)) → Keeps a (calm k l) (on_value r go k l)
+  on_keeps (Ok x) go k l h = h x
+  on_keeps (Err e) go k l h = quiet a tt refl (λ t. t)
+
+  and_next_keeps : (holds : Bool) (parts : List Expr) (k : List (Frame H)) (l : Local H) → Keeps a (calm k l) (and_next holds parts k l)
+  and_next_keeps true parts k l = and_keeps parts k l
+  and_next_keeps false parts k l = quiet a tt refl (λ t. t)
 
   or_keeps : (parts : List Expr) (k : List (Frame H)) (l : Local H) → Keeps a (calm k l) (or_core parts k l)
   or_keeps [] k l = quiet a tt refl (λ t. t)
   or_keeps (part ∷ parts) k l = quiet a tt refl (λ t. t)
 
-  or_next_keeps : (r : Result Bool (EvalAltResult H)) (parts : List Expr) (k : List (Frame H)) (l : Local H) →
-      Keeps a (calm k l) (or_next r parts k l)
-  or_next_keeps (Ok true) parts k l = quiet a tt refl (λ t. t)
-  or_next_keeps (Ok false) parts k l = or_keeps parts k l
-  or_next_keeps (Err e) parts k l = quiet a tt refl (λ t. t)
+  or_next_keeps : (holds : Bool) (parts : List Expr) (k : List (Frame H)) (l : Local H) → Keeps a (calm k l) (or_next holds parts k l)
+  or_next_keeps true parts k l = quiet a tt refl (λ t. t)
+  or_next_keeps false parts k l = or_keeps parts k l
 
   coalesce_keeps : (last : Dynamic H) (parts : List Expr) (k : List (Frame H)) (l : Local H) →
       Keeps a (calm k l) (coalesce_core last parts k l)
@@ -132,11 +135,10 @@ module _ {H : Type 0} (a : Asked) where
   while_keeps true [] test body k l = quiet a tt refl (λ t. t)
   while_keeps true (stmt ∷ stmts) test body k l = quiet a tt refl (λ t. t)
 
-  while_core_keeps : (r : Result Bool (EvalAltResult H)) (test : Expr) (body : StmtBlock) (k : List (Frame H)) (l : Local H) →
-      Keeps a (calm k l) (while_core r test body k l)
-  while_core_keeps (Ok true) test body k l = quiet a tt refl (λ t. t)
-  while_core_keeps (Ok false) test body k l = quiet a tt refl (λ t. t)
-  while_core_keeps (Err e) test body k l = quiet a tt refl (λ t. t)
+  while_core_keeps : (holds : Bool) (test : Expr) (body : StmtBlock) (k : List (Frame H)) (l : Local H) →
+      Keeps a (calm k l) (while_core holds test body k l)
+  while_core_keeps true test body k l = quiet a tt refl (λ t. t)
+  while_core_keeps false test body k l = quiet a tt refl (λ t. t)
 
   goes_on_keeps : (b : Bool) (turn : Control H) (k : List (Frame H)) (l : Local H) → Keeps a (calm k l) (core turn k l) →
       Keeps a (calm k l) (core (if_goes_on b turn) k l)
@@ -167,17 +169,11 @@ module _ {H : Type 0} (a : Asked) where
   return_keeps false None pos c k l h = through a h (quiet a tt refl (λ t. t))
   return_keeps false (Some value) pos c k l h = through a h (quiet a tt refl (λ t. t))
 
-  returned_keeps : (r : Result (Dynamic H) (EvalAltResult H)) (pos : Position) (k : List (Frame H)) (l : Local H) →
-      Keeps a (calm k l) (returned_core r pos k l)
-  returned_keeps (Ok v) pos k l = quiet a tt refl (λ t. t)
-  returned_keeps (Err e) pos k l = quiet a tt refl (λ t. t)
-
   -- statements
-  chosen_keeps : (r : Result Bool (EvalAltResult H)) (body branch : StmtBlock) (k : List (Frame H)) (l : Local H) →
-      Keeps a (calm k l) (chosen_core r body branch k l)
-  chosen_keeps (Ok true) body branch k l = quiet a tt refl (λ t. t)
-  chosen_keeps (Ok false) body branch k l = quiet a tt refl (λ t. t)
-  chosen_keeps (Err e) body branch k l = quiet a tt refl (λ t. t)
+  chosen_keeps : (holds : Bool) (body branch : StmtBlock) (k : List (Frame H)) (l : Local H) →
+      Keeps a (calm k l) (chosen_core holds body branch k l)
+  chosen_keeps true body branch k l = quiet a tt refl (λ t. t)
+  chosen_keeps false body branch k l = quiet a tt refl (λ t. t)
 
   -- a new variable adds its name
   added_names : (ident : Ident) (mode : AccessMode) (w : Dynamic H) (k : List (Frame H)) (l : Local H) →
@@ -189,7 +185,7 @@ module _ {H : Type 0} (a : Asked) where
 
   defined_keeps : (r : Result (Dynamic H) (EvalAltResult H)) (ident : Ident) (options : ASTFlags) (value_at : Position) (v : Dynamic H)
       (k : List (Frame H)) (l : Local H) →
-      Keeps a (core (Back v) (DefineValue ident options value_at ∷ k) l) (defined_core r ident options k l)
+      Keeps a (core (Back v) (DefineValue ident options value_at ∷ k) l) (on_value r (λ x. defined_core x ident options k l) k l)
   defined_keeps (Ok w) ident options value_at v k l =
       quiet a tt refl (added_names ident (mode_of options) w k l)
   defined_keeps (Err e) ident options value_at v k l = quiet a tt refl (λ t. held a k l (t.0, t.1.1))
@@ -219,47 +215,38 @@ module _ {H : Type 0} (a : Asked) where
         Keeps a (calm k l) (operated s operation args k l)
     operated_keeps operation args k l = operator_keeps (builtin_of operation.token args) (call_of s operation args) k l
 
-    unary_keeps : (r : Result (Dynamic H) (EvalAltResult H)) (operation : Operation) (k : List (Frame H)) (l : Local H) →
-        Keeps a (calm k l) (unary_core s r operation k l)
-    unary_keeps (Ok x) operation k l = operated_keeps operation (x ∷ []) k l
-    unary_keeps (Err e) operation k l = quiet a tt refl (λ t. t)
-
-    left_keeps : (r : Result (Dynamic H) (EvalAltResult H)) (operation : Operation) (right : Expr) (k : List (Frame H)) (l : Local H) →
-        Keeps a (calm k l) (left_core s r operation right k l)
-    left_keeps (Ok x) operation right k l = quiet a tt refl (λ t. t)
-    left_keeps (Err e) operation right k l = quiet a tt refl (λ t. t)
-
-    right_keeps : (x : Dynamic H) (r : Result (Dynamic H) (EvalAltResult H)) (operation : Operation) (k : List (Frame H)) (l : Local H) →
-        Keeps a (calm k l) (right_core s x r operation k l)
-    right_keeps x (Ok y) operation k l = operated_keeps operation (x ∷ y ∷ []) k l
-    right_keeps x (Err e) operation k l = quiet a tt refl (λ t. t)
-
     -- a value comes up, an error comes down
     up_keeps : (frame : Frame H) (v : Dynamic H) (k : List (Frame H)) (l : Local H) →
         Keeps a (core (Back v) (frame ∷ k) l) (up_core s frame v k l)
     up_keeps (StatementValue pos) v k l = after a (calm k l) refl (λ t. t) (ended_keeps a (flat l.around.cells v pos) k l)
     up_keeps (DefineValue ident options value_at) v k l = defined_keeps (flat l.around.cells v value_at) ident options value_at v k l
     up_keeps (IfCondition test_at body branch) v k l =
-        after a (calm k l) refl (λ t. t) (chosen_keeps (truth s.host_type l.around.cells v test_at) body branch k l)
+        after a (calm k l) refl (λ t. t) (on_keeps (truth s.host_type l.around.cells v test_at) _ k l
+        (λ holds. chosen_keeps holds body branch k l))
     up_keeps (RestOfList rest restoring) v k l = quiet a tt refl (λ t. t)
     up_keeps (RestoreList saved) v k l = quiet a tt refl (left_names a saved k l)
     up_keeps (Top map_exit) v k l = quiet a tt refl (λ t. t)
     up_keeps (UnaryOperand operation operand_at) v k l =
-        after a (calm k l) refl (λ t. t) (unary_keeps (flat l.around.cells v operand_at) operation k l)
+        after a (calm k l) refl (λ t. t) (on_keeps (flat l.around.cells v operand_at) _ k l
+        (λ x. operated_keeps operation (x ∷ []) k l))
     up_keeps (LeftOperand operation left_at right) v k l =
-        after a (calm k l) refl (λ t. t) (left_keeps (flat l.around.cells v left_at) operation right k l)
+        after a (calm k l) refl (λ t. t) (on_keeps (flat l.around.cells v left_at) _ k l (λ x. quiet a tt refl (λ t. t)))
     up_keeps (RightOperand operation left right_at) v k l =
-        after a (calm k l) refl (λ t. t) (right_keeps left (flat l.around.cells v right_at) operation k l)
+        after a (calm k l) refl (λ t. t) (on_keeps (flat l.around.cells v right_at) _ k l
+        (λ y. operated_keeps operation (left ∷ y ∷ []) k l))
     up_keeps (AndPart part_at rest) v k l =
-        after a (calm k l) refl (λ t. t) (and_next_keeps (truth s.host_type l.around.cells v part_at) rest k l)
+        after a (calm k l) refl (λ t. t) (on_keeps (truth s.host_type l.around.cells v part_at) _ k l
+        (λ holds. and_next_keeps holds rest k l))
     up_keeps (OrPart part_at rest) v k l =
-        after a (calm k l) refl (λ t. t) (or_next_keeps (truth s.host_type l.around.cells v part_at) rest k l)
+        after a (calm k l) refl (λ t. t) (on_keeps (truth s.host_type l.around.cells v part_at) _ k l
+        (λ holds. or_next_keeps holds rest k l))
     up_keeps (CoalescePart part_at rest) v k l =
         after a (calm k l) refl (λ t. t) (coalesce_next_keeps (seen_through l.around.cells v part_at) v rest k l)
     up_keeps (AssignValue assignment value_at) v k l =
-        after a (calm k l) refl (λ t. t) (assigned_keeps a (flat l.around.cells v value_at) assignment k l)
+        after a (calm k l) refl (λ t. t) (on_keeps (flat l.around.cells v value_at) _ k l (λ x. quiet a tt refl (λ t. t)))
     up_keeps (WhileCondition test body) v k l =
-        after a (calm k l) refl (λ t. t) (while_core_keeps (truth s.host_type l.around.cells v (position_of test)) test body k l)
+        after a (calm k l) refl (λ t. t) (on_keeps (truth s.host_type l.around.cells v (position_of test)) _ k l
+        (λ holds. while_core_keeps holds test body k l))
     up_keeps (WhileBody test body) v k l = quiet a tt refl (λ t. t)
     up_keeps (DoCondition test body options) v k l =
         after a (calm k l) refl (λ t. t)
@@ -267,7 +254,8 @@ module _ {H : Type 0} (a : Asked) where
         (quiet a tt refl (λ t. t)))
     up_keeps (DoBody test body options) v k l = quiet a tt refl (λ t. t)
     up_keeps (BreakValue is_break pos) v k l = quiet a tt refl (λ t. t)
-    up_keeps (ReturnValue value_at pos) v k l = after a (calm k l) refl (λ t. t) (returned_keeps (flat l.around.cells v value_at) pos k l)
+    up_keeps (ReturnValue value_at pos) v k l =
+        after a (calm k l) refl (λ t. t) (on_keeps (flat l.around.cells v value_at) _ k l (λ x. quiet a tt refl (λ t. t)))
 
     down_keeps : (frame : Frame H) (e : EvalAltResult H) (k : List (Frame H)) (l : Local H) →
         Keeps a (core (Fail e) (frame ∷ k) l) (down_core s frame e k l)

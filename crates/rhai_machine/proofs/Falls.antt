@@ -26,14 +26,14 @@ use Rattle.rhai_machine.specs.language.Setting.{Setting}
 use Rattle.rhai_machine.specs.language.State.{Local}
 use Rattle.rhai_machine.specs.language.Values.{unit_value, flat, through, truth}
 use Rattle.rhai_machine.specs.language.Frames.{Operation, Attempt, InPlace, AsValue, Assignment, Update, Call, Control, Frame, Core, core}
-use Rattle.rhai_machine.specs.language.Frames.{where_there, ended, Eval, Exec, Ask, Assign}
+use Rattle.rhai_machine.specs.language.Frames.{where_there, on_value, ended, Eval, Exec, Ask, Assign}
 use Rattle.rhai_machine.specs.language.Frames.{AskUpdate, Argument, Question, Fire, QuestionUpdate}
 use Rattle.rhai_machine.specs.language.Frames.{FireUpdate, OpenExpr, OpenStmt, Enter, Run, Store, WhileTurn, DoTurn, Back, Fail}
 use Rattle.rhai_machine.specs.language.Frames.{StatementValue, DefineValue, IfCondition, RestOfList, RestoreList, Top, UnaryOperand}
 use Rattle.rhai_machine.specs.language.Frames.{LeftOperand, RightOperand, AndPart, OrPart, CoalescePart, AssignValue, WhileCondition}
 use Rattle.rhai_machine.specs.language.Frames.{WhileBody, DoCondition, DoBody, BreakValue, ReturnValue}
 use Rattle.rhai_machine.specs.language.Places.{Place, Target, is_barred, target_of, put}
-use Rattle.rhai_machine.specs.language.Assignment.{native_of, assignment_move, assigned_core, written_core, done, if_fast, says_missing}
+use Rattle.rhai_machine.specs.language.Assignment.{native_of, assignment_move, written_core, done, if_fast, says_missing}
 use Rattle.rhai_machine.specs.language.Assignment.{operation_of, left_in, update_core, assign_core, store_core, changed_core, fault_core}
 use Rattle.rhai_machine.specs.language.Assignment.{value_core, answered_core, barred_core, call_update, fire_update}
 use Rattle.rhai_machine.specs.language.Loops.{is_endless, while_move, while_core, if_goes_on, goes_on, do_control, caught}
@@ -45,8 +45,8 @@ use Rattle.rhai_machine.specs.language.Expressions.{coalesce_core, coalesce_seen
 use Rattle.rhai_machine.specs.language.Calls.{operator_core, builtin_of, fire_first, fire_move, call_native, replied, applied, sized}
 use Rattle.rhai_machine.specs.language.Calls.{placed_if_none}
 use Rattle.rhai_machine.specs.language.Statements.{enter_core, run_core, chosen_core, defined_core, define_core, break_core, return_move}
-use Rattle.rhai_machine.specs.language.Statements.{returned_core, has_option, stmt_move}
-use Rattle.rhai_machine.specs.language.Unwinding.{up_core, down_core, topped, unary_core, left_core, right_core, operated, call_of}
+use Rattle.rhai_machine.specs.language.Statements.{has_option, stmt_move}
+use Rattle.rhai_machine.specs.language.Unwinding.{up_core, down_core, topped, operated, call_of}
 use Rattle.rhai_machine.specs.language.Language.{move_at, move}
 use Rattle.rhai_machine.specs.language.Runs.{at}
 
@@ -242,47 +242,30 @@ module _ {H : Type 0} where
     operator_falls (Some r) call k l = result_falls (applied s.limits r call.operation.at) (11 + stack_size k) (stack_size k) (omega arith)
     operator_falls None call k l = omega arith
 
-    chosen_falls : (r : Result Bool (EvalAltResult H)) (body branch : StmtBlock) (k : List (Frame H)) (l : Local H) →
-        size (chosen_core r body branch k l) < 11 + stack_size k
-    chosen_falls (Ok true) body branch k l = omega (arith, enter_size body.statements true k)
-    chosen_falls (Ok false) body branch k l = omega (arith, enter_size branch.statements true k)
-    chosen_falls (Err e) body branch k l = omega arith
+    -- a value leads to a smaller core, and so does an error
+    on_falls : {A : Type 0} (r : Result A (EvalAltResult H)) (go : A → Core H) (k : List (Frame H)) (l : Local H) →
+        ((x : A) → size (go x) < 11 + stack_size k) → size (on_value r go k l) < 11 + stack_size k
+    on_falls (Ok x) go k l h = h x
+    on_falls (Err e) go k l h = omega arith
 
-    defined_falls : (r : Result (Dynamic H) (EvalAltResult H)) (ident : Ident) (options : ASTFlags) (k : List (Frame H)) (l : Local H) →
-        size (defined_core r ident options k l) < 11 + stack_size k
-    defined_falls (Ok v) ident options k l = omega arith
-    defined_falls (Err e) ident options k l = omega arith
+    chosen_falls : (holds : Bool) (body branch : StmtBlock) (k : List (Frame H)) (l : Local H) →
+        size (chosen_core holds body branch k l) < 11 + stack_size k
+    chosen_falls true body branch k l = omega (arith, enter_size body.statements true k)
+    chosen_falls false body branch k l = omega (arith, enter_size branch.statements true k)
 
     operated_falls : (operation : Operation) (args : List (Dynamic H)) (k : List (Frame H)) (l : Local H) →
         size (operated s operation args k l) < 11 + stack_size k
     operated_falls operation args k l = operator_falls (builtin_of operation.token args) (call_of s operation args) k l
 
-    unary_falls : (r : Result (Dynamic H) (EvalAltResult H)) (operation : Operation) (k : List (Frame H)) (l : Local H) →
-        size (unary_core s r operation k l) < 11 + stack_size k
-    unary_falls (Ok x) operation k l = operated_falls operation (x ∷ []) k l
-    unary_falls (Err e) operation k l = omega arith
+    and_next_falls : (holds : Bool) (parts : List Expr) (k : List (Frame H)) (l : Local H) →
+        size (and_next holds parts k l) < 11 + stack_size k
+    and_next_falls true parts k l = grind (arith, and_falls parts k l)
+    and_next_falls false parts k l = omega arith
 
-    left_falls : (r : Result (Dynamic H) (EvalAltResult H)) (operation : Operation) (right : Expr) (k : List (Frame H)) (l : Local H) →
-        size (left_core s r operation right k l) < 11 + stack_size k
-    left_falls (Ok x) operation right k l = omega arith
-    left_falls (Err e) operation right k l = omega arith
-
-    right_falls : (x : Dynamic H) (r : Result (Dynamic H) (EvalAltResult H)) (operation : Operation) (k : List (Frame H)) (l : Local H) →
-        size (right_core s x r operation k l) < 11 + stack_size k
-    right_falls x (Ok y) operation k l = operated_falls operation (x ∷ y ∷ []) k l
-    right_falls x (Err e) operation k l = omega arith
-
-    and_next_falls : (r : Result Bool (EvalAltResult H)) (parts : List Expr) (k : List (Frame H)) (l : Local H) →
-        size (and_next r parts k l) < 11 + stack_size k
-    and_next_falls (Ok true) parts k l = grind (arith, and_falls parts k l)
-    and_next_falls (Ok false) parts k l = omega arith
-    and_next_falls (Err e) parts k l = omega arith
-
-    or_next_falls : (r : Result Bool (EvalAltResult H)) (parts : List Expr) (k : List (Frame H)) (l : Local H) →
-        size (or_next r parts k l) < 11 + stack_size k
-    or_next_falls (Ok true) parts k l = omega arith
-    or_next_falls (Ok false) parts k l = grind (arith, or_falls parts k l)
-    or_next_falls (Err e) parts k l = omega arith
+    or_next_falls : (holds : Bool) (parts : List Expr) (k : List (Frame H)) (l : Local H) →
+        size (or_next holds parts k l) < 11 + stack_size k
+    or_next_falls true parts k l = omega arith
+    or_next_falls false parts k l = grind (arith, or_falls parts k l)
 
     coalesce_seen_falls : (u : Union H) (v : Dynamic H) (parts : List Expr) (k : List (Frame H)) (l : Local H) →
         size (coalesce_seen u v parts k l) < 11 + stack_size k
@@ -294,16 +277,10 @@ module _ {H : Type 0} where
     coalesce_next_falls (Ok seen) v parts k l = coalesce_seen_falls seen.value v parts k l
     coalesce_next_falls (Err e) v parts k l = omega arith
 
-    assigned_falls : (r : Result (Dynamic H) (EvalAltResult H)) (assignment : Assignment) (k : List (Frame H)) (l : Local H) →
-        size (assigned_core r assignment k l) < 11 + stack_size k
-    assigned_falls (Ok v) assignment k l = omega arith
-    assigned_falls (Err e) assignment k l = omega arith
-
-    while_falls : (r : Result Bool (EvalAltResult H)) (test : Expr) (body : StmtBlock) (k : List (Frame H)) (l : Local H) →
-        size (while_core r test body k l) < 11 + stack_size k
-    while_falls (Ok true) test body k l = omega (arith, enter_size body.statements true k)
-    while_falls (Ok false) test body k l = omega arith
-    while_falls (Err e) test body k l = omega arith
+    while_falls : (holds : Bool) (test : Expr) (body : StmtBlock) (k : List (Frame H)) (l : Local H) →
+        size (while_core holds test body k l) < 11 + stack_size k
+    while_falls true test body k l = omega (arith, enter_size body.statements true k)
+    while_falls false test body k l = omega arith
 
     goes_on_size : (b : Bool) (turn : Control H) → control_size turn ≤ 10 → control_size (if_goes_on b turn) ≤ 10
     goes_on_size true turn small = small
@@ -318,11 +295,6 @@ module _ {H : Type 0} where
     caught_size turn small (error.LoopBreak v false at) = small
     caught_size turn small (error.LoopBreak v true at) = omega arith
     caught_size turn small _ = omega arith
-
-    returned_falls : (r : Result (Dynamic H) (EvalAltResult H)) (pos : Position) (k : List (Frame H)) (l : Local H) →
-        size (returned_core r pos k l) < 11 + stack_size k
-    returned_falls (Ok v) pos k l = omega arith
-    returned_falls (Err e) pos k l = omega arith
 
     -- a turn of a `while` charges, or comes to a charge
     while_turn_falls : (endless : Bool) (stmts : List Stmt) (test : Expr) (body : StmtBlock) (k : List (Frame H)) (l : Local H) →
@@ -396,22 +368,48 @@ module _ {H : Type 0} where
     up_falls : (frame : Frame H) (v : Dynamic H) (k : List (Frame H)) (l : Local H) →
         size (up_core s frame v k l) < 7 + stack_size (frame ∷ k)
     up_falls (StatementValue at) v k l = result_falls (flat l.around.cells v at) (7 + (4 + stack_size k)) (stack_size k) (omega arith)
-    up_falls (DefineValue ident options value_at) v k l = grind (arith, defined_falls (flat l.around.cells v value_at) ident options k l)
-    up_falls (IfCondition test_at body branch) v k l = grind
-        (arith, chosen_falls (truth s.host_type l.around.cells v test_at) body branch k l)
+    up_falls (DefineValue ident options value_at) v k l = grind
+        (arith, on_falls (flat l.around.cells v value_at) (λ x. defined_core x ident options k l) k l (λ x. omega arith))
+    up_falls (IfCondition test_at body branch) v k l = grind (
+      arith,
+      on_falls (truth s.host_type l.around.cells v test_at) (λ holds. chosen_core holds body branch k l) k l
+          (λ holds. chosen_falls holds body branch k l),
+    )
     up_falls (RestOfList rest restoring) v k l = omega (arith, run_size rest restoring v)
     up_falls (RestoreList saved) v k l = omega arith
     up_falls (Top map_exit) v k l = omega arith
-    up_falls (UnaryOperand operation operand_at) v k l = grind (arith, unary_falls (flat l.around.cells v operand_at) operation k l)
-    up_falls (LeftOperand operation left_at right) v k l = grind (arith, left_falls (flat l.around.cells v left_at) operation right k l)
-    up_falls (RightOperand operation left right_at) v k l = grind (arith, right_falls left (flat l.around.cells v right_at) operation k l)
-    up_falls (AndPart part_at rest) v k l = grind (arith, and_next_falls (truth s.host_type l.around.cells v part_at) rest k l)
-    up_falls (OrPart part_at rest) v k l = grind (arith, or_next_falls (truth s.host_type l.around.cells v part_at) rest k l)
+    up_falls (UnaryOperand operation operand_at) v k l = grind (
+      arith,
+      on_falls (flat l.around.cells v operand_at) (λ x. operated s operation (x ∷ []) k l) k l
+          (λ x. operated_falls operation (x ∷ []) k l),
+    )
+    up_falls (LeftOperand operation left_at right) v k l = grind (
+      arith,
+      on_falls (flat l.around.cells v left_at)
+          (λ x. core (Argument right) (RightOperand operation x (position_of right) ∷ k) l) k l (λ x. omega arith),
+    )
+    up_falls (RightOperand operation left right_at) v k l = grind (
+      arith,
+      on_falls (flat l.around.cells v right_at) (λ y. operated s operation (left ∷ y ∷ []) k l) k l
+          (λ y. operated_falls operation (left ∷ y ∷ []) k l),
+    )
+    up_falls (AndPart part_at rest) v k l = grind (
+      arith,
+      on_falls (truth s.host_type l.around.cells v part_at) (λ holds. and_next holds rest k l) k l
+          (λ holds. and_next_falls holds rest k l),
+    )
+    up_falls (OrPart part_at rest) v k l = grind (
+      arith,
+      on_falls (truth s.host_type l.around.cells v part_at) (λ holds. or_next holds rest k l) k l
+          (λ holds. or_next_falls holds rest k l),
+    )
     up_falls (CoalescePart part_at rest) v k l = grind (arith, coalesce_next_falls (through l.around.cells v part_at) v rest k l)
-    up_falls (AssignValue assignment value_at) v k l = grind (arith, assigned_falls (flat l.around.cells v value_at) assignment k l)
+    up_falls (AssignValue assignment value_at) v k l = grind
+        (arith, on_falls (flat l.around.cells v value_at) (λ x. core (Assign assignment x) k l) k l (λ x. omega arith))
     up_falls (WhileCondition test body) v k l = grind (
       arith,
-      while_falls (truth s.host_type l.around.cells v (position_of test)) test body k l,
+      on_falls (truth s.host_type l.around.cells v (position_of test)) (λ holds. while_core holds test body k l) k l
+          (λ holds. while_falls holds test body k l),
     )
     up_falls (WhileBody test body) v k l = omega arith
     up_falls (DoCondition test body options) v k l =
@@ -422,7 +420,8 @@ module _ {H : Type 0} where
         )
     up_falls (DoBody test body options) v k l = omega arith
     up_falls (BreakValue is_break at) v k l = omega arith
-    up_falls (ReturnValue value_at at) v k l = grind (arith, returned_falls (flat l.around.cells v value_at) at k l)
+    up_falls (ReturnValue value_at at) v k l = grind
+        (arith, on_falls (flat l.around.cells v value_at) (λ x. core (Fail (error.Return x at)) k l) k l (λ x. omega arith))
 
     down_falls : (frame : Frame H) (e : EvalAltResult H) (k : List (Frame H)) (l : Local H) →
         size (down_core s frame e k l) < 10 + stack_size (frame ∷ k)

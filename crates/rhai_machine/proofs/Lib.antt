@@ -2,7 +2,6 @@ pub mod Points
 pub mod Runs
 pub mod Limits
 pub mod Ends
-pub mod Toys
 pub mod Places
 mod Falls
 pub mod LanguageLaws

@@ -32,14 +32,14 @@ use Rattle.rhai_values.specs.declared.base.value.AccessMode.TheVariants.{ReadWri
 use Rattle.rhai_values.specs.Modes.{with_mode}
 use Rattle.rhai_state.specs.Native.{Reply, Missing, Gives, Faults, Named, OfName, request}
 use Rattle.rhai_machine.specs.language.Frames.{Operation, Call, Attempt, InPlace, AsValue, Assignment, Update, Control, Frame, Core, core}
-use Rattle.rhai_machine.specs.language.Frames.{where_there, Eval, Exec, Ask, Assign, AskUpdate}
+use Rattle.rhai_machine.specs.language.Frames.{where_there, on_value, Eval, Exec, Ask, Assign, AskUpdate}
 use Rattle.rhai_machine.specs.language.Frames.{Argument, Question, Fire, QuestionUpdate, FireUpdate}
 use Rattle.rhai_machine.specs.language.Frames.{OpenExpr, OpenStmt, Enter, Run, Store, WhileTurn, DoTurn, Back, Fail, StatementValue}
 use Rattle.rhai_machine.specs.language.Frames.{DefineValue, IfCondition, RestOfList, RestoreList, Top, UnaryOperand, LeftOperand}
 use Rattle.rhai_machine.specs.language.Frames.{RightOperand, AndPart, OrPart, CoalescePart, AssignValue, WhileCondition, WhileBody}
 use Rattle.rhai_machine.specs.language.Frames.{DoCondition, DoBody, BreakValue, ReturnValue}
 use Rattle.rhai_machine.specs.language.Places.{Place, InEntry, InCell, Target, is_barred, put, target_of, while_lent}
-use Rattle.rhai_machine.specs.language.Assignment.{assignment_move, assigned_core, written_core, done, if_fast, left_in, update_core}
+use Rattle.rhai_machine.specs.language.Assignment.{assignment_move, written_core, done, if_fast, left_in, update_core}
 use Rattle.rhai_machine.specs.language.Assignment.{assign_core, store_core, changed_core, fault_core, value_core, answered_core}
 use Rattle.rhai_machine.specs.language.Assignment.{barred_core, question_update, lent_core, call_update, fire_update}
 use Rattle.rhai_machine.specs.language.Assignment.{native_of, operation_of, says_missing}
@@ -47,9 +47,9 @@ use Rattle.rhai_machine.specs.language.Loops.{is_endless, while_move, while_core
 use Rattle.rhai_machine.specs.language.Expressions.{literal_of, argument_move, operands_move, expr_move, and_core, and_next, or_core}
 use Rattle.rhai_machine.specs.language.Expressions.{or_next, coalesce_core, coalesce_seen, coalesce_next}
 use Rattle.rhai_machine.specs.language.Calls.{operator_core, builtin_of, fire_first, fire_move, replied, applied, sized, placed_if_none}
-use Rattle.rhai_machine.specs.language.Statements.{has_option, enter_core, run_core, chosen_core, defined_core, define_core, stmt_move}
-use Rattle.rhai_machine.specs.language.Statements.{break_core, return_move, returned_core}
-use Rattle.rhai_machine.specs.language.Unwinding.{up_core, down_core, unary_core, left_core, right_core, operated, call_of}
+use Rattle.rhai_machine.specs.language.Statements.{has_option, enter_core, run_core, chosen_core, define_core, stmt_move}
+use Rattle.rhai_machine.specs.language.Statements.{break_core, return_move}
+use Rattle.rhai_machine.specs.language.Unwinding.{up_core, down_core, operated, call_of}
 use Rattle.rhai_machine.specs.language.Language.{move_at, move, machine}
 use Rattle.rhai_machine.specs.language.Runs.{at, Steps}
 
@@ -95,21 +95,25 @@ module _ {H : Type 0} (t : Option (Dynamic H)) where
     and_same [] k l = refl
     and_same (part ∷ parts) k l = refl
 
-    and_next_same : (r : Result Bool (EvalAltResult H)) (parts : List Expr) (k : List (Frame H)) (l : Local H) →
-        and_next r parts k (with_local l) ≡ in_core (and_next r parts k l)
-    and_next_same (Ok true) parts k l = and_same parts k l
-    and_next_same (Ok false) parts k l = refl
-    and_next_same (Err e) parts k l = refl
+    -- a value leads to the same core but for `this`, and so does an error
+    on_same : {A : Type 0} (r : Result A (EvalAltResult H)) (go other : A → Core H) (k : List (Frame H)) (l : Local H) →
+        ((x : A) → go x ≡ in_core (other x)) → on_value r go k (with_local l) ≡ in_core (on_value r other k l)
+    on_same (Ok x) go other k l h = h x
+    on_same (Err e) go other k l h = refl
+
+    and_next_same : (holds : Bool) (parts : List Expr) (k : List (Frame H)) (l : Local H) →
+        and_next holds parts k (with_local l) ≡ in_core (and_next holds parts k l)
+    and_next_same true parts k l = and_same parts k l
+    and_next_same false parts k l = refl
 
     or_same : (parts : List Expr) (k : List (Frame H)) (l : Local H) → or_core parts k (with_local l) ≡ in_core (or_core parts k l)
     or_same [] k l = refl
     or_same (part ∷ parts) k l = refl
 
-    or_next_same : (r : Result Bool (EvalAltResult H)) (parts : List Expr) (k : List (Frame H)) (l : Local H) →
-        or_next r parts k (with_local l) ≡ in_core (or_next r parts k l)
-    or_next_same (Ok true) parts k l = refl
-    or_next_same (Ok false) parts k l = or_same parts k l
-    or_next_same (Err e) parts k l = refl
+    or_next_same : (holds : Bool) (parts : List Expr) (k : List (Frame H)) (l : Local H) →
+        or_next holds parts k (with_local l) ≡ in_core (or_next holds parts k l)
+    or_next_same true parts k l = refl
+    or_next_same false parts k l = or_same parts k l
 
     coalesce_same : (last : Dynamic H) (parts : List Expr) (k : List (Frame H)) (l : Local H) →
         coalesce_core last parts k (with_local l) ≡ in_core (coalesce_core last parts k l)
@@ -139,11 +143,6 @@ module _ {H : Type 0} (t : Option (Dynamic H)) where
         assignment_move form op rhs k (with_local l) ≡ in_move (assignment_move form op rhs k l)
     assignment_same (layer.Variable offset name namespace pos) op rhs k l = there_same (is_unqualified namespace.path) _ _ refl
     assignment_same _ op rhs k l = refl
-
-    assigned_same : (r : Result (Dynamic H) (EvalAltResult H)) (assignment : Assignment) (k : List (Frame H)) (l : Local H) →
-        assigned_core r assignment k (with_local l) ≡ in_core (assigned_core r assignment k l)
-    assigned_same (Ok v) assignment k l = refl
-    assigned_same (Err e) assignment k l = refl
 
     written_same : (r : Result (Dynamic H) (EvalAltResult H)) (place : Place) (k : List (Frame H)) (l : Local H) →
         written_core r place k (with_local l) ≡ in_core (written_core r place k l)
@@ -231,11 +230,10 @@ module _ {H : Type 0} (t : Option (Dynamic H)) where
     while_same true [] test body k l = refl
     while_same true (stmt ∷ stmts) test body k l = refl
 
-    while_core_same : (r : Result Bool (EvalAltResult H)) (test : Expr) (body : StmtBlock) (k : List (Frame H)) (l : Local H) →
-        while_core r test body k (with_local l) ≡ in_core (while_core r test body k l)
-    while_core_same (Ok true) test body k l = refl
-    while_core_same (Ok false) test body k l = refl
-    while_core_same (Err e) test body k l = refl
+    while_core_same : (holds : Bool) (test : Expr) (body : StmtBlock) (k : List (Frame H)) (l : Local H) →
+        while_core holds test body k (with_local l) ≡ in_core (while_core holds test body k l)
+    while_core_same true test body k l = refl
+    while_core_same false test body k l = refl
 
     break_same : (value : Option Expr) (is_break : Bool) (pos : Position) (k : List (Frame H)) (l : Local H) →
         break_core value is_break pos k (with_local l) ≡ in_core (break_core value is_break pos k l)
@@ -247,11 +245,6 @@ module _ {H : Type 0} (t : Option (Dynamic H)) where
     return_same true value pos k l = refl
     return_same false None pos k l = refl
     return_same false (Some value) pos k l = refl
-
-    returned_same : (r : Result (Dynamic H) (EvalAltResult H)) (pos : Position) (k : List (Frame H)) (l : Local H) →
-        returned_core r pos k (with_local l) ≡ in_core (returned_core r pos k l)
-    returned_same (Ok v) pos k l = refl
-    returned_same (Err e) pos k l = refl
 
     expr_same : (fast : Bool) (form : ExprLayer) (k : List (Frame H)) (l : Local H) →
         expr_move fast form k (with_local l) ≡ in_move (expr_move fast form k l)
@@ -310,53 +303,38 @@ module _ {H : Type 0} (t : Option (Dynamic H)) where
         operated s operation args k (with_local l) ≡ in_core (operated s operation args k l)
     operated_same operation args k l = operator_same (builtin_of operation.token args) (call_of s operation args) k l
 
-    chosen_same : (r : Result Bool (EvalAltResult H)) (body branch : StmtBlock) (k : List (Frame H)) (l : Local H) →
-        chosen_core r body branch k (with_local l) ≡ in_core (chosen_core r body branch k l)
-    chosen_same (Ok true) body branch k l = refl
-    chosen_same (Ok false) body branch k l = refl
-    chosen_same (Err e) body branch k l = refl
-
-    defined_same : (r : Result (Dynamic H) (EvalAltResult H)) (ident : Ident) (options : ASTFlags) (k : List (Frame H)) (l : Local H) →
-        defined_core r ident options k (with_local l) ≡ in_core (defined_core r ident options k l)
-    defined_same (Ok v) ident options k l = refl
-    defined_same (Err e) ident options k l = refl
-
-    unary_same : (r : Result (Dynamic H) (EvalAltResult H)) (operation : Operation) (k : List (Frame H)) (l : Local H) →
-        unary_core s r operation k (with_local l) ≡ in_core (unary_core s r operation k l)
-    unary_same (Ok x) operation k l = operated_same operation (x ∷ []) k l
-    unary_same (Err e) operation k l = refl
-
-    left_same : (r : Result (Dynamic H) (EvalAltResult H)) (operation : Operation) (right : Expr) (k : List (Frame H)) (l : Local H) →
-        left_core s r operation right k (with_local l) ≡ in_core (left_core s r operation right k l)
-    left_same (Ok x) operation right k l = refl
-    left_same (Err e) operation right k l = refl
-
-    right_same : (x : Dynamic H) (r : Result (Dynamic H) (EvalAltResult H)) (operation : Operation) (k : List (Frame H)) (l : Local H) →
-        right_core s x r operation k (with_local l) ≡ in_core (right_core s x r operation k l)
-    right_same x (Ok y) operation k l = operated_same operation (x ∷ y ∷ []) k l
-    right_same x (Err e) operation k l = refl
+    chosen_same : (holds : Bool) (body branch : StmtBlock) (k : List (Frame H)) (l : Local H) →
+        chosen_core holds body branch k (with_local l) ≡ in_core (chosen_core holds body branch k l)
+    chosen_same true body branch k l = refl
+    chosen_same false body branch k l = refl
 
     up_same : (frame : Frame H) (v : Dynamic H) (k : List (Frame H)) (l : Local H) →
         up_core s frame v k (with_local l) ≡ in_core (up_core s frame v k l)
     up_same (StatementValue at) v k l = refl
-    up_same (DefineValue ident options value_at) v k l = defined_same (flat l.around.cells v value_at) ident options k l
-    up_same (IfCondition test_at body branch) v k l = chosen_same (truth s.host_type l.around.cells v test_at) body branch k l
+    up_same (DefineValue ident options value_at) v k l = on_same (flat l.around.cells v value_at) _ _ k l (λ x. refl)
+    up_same (IfCondition test_at body branch) v k l =
+        on_same (truth s.host_type l.around.cells v test_at) _ _ k l (λ holds. chosen_same holds body branch k l)
     up_same (RestOfList rest restoring) v k l = refl
     up_same (RestoreList saved) v k l = refl
     up_same (Top map_exit) v k l = refl
-    up_same (UnaryOperand operation operand_at) v k l = unary_same (flat l.around.cells v operand_at) operation k l
-    up_same (LeftOperand operation left_at right) v k l = left_same (flat l.around.cells v left_at) operation right k l
-    up_same (RightOperand operation left right_at) v k l = right_same left (flat l.around.cells v right_at) operation k l
-    up_same (AndPart part_at rest) v k l = and_next_same (truth s.host_type l.around.cells v part_at) rest k l
-    up_same (OrPart part_at rest) v k l = or_next_same (truth s.host_type l.around.cells v part_at) rest k l
+    up_same (UnaryOperand operation operand_at) v k l =
+        on_same (flat l.around.cells v operand_at) _ _ k l (λ x. operated_same operation (x ∷ []) k l)
+    up_same (LeftOperand operation left_at right) v k l = on_same (flat l.around.cells v left_at) _ _ k l (λ x. refl)
+    up_same (RightOperand operation left right_at) v k l =
+        on_same (flat l.around.cells v right_at) _ _ k l (λ y. operated_same operation (left ∷ y ∷ []) k l)
+    up_same (AndPart part_at rest) v k l =
+        on_same (truth s.host_type l.around.cells v part_at) _ _ k l (λ holds. and_next_same holds rest k l)
+    up_same (OrPart part_at rest) v k l =
+        on_same (truth s.host_type l.around.cells v part_at) _ _ k l (λ holds. or_next_same holds rest k l)
     up_same (CoalescePart part_at rest) v k l = coalesce_next_same (through l.around.cells v part_at) v rest k l
-    up_same (AssignValue assignment value_at) v k l = assigned_same (flat l.around.cells v value_at) assignment k l
-    up_same (WhileCondition test body) v k l = while_core_same (truth s.host_type l.around.cells v (position_of test)) test body k l
+    up_same (AssignValue assignment value_at) v k l = on_same (flat l.around.cells v value_at) _ _ k l (λ x. refl)
+    up_same (WhileCondition test body) v k l =
+        on_same (truth s.host_type l.around.cells v (position_of test)) _ _ k l (λ holds. while_core_same holds test body k l)
     up_same (WhileBody test body) v k l = refl
     up_same (DoCondition test body options) v k l = refl
     up_same (DoBody test body options) v k l = refl
     up_same (BreakValue is_break pos) v k l = refl
-    up_same (ReturnValue value_at pos) v k l = returned_same (flat l.around.cells v value_at) pos k l
+    up_same (ReturnValue value_at pos) v k l = on_same (flat l.around.cells v value_at) _ _ k l (λ x. refl)
 
     down_same : (frame : Frame H) (e : EvalAltResult H) (k : List (Frame H)) (l : Local H) →
         down_core s frame e k (with_local l) ≡ in_core (down_core s frame e k l)

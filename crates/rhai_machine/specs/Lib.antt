@@ -1,3 +1,4 @@
+pub mod Types
 pub mod language
 pub mod machine
 pub mod samples

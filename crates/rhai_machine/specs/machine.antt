@@ -4,4 +4,3 @@ pub mod Unwinding
 pub mod Memory
 pub mod Settling
 pub mod Laws
-pub mod Toy

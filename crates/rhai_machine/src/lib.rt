@@ -4,4 +4,3 @@
 pub mod language;
 pub mod laws;
 pub mod samples;
-pub mod toy;

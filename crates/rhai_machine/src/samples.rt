@@ -2,7 +2,12 @@
 //! the language. Nothing here is run: that a function builds means that its scripts end so.
 
 ghost use Rattle.std.specs.Prelude.{ℕ, List};
-ghost use Rattle.rhai_machine.specs.samples.Runs.{Table};
+ghost use Rattle.rhai_machine.specs.machine.Machine.{Config, Run, below};
+ghost use Rattle.rhai_machine.specs.language.Setting.{over};
+ghost use Rattle.rhai_machine.specs.language.Frames.{Core};
+ghost use Rattle.rhai_machine.specs.language.Language.{machine};
+ghost use Rattle.rhai_machine.specs.language.Limits.{IsRefused};
+ghost use Rattle.rhai_machine.specs.samples.Runs.{Table, usual};
 ghost use Rattle.rhai_machine.specs.samples.Operators.{Sums, Operands};
 ghost use Rattle.rhai_machine.specs.samples.Variables.{Blocks, Variables};
 ghost use Rattle.rhai_machine.specs.samples.Limits.{Limits};
@@ -12,7 +17,31 @@ ghost use Rattle.rhai_machine.specs.samples.Loops.{Loops, WaysOut};
 ghost use Rattle.rhai_machine.specs.samples.Choices.{Choices};
 ghost use Rattle.rhai_machine.specs.samples.Assignments.{Assignments, Updates};
 
+use crate::laws::{Language, always_ends};
+use rhai_state::table::NativeTable;
+use rhai_values::base::value::Host;
 use std::marker::PhantomData;
+
+/// The language in the setting of the samples, over a host's natives.
+pub struct UsualScript<T>(PhantomData<T>);
+
+impl<H: Host, T: NativeTable<H>> Language<H> for UsualScript<T> {
+    ghost State = { T.State };
+
+    ghost Core = { Core H };
+
+    ghost Refused = { IsRefused };
+
+    ghost machine = { machine (over (usual H.name_of) T.natives) };
+}
+
+/// In that setting each script that is cut at a limit ends, by the law of all machines.
+pub fn usual_script_ends<H: Host, T: NativeTable<H>>(of: PhantomData<(H, T)>)
+    ensures { (limit : ℕ) (c : Config T.State H (Core H)) → (a : Config T.State H (Core H))
+        × Run (machine (over (usual H.name_of) T.natives)) (below limit) c a }
+{
+    always_ends::<H, UsualScript<T>>(PhantomData);
+}
 
 /// `40 + 2` under each limit up to four: which charge is refused.
 pub fn sample_sums<H, S>(of: PhantomData<(H, S)>)

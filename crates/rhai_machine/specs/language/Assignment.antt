@@ -1,19 +1,14 @@
 -- The rules of assignment to a variable.
 use Rattle.std.specs.Prelude.{ℕ, Bool, true, false, List, [], ◌∷◌, ◌++◌, Option, Some, None, Result, Ok, Err, codes, nat_eq}
 use Rattle.std.specs.List.{starts_with}
-use Rattle.rhai_tree.specs.declared.token.Token.{Token}
-use Rattle.rhai_tree.specs.declared.expr.OpAssignment.{OpAssignment}
-use Rattle.rhai_tree.specs.declared.expr.Expr.{Expr}
+use Rattle.rhai_machine.specs.Types.{Dynamic, EvalAltResult, Expr, OpAssignment, Token, Union}
 use Rattle.rhai_tree.specs.declared.expr.Expr.TheOpen as layer
 use Rattle.rhai_tree.specs.Layers.{ExprLayer}
 use Rattle.rhai_tree.specs.Positions.{position_of}
 use Rattle.rhai_tree.specs.Tokens.{syntax_of}
 use Rattle.rhai_values.specs.declared.base.value.AccessMode.TheVariants.{ReadWrite}
 use Rattle.rhai_check.specs.Forms.{is_unqualified}
-use Rattle.rhai_values.specs.declared.base.value.Dynamic.{Dynamic}
-use Rattle.rhai_values.specs.declared.base.value.Union.{Union}
 use Rattle.rhai_values.specs.declared.base.value.Union.TheVariants as value
-use Rattle.rhai_state.specs.declared.error.EvalAltResult.{EvalAltResult}
 use Rattle.rhai_state.specs.declared.error.EvalAltResult.TheVariants as error
 use Rattle.rhai_values.specs.Modes.{with_mode}
 use Rattle.rhai_state.specs.Native.{Reply, Missing, Gives, Faults, Named, OfName, request}
@@ -25,7 +20,7 @@ use Rattle.rhai_machine.specs.language.State.{Local}
 use Rattle.rhai_machine.specs.language.Values.{unit_value}
 use Rattle.rhai_machine.specs.language.Places.{Place, Target, is_barred, put, while_lent}
 use Rattle.rhai_machine.specs.language.Frames.{Operation, Attempt, InPlace, AsValue, Assignment, Update}
-use Rattle.rhai_machine.specs.language.Frames.{Frame, Control, Core, core, where_there}
+use Rattle.rhai_machine.specs.language.Frames.{Frame, Control, Core, core, on_value, where_there}
 use Rattle.rhai_machine.specs.language.Frames.{Eval, Assign, AskUpdate, FireUpdate, Back, Fail, AssignValue}
 use Rattle.rhai_machine.specs.language.Calls.{operation_at, placed_if_none, sized, applied, replied}
 
@@ -41,15 +36,9 @@ module _ {H : Type 0} where
       (core (Eval rhs) (AssignValue (record { name = name; at = pos; op = op }) (position_of rhs) ∷ k) l)
   assignment_move _ op rhs k l = Halt
 
-  -- its flattened value is there: the variable is charged
-  abbrev pub assigned_core : Result (Dynamic H) (EvalAltResult H) → Assignment → List (Frame H) → Local H → Core H
-  assigned_core (Ok v) assignment k l = core (Assign assignment v) k l
-  assigned_core (Err e) assignment k l = core (Fail e) k l
-
   -- a result is written to a place; an error leaves the place as it is
   abbrev pub written_core : Result (Dynamic H) (EvalAltResult H) → Place → List (Frame H) → Local H → Core H
-  written_core (Ok v) place k l = core (Back unit_value) k (put place v l)
-  written_core (Err e) place k l = core (Fail e) k l
+  written_core r place k l = on_value r (λ v. core (Back unit_value) k (put place v l)) k l
 
   -- an assignment is done, where its last measurement went well
   abbrev pub done : {A : Type 0} → Result A (EvalAltResult H) → Control H
@@ -99,8 +88,7 @@ module _ {H : Type 0} where
 
     -- the variable, once it is charged: it has to be there, free and no constant
     abbrev pub store_core : Result (Target H) (EvalAltResult H) → Assignment → Dynamic H → List (Frame H) → Local H → Core H
-    store_core (Ok target) assignment v k l = assign_core assignment.op.op assignment target v k l
-    store_core (Err e) assignment v k l = core (Fail e) k l
+    store_core r assignment v k l = on_value r (λ target. assign_core assignment.op.op assignment target v k l) k l
 
     -- the native of an update is called, unless it is barred from its target
     abbrev pub barred_core : (barred : Bool) → Update H → List (Frame H) → Local H → Core H
@@ -115,8 +103,7 @@ module _ {H : Type 0} where
 
     -- the native `op=` changed the target, and its value is only measured
     abbrev pub changed_core : Result (Dynamic H) (EvalAltResult H) → Update H → List (Frame H) → Local H → Core H
-    changed_core (Ok v) u k l = core (done (sized s.limits u.target u.target_at)) k l
-    changed_core (Err e) u k l = core (Fail e) k l
+    changed_core r u k l = on_value r (λ v. core (done (sized s.limits u.target u.target_at)) k l) k l
 
     -- where no function is named `op=` the one named `op` is asked
     abbrev pub fault_core : (missing : Bool) → EvalAltResult H → Update H → List (Frame H) → Local H → Core H
@@ -125,8 +112,7 @@ module _ {H : Type 0} where
 
     -- the native `op` gave the target's new value
     abbrev pub value_core : Result (Dynamic H) (EvalAltResult H) → Update H → List (Frame H) → Local H → Core H
-    value_core (Ok v) u k l = core (done (sized s.limits v u.target_at)) k (put u.place v l)
-    value_core (Err e) u k l = core (Fail e) k l
+    value_core r u k l = on_value r (λ v. core (done (sized s.limits v u.target_at)) k (put u.place v l)) k l
 
     -- what the native answered, the target as it left it
     abbrev pub answered_core : Attempt → Reply H → Update H → List (Frame H) → Local H → Core H

@@ -1,23 +1,18 @@
 -- The rules of expressions.
 use Rattle.std.specs.Prelude.{Bool, true, false, List, [], ◌∷◌, Option, Some, None, Result, Ok, Err}
-use Rattle.rhai_tree.specs.declared.position.Position.{Position}
-use Rattle.rhai_tree.specs.declared.token.Token.{Token}
-use Rattle.rhai_tree.specs.declared.expr.Expr.{Expr}
+use Rattle.rhai_machine.specs.Types.{Dynamic, EvalAltResult, Expr, Position, Token, Union}
 use Rattle.rhai_tree.specs.declared.expr.FnCallExpr.{FnCallExpr}
 use Rattle.rhai_tree.specs.declared.expr.Expr.TheOpen as layer
 use Rattle.rhai_tree.specs.Layers.{ExprLayer}
 use Rattle.rhai_tree.specs.Positions.{position_of, start_of}
 use Rattle.rhai_check.specs.Forms.{is_unqualified}
-use Rattle.rhai_values.specs.declared.base.value.Dynamic.{Dynamic}
-use Rattle.rhai_values.specs.declared.base.value.Union.{Union}
 use Rattle.rhai_values.specs.declared.base.value.Union.TheVariants as value
-use Rattle.rhai_state.specs.declared.error.EvalAltResult.{EvalAltResult}
 use Rattle.rhai_values.specs.Copy.{plain}
 use Rattle.rhai_machine.specs.machine.Machine.{Move, Halt, Go, Charge}
 use Rattle.rhai_machine.specs.language.State.{Local}
 use Rattle.rhai_machine.specs.language.Values.{unit_value, bool_value}
 use Rattle.rhai_machine.specs.language.Names.{read}
-use Rattle.rhai_machine.specs.language.Frames.{Frame, Core, core, where_there, ended, Eval, Argument, Enter, Back, Fail}
+use Rattle.rhai_machine.specs.language.Frames.{Frame, Core, core, on_value, where_there, ended, Eval, Argument, Enter, Back}
 use Rattle.rhai_machine.specs.language.Frames.{UnaryOperand, LeftOperand, AndPart, OrPart, CoalescePart}
 
 module _ {H : Type 0} where
@@ -46,20 +41,18 @@ module _ {H : Type 0} where
   and_core [] k l = core (Back (bool_value true)) k l
   and_core (part ∷ parts) k l = core (Eval part) (AndPart (position_of part) parts ∷ k) l
 
-  abbrev pub and_next : Result Bool (EvalAltResult H) → List Expr → List (Frame H) → Local H → Core H
-  and_next (Ok true) parts k l = and_core parts k l
-  and_next (Ok false) parts k l = core (Back (bool_value false)) k l
-  and_next (Err e) parts k l = core (Fail e) k l
+  abbrev pub and_next : Bool → List Expr → List (Frame H) → Local H → Core H
+  and_next true parts k l = and_core parts k l
+  and_next false parts k l = core (Back (bool_value false)) k l
 
   -- those of an `||` up to the first that is true
   abbrev pub or_core : List Expr → List (Frame H) → Local H → Core H
   or_core [] k l = core (Back (bool_value false)) k l
   or_core (part ∷ parts) k l = core (Eval part) (OrPart (position_of part) parts ∷ k) l
 
-  abbrev pub or_next : Result Bool (EvalAltResult H) → List Expr → List (Frame H) → Local H → Core H
-  or_next (Ok true) parts k l = core (Back (bool_value true)) k l
-  or_next (Ok false) parts k l = or_core parts k l
-  or_next (Err e) parts k l = core (Fail e) k l
+  abbrev pub or_next : Bool → List Expr → List (Frame H) → Local H → Core H
+  or_next true parts k l = core (Back (bool_value true)) k l
+  or_next false parts k l = or_core parts k l
 
   -- those of a `??` up to the first that is not `()`, which comes up as it is, a handle too
   abbrev pub coalesce_core : (last : Dynamic H) → List Expr → List (Frame H) → Local H → Core H
@@ -71,8 +64,7 @@ module _ {H : Type 0} where
   coalesce_seen _ v parts k l = core (Back v) k l
 
   abbrev pub coalesce_next : (seen : Result (Dynamic H) (EvalAltResult H)) → Dynamic H → List Expr → List (Frame H) → Local H → Core H
-  coalesce_next (Ok seen) v parts k l = coalesce_seen seen.value v parts k l
-  coalesce_next (Err e) v parts k l = core (Fail e) k l
+  coalesce_next r v parts k l = on_value r (λ seen. coalesce_seen seen.value v parts k l) k l
 
   -- an expression, after its charge; a form that is not there has no step
   abbrev pub expr_move : (fast_operators : Bool) → ExprLayer → List (Frame H) → Local H → Move H (Core H)

@@ -1,16 +1,7 @@
 -- The machine's controls and frames: what it does next, and what waits for the value or the error that comes of it.
 use Rattle.std.specs.Prelude.{ℕ, Bool, true, false, List, Option, Result, Ok, Err}
-use Rattle.rhai_tree.specs.declared.position.Position.{Position}
-use Rattle.rhai_tree.specs.declared.token.Token.{Token}
-use Rattle.rhai_tree.specs.declared.flags.ASTFlags.{ASTFlags}
-use Rattle.rhai_tree.specs.declared.expr.Ident.{Ident}
-use Rattle.rhai_tree.specs.declared.expr.OpAssignment.{OpAssignment}
-use Rattle.rhai_tree.specs.declared.expr.Expr.{Expr}
-use Rattle.rhai_tree.specs.declared.expr.Stmt.{Stmt}
-use Rattle.rhai_tree.specs.declared.expr.StmtBlock.{StmtBlock}
+use Rattle.rhai_machine.specs.Types.{ASTFlags, Dynamic, EvalAltResult, Expr, Ident, OpAssignment, Position, Stmt, StmtBlock, Token}
 use Rattle.rhai_tree.specs.Layers.{ExprLayer, StmtLayer}
-use Rattle.rhai_values.specs.declared.base.value.Dynamic.{Dynamic}
-use Rattle.rhai_state.specs.declared.error.EvalAltResult.{EvalAltResult}
 use Rattle.rhai_machine.specs.machine.Machine.{Move, Halt, Go}
 use Rattle.rhai_machine.specs.language.State.{Local}
 use Rattle.rhai_machine.specs.language.Places.{Place}
@@ -130,6 +121,11 @@ module _ {H : Type 0} where
   abbrev pub where_there : Bool → Core H → Move H (Core H)
   where_there true c = Go c
   where_there false c = Halt
+
+  -- a value leads on, and an error comes down
+  abbrev pub on_value : {A : Type 0} → Result A (EvalAltResult H) → (A → Core H) → List (Frame H) → Local H → Core H
+  on_value (Ok v) go k l = go v
+  on_value (Err e) go k l = core (Fail e) k l
 
   -- a result comes back
   abbrev pub ended : Result (Dynamic H) (EvalAltResult H) → Control H

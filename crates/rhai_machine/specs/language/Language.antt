@@ -1,7 +1,6 @@
 -- The machine of the language.
 use Rattle.std.specs.Prelude.{true, List, [], ◌∷◌}
-use Rattle.rhai_tree.specs.declared.position.Position.{Position}
-use Rattle.rhai_tree.specs.declared.expr.Expr.{out-Expr}
+use Rattle.rhai_machine.specs.Types.{out-Expr, Position}
 use Rattle.rhai_tree.specs.declared.expr.Stmt.{out-Stmt}
 use Rattle.rhai_tree.specs.Positions.{position_of, stmt_position_of}
 use Rattle.rhai_state.specs.declared.error.EvalAltResult.TheVariants as error

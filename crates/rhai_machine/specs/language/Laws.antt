@@ -1,7 +1,6 @@
 -- What holds of every run of the language, under every setting and over every table. A limit is any whole number.
 use Rattle.std.specs.Prelude.{◌⊎◌, ◌<◌, ℕ, Bool, [], Result}
-use Rattle.rhai_values.specs.declared.base.value.Dynamic.{Dynamic}
-use Rattle.rhai_state.specs.declared.error.EvalAltResult.{EvalAltResult}
+use Rattle.rhai_machine.specs.Types.{Dynamic, EvalAltResult}
 use Rattle.rhai_machine.specs.machine.Machine.{Config, Run, below, always}
 use Rattle.rhai_machine.specs.machine.Point.{Reaches}
 use Rattle.rhai_machine.specs.machine.Unwinding.{Unwound}

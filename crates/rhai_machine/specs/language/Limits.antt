@@ -1,6 +1,6 @@
 -- The error of a refused charge.
 use Rattle.std.specs.Prelude.{◌≡◌}
-use Rattle.rhai_tree.specs.declared.position.Position.{Position}
+use Rattle.rhai_machine.specs.Types.{Position}
 use Rattle.rhai_state.specs.declared.error.EvalAltResult.TheVariants as error
 use Rattle.rhai_machine.specs.language.Frames.{Core, Fail}
 

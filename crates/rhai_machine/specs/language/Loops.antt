@@ -1,11 +1,8 @@
 -- The rules of loops.
 use Rattle.std.specs.Prelude.{Bool, true, false, not, List, [], ◌∷◌, Result, Ok, Err}
-use Rattle.rhai_tree.specs.declared.expr.Expr.{Expr}
-use Rattle.rhai_tree.specs.declared.expr.Stmt.{Stmt}
-use Rattle.rhai_tree.specs.declared.expr.StmtBlock.{StmtBlock}
+use Rattle.rhai_machine.specs.Types.{EvalAltResult, Expr, Stmt, StmtBlock}
 use Rattle.rhai_tree.specs.declared.expr.Expr.TheOpen as layer
 use Rattle.rhai_tree.specs.Layers.{ExprLayer}
-use Rattle.rhai_state.specs.declared.error.EvalAltResult.{EvalAltResult}
 use Rattle.rhai_state.specs.declared.error.EvalAltResult.TheVariants as error
 use Rattle.rhai_machine.specs.machine.Machine.{Move, Go, Charge}
 use Rattle.rhai_machine.specs.language.State.{Local}
@@ -31,10 +28,9 @@ module _ {H : Type 0} where
   while_move true (stmt ∷ stmts) test body k l = Go (core (Enter (stmt ∷ stmts) true) (WhileBody test body ∷ k) l)
 
   -- a condition that holds leads to the body, and one that does not ends the loop with `()`
-  abbrev pub while_core : Result Bool (EvalAltResult H) → Expr → StmtBlock → List (Frame H) → Local H → Core H
-  while_core (Ok true) test body k l = core (Enter body.statements true) (WhileBody test body ∷ k) l
-  while_core (Ok false) test body k l = core (Back unit_value) k l
-  while_core (Err e) test body k l = core (Fail e) k l
+  abbrev pub while_core : Bool → Expr → StmtBlock → List (Frame H) → Local H → Core H
+  while_core true test body k l = core (Enter body.statements true) (WhileBody test body ∷ k) l
+  while_core false test body k l = core (Back unit_value) k l
 
   abbrev pub if_goes_on : Bool → Control H → Control H
   if_goes_on true turn = turn

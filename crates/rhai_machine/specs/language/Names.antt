@@ -1,11 +1,7 @@
 -- What a name means, by name alone: the newest variable of the name.
 use Rattle.std.specs.Prelude.{ℕ, List, Option, Some, None, Result, Ok, Err}
-use Rattle.rhai_tree.specs.declared.position.Position.{Position}
-use Rattle.rhai_values.specs.declared.base.value.Dynamic.{Dynamic}
-use Rattle.rhai_values.specs.declared.base.value.Union.{Union}
+use Rattle.rhai_machine.specs.Types.{Dynamic, EvalAltResult, Position, ScopeEntry, Union}
 use Rattle.rhai_values.specs.declared.base.value.Union.TheVariants as value
-use Rattle.rhai_state.specs.declared.scope.ScopeEntry.{ScopeEntry}
-use Rattle.rhai_state.specs.declared.error.EvalAltResult.{EvalAltResult}
 use Rattle.rhai_state.specs.declared.error.EvalAltResult.TheVariants as error
 use Rattle.rhai_values.specs.Cells.{value_of_cell}
 use Rattle.rhai_state.specs.Scope.{found}

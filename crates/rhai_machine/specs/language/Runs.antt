@@ -1,7 +1,6 @@
 -- What each part of an evaluator promises: over any stack, the cut machine runs from a control to how the part ended.
 use Rattle.std.specs.Prelude.{List, Result}
-use Rattle.rhai_values.specs.declared.base.value.Dynamic.{Dynamic}
-use Rattle.rhai_state.specs.declared.error.EvalAltResult.{EvalAltResult}
+use Rattle.rhai_machine.specs.Types.{Dynamic, EvalAltResult}
 use Rattle.rhai_machine.specs.machine.Point.{Point}
 use Rattle.rhai_machine.specs.machine.Memory.{Leads}
 use Rattle.rhai_machine.specs.language.Setting.{Rules, cut}

@@ -1,8 +1,6 @@
 -- A whole script.
 use Rattle.std.specs.Prelude.{Bool, false, List, [], ◌∷◌, Result}
-use Rattle.rhai_tree.specs.declared.expr.Stmt.{Stmt}
-use Rattle.rhai_values.specs.declared.base.value.Dynamic.{Dynamic}
-use Rattle.rhai_state.specs.declared.error.EvalAltResult.{EvalAltResult}
+use Rattle.rhai_machine.specs.Types.{Dynamic, EvalAltResult, Stmt}
 use Rattle.rhai_machine.specs.machine.Point.{Point, Reaches}
 use Rattle.rhai_machine.specs.machine.Laws.{LimitsAgree}
 use Rattle.rhai_machine.specs.language.Setting.{Rules, cut, limit_under}

@@ -1,7 +1,6 @@
 -- What is fixed while a script runs: the limits, what the engine offers, and the table of natives.
 use Rattle.std.specs.Prelude.{ℕ, Bool, List}
-use Rattle.rhai_values.specs.declared.base.value.Module.{Module}
-use Rattle.rhai_state.specs.declared.limits.Limits.{Limits}
+use Rattle.rhai_machine.specs.Types.{Limits, Module}
 use Rattle.rhai_state.specs.Limits.{limit_of}
 use Rattle.rhai_state.specs.Native.{Natives}
 use Rattle.rhai_machine.specs.machine.Machine.{below}

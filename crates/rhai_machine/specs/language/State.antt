@@ -1,10 +1,7 @@
 -- What a run reads and changes.
 use Rattle.std.specs.Prelude.{◌≡◌, ⊤, ℕ, List, Option, Result, Ok, Err, false}
-use Rattle.rhai_values.specs.declared.base.value.Dynamic.{Dynamic}
-use Rattle.rhai_values.specs.declared.base.value.Module.{Module}
+use Rattle.rhai_machine.specs.Types.{Dynamic, EvalAltResult, Module, ScopeEntry}
 use Rattle.rhai_values.specs.declared.base.value.Import.{Import}
-use Rattle.rhai_state.specs.declared.scope.ScopeEntry.{ScopeEntry}
-use Rattle.rhai_state.specs.declared.error.EvalAltResult.{EvalAltResult}
 use Rattle.rhai_state.specs.Errors.{is_out_of_memory}
 
 -- the surroundings of the variables: libraries, imports, constants and their tables, how deep the calls are, the modules loaded, the

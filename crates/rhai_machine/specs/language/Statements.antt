@@ -1,20 +1,12 @@
 -- The rules of statements and of their lists.
 use Rattle.std.specs.Prelude.{ℕ, ◌+◌, ◌^◌, ◌-◌, Bool, true, false, not, ◌&&◌, List, [], ◌∷◌, ◌++◌, Option, Some, None, Result, Ok, Err}
 use Rattle.std.specs.Prelude.{length, is_some, min, nat_le, nat_eq, if◌then◌else◌, bit_and, take}
-use Rattle.rhai_tree.specs.declared.position.Position.{Position}
-use Rattle.rhai_tree.specs.declared.flags.ASTFlags.{ASTFlags}
-use Rattle.rhai_tree.specs.declared.expr.Ident.{Ident}
-use Rattle.rhai_tree.specs.declared.expr.Expr.{Expr, out-Expr}
-use Rattle.rhai_tree.specs.declared.expr.Stmt.{Stmt}
-use Rattle.rhai_tree.specs.declared.expr.StmtBlock.{StmtBlock}
+use Rattle.rhai_machine.specs.Types.{ASTFlags, AccessMode, Dynamic, EvalAltResult, out-Expr, Expr, Ident, Position, Stmt, StmtBlock}
 use Rattle.rhai_tree.specs.declared.expr.Expr.TheOpen as layer
 use Rattle.rhai_tree.specs.Layers.{StmtLayer}
 use Rattle.rhai_tree.specs.Positions.{position_of}
 use Rattle.rhai_check.specs.Forms.{is_exported}
-use Rattle.rhai_values.specs.declared.base.value.AccessMode.{AccessMode}
 use Rattle.rhai_values.specs.declared.base.value.AccessMode.TheVariants.{ReadWrite, ReadOnly}
-use Rattle.rhai_values.specs.declared.base.value.Dynamic.{Dynamic}
-use Rattle.rhai_state.specs.declared.error.EvalAltResult.{EvalAltResult}
 use Rattle.rhai_state.specs.declared.error.EvalAltResult.TheVariants as error
 use Rattle.rhai_state.specs.Scope.{index_of, new_entry}
 use Rattle.rhai_machine.specs.machine.Machine.{Move, Halt, Go}
@@ -62,16 +54,14 @@ module _ {H : Type 0} where
   }
 
   -- an `if` goes on with the list that its condition chose
-  abbrev pub chosen_core : Result Bool (EvalAltResult H) → StmtBlock → StmtBlock → List (Frame H) → Local H → Core H
-  chosen_core (Ok true) body branch k l = core (Enter body.statements true) k l
-  chosen_core (Ok false) body branch k l = core (Enter branch.statements true) k l
-  chosen_core (Err e) body branch k l = core (Fail e) k l
+  abbrev pub chosen_core : Bool → StmtBlock → StmtBlock → List (Frame H) → Local H → Core H
+  chosen_core true body branch k l = core (Enter body.statements true) k l
+  chosen_core false body branch k l = core (Enter branch.statements true) k l
 
   -- a new variable with its value
-  abbrev pub defined_core : Result (Dynamic H) (EvalAltResult H) → Ident → ASTFlags → List (Frame H) → Local H → Core H
-  defined_core (Ok v) ident options k l = core (Back unit_value) k
-      (record l { scope = l.scope ++ new_entry ident.name (mode_of options) v ∷ [] })
-  defined_core (Err e) ident options k l = core (Fail e) k l
+  abbrev pub defined_core : Dynamic H → Ident → ASTFlags → List (Frame H) → Local H → Core H
+  defined_core v ident options k l =
+      core (Back unit_value) k (record l { scope = l.scope ++ new_entry ident.name (mode_of options) v ∷ [] })
 
   -- a `break` or a `continue` is an error on its way to its loop, with its value as it is
   abbrev pub break_core : Option Expr → (is_break : Bool) → Position → List (Frame H) → Local H → Core H
@@ -83,10 +73,6 @@ module _ {H : Type 0} where
   return_move true value pos k l = Halt
   return_move false None pos k l = Go (core (Fail (error.Return unit_value pos)) k l)
   return_move false (Some value) pos k l = Go (core (Eval value) (ReturnValue (position_of value) pos ∷ k) l)
-
-  abbrev pub returned_core : Result (Dynamic H) (EvalAltResult H) → Position → List (Frame H) → Local H → Core H
-  returned_core (Ok v) pos k l = core (Fail (error.Return v pos)) k l
-  returned_core (Err e) pos k l = core (Fail e) k l
 
   module _ (s : Setting H) where
     -- where shadowing is off a name is declared once; the scope holds at most so many variables; then the value

@@ -1,7 +1,6 @@
 -- A machine that knows no language: what one step does to the count, the table and the list of calls, and when a run ends.
 use Rattle.std.specs.Prelude.{◌≡◌, ℕ, ◌+◌, nat_lt, Bool, true, false, List, ◌∷◌, Option, Some, None}
-use Rattle.rhai_tree.specs.declared.position.Position.{Position}
-use Rattle.rhai_values.specs.declared.base.value.Dynamic.{Dynamic}
+use Rattle.rhai_machine.specs.Types.{Dynamic, Position}
 use Rattle.rhai_state.specs.Native.{Request, Reply, Effect, Natives, Purity}
 
 -- What a core does next. A core is all that a language works on: control, stack, scope and the rest of its state.

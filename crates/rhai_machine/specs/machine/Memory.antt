@@ -1,8 +1,6 @@
 -- Steps on which memory may run out: the form in which a part of an evaluator tells what it did.
 use Rattle.std.specs.Prelude.{◌≡◌, ℕ, Bool, Option}
-use Rattle.rhai_tree.specs.declared.position.Position.{Position}
-use Rattle.rhai_values.specs.declared.base.value.Dynamic.{Dynamic}
-use Rattle.rhai_state.specs.declared.error.EvalAltResult.{EvalAltResult}
+use Rattle.rhai_machine.specs.Types.{Dynamic, EvalAltResult, Position}
 use Rattle.rhai_state.specs.Native.{Request, Reply, Faults}
 use Rattle.rhai_machine.specs.machine.Machine.{Native, Machine}
 use Rattle.rhai_machine.specs.machine.Unwinding.{Passes}

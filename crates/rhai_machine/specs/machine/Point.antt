@@ -1,7 +1,6 @@
 -- Steps without the list of calls, which no step reads: the form in which a piece of a run is told.
 use Rattle.std.specs.Prelude.{ℕ, ◌+◌, Bool, true, false, List, Option}
-use Rattle.rhai_tree.specs.declared.position.Position.{Position}
-use Rattle.rhai_values.specs.declared.base.value.Dynamic.{Dynamic}
+use Rattle.rhai_machine.specs.Types.{Dynamic, Position}
 use Rattle.rhai_state.specs.Native.{Request, Reply, Effect}
 use Rattle.rhai_machine.specs.machine.Machine.{Move, Halt, Go, Charge, Native, AskPure, Machine, Config, Run}
 

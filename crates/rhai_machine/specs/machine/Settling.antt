@@ -1,7 +1,6 @@
 -- Cores from which no run goes on for ever without a charge.
 use Rattle.std.specs.Prelude.{◌≡◌, ◌<◌, ⊤, ℕ, Bool, Option}
-use Rattle.rhai_tree.specs.declared.position.Position.{Position}
-use Rattle.rhai_values.specs.declared.base.value.Dynamic.{Dynamic}
+use Rattle.rhai_machine.specs.Types.{Dynamic, Position}
 use Rattle.rhai_state.specs.Native.{Request, Reply, Purity}
 use Rattle.rhai_machine.specs.machine.Machine.{Move, Halt, Go, Charge, Native, AskPure, Machine}
 

@@ -1,6 +1,6 @@
 -- After a refused charge: an error is on its way down the stack, and nothing else happens.
 use Rattle.std.specs.Prelude.{◌≡◌, ⊤}
-use Rattle.rhai_tree.specs.declared.position.Position.{Position}
+use Rattle.rhai_machine.specs.Types.{Position}
 use Rattle.rhai_machine.specs.machine.Machine.{Move, Halt, Go, Charge, Native, AskPure, Machine, Config}
 
 -- a move while such an error is on its way: the end, or a plain step that keeps it on its way

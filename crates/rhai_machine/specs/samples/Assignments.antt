@@ -1,10 +1,8 @@
 -- Samples of assignment.
 use Rattle.std.specs.Prelude.{ℕ, true, false, List, [], ◌∷◌, Option, Some, None, Result, Ok, Err, codes}
-use Rattle.rhai_tree.specs.declared.expr.Stmt.{Stmt}
+use Rattle.rhai_machine.specs.Types.{Dynamic, EvalAltResult, Stmt}
 use Rattle.rhai_tree.specs.declared.token.Token.TheVariants.{Plus}
 use Rattle.rhai_tree.specs.Position.{none}
-use Rattle.rhai_values.specs.declared.base.value.Dynamic.{Dynamic}
-use Rattle.rhai_state.specs.declared.error.EvalAltResult.{EvalAltResult}
 use Rattle.rhai_state.specs.declared.error.EvalAltResult.TheVariants.{ErrorTooManyOperations, ErrorVariableNotFound}
 use Rattle.rhai_state.specs.declared.error.EvalAltResult.TheVariants.{ErrorAssignmentToConstant, ErrorArithmetic, ErrorDataRace}
 use Rattle.rhai_state.specs.declared.error.EvalAltResult.TheVariants.{ErrorDataTooLarge, ErrorFunctionNotFound}

@@ -1,14 +1,13 @@
 -- Samples of table: an operator that has no built-in for its operands is a call of the native of its name.
 use Rattle.std.specs.Prelude.{ℕ, true, false, List, [], ◌∷◌, Some, Ok, Err, codes}
 use Rattle.rhai_tree.specs.declared.expr.Expr.TheVariants as expr
-use Rattle.rhai_tree.specs.declared.expr.Stmt.{Stmt}
+use Rattle.rhai_machine.specs.Types.{Dynamic, Stmt}
 use Rattle.rhai_tree.specs.declared.token.Token.TheVariants.{Plus}
 use Rattle.rhai_tree.specs.Position.{none}
 use Rattle.rhai_state.specs.declared.error.EvalAltResult.TheVariants.{ErrorTooManyOperations, ErrorFunctionNotFound}
 use Rattle.rhai_state.specs.declared.error.EvalAltResult.TheVariants.{ErrorArithmetic, ErrorDataTooLarge, ErrorDotExpr}
 use Rattle.rhai_state.specs.declared.error.EvalAltResult.TheVariants.{ErrorIndexingType, Exit}
 use Rattle.rhai_values.specs.declared.base.value.AccessMode.TheVariants.{ReadWrite}
-use Rattle.rhai_values.specs.declared.base.value.Dynamic.{Dynamic}
 use Rattle.rhai_values.specs.declared.base.value.Union.TheVariants.{Str}
 use Rattle.rhai_machine.specs.language.Setting.{Setting}
 use Rattle.rhai_state.specs.Native.{Request, Missing, Gives, Faults, Named, request}

@@ -1,6 +1,6 @@
 -- Samples of the operators that stop early.
 use Rattle.std.specs.Prelude.{ℕ, true, false, List, [], ◌∷◌, Some, Ok, codes}
-use Rattle.rhai_tree.specs.declared.expr.Stmt.{Stmt}
+use Rattle.rhai_machine.specs.Types.{Stmt}
 use Rattle.rhai_state.specs.declared.error.EvalAltResult.TheVariants.{ErrorMismatchDataType}
 use Rattle.rhai_machine.specs.samples.Trees.{column, int, bool, var, value, braces, unit_at, all_of, any_of, first_of, loop_, break_}
 use Rattle.rhai_machine.specs.samples.Runs.{Table, Returns, Fails, Ends, usual, integer, truth, unit}

@@ -1,8 +1,6 @@
 -- Samples of loops, and of the ways out of them.
 use Rattle.std.specs.Prelude.{ℕ, false, List, [], ◌∷◌, Some, None, Ok, codes}
-use Rattle.rhai_tree.specs.declared.expr.Expr.{Expr}
-use Rattle.rhai_tree.specs.declared.expr.Stmt.{Stmt}
-use Rattle.rhai_tree.specs.declared.expr.StmtBlock.{StmtBlock}
+use Rattle.rhai_machine.specs.Types.{Expr, Stmt, StmtBlock}
 use Rattle.rhai_tree.specs.declared.token.Token.TheVariants.{Plus, Bang, LessThan, GreaterThanEqualsTo}
 use Rattle.rhai_state.specs.declared.error.EvalAltResult.TheVariants.{ErrorTooManyOperations}
 use Rattle.rhai_machine.specs.samples.Trees.{column, int, bool, var, op, value, braces, inner, let_, if_, no_else, assign, while_, loop_}

@@ -1,6 +1,6 @@
 -- Samples of operators.
 use Rattle.std.specs.Prelude.{ℕ, true, false, List, [], ◌∷◌, codes}
-use Rattle.rhai_tree.specs.declared.expr.Stmt.{Stmt}
+use Rattle.rhai_machine.specs.Types.{Stmt}
 use Rattle.rhai_tree.specs.declared.token.Token.TheVariants.{Plus, Bang, EqualsTo, NotEqualsTo}
 use Rattle.rhai_state.specs.declared.error.EvalAltResult.TheVariants.{ErrorTooManyOperations, ErrorVariableNotFound, ErrorArithmetic}
 use Rattle.rhai_machine.specs.samples.Trees.{column, int, bool, var, op, value}

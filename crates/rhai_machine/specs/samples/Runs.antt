@@ -1,13 +1,9 @@
 -- What a sample says: how a script that starts with nothing ends, cut at the setting's limit.
 use Rattle.std.specs.Prelude.{◌≡◌, ℕ, Bool, true, false, List, [], ◌∷◌, Some, None, Result, Ok, Err, pos}
-use Rattle.rhai_tree.specs.declared.expr.Stmt.{Stmt}
+use Rattle.rhai_machine.specs.Types.{Dynamic, EvalAltResult, Limits, ScopeEntry, Stmt}
 use Rattle.rhai_values.specs.declared.base.value.AccessMode.TheVariants.{ReadWrite, ReadOnly}
-use Rattle.rhai_values.specs.declared.base.value.Dynamic.{Dynamic}
 use Rattle.rhai_values.specs.declared.base.value.Union.TheVariants as value
-use Rattle.rhai_state.specs.declared.scope.ScopeEntry.{ScopeEntry}
-use Rattle.rhai_state.specs.declared.error.EvalAltResult.{EvalAltResult}
 use Rattle.rhai_state.specs.Native.{Request, Reply, Natives, Purity, effect}
-use Rattle.rhai_state.specs.declared.limits.Limits.{Limits}
 use Rattle.rhai_machine.specs.machine.Machine.{Run}
 use Rattle.rhai_machine.specs.machine.Point.{with_calls}
 use Rattle.rhai_machine.specs.language.Setting.{Setting, Rules, cut, over}

@@ -1,13 +1,9 @@
 -- Small words for the trees of sample scripts. A script stands on one line, so each place is a column.
 use Rattle.std.specs.Prelude.{ℕ, ◌+◌, pos, Bool, false, List, [], Option, Some, None}
-use Rattle.rhai_tree.specs.declared.position.Position.{Position}
-use Rattle.rhai_tree.specs.declared.token.Token.{Token}
+use Rattle.rhai_machine.specs.Types.{Expr, Position, Stmt, StmtBlock, Token}
 use Rattle.rhai_tree.specs.declared.expr.Namespace.{Namespace}
-use Rattle.rhai_tree.specs.declared.expr.Expr.{Expr}
 use Rattle.rhai_tree.specs.declared.expr.Expr.TheVariants as expr
-use Rattle.rhai_tree.specs.declared.expr.Stmt.{Stmt}
 use Rattle.rhai_tree.specs.declared.expr.Stmt.TheVariants as stmt
-use Rattle.rhai_tree.specs.declared.expr.StmtBlock.{StmtBlock}
 use Rattle.rhai_tree.specs.Position.{at, none}
 use Rattle.rhai_tree.specs.Tokens.{syntax_of}
 

@@ -1,6 +1,6 @@
 -- Samples of variables, blocks and conditions.
 use Rattle.std.specs.Prelude.{ℕ, false, List, [], ◌∷◌, codes, pos}
-use Rattle.rhai_tree.specs.declared.expr.Stmt.{Stmt}
+use Rattle.rhai_machine.specs.Types.{Stmt}
 use Rattle.rhai_tree.specs.declared.token.Token.TheVariants.{Plus, EqualsTo}
 use Rattle.rhai_values.specs.declared.base.value.AccessMode.TheVariants.{ReadOnly}
 use Rattle.rhai_values.specs.declared.base.value.Union.TheVariants as value_of

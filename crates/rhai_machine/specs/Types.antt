@@ -1,0 +1,16 @@
+-- The types that the definitions here speak of, from one place.
+pub use Rattle.rhai_state.specs.declared.error.EvalAltResult.{EvalAltResult}
+pub use Rattle.rhai_state.specs.declared.limits.Limits.{Limits}
+pub use Rattle.rhai_state.specs.declared.scope.ScopeEntry.{ScopeEntry}
+pub use Rattle.rhai_tree.specs.declared.expr.Expr.{out-Expr, Expr}
+pub use Rattle.rhai_tree.specs.declared.expr.Ident.{Ident}
+pub use Rattle.rhai_tree.specs.declared.expr.OpAssignment.{OpAssignment}
+pub use Rattle.rhai_tree.specs.declared.expr.Stmt.{Stmt}
+pub use Rattle.rhai_tree.specs.declared.expr.StmtBlock.{StmtBlock}
+pub use Rattle.rhai_tree.specs.declared.flags.ASTFlags.{ASTFlags}
+pub use Rattle.rhai_tree.specs.declared.position.Position.{Position}
+pub use Rattle.rhai_tree.specs.declared.token.Token.{Token}
+pub use Rattle.rhai_values.specs.declared.base.value.AccessMode.{AccessMode}
+pub use Rattle.rhai_values.specs.declared.base.value.Dynamic.{Dynamic}
+pub use Rattle.rhai_values.specs.declared.base.value.Module.{Module}
+pub use Rattle.rhai_values.specs.declared.base.value.Union.{Union}
