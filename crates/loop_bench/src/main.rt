@@ -5,27 +5,15 @@
 ghost use Rattle.std.specs.Prelude.{◌≡◌, ◌*◌, ◌/◌, ◌↔◌, IsNone, IfSome};
 ghost use Rattle.std.specs.Duration.{as_nanos};
 
-use rhai_bench::print::write_line;
-use rhai_bench::rows::loops::million_decrements;
-use rhai_bench::settings::Way;
-use std::alloc::Global;
+use rhai_bench::command::run_loop;
 use std::io;
-use std::io::Write;
 use std::time::{Duration, Instant};
 
 fn main(rt: HostRuntime) -> io::Result<()> {
     let start = Instant::now(&rt)?;
-    let count = run(rt.alloc(), &mut io::writer(&rt))?;
+    let count = run_loop(rt.alloc(), &mut io::writer(&rt))?;
     let elapsed = start.elapsed(&rt)?;
     print_speed(&rt, count, elapsed)
-}
-
-/// Runs the loop, writes what it came to, and answers how many operations it charged.
-fn run<W: Write>(alloc: Global, out: &mut W) -> io::Result<u64> {
-    let outcome = million_decrements(alloc)?.run(alloc, Way::USUAL)?;
-    write_line(out, &outcome.ending)?;
-    writeln!(out, "{} charges", outcome.num_operations)?;
-    Ok(outcome.num_operations)
 }
 
 /// Prints on standard error how many charges a second had, and nothing where no time has passed.

@@ -49,6 +49,6 @@ pub fn outside_of_loops(alloc: Global) -> Result<Items<Script>, AllocError> {
 }
 
 /// A million decrements of a variable.
-pub fn million_decrements(alloc: Global) -> Result<Script, AllocError> {
+pub(crate) fn million_decrements(alloc: Global) -> Result<Script, AllocError> {
     Ok(Script::new(alloc, decrements(alloc)?))
 }
