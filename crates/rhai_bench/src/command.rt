@@ -1,6 +1,8 @@
-//! The work of the program `tree_run`, over any writer.
+//! The work of the programs `tree_run` and `loop_bench`, over any writer.
 
-ghost use Rattle.std.specs.Prelude.{◌≡◌, ◌≤◌, IfOk, OnOk, is_some, false, map, string_bytes};
+ghost use Rattle.std.specs.Prelude.{◌≡◌, ◌≤◌, ◌*◌, ◌/◌, ◌↔◌, IfOk, OnOk, IsNone, IfSome, is_some, false};
+ghost use Rattle.std.specs.Prelude.{map, string_bytes};
+ghost use Rattle.std.specs.Duration.{as_nanos};
 ghost use Rattle.rhai_bench.specs.Arguments.{IsCall};
 
 use crate::outcome::Outcome;
@@ -13,6 +15,7 @@ use rhai_eval::base::Items;
 use std::alloc::{AllocError, Global};
 use std::io;
 use std::io::Write;
+use std::time::Duration;
 
 /// The status of a wrong argument.
 pub const WRONG_ARGUMENTS: u8 = 3;
@@ -92,4 +95,12 @@ pub fn print_usage<W: Write>(out: &mut W) -> io::Result<u8>
 {
     writeln!(out, "usage: tree_run row N")?;
     Ok(WRONG_ARGUMENTS)
+}
+
+/// How many of so many charges a second had, None where no time has passed.
+pub fn per_second(count: u64, elapsed: Duration) -> Option<u128>
+    ensures none { IsNone result ↔ (as_nanos elapsed ≡ 0) }
+    ensures some { IfSome result (λ n. n ≡ count * 1000000000 / as_nanos elapsed) }
+{
+    (u128::from(count) * 1_000_000_000).checked_div(elapsed.as_nanos())
 }

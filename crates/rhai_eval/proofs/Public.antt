@@ -14,7 +14,7 @@ use Rattle.rhai_laws.proofs.WantLaws.{runs_up_to_memory, steps_with_memory}
 use Rattle.rhai_steps.specs.States.{local_of, state_of}
 use Rattle.rhai_eval.specs.Ends.{EndsAs}
 use Rattle.rhai_eval.specs.States.{state_in}
-use Rattle.rhai_eval.specs.declared.context.Context.{Context}
+use Rattle.rhai_context.specs.declared.Context.{Context}
 use Rattle.rhai_eval.proofs.Chain.{still_none, with_this}
 
 module _ {S H : Type 0} (rules : Rules S H) where

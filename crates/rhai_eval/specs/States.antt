@@ -7,7 +7,7 @@ use Rattle.rhai_state.specs.Scope.{names_in}
 use Rattle.rhai_machine.specs.language.Setting.{Offer, Rules, rules_of}
 use Rattle.rhai_machine.specs.language.State.{State}
 use Rattle.rhai_steps.specs.States.{state_of}
-use Rattle.rhai_eval.specs.declared.context.Context.{Context}
+use Rattle.rhai_context.specs.declared.Context.{Context}
 use Rattle.rhai_eval.specs.declared.engine.Engine.{Engine}
 
 -- no limit of operations, of variables, of modules or of data, and calls up to 64 deep

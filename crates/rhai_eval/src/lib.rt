@@ -2,7 +2,6 @@
 //! limit of operations. What it stands on is shown here too, so that a host names one crate.
 #![tactic(auto)]
 
-pub mod context;
 pub mod engine;
 pub mod eval;
 pub mod func;

@@ -16,10 +16,16 @@ struct FnResolutionCache<H> {
 
 /// The caches of function lookups, one level for each state of the libraries and imports. Ports
 /// upstream's `Caches`.
-#[derive(Drop)]
 pub struct Caches<H> {
     /// None where the caches are off.
     levels: Option<Items<FnResolutionCache<H>>>,
+}
+
+// Written by hand, so that the crates above call this, and need not go through the levels.
+impl<H: Drop> Drop for Caches<H> {
+    fn drop(self) {
+        let Caches { levels: _ } = self;
+    }
 }
 
 impl<H> Caches<H> {

@@ -22,9 +22,15 @@ pub struct ScopeEntry<H> {
 
 /// The variables, the newest last. A name means the last entry that has it. Ports upstream's
 /// `Scope`.
-#[derive(Drop)]
 pub struct Scope<H> {
     entries: Items<ScopeEntry<H>>,
+}
+
+// Written by hand, so that the crates above call this, and need not go through the entries.
+impl<H: Drop> Drop for Scope<H> {
+    fn drop(self) {
+        let Scope { entries: _ } = self;
+    }
 }
 
 impl<H> Scope<H> {

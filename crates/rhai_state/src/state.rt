@@ -9,7 +9,6 @@ use rhai_values::cells::CellStore;
 use std::alloc::{AllocError, Global};
 
 /// What a run keeps beside its variables. Ports upstream's `GlobalRuntimeState`.
-#[derive(Drop)]
 pub struct GlobalRuntimeState<H> {
     /// The libraries of script functions, first to last.
     pub lib: Items<Shared<Module<H>>>,
@@ -30,6 +29,25 @@ pub struct GlobalRuntimeState<H> {
     pub cells: CellStore<H>,
     /// The tables of constants, by their numbers.
     pub constant_tables: Items<Table<Dynamic<H>>>,
+}
+
+// Written by hand, so that the crates above call this, and need not go through the fields.
+impl<H: Drop> Drop for GlobalRuntimeState<H> {
+    fn drop(self) {
+        let GlobalRuntimeState {
+            lib: _,
+            imports: _,
+            constants: _,
+            level: _,
+            scope_level: _,
+            num_operations: _,
+            num_modules_loaded: _,
+            source: _,
+            always_search_scope: _,
+            cells: _,
+            constant_tables: _,
+        } = self;
+    }
 }
 
 impl<H: Drop> GlobalRuntimeState<H> {

@@ -38,7 +38,6 @@ pub struct OpAssignment {
 
 /// An expression. Ports upstream's `Expr`.
 #[cycle(tree)]
-#[derive(Drop)]
 pub enum Expr {
     DynamicConstant(Literal, Position),
     BoolConstant(bool, Position),
@@ -69,6 +68,47 @@ pub enum Expr {
     And(Items<Expr>, Position),
     Or(Items<Expr>, Position),
     Coalesce(Items<Expr>, Position),
+}
+
+// Written by hand, so that whoever lets an expression go calls this, and need not go through its
+// forms there.
+impl Drop for Expr {
+    #[cycle(tree)]
+    fn drop(self) {
+        match self {
+            Expr::DynamicConstant(literal, _) => drop(literal),
+            Expr::StringConstant(text, _) | Expr::Property(text, _) => drop(text),
+            Expr::InterpolatedString(parts, _)
+            | Expr::Array(parts, _)
+            | Expr::And(parts, _)
+            | Expr::Or(parts, _)
+            | Expr::Coalesce(parts, _) => drop(parts),
+            Expr::Map(entries, template, _) => {
+                drop(entries);
+                drop(template);
+            }
+            Expr::Variable {
+                offset: _,
+                name,
+                namespace,
+                pos: _,
+            } => {
+                drop(name);
+                drop(namespace);
+            }
+            Expr::MethodCall(call, _) | Expr::FnCall(call, _) => drop(call),
+            Expr::Stmt(block) => drop(block),
+            Expr::Dot(lhs, rhs, _, _) | Expr::Index(lhs, rhs, _, _) => {
+                drop(lhs);
+                drop(rhs);
+            }
+            Expr::BoolConstant(_, _)
+            | Expr::IntegerConstant(_, _)
+            | Expr::CharConstant(_, _)
+            | Expr::Unit(_)
+            | Expr::ThisPtr(_) => {}
+        }
+    }
 }
 
 impl Expr {
@@ -194,7 +234,6 @@ pub struct SharedVariable {
 
 /// A statement. Ports upstream's `Stmt`.
 #[cycle(tree)]
-#[derive(Drop)]
 pub enum Stmt {
     Noop(Position),
     Expr(Expr),
@@ -226,6 +265,76 @@ pub enum Stmt {
     Import(Expr, Option<Ident>, Position),
     Export(Ident, Option<Ident>, Position),
     Share(Items<SharedVariable>),
+}
+
+// Written by hand for the same reason.
+impl Drop for Stmt {
+    #[cycle(tree)]
+    fn drop(self) {
+        match self {
+            Stmt::Expr(expr) => drop(expr),
+            Stmt::FnCall(call, _) => drop(call),
+            Stmt::Block(block) => drop(block),
+            Stmt::Assignment(_, lhs, rhs) => {
+                drop(lhs);
+                drop(rhs);
+            }
+            Stmt::Var(ident, expr, _, _, _) => {
+                drop(ident);
+                drop(expr);
+            }
+            Stmt::If(condition, body, branch, _) => {
+                drop(condition);
+                drop(body);
+                drop(branch);
+            }
+            Stmt::Switch {
+                expr,
+                expressions,
+                cases,
+                ranges,
+                def_case: _,
+                pos: _,
+            } => {
+                drop(expr);
+                drop(expressions);
+                drop(cases);
+                drop(ranges);
+            }
+            Stmt::While(condition, body, _) | Stmt::Do(condition, body, _, _) => {
+                drop(condition);
+                drop(body);
+            }
+            Stmt::For {
+                name,
+                counter,
+                expr,
+                body,
+                pos: _,
+            } => {
+                drop(name);
+                drop(counter);
+                drop(expr);
+                drop(body);
+            }
+            Stmt::BreakLoop(expr, _, _) | Stmt::Return(expr, _, _) => drop(expr),
+            Stmt::TryCatch(body, catch, handler, _) => {
+                drop(body);
+                drop(catch);
+                drop(handler);
+            }
+            Stmt::Import(path, alias, _) => {
+                drop(path);
+                drop(alias);
+            }
+            Stmt::Export(name, alias, _) => {
+                drop(name);
+                drop(alias);
+            }
+            Stmt::Share(variables) => drop(variables),
+            Stmt::Noop(_) => {}
+        }
+    }
 }
 
 impl Stmt {

@@ -41,7 +41,6 @@ impl ScriptFuncPayload {
 }
 
 /// A script function. Ports upstream's `ScriptFuncDef`.
-#[derive(Drop)]
 pub struct ScriptFuncDef {
     pub body: ScriptFuncPayload,
     pub name: Shared<Text>,
@@ -49,4 +48,18 @@ pub struct ScriptFuncDef {
     /// The type name that `this` must have, if any.
     pub this_type: Option<Shared<Text>>,
     pub params: Items<Shared<Text>>,
+}
+
+// Written by hand, so that crates which let a function go call this and need not prove how its
+// statements are dropped.
+impl Drop for ScriptFuncDef {
+    fn drop(self) {
+        let ScriptFuncDef {
+            body: _,
+            name: _,
+            access: _,
+            this_type: _,
+            params: _,
+        } = self;
+    }
 }

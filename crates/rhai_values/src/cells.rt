@@ -10,9 +10,15 @@ use rhai_items::Items;
 use std::alloc::{AllocError, Global};
 
 /// The shared cells of a run, by their numbers. A cell that is held has its value elsewhere.
-#[derive(Drop)]
 pub struct CellStore<H> {
     cells: Items<Option<Dynamic<H>>>,
+}
+
+// Written by hand, as that of a value is.
+impl<H: Drop> Drop for CellStore<H> {
+    fn drop(self) {
+        let CellStore { cells: _ } = self;
+    }
 }
 
 impl<H> CellStore<H> {

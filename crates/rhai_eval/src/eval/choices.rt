@@ -8,8 +8,8 @@ ghost use Rattle.rhai_machine.specs.language.Frames.{OpenExpr};
 ghost use Rattle.rhai_machine.specs.language.Runs.{Runs};
 ghost use Rattle.rhai_eval.specs.States.{names, state_in, under};
 
-use crate::context::Context;
 use crate::engine::Engine;
+use rhai_context::Context;
 use rhai_state::error::EvalAltResult;
 use rhai_state::table::NativeTable;
 use rhai_steps::values::{bool_value, is_unit, truth_value, unit_value};

@@ -19,9 +19,9 @@ ghost use Rattle.rhai_eval.specs.Plain.{Plain};
 ghost use Rattle.rhai_eval.specs.Search.{is_variable, searched};
 ghost use Rattle.rhai_eval.specs.States.{names, state_in, under};
 
-use crate::context::{Context, give_back, take};
 use crate::engine::Engine;
 use crate::eval::search::variable_mut;
+use rhai_context::{Context, give_back, take};
 use rhai_places::target::{Part, Target};
 use rhai_state::caches::Caches;
 use rhai_state::error::EvalAltResult;

@@ -14,8 +14,8 @@ ghost use Rattle.rhai_machine.specs.language.Runs.{at, Goes, Steps, Runs};
 ghost use Rattle.rhai_steps.specs.Loops.{after_turn};
 ghost use Rattle.rhai_eval.specs.States.{names, state_in, under};
 
-use crate::context::Context;
 use crate::engine::Engine;
+use rhai_context::Context;
 use rhai_state::error::EvalAltResult;
 use rhai_state::table::NativeTable;
 use rhai_steps::charges::track_operation;

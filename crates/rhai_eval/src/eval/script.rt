@@ -13,9 +13,9 @@ ghost use Rattle.rhai_eval.specs.Memory.{may_ask};
 ghost use Rattle.rhai_eval.specs.Plain.{Plain};
 ghost use Rattle.rhai_eval.specs.States.{under};
 
-use crate::context::{give_back, take};
 use crate::engine::Engine;
 use rhai_check::checked::CheckedTree;
+use rhai_context::{give_back, take};
 use rhai_state::caches::Caches;
 use rhai_state::error::EvalAltResult;
 use rhai_state::scope::Scope;

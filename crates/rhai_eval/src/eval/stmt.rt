@@ -20,9 +20,9 @@ ghost use Rattle.rhai_eval.specs.Memory.{asks_expr, asks_block, asks_stmt, may_a
 ghost use Rattle.rhai_eval.specs.Plain.{Plain};
 ghost use Rattle.rhai_eval.specs.States.{names, state_in, under};
 
-use crate::context::{Context, give_back, take};
 use crate::engine::Engine;
 use rhai_assign::assign_variable;
+use rhai_context::{Context, give_back, take};
 use rhai_state::caches::Caches;
 use rhai_state::error::EvalAltResult;
 use rhai_state::scope::Scope;

@@ -8,9 +8,9 @@ ghost use Rattle.rhai_machine.specs.language.Frames.{Argument, OpenExpr};
 ghost use Rattle.rhai_machine.specs.language.Runs.{Runs};
 ghost use Rattle.rhai_eval.specs.States.{names, state_in, under};
 
-use crate::context::Context;
 use crate::engine::Engine;
 use rhai_calls::native::{operate_one, operate_two};
+use rhai_context::Context;
 use rhai_state::error::EvalAltResult;
 use rhai_state::table::NativeTable;
 use rhai_steps::charges::literal_arg;

@@ -38,10 +38,19 @@ pub trait Host: Sized + Drop {
 
 /// A value with its access mode. Ports upstream's `Dynamic`.
 #[cycle(value)]
-#[derive(Drop)]
 pub struct Dynamic<H> {
     pub value: Union<H>,
     pub mode: AccessMode,
+}
+
+// Written by hand, so that the crates above call this where a value goes out of scope, and need not
+// go through its variants there.
+impl<H: Drop> Drop for Dynamic<H> {
+    #[cycle(value)]
+    fn drop(self) {
+        let Dynamic { value, mode: _ } = self;
+        drop(value);
+    }
 }
 
 impl<H> Dynamic<H> {
@@ -160,9 +169,15 @@ impl<H> Module<H> {
 }
 
 /// The modules that an `import` may find, by their paths.
-#[derive(Drop)]
 pub struct ModuleTable<H> {
     pub modules: Table<Shared<Module<H>>>,
+}
+
+// Written by hand, as that of a value is.
+impl<H: Drop> Drop for ModuleTable<H> {
+    fn drop(self) {
+        let ModuleTable { modules: _ } = self;
+    }
 }
 
 impl<H> ModuleTable<H> {

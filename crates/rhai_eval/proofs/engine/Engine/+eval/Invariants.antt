@@ -5,7 +5,7 @@ use Rattle.rhai_machine.specs.language.Values.{unit_value}
 use Rattle.rhai_machine.specs.language.Frames.{Frame, Run, WhileTurn, DoTurn}
 use Rattle.rhai_machine.specs.language.Runs.{with_core, Goes, Steps}
 use Rattle.rhai_machine.specs.language.Expressions.{and_core, or_core, coalesce_core}
-use Rattle.rhai_eval.specs.declared.context.Context.{Context}
+use Rattle.rhai_context.specs.declared.Context.{Context}
 use Rattle.rhai_eval.specs.declared.engine.Engine.{Engine}
 use Rattle.rhai_eval.specs.States.{names, state_in, under}
 use Rattle.rhai_eval.proofs.engine.Engine.+eval.Given as goal

@@ -1,4 +1,6 @@
-//! The state of a run, which the functions of the evaluator hand on as one.
+//! The state of a run, which the functions of the evaluator hand on as one. They move their caller's
+//! values in, and put them back on every way out; neither takes memory.
+#![tactic(auto)]
 
 ghost use Rattle.std.specs.Prelude.{◌≡◌, None};
 
@@ -12,10 +14,10 @@ use std::mem::replace;
 
 /// The state of a run: what stays beside the variables, the variables and `this`.
 #[derive(Drop)]
-pub(crate) struct Context<H> {
-    pub(crate) global: GlobalRuntimeState<H>,
-    pub(crate) scope: Scope<H>,
-    pub(crate) this: Option<Dynamic<H>>,
+pub struct Context<H> {
+    pub global: GlobalRuntimeState<H>,
+    pub scope: Scope<H>,
+    pub this: Option<Dynamic<H>>,
 }
 
 /// A state with nothing in it but whether variables are searched for. No memory is asked for it.
@@ -39,7 +41,7 @@ fn nothing<H: Host>(alloc: Global, always_search_scope: bool) -> GlobalRuntimeSt
 
 /// Takes a caller's values into the state of a run, without `this`. Empty ones stay in their places
 /// until `give_back`, and whether variables are searched for stays there.
-pub(crate) fn take<H: Host>(
+pub fn take<H: Host>(
     alloc: Global,
     global: &mut GlobalRuntimeState<H>,
     scope: &mut Scope<H>,
@@ -57,11 +59,7 @@ pub(crate) fn take<H: Host>(
 
 /// Puts the values of a run back in their places. No run changes whether its caller's variables are
 /// searched for.
-pub(crate) fn give_back<H: Host>(
-    run: Context<H>,
-    global: &mut GlobalRuntimeState<H>,
-    scope: &mut Scope<H>,
-)
+pub fn give_back<H: Host>(run: Context<H>, global: &mut GlobalRuntimeState<H>, scope: &mut Scope<H>)
     ensures global { global.new ≡ record run.global
         { always_search_scope = global.old.always_search_scope } }
     ensures scope { scope.new ≡ run.scope }
