@@ -47,9 +47,19 @@ pub struct Dynamic<H> {
 // go through its variants there.
 impl<H: Drop> Drop for Dynamic<H> {
     #[cycle(value)]
+    #[inline(always)]
     fn drop(self) {
         let Dynamic { value, mode: _ } = self;
-        drop(value);
+        match value {
+            Union::Unit
+            | Union::Bool(_)
+            | Union::Int(_)
+            | Union::Char(_)
+            | Union::ExclusiveRange(_, _)
+            | Union::InclusiveRange(_, _)
+            | Union::Cell(_) => {}
+            value => drop(value),
+        }
     }
 }
 
