@@ -9,7 +9,8 @@ mod place;
 mod update;
 mod write;
 
-ghost use Rattle.std.specs.Prelude.{◌≡◌, ◌≤◌, true};
+ghost use Rattle.std.specs.Prelude.{◌≡◌, ◌≤◌, IsTrue, true};
+ghost use Rattle.rhai_check.specs.Names.{is_good};
 ghost use Rattle.rhai_state.specs.Scope.{names_in};
 ghost use Rattle.rhai_machine.specs.language.Setting.{rules_of};
 ghost use Rattle.rhai_machine.specs.language.Frames.{Assign};
@@ -30,10 +31,13 @@ use rhai_tree::expr::OpAssignment;
 use rhai_tree::position::Position;
 use rhai_values::base::value::{Dynamic, Host};
 use std::alloc::Global;
+use std::num::NonZeroUsize;
 
-/// Assigns a value to the variable of a name, charged first at the variable. By an operator the
-/// built-in is tried first, then the native `op=`, which may change the target, and where that
-/// is missing the native `op`, which gives its new value.
+/// Assigns a value to a variable, charged first at the variable. By an operator the built-in is tried
+/// first, then the native `op=`, which may change the target, and where that is missing the native
+/// `op`, which gives its new value. The variable is found by its offset where that is given and
+/// variables are not searched for, and else by its name. Asked: the offset leads to the newest
+/// variable of the name.
 ///
 /// # Errors
 /// At the variable: `ErrorTooManyOperations` where the count has reached the limit,
@@ -46,11 +50,13 @@ pub fn assign_variable<H: Host, T: NativeTable<H>>(
     global: &mut GlobalRuntimeState<H>,
     table: &mut T,
     scope: &mut Scope<H>,
+    offset: Option<NonZeroUsize>,
     name: &Shared<Text>,
     pos: Position,
     op: OpAssignment,
     value: Dynamic<H>,
 ) -> Result<Dynamic<H>, EvalAltResult<H>>
+    requires { IsTrue (is_good offset name.now (names_in scope.old)) }
     ensures counts { global.old.num_operations ≤ global.new.num_operations }
     ensures names { names_in scope.new ≡ names_in scope.old }
     ensures runs { (offer : _) (this : _) → offer.fast_operators ≡ true →
@@ -63,7 +69,7 @@ pub fn assign_variable<H: Host, T: NativeTable<H>>(
         let_go(value);
         return Err(error);
     }
-    match find_target(&global.cells, scope, name, pos) {
+    match find_target(global, scope, offset, name, pos) {
         Ok(place) => store(limits, alloc, global, table, scope, place, pos, op, value),
         Err(error) => {
             let_go(value);

@@ -1,9 +1,10 @@
 //! Where the value of a variable stands, as it is assigned to: it is found, read, taken and
 //! written there.
 
-ghost use Rattle.std.specs.Prelude.{◌≡◌, ◌||◌, Some, true};
+ghost use Rattle.std.specs.Prelude.{◌≡◌, ◌||◌, Some, IsTrue, true};
+ghost use Rattle.rhai_check.specs.Names.{is_good};
 ghost use Rattle.rhai_values.specs.Cells.{cells_of, value_of_cell};
-ghost use Rattle.rhai_state.specs.Scope.{entries_of};
+ghost use Rattle.rhai_state.specs.Scope.{entries_of, names_in};
 ghost use Rattle.rhai_machine.specs.language.Values.{unit_value as unit};
 ghost use Rattle.rhai_machine.specs.language.Places.{is_constant as constant_at, target, target_in_cell};
 ghost use Rattle.rhai_machine.specs.language.Places.{target_of, unless_constant as allowed, while_lent};
@@ -13,12 +14,15 @@ ghost use Rattle.rhai_assign.specs.Targets.{there, there_at};
 use rhai_items::{Shared, Text};
 use rhai_state::error::EvalAltResult;
 use rhai_state::scope::Scope;
+use rhai_state::state::GlobalRuntimeState;
 use rhai_steps::errors::{assignment_to_constant, data_race_of, variable_not_found};
 use rhai_steps::values::{let_go, unit_value};
+use rhai_steps::variables::place_of_variable;
 use rhai_tree::position::Position;
 use rhai_tree::token::Token;
 use rhai_values::base::value::{AccessMode, CellId, Dynamic, Host, Union};
 use rhai_values::cells::CellStore;
+use std::num::NonZeroUsize;
 
 /// Where a variable's value stands: in an entry of the scope, or in a cell.
 #[derive(Clone, Copy)]
@@ -82,23 +86,26 @@ fn find_in_cell<H: Host>(
     }
 }
 
-/// The place of the newest variable of a name, as it is assigned to.
+/// The place of a variable, as it is assigned to. It is found as `place_of_variable` says, which asks
+/// the same of its offset.
 pub(crate) fn find_target<H: Host>(
-    cells: &CellStore<H>,
+    global: &GlobalRuntimeState<H>,
     scope: &Scope<H>,
+    offset: Option<NonZeroUsize>,
     name: &Shared<Text>,
     pos: Position,
 ) -> Result<Place, EvalAltResult<H>>
-    ensures { Finds result (entries_of scope.now) (cells_of cells.now)
-        (target_of (cells_of cells.now) name.now pos (entries_of scope.now)) }
+    requires { IsTrue (is_good offset name.now (names_in scope.now)) }
+    ensures { Finds result (entries_of scope.now) (cells_of global.now.cells)
+        (target_of (cells_of global.now.cells) name.now pos (entries_of scope.now)) }
 {
-    let Some(index) = scope.search(name.get().as_str()) else {
+    let Some(index) = place_of_variable(global, scope, offset, name) else {
         return Err(variable_not_found(name, pos));
     };
     let value = scope.value_at(index);
     let mode = value.access_mode();
     match &value.value {
-        Union::Cell(id) => find_in_cell(cells, mode, *id, name, pos),
+        Union::Cell(id) => find_in_cell(&global.cells, mode, *id, name, pos),
         _ => unless_constant(is_constant(mode, mode), Place::InEntry(index), name, pos),
     }
 }

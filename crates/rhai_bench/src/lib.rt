@@ -8,5 +8,6 @@ pub mod outcome;
 pub mod print;
 pub mod rows;
 pub mod script;
+pub mod searches;
 pub mod settings;
 mod tables;

@@ -3,7 +3,7 @@ use Rattle.std.proofs.Common.{◌≡◌, ◌<◌, ◌+◌, ℕ, Bool, true, fals
 use Rattle.std.proofs.Common.{take, map, refl, sym, ap, ◌∙◌}
 use Rattle.std.proofs.lemmas.List.{take-append-drop, take-map, length-map}
 use Rattle.std.proofs.Math.Seq.{take-append_seam}
-use Rattle.rhai_check.specs.Names.{Name, Begins}
+use Rattle.rhai_check.specs.Names.{Name, Begins, is_good}
 use Rattle.rhai_tree.specs.declared.expr.Expr.{Expr, out-Expr}
 use Rattle.rhai_tree.specs.declared.expr.FnCallExpr.{FnCallExpr}
 use Rattle.rhai_check.specs.Frame.{tests_of, resolves_expr}
@@ -123,6 +123,18 @@ pub plain_name : (e : Expr) (offset : Option NonZeroUsize) (name : Name) (namesp
     out-Expr e ≡ layer.Variable offset name namespace pos → IsTrue (resolves_expr e names) → is_unqualified namespace.path ≡ true
 plain_name e offset name namespace pos names is h = (holds_then (is_unqualified namespace.path) _
     (subst (λ (t : walk.Seen sound). IsTrue (t.value names)) (resolves-expr e (layer.Variable offset name namespace pos) is) h)).0
+
+-- and its offset leads to the newest variable of the name
+pub good_name : (e : Expr) (offset : Option NonZeroUsize) (name : Name) (namespace : Namespace) (pos : Position) (names : List Name) →
+    out-Expr e ≡ layer.Variable offset name namespace pos → IsTrue (resolves_expr e names) → IsTrue (is_good offset name names)
+good_name e offset name namespace pos names is h = (holds_then (is_good offset name names) _ (holds_then (is_unqualified namespace.path) _
+    (subst (λ (t : walk.Seen sound). IsTrue (t.value names)) (resolves-expr e (layer.Variable offset name namespace pos) is) h)).1).0
+
+pub good_target : (e : Expr) (offset : Option NonZeroUsize) (name : Name) (namespace : Namespace) (pos : Position) (names : List Name) →
+    out-Expr e ≡ layer.Variable offset name namespace pos → IsTrue (target_resolves (tests_of e) names) →
+    IsTrue (is_good offset name names)
+good_target e offset name namespace pos names is h = good_name e offset name namespace pos names is
+    (place_then (tests_of e).is_place ((tests_of e).value names) h)
 
 pub plain_target : (e : Expr) (offset : Option NonZeroUsize) (name : Name) (namespace : Namespace) (pos : Position) (names : List Name) →
     out-Expr e ≡ layer.Variable offset name namespace pos → IsTrue (target_resolves (tests_of e) names) →

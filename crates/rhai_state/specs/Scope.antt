@@ -1,6 +1,8 @@
 -- Scopes as plain lists of entries, the newest last.
-use Rattle.std.specs.Prelude.{ℕ, List, [], Option, Some, None, map, slice_get, slice_set}
+use Rattle.std.specs.Prelude.{ℕ, ◌-◌, ◌≤◌, Bool, true, false, List, [], length, Option, Some, None, map, slice_get, slice_set, IfSome}
 use Rattle.std.specs.Option.{option_map}
+use Rattle.std.specs.Int.NonZero.{non_zero_usize_get}
+use Rattle.std.specs.declared.num.NonZeroUsize.{NonZeroUsize}
 use Rattle.std.specs.Borrow.{Bor}
 use Rattle.rhai_values.specs.declared.base.value.AccessMode.{AccessMode}
 use Rattle.rhai_values.specs.declared.base.value.Dynamic.{Dynamic}
@@ -8,6 +10,15 @@ use Rattle.rhai_state.specs.declared.scope.ScopeEntry.{ScopeEntry}
 use Rattle.rhai_state.specs.declared.scope.Scope.{Scope}
 use Rattle.rhai_values.specs.Modes.{with_mode}
 use Rattle.rhai_state.specs.Newest.{newest}
+
+-- the offset that a variable is found by: its own, and none where variables are searched for
+abbrev pub in_use : Bool → Option NonZeroUsize → Option NonZeroUsize
+in_use true offset = None
+in_use false offset = offset
+
+-- an offset that is given is at most a length
+abbrev pub Fits : Option NonZeroUsize → ℕ → Type 0
+Fits offset length = IfSome offset (λ k. non_zero_usize_get k ≤ length)
 
 module _ {H : Type 0} where
   abbrev pub entries_of : Scope H → List (ScopeEntry H)
@@ -27,10 +38,19 @@ module _ {H : Type 0} where
   abbrev pub index_of : List ℕ → List (ScopeEntry H) → Option ℕ
   index_of name entries = newest name_of name entries
 
+  -- where a variable stands: at its offset from the end, whatever the name there, or else at the newest entry of its name
+  abbrev pub place_of : Option NonZeroUsize → List ℕ → List (ScopeEntry H) → Option ℕ
+  place_of (Some offset) name entries = Some (length entries - non_zero_usize_get offset)
+  place_of None name entries = index_of name entries
+
   -- the value of the entry at a place
   abbrev pub value_in : List (ScopeEntry H) → Option ℕ → Option (Dynamic H)
   value_in entries None = None
   value_in entries (Some at) = option_map value_of (slice_get entries at)
+
+  -- the value of a variable, by its offset or its name
+  abbrev pub found_by : Option NonZeroUsize → List ℕ → List (ScopeEntry H) → Option (Dynamic H)
+  found_by offset name entries = value_in entries (place_of offset name entries)
 
   -- the value of the newest entry of a name
   abbrev pub found : List ℕ → List (ScopeEntry H) → Option (Dynamic H)

@@ -1,16 +1,18 @@
 //! The variables of a run.
 
 ghost use Rattle.std.specs.Prelude.{◌≡◌, ◌<◌, ◌↔◌, [], ◌∷◌, ◌++◌, take, length, slice_get, is_some, Some};
-ghost use Rattle.std.specs.Prelude.{string_bytes, IsTrue, OnOk, OnErr};
+ghost use Rattle.std.specs.Prelude.{string_bytes, IsTrue, IfSome, OnOk, OnErr};
 ghost use Rattle.std.specs.Option.{option_map};
 ghost use Rattle.std.specs.Borrow.{sem};
 ghost use Rattle.rhai_state.specs.Lends.{lends_value};
-ghost use Rattle.rhai_state.specs.Scope.{entries_of, index_of, new_entry, revalued, shown, value_of};
+ghost use Rattle.rhai_state.specs.Scope.{entries_of, index_of, new_entry, place_of, revalued, shown, value_of};
+ghost use Rattle.rhai_state.specs.Scope.{Fits};
 
 use rhai_items::{Items, Shared, Text};
 use rhai_values::base::value::{AccessMode, Dynamic};
 use std::alloc::{AllocError, Global};
 use std::mem::replace;
+use std::num::NonZeroUsize;
 
 /// A variable: its name, its value, and the names under which it is exported.
 #[derive(Drop)]
@@ -76,6 +78,20 @@ impl<H> Scope<H> {
         ensures { result ≡ index_of name.now (entries_of self.now) }
     {
         newest_entry(self.entries.as_slice(), name)
+    }
+
+    /// The place of a variable: at its offset from the end where one is given, whatever the name of the
+    /// entry there, and else that of the newest entry of its name. Ports what upstream's
+    /// `search_scope_only` does with an index. Asked: the offset is at most the length.
+    pub fn place_of(&self, offset: Option<NonZeroUsize>, name: &str) -> Option<usize>
+        requires { Fits offset (length (entries_of self.now)) }
+        ensures exact { result ≡ place_of offset name.now (entries_of self.now) }
+        ensures within { IfSome result (λ at. at < length (entries_of self.now)) }
+    {
+        match offset {
+            Some(offset) => Some(self.entries.len() - offset.get()),
+            None => self.search(name),
+        }
     }
 
     /// The name, the value and the aliases of the entry at a place, if there is one. Ports

@@ -1,12 +1,14 @@
 //! The state of a run.
 
 ghost use Rattle.std.specs.Prelude.{◌≡◌, [], ◌∷◌, ◌++◌, take, string_bytes, IfOk, OnOk, OnErr};
+ghost use Rattle.rhai_state.specs.Scope.{in_use};
 ghost use Rattle.rhai_state.specs.State.{import_as, import_of, with_imports, IsFresh};
 
 use rhai_items::{Items, Shared, Table, Text};
 use rhai_values::base::value::{Dynamic, Import, Module};
 use rhai_values::cells::CellStore;
 use std::alloc::{AllocError, Global};
+use std::num::NonZeroUsize;
 
 /// What a run keeps beside its variables. Ports upstream's `GlobalRuntimeState`.
 pub struct GlobalRuntimeState<H> {
@@ -47,6 +49,19 @@ impl<H: Drop> Drop for GlobalRuntimeState<H> {
             cells: _,
             constant_tables: _,
         } = self;
+    }
+}
+
+impl<H> GlobalRuntimeState<H> {
+    /// The offset that a variable is found by: its own, and none where variables are searched for.
+    pub fn offset_in_use(&self, offset: Option<NonZeroUsize>) -> Option<NonZeroUsize>
+        ensures { result ≡ in_use self.now.always_search_scope offset }
+    {
+        if self.always_search_scope {
+            None
+        } else {
+            offset
+        }
     }
 }
 

@@ -1,18 +1,21 @@
 //! Variables, and what a restoring list takes back.
 
 ghost use Rattle.std.specs.Prelude.{◌≡◌, ℕ, List, Ok, Err, Some, None, false, IsTrue, ◌++◌, ◌∷◌, [], true};
-ghost use Rattle.std.specs.Prelude.{not, ◌&&◌, is_some, take, IfOk, IfErr, OnOk, OnErr};
+ghost use Rattle.std.specs.Prelude.{not, ◌&&◌, ◌<◌, is_some, length, take, IfSome, IfOk, IfErr, OnOk, OnErr};
 ghost use Rattle.std.specs.Borrow.{sem};
 ghost use Rattle.rhai_values.specs.Cells.{cells_of};
 ghost use Rattle.rhai_state.specs.Errors.{is_out_of_memory};
 ghost use Rattle.rhai_state.specs.declared.error.EvalAltResult.TheVariants as error;
-ghost use Rattle.rhai_state.specs.Scope.{entries_of, found, index_of, new_entry};
+ghost use Rattle.rhai_check.specs.Names.{is_good};
+ghost use Rattle.rhai_tree.specs.declared.expr.Expr.{out-Expr};
+ghost use Rattle.rhai_state.specs.Scope.{entries_of, found_by, index_of, names_in, new_entry, Fits};
 ghost use Rattle.rhai_machine.specs.language.State.{Answers};
 ghost use Rattle.rhai_machine.specs.language.Values.{copied, unit_value as unit};
 ghost use Rattle.rhai_machine.specs.language.Names.{looked_up, read, variable_of};
 ghost use Rattle.rhai_machine.specs.language.Statements.{deeper, mode_of as mode_asked};
 ghost use Rattle.rhai_steps.specs.Declaring.{declarable, is_full, is_taken};
 ghost use Rattle.rhai_steps.specs.Lends.{lends_variable, with_value};
+ghost use Rattle.rhai_steps.specs.Offsets.{offset_in, place_at};
 ghost use Rattle.rhai_steps.specs.Saves.{saved_in, saved_now, left_global};
 
 use crate::errors::{data_race_of, variable_exists, variable_not_found};
@@ -23,25 +26,62 @@ use rhai_state::error::EvalAltResult;
 use rhai_state::limits::Limits;
 use rhai_state::scope::Scope;
 use rhai_state::state::GlobalRuntimeState;
-use rhai_tree::expr::Ident;
+use rhai_tree::expr::{Expr, Ident};
 use rhai_tree::flags::ASTFlags;
 use rhai_tree::position::Position;
 use rhai_values::base::value::{AccessMode, Dynamic, Host, Union};
 use rhai_values::cells::CellStore;
 use std::alloc::Global;
+use std::num::NonZeroUsize;
 
-/// Reads a variable by its name: a copy, unless there is none or its cell is held.
+/// The place of the newest variable of a name: by its offset where that is given and variables are not
+/// searched for, and else by search. Asked: the offset leads to the newest variable of the name.
+pub fn place_of_variable<H: Host>(
+    global: &GlobalRuntimeState<H>,
+    scope: &Scope<H>,
+    offset: Option<NonZeroUsize>,
+    name: &Shared<Text>,
+) -> Option<usize>
+    requires { IsTrue (is_good offset name.now (names_in scope.now)) }
+    ensures exact { result ≡ index_of name.now (entries_of scope.now) }
+    ensures within { IfSome result (λ at. at < length (entries_of scope.now)) }
+{
+    let offset = global.offset_in_use(offset);
+    scope.place_of(offset, name.get().as_str())
+}
+
+/// The place that an expression's offset leads to in a scope of so many variables: None where it is no
+/// variable, or has no offset, or variables are searched for. Asked: the offset is at most the count.
+pub fn scope_index<H: Host>(
+    global: &GlobalRuntimeState<H>,
+    expr: &Expr,
+    scope_len: usize,
+) -> Option<usize>
+    requires { Fits (offset_in global.now.always_search_scope (out-Expr expr.now)) scope_len }
+    ensures { result ≡ place_at (offset_in global.now.always_search_scope (out-Expr expr.now)) scope_len }
+{
+    let Expr::Variable { offset, .. } = expr else {
+        return None;
+    };
+    let offset = global.offset_in_use(*offset)?;
+    Some(scope_len - offset.get())
+}
+
+/// Reads a variable: a copy, unless there is none or its cell is held. It is found as
+/// `place_of_variable` says, which asks the same of its offset.
 pub fn read_variable<H: Host>(
     alloc: Global,
-    cells: &CellStore<H>,
+    global: &GlobalRuntimeState<H>,
     scope: &Scope<H>,
+    offset: Option<NonZeroUsize>,
     name: &Shared<Text>,
     pos: Position,
 ) -> Result<Dynamic<H>, EvalAltResult<H>>
-    ensures { Answers result (read (cells_of cells.now) name.now pos (entries_of scope.now)) }
+    requires { IsTrue (is_good offset name.now (names_in scope.now)) }
+    ensures { Answers result (read (cells_of global.now.cells) name.now pos (entries_of scope.now)) }
 {
-    match scope.search(name.get().as_str()) {
-        Some(index) => copy_variable(alloc, cells, scope.value_at(index), name, pos),
+    match place_of_variable(global, scope, offset, name) {
+        Some(index) => copy_variable(alloc, &global.cells, scope.value_at(index), name, pos),
         None => Err(variable_not_found(name, pos)),
     }
 }
@@ -110,9 +150,10 @@ pub fn may_declare<H: Host>(
     Ok(())
 }
 
-/// The value of the newest variable of a name, to be changed in place. The scope comes first, so that
-/// a clause can tell what becomes of it: what is written stands at the entry that was found, and every
-/// other entry is as it was. Of a variable that is the handle of a cell the handle is lent. At an
+/// The value of a variable, to be changed in place: the one at an offset from the end where that is
+/// given, whatever its name, and else the newest of the name. The scope comes first, so that a clause
+/// can tell what becomes of it: what is written stands at the entry that was found, and every other
+/// entry is as it was. Of a variable that is the handle of a cell the handle is lent. At an
 /// error the scope is as it was.
 ///
 /// # Errors
@@ -121,17 +162,20 @@ pub fn may_declare<H: Host>(
 pub fn find_variable<'s, H: Host>(
     scope: &'s mut Scope<H>,
     cells: &CellStore<H>,
+    offset: Option<NonZeroUsize>,
     name: &Shared<Text>,
     pos: Position,
 ) -> Result<&'s mut Dynamic<H>, EvalAltResult<H>>
+    requires { Fits offset (length (entries_of scope.old)) }
     ensures* writes_back { sem 𝓛 (lends_variable H.row scope.entry
-        (with_value scope.entry.now name.now) result) }
+        (with_value scope.entry.now offset name.now) result) }
     ensures found { IfOk result (λ value. variable_of (cells_of cells.now) name.now pos
-        (found name.now (entries_of scope.old)) ≡ Ok value.now) }
+        (found_by offset name.now (entries_of scope.old)) ≡ Ok value.now) }
     ensures missed { IfErr result (λ e. is_out_of_memory e ≡ false →
-        variable_of (cells_of cells.now) name.now pos (found name.now (entries_of scope.old)) ≡ Err e) }
+        variable_of (cells_of cells.now) name.now pos (found_by offset name.now (entries_of scope.old))
+        ≡ Err e) }
 {
-    let Some(index) = scope.search(name.get().as_str()) else {
+    let Some(index) = scope.place_of(offset, name.get().as_str()) else {
         return Err(variable_not_found(name, pos));
     };
     if is_held(cells, scope.value_at(index)) {

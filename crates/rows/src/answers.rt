@@ -2,6 +2,7 @@
 
 use crate::program::{write_refusals, write_run};
 use crate::scripts::{write_number, write_ways};
+use crate::searches::write_search;
 use crate::values::write_sample;
 use std::alloc::Global;
 use std::io;
@@ -15,6 +16,8 @@ use std::io::Write;
 /// - `run [WORD] ..`: the lines of the program for the words, and its status
 /// - `refuses [WORD] ..`: the status of the program where one of its writes is refused
 /// - `prints NAME`: a value or a place of that name
+/// - `finds NAME OFFSET`, `searches NAME OFFSET`: where a variable stands in a scope, if its offset
+///   tells, and its value; the second has variables searched for
 pub fn answer(alloc: Global, call: &str) -> io::Result<Vec<u8>> {
     let mut out = Vec::new(alloc);
     write_answer(alloc, call, &mut out)?;
@@ -28,6 +31,8 @@ fn write_answer(alloc: Global, call: &str, out: &mut Vec<u8>) -> io::Result<()> 
         "run" => write_run(alloc, rest, out),
         "refuses" => write_refusals(alloc, rest, out),
         "prints" => write_sample(alloc, rest, out),
+        "finds" => write_search(alloc, rest, false, out),
+        "searches" => write_search(alloc, rest, true, out),
         _ => write_ways(alloc, form, rest, out),
     }
 }

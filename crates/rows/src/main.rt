@@ -5,6 +5,7 @@
 mod answers;
 mod program;
 mod scripts;
+mod searches;
 mod values;
 
 use crate::answers::answer;

@@ -1,16 +1,17 @@
 //! Expressions. Ports upstream's `eval/expr.rs`; the contracts speak of the machine's runs.
 
-ghost use Rattle.std.specs.Prelude.{◌≡◌, ◌<◌, OnOk, IfOk, IfErr, IsTrue, true, false, Some, Ok, Err};
+ghost use Rattle.std.specs.Prelude.{◌≡◌, ◌<◌, length, OnOk, IfOk, IfErr, IsTrue, true, false, Some, Ok, Err};
 ghost use Rattle.rhai_check.specs.Frame.{resolves_expr};
 ghost use Rattle.rhai_tree.specs.declared.expr.Expr.{out-Expr};
 ghost use Rattle.rhai_values.specs.Cells.{cells_of};
 ghost use Rattle.rhai_state.specs.Errors.{is_out_of_memory};
 ghost use Rattle.rhai_state.specs.Native.{was};
-ghost use Rattle.rhai_state.specs.Scope.{entries_of, names_in};
+ghost use Rattle.rhai_state.specs.Scope.{entries_of, names_in, Fits};
 ghost use Rattle.rhai_places.specs.declared.target.Part.TheVariants as part;
 ghost use Rattle.rhai_machine.specs.language.Values.{is_handle, is_truth};
 ghost use Rattle.rhai_machine.specs.language.Frames.{Eval};
 ghost use Rattle.rhai_machine.specs.language.Runs.{Runs};
+ghost use Rattle.rhai_steps.specs.Offsets.{offset_in, place_at};
 ghost use Rattle.rhai_steps.specs.States.{state_of};
 ghost use Rattle.rhai_laws.specs.Kept.{Kept};
 ghost use Rattle.rhai_eval.specs.Ends.{EndsAs};
@@ -30,14 +31,30 @@ use rhai_state::state::GlobalRuntimeState;
 use rhai_state::table::NativeTable;
 use rhai_steps::charges::track_operation;
 use rhai_steps::values::{bool_value, int_value, unit_value};
-use rhai_steps::variables::read_variable;
+use rhai_steps::variables::{read_variable, scope_index};
 use rhai_tree::expr::Expr;
 use rhai_values::base::value::{Dynamic, Host};
 use std::alloc::Global;
 
 impl<H: Host> Engine<H> {
-    /// The place of the variable that an expression names: the newest of the name. Ports upstream's
-    /// `search_scope_only`; asked for a variable alone.
+    /// Where the variable of an expression stands in a scope of a length, counted from the start: where
+    /// it has an offset and variables are not searched for, and else None. It takes no memory. Asked: the
+    /// offset is at most the length.
+    pub fn scope_index(
+        &self,
+        state: &GlobalRuntimeState<H>,
+        expr: &Expr,
+        scope_len: usize,
+    ) -> Option<usize>
+        requires { Fits (offset_in state.now.always_search_scope (out-Expr expr.now)) scope_len }
+        ensures { result ≡ place_at (offset_in state.now.always_search_scope (out-Expr expr.now)) scope_len }
+    {
+        scope_index(state, expr, scope_len)
+    }
+
+    /// The place of the variable that an expression names: where it has an offset and variables are not
+    /// searched for, the entry there, whatever its name, and else the newest entry of the name. Ports
+    /// upstream's `search_scope_only`; asked for a variable alone, whose offset is at most the length.
     ///
     /// The place is the value that `crate::eval::search::variable_mut` lends, whose clause
     /// `writes_back` tells what becomes of the scope: behind the engine no clause here repeats it.
@@ -56,16 +73,19 @@ impl<H: Host> Engine<H> {
         expr: &Expr,
     ) -> Result<Target<'s, H>, EvalAltResult<H>>
         requires variable { is_variable (out-Expr expr.now) ≡ true }
+        requires fits { Fits (offset_in global.old.always_search_scope (out-Expr expr.now))
+            (length (entries_of scope.old)) }
         ensures found { IfOk result (λ target.
-            searched (out-Expr expr.now) (cells_of global.old.cells) (entries_of scope.old)
-            ≡ Some (Ok target.at.now)) }
+            searched global.old.always_search_scope (out-Expr expr.now) (cells_of global.old.cells)
+            (entries_of scope.old) ≡ Some (Ok target.at.now)) }
         ensures place { IfOk result (λ target. target.part ≡ part.Whole) }
         ensures missed { IfErr result (λ e. is_out_of_memory e ≡ false →
-            searched (out-Expr expr.now) (cells_of global.old.cells) (entries_of scope.old) ≡ Some (Err e)) }
+            searched global.old.always_search_scope (out-Expr expr.now) (cells_of global.old.cells)
+            (entries_of scope.old) ≡ Some (Err e)) }
         ensures same { global.new ≡ global.old }
         ensures caches { _caches.new ≡ _caches.old }
     {
-        let at = variable_mut(scope, &global.cells, expr)?;
+        let at = variable_mut(scope, global, expr)?;
         Ok(Target {
             at,
             part: Part::Whole,
@@ -131,9 +151,12 @@ impl<H: Host> Engine<H> {
             Expr::BoolConstant(value, _) => Ok(bool_value(*value)),
             Expr::IntegerConstant(value, _) => Ok(int_value(value)),
             Expr::Unit(_) => Ok(unit_value()),
-            Expr::Variable { name, pos, .. } => {
-                read_variable(alloc, &run.global.cells, &run.scope, name, *pos)
-            }
+            Expr::Variable {
+                offset,
+                name,
+                pos,
+                ..
+            } => read_variable(alloc, &run.global, &run.scope, *offset, name, *pos),
             Expr::FnCall(call, pos) => self.run_fn_call_expr(alloc, run, table, call, *pos),
             Expr::Stmt(block) => {
                 self.run_stmt_block(alloc, run, table, block.statements.as_slice(), true)

@@ -1,24 +1,27 @@
 //! The place of a variable in a scope. The contracts cite specs/Search.antt and specs/Lends.antt.
 
-ghost use Rattle.std.specs.Prelude.{◌≡◌, Some, Ok, Err, IfOk, IfErr, true, false};
+ghost use Rattle.std.specs.Prelude.{◌≡◌, Some, Ok, Err, IfOk, IfErr, length, true, false};
 ghost use Rattle.std.specs.Borrow.{sem};
 ghost use Rattle.rhai_tree.specs.declared.expr.Expr.{out-Expr};
 ghost use Rattle.rhai_values.specs.Cells.{cells_of};
 ghost use Rattle.rhai_state.specs.Errors.{is_out_of_memory};
-ghost use Rattle.rhai_state.specs.Scope.{entries_of};
+ghost use Rattle.rhai_state.specs.Scope.{entries_of, Fits};
 ghost use Rattle.rhai_steps.specs.Lends.{lends_variable};
+ghost use Rattle.rhai_steps.specs.Offsets.{offset_in};
 ghost use Rattle.rhai_eval.specs.Lends.{with_variable};
 ghost use Rattle.rhai_eval.specs.Search.{is_variable, searched};
 
 use rhai_state::error::EvalAltResult;
 use rhai_state::scope::Scope;
+use rhai_state::state::GlobalRuntimeState;
 use rhai_steps::variables::find_variable;
 use rhai_tree::expr::Expr;
 use rhai_values::base::value::{Dynamic, Host};
-use rhai_values::cells::CellStore;
 
-/// The value of the variable that an expression names, the newest of the name, to be changed in
-/// place. `Engine::search_scope_only` is this with the value as a target. Asked for a variable alone.
+/// The value of the variable that an expression names, to be changed in place: where it has an offset
+/// and variables are not searched for, that of the entry there, whatever its name, and else of the
+/// newest of the name. `Engine::search_scope_only` is this with the value as a target. Asked for a
+/// variable alone, whose offset is at most the scope's length.
 ///
 /// The scope comes first, so that a clause can tell what becomes of it: when the borrow ends, what
 /// was written stands at the entry that was found, and every other entry is as it was. Of a variable
@@ -30,19 +33,31 @@ use rhai_values::cells::CellStore;
 /// that is held, both at the variable.
 pub fn variable_mut<'s, H: Host>(
     scope: &'s mut Scope<H>,
-    cells: &CellStore<H>,
+    global: &GlobalRuntimeState<H>,
     expr: &Expr,
 ) -> Result<&'s mut Dynamic<H>, EvalAltResult<H>>
     requires variable { is_variable (out-Expr expr.now) ≡ true }
+    requires fits { Fits (offset_in global.now.always_search_scope (out-Expr expr.now))
+        (length (entries_of scope.old)) }
     ensures* writes_back { sem 𝓛 (lends_variable H.row scope.entry
-        (with_variable scope.entry.now (out-Expr expr.now)) result) }
+        (with_variable scope.entry.now global.now.always_search_scope (out-Expr expr.now)) result) }
     ensures found { IfOk result (λ value.
-        searched (out-Expr expr.now) (cells_of cells.now) (entries_of scope.old) ≡ Some (Ok value.now)) }
+        searched global.now.always_search_scope (out-Expr expr.now) (cells_of global.now.cells)
+        (entries_of scope.old) ≡ Some (Ok value.now)) }
     ensures missed { IfErr result (λ e. is_out_of_memory e ≡ false →
-        searched (out-Expr expr.now) (cells_of cells.now) (entries_of scope.old) ≡ Some (Err e)) }
+        searched global.now.always_search_scope (out-Expr expr.now) (cells_of global.now.cells)
+        (entries_of scope.old) ≡ Some (Err e)) }
 {
     match expr {
-        Expr::Variable { name, pos, .. } => find_variable(scope, cells, name, *pos),
+        Expr::Variable {
+            offset,
+            name,
+            pos,
+            ..
+        } => {
+            let offset = global.offset_in_use(*offset);
+            find_variable(scope, &global.cells, offset, name, *pos)
+        }
         _ => unreachable!(),
     }
 }

@@ -208,7 +208,13 @@ impl<H: Host> Engine<H> {
             (OpenStmt (layer.Assignment op lhs.now rhs.now) restoring)
             (state_in (T.state table.old) run.old) result (state_in (T.state table.new) run.new) }
     {
-        let Expr::Variable { name, pos, .. } = lhs else {
+        let Expr::Variable {
+            offset,
+            name,
+            pos,
+            ..
+        } = lhs
+        else {
             unreachable!()
         };
         let value = self.run_expr(alloc, run, table, rhs)?;
@@ -219,6 +225,7 @@ impl<H: Host> Engine<H> {
             &mut run.global,
             table,
             &mut run.scope,
+            *offset,
             name,
             *pos,
             op,

@@ -27,6 +27,9 @@ run_expr-returns-in-IntegerConstant-clause-runs = expressions.run_expr-returns-i
 pub run_expr-returns-in-Unit-clause-runs : goal.run_expr-returns-in-Unit-clause-runs
 run_expr-returns-in-Unit-clause-runs = expressions.run_expr-returns-in-Unit-clause-runs
 
+pub run_expr-read_variable-requires : goal.run_expr-read_variable-requires
+run_expr-read_variable-requires = expressions.run_expr-read_variable-requires
+
 pub run_expr-returns-in-Variable-clause-runs : goal.run_expr-returns-in-Variable-clause-runs
 run_expr-returns-in-Variable-clause-runs = expressions.run_expr-returns-in-Variable-clause-runs
 
@@ -106,6 +109,9 @@ run_assignment-returns-in_err-value-clause-runs = statements.run_assignment-retu
 
 pub run_assignment-returns-in_err-value-2-clause-runs : goal.run_assignment-returns-in_err-value-2-clause-runs
 run_assignment-returns-in_err-value-2-clause-runs = statements.run_assignment-returns-in_err-value-2-clause-runs
+
+pub run_assignment-assign_variable-requires : goal.run_assignment-assign_variable-requires
+run_assignment-assign_variable-requires = statements.run_assignment-assign_variable-requires
 
 pub run_assignment-returns-clause-runs : goal.run_assignment-returns-clause-runs
 run_assignment-returns-clause-runs = statements.run_assignment-returns-clause-runs

@@ -7,7 +7,7 @@ use Rattle.rhai_machine.specs.language.Runs.{Steps}
 use Rattle.rhai_steps.proofs.Pieces.{passed, told}
 use Rattle.rhai_eval.specs.States.{under}
 use Rattle.rhai_eval.proofs.Chain.{begins, opens, reads, refuses}
-use Rattle.rhai_eval.proofs.NameLemmas.{plain_name}
+use Rattle.rhai_eval.proofs.NameLemmas.{good_name, plain_name}
 use Rattle.rhai_eval.proofs.engine.Engine.+eval.Goals as goal
 
 pub run_expr-returns-in_err-track_operation-clause-runs : goal.run_expr-returns-in_err-track_operation-clause-runs
@@ -42,6 +42,11 @@ run_expr-returns-in-Unit-clause-runs g t c k =
     begins rules _ c.args.run.now.global c.track_operation.new.global _ _ c.in_ok-track_operation.ensures.room
     c.in_ok-track_operation.ensures.charged _ (layer.Unit c.in-Unit.field-0) (rw (c.in-Unit.is, exprs.outs-Unit) refl) k
     ⨾ next (rw c.unit_value.ensures here)
+
+pub run_expr-read_variable-requires : goal.run_expr-read_variable-requires
+run_expr-read_variable-requires g t c =
+    good_name c.args.expr.now c.in-Variable.offset c.in-Variable.name c.in-Variable.namespace c.in-Variable.pos _
+    (rw (c.in-Variable.is, exprs.outs-Variable) refl) c.requires.resolves
 
 pub run_expr-returns-in-Variable-clause-runs : goal.run_expr-returns-in-Variable-clause-runs
 unfolding after Steps

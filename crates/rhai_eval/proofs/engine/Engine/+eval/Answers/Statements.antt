@@ -13,7 +13,7 @@ use Rattle.rhai_laws.proofs.KeptLaws.{names_begin}
 use Rattle.rhai_steps.proofs.Pieces.{passed, exits, told}
 use Rattle.rhai_eval.specs.Memory.{asks_stmt}
 use Rattle.rhai_eval.specs.States.{names, offer_of, under}
-use Rattle.rhai_eval.proofs.NameLemmas.{plain_return, plain_target, plain_var, names_restored, rest_resolves, any_item}
+use Rattle.rhai_eval.proofs.NameLemmas.{good_target, plain_return, plain_target, plain_var, names_restored, rest_resolves, any_item}
 use Rattle.rhai_eval.proofs.LoopSteps.{begins_assignment}
 use Rattle.rhai_eval.proofs.Chain.{chooses, truth_fails, flat_fails, on_ok_given, drop_item, drop_all, begins_stmt, on_ok, opens_stmt}
 use Rattle.rhai_eval.proofs.Chain.{refuses_stmt, restores, enters_empty, enters_plain, enters_restoring, is_empty_list, is_not_empty}
@@ -177,6 +177,11 @@ run_assignment-returns-in_err-value-2-clause-runs g t c =
     (plain_target c.args.lhs.now c.in-Variable.offset c.in-Variable.name c.in-Variable.namespace c.in-Variable.pos _
     (rw (c.in-Variable.is, exprs.outs-Variable) refl) c.requires.resolves_target) ⨾ c.in_ok-value.ensures.runs (AssignValue _ _ ∷ k)
     ⨾ flat_fails rules _ _ k _ _ (AssignValue _ _) refl (rw c.position.ensures at c.in_err-value-2.ensures.exact))
+
+pub run_assignment-assign_variable-requires : goal.run_assignment-assign_variable-requires
+run_assignment-assign_variable-requires g t c = rw c.in_ok-value.ensures.names
+    (good_target c.args.lhs.now c.in-Variable.offset c.in-Variable.name c.in-Variable.namespace c.in-Variable.pos _
+    (rw (c.in-Variable.is, exprs.outs-Variable) refl) c.requires.resolves_target)
 
 pub run_assignment-returns-clause-runs : goal.run_assignment-returns-clause-runs
 unfolding after Steps

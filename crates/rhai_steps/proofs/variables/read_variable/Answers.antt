@@ -1,7 +1,0 @@
-use Rattle.std.proofs.Common.{sym, ◌∙◌}
-use Rattle.rhai_state.specs.Scope.{name_of}
-use Rattle.rhai_steps.proofs.Within.{newest_within}
-use Rattle.rhai_steps.proofs.variables.read_variable.Goals as goal
-
-pub value_at-requires : goal.value_at-requires
-value_at-requires g c = newest_within name_of _ _ _ (sym c.search.ensures ∙ c.in-Some.is)
