@@ -2,3 +2,4 @@ pub mod Places
 pub mod Natives
 pub mod Writes
 pub mod Updates
+pub mod Prepared

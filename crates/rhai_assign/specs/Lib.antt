@@ -1,4 +1,5 @@
+pub mod Follows
+pub mod InPlace
+pub mod Keeps
 pub mod Targets
 pub mod Updates
-pub mod Follows
-pub mod Keeps

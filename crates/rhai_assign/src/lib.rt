@@ -4,6 +4,7 @@
 //! Places and Assignment, and the crate's own specs/.
 #![tactic(auto)]
 
+pub mod in_place;
 mod native;
 mod place;
 mod update;

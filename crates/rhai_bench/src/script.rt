@@ -67,10 +67,29 @@ impl Script {
         ensures not_run { IfOk result (λ o. IfRefused o.ending
             (λ _. (o.num_operations ≡ 0) × (entries_of o.scope ≡ []))) }
     {
+        self.run_above(alloc, way, Scope::new(alloc))
+    }
+
+    /// Checks the script and runs it in one of the ways, above the variables of a scope and without
+    /// natives.
+    pub fn run_above(
+        self,
+        alloc: Global,
+        way: Way,
+        scope: Scope<Pair>,
+    ) -> Result<Outcome, AllocError>
+        ensures limit { IfOk result (λ o. o.num_operations ≤ limit_of self.settings.limits.max_operations) }
+        ensures variables { IfOk result (λ o. length (names_in scope) ≤ self.settings.limits.max_variables →
+            length (names_in o.scope) ≤ self.settings.limits.max_variables) }
+        ensures refused { IfOk result (λ o. IfRefused o.ending
+            (λ f. f ≢ NoMemory → ¬ IsFormedTree self.statements self.functions)) }
+        ensures not_run { IfOk result (λ o. IfRefused o.ending
+            (λ _. (o.num_operations ≡ 0) × (entries_of o.scope ≡ entries_of scope))) }
+    {
         let mut global = GlobalRuntimeState::new(alloc)?;
         global.always_search_scope = way.always_search_scope;
         let mut caches = way.caches(alloc);
-        let mut scope = Scope::new(alloc);
+        let mut scope = scope;
         let ending = match check_tree(alloc, self.statements, self.functions) {
             Err(fault) => Ending::Refused(fault),
             Ok(tree) => {

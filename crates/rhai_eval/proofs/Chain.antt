@@ -20,8 +20,8 @@ use Rattle.rhai_machine.specs.machine.Memory.{here, next, wanting, ◌⨾◌}
 use Rattle.rhai_machine.specs.language.Setting.{Rules, limit_under}
 use Rattle.rhai_machine.specs.language.State.{State}
 use Rattle.rhai_state.specs.Errors.{is_out_of_memory}
-use Rattle.rhai_machine.specs.language.Frames.{AndPart, OrPart, WhileCondition, DoCondition, StatementValue, RightOperand, AssignValue}
-use Rattle.rhai_machine.specs.language.Frames.{ReturnValue, IfCondition, Control, Frame, Core, core, ended, UnaryOperand, LeftOperand}
+use Rattle.rhai_machine.specs.language.Frames.{StatementValue, RightOperand, AssignValue}
+use Rattle.rhai_machine.specs.language.Frames.{ReturnValue, Control, Frame, Core, core, ended, UnaryOperand, LeftOperand}
 use Rattle.rhai_machine.specs.language.Frames.{DefineValue, Eval, Exec, Argument, OpenExpr, OpenStmt, Enter, Run, Back, Fail, RestoreList}
 use Rattle.rhai_machine.specs.language.Frames.{Saved}
 use Rattle.rhai_machine.specs.language.Expressions.{literal_of}
@@ -31,15 +31,14 @@ use Rattle.rhai_tree.specs.declared.expr.FnCallExpr.{FnCallExpr}
 use Rattle.rhai_tree.specs.declared.token.Token.{Token}
 use Rattle.rhai_machine.specs.language.Statements.{restored_by, saved_by, deeper, define_core, mode_of}
 use Rattle.rhai_machine.specs.language.Unwinding.{down_core, up_core}
-use Rattle.rhai_tree.specs.declared.expr.StmtBlock.{StmtBlock}
-use Rattle.std.specs.Prelude.{OnErr, if◌then◌else◌}
+use Rattle.std.specs.Prelude.{OnErr}
 use Rattle.rhai_values.specs.Cells.{cells_of}
 use Rattle.std.specs.declared.num.NonZeroUsize.{NonZeroUsize}
 use Rattle.rhai_tree.specs.declared.expr.Namespace.{Namespace}
 use Rattle.rhai_check.specs.Forms.{is_exported, is_unqualified}
 use Rattle.rhai_check.specs.Names.{Name}
 use Rattle.rhai_machine.specs.language.Names.{read}
-use Rattle.rhai_machine.specs.language.Values.{flat, truth, unit_value}
+use Rattle.rhai_machine.specs.language.Values.{flat, unit_value}
 use Rattle.rhai_machine.specs.language.Runs.{at, Goes, Steps, Runs}
 use Rattle.rhai_tree.specs.declared.expr.Ident.{Ident}
 use Rattle.rhai_tree.specs.declared.flags.ASTFlags.{ASTFlags}
@@ -147,15 +146,6 @@ module _ {S H : Type 0} (rules : Rules S H) where
       step_by rules _ _ (Go (core (Argument operand) (UnaryOperand (operation_at call.name token pos) (position_of operand) ∷ k)
       l.local)) (rw (fast, is, args) refl) here
 
-  pub opens_binary : (call : FnCallExpr) (token : Token) (left right : Expr) (pos : Position) (k : List (Frame H)) (l : State S H) →
-      rules.setting.offer.fast_operators ≡ true → call.op_token ≡ Some token → call.args ≡ left ∷ right ∷ [] →
-      Goes rules (at (OpenExpr (layer.Expr::FnCall call pos)) k l)
-      (at (Argument left) (LeftOperand (operation_at call.name token pos) (position_of left) right ∷ k) l)
-  unfolding after
-  opens_binary call token left right pos k l fast is args =
-      step_by rules _ _ (Go (core (Argument left) (LeftOperand (operation_at call.name token pos) (position_of left) right ∷ k) l.local))
-      (rw (fast, is, args) refl) here
-
   -- a restoring list's end takes back what it saved
   pub restores : (r : Result (Dynamic H) (EvalAltResult H)) (saved : Saved) (k : List (Frame H)) (old new : State S H) →
       new ≡ record old { local = restored_by saved old.local } → Goes rules (at (ended r) (RestoreList saved ∷ k) old) (at (ended r) k new)
@@ -199,15 +189,7 @@ module _ {S H : Type 0} (rules : Rules S H) where
       wanting {at = pos} (step_by rules _ _ _ (ap Go (passes (error.ErrorOutOfMemory pos))) here)
   fails_on v f k l e passes fails = step_by rules _ _ _ (ap Go (fails refl)) here
 
-  -- where a frame asks for a truth value, and where it flattens its value
-  abbrev pub asks_truth : Frame H → Option Position
-  asks_truth (IfCondition test_at body branch) = Some test_at
-  asks_truth (AndPart part_at rest) = Some part_at
-  asks_truth (OrPart part_at rest) = Some part_at
-  asks_truth (WhileCondition test body) = Some (position_of test)
-  asks_truth (DoCondition test body options) = Some (position_of test)
-  asks_truth _ = None
-
+  -- where a frame flattens its value
   abbrev pub flattens : Frame H → Option Position
   flattens (StatementValue value_at) = Some value_at
   flattens (DefineValue ident options value_at) = Some value_at
@@ -219,30 +201,6 @@ module _ {S H : Type 0} (rules : Rules S H) where
   flattens _ = None
 
   module _ (v : Dynamic H) (pos : Position) (k : List (Frame H)) (l : State S H) (e : EvalAltResult H) where
-    truth_core : (f : Frame H) → asks_truth f ≡ Some pos → Err e ≡ truth rules.setting.host_type l.local.around.cells v pos →
-        up_core rules.setting f v k l.local ≡ core (Fail e) k l.local
-    truth_core (IfCondition test_at body branch) is told = let same : test_at ≡ pos = cc in rw (same, ← told) refl
-    truth_core (AndPart part_at rest) is told = let same : part_at ≡ pos = cc in rw (same, ← told) refl
-    truth_core (OrPart part_at rest) is told = let same : part_at ≡ pos = cc in rw (same, ← told) refl
-    truth_core (WhileCondition test body) is told = let same : position_of test ≡ pos = cc in rw (same, ← told) refl
-    truth_core (DoCondition test body options) is told = let same : position_of test ≡ pos = cc in rw (same, ← told) refl
-    truth_core _ is told = cc
-
-    truth_passes : (f : Frame H) → asks_truth f ≡ Some pos → (x : EvalAltResult H) →
-        down_core rules.setting f x k l.local ≡ core (Fail x) k l.local
-    truth_passes (IfCondition test_at body branch) is x = refl
-    truth_passes (AndPart part_at rest) is x = refl
-    truth_passes (OrPart part_at rest) is x = refl
-    truth_passes (WhileCondition test body) is x = refl
-    truth_passes (DoCondition test body options) is x = refl
-    truth_passes _ is x = cc
-
-    -- a condition that is no truth value, or memory runs out
-    pub truth_fails : (f : Frame H) → asks_truth f ≡ Some pos →
-        (is_out_of_memory e ≡ false → Err e ≡ truth rules.setting.host_type l.local.around.cells v pos) →
-        Goes rules (at (Back v) (f ∷ k) l) (at (Fail e) k l)
-    truth_fails f is told = fails_on v f k l e (truth_passes f is) (λ m. truth_core f is (told m))
-
     flat_core : (f : Frame H) → flattens f ≡ Some pos → Err e ≡ flat l.local.around.cells v pos →
         up_core rules.setting f v k l.local ≡ core (Fail e) k l.local
     flat_core (StatementValue value_at) is told = let same : value_at ≡ pos = cc in rw (same, ← told) refl
@@ -269,16 +227,6 @@ module _ {S H : Type 0} (rules : Rules S H) where
     pub flat_fails : (f : Frame H) → flattens f ≡ Some pos → (is_out_of_memory e ≡ false → Err e ≡ flat l.local.around.cells v pos) →
         Goes rules (at (Back v) (f ∷ k) l) (at (Fail e) k l)
     flat_fails f is told = fails_on v f k l e (flat_passes f is) (λ m. flat_core f is (told m))
-
-  -- a condition that was told chooses a list
-  pub chooses : (v : Dynamic H) (holds : Bool) (test_at : Position) (body branch : StmtBlock) (k : List (Frame H)) (l : State S H)
-      {q : Point S (Core H)} →
-      Ok holds ≡ truth rules.setting.host_type l.local.around.cells v test_at →
-      Goes rules (at (Enter (if holds then body.statements else branch.statements) true) k l) q →
-      Goes rules (at (Back v) (IfCondition test_at body branch ∷ k) l) q
-  unfolding after
-  chooses v true test_at body branch k l told goes = next (rw (← told) goes)
-  chooses v false test_at body branch k l told goes = next (rw (← told) goes)
 
   -- a variable without a path is read
   pub reads : (offset : Option NonZeroUsize) (name : Name) (namespace : Namespace) (pos : Position) (k : List (Frame H)) (l : State S H)

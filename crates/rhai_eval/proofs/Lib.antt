@@ -1,5 +1,6 @@
 mod Chain
 mod ChoiceSteps
+mod Conditions
 mod LoopSteps
 mod NameLemmas
 mod Public

@@ -6,12 +6,8 @@ use Rattle.std.specs.Result.{IsErr, IsErrAnd}
 use Rattle.rhai_tree.specs.declared.position.Position.{Position}
 use Rattle.rhai_tree.specs.declared.expr.Expr.{Expr, out-Expr}
 use Rattle.rhai_tree.specs.declared.expr.Stmt.{Stmt}
-use Rattle.rhai_tree.specs.declared.expr.OpAssignment.{OpAssignment}
 use Rattle.rhai_tree.specs.declared.expr.Expr.TheOpen as layer
-use Rattle.rhai_tree.specs.declared.expr.Namespace.{Namespace}
-use Rattle.std.specs.declared.num.NonZeroUsize.{NonZeroUsize}
-use Rattle.rhai_check.specs.Forms.{is_throw, is_unqualified}
-use Rattle.rhai_check.specs.Names.{Name}
+use Rattle.rhai_check.specs.Forms.{is_throw}
 use Rattle.rhai_tree.specs.Positions.{position_of}
 use Rattle.rhai_tree.specs.declared.expr.StmtBlock.{StmtBlock}
 use Rattle.rhai_tree.specs.declared.flags.ASTFlags.{ASTFlags}
@@ -27,15 +23,14 @@ use Rattle.rhai_machine.specs.machine.Memory.{Leads, here, next, wanting, starve
 use Rattle.rhai_machine.specs.language.Setting.{Rules, limit_under}
 use Rattle.rhai_machine.specs.language.State.{State, Local}
 use Rattle.rhai_machine.specs.language.Frames.{Control, Frame, Core, core, ended, OpenStmt, Eval, Enter, WhileTurn, DoTurn, Back, Fail}
-use Rattle.rhai_machine.specs.language.Frames.{AssignValue, WhileCondition, WhileBody, DoBody, DoCondition, ReturnValue}
-use Rattle.rhai_machine.specs.language.Loops.{goes_on, if_goes_on, is_endless, while_move}
+use Rattle.rhai_machine.specs.language.Frames.{WhileCondition, WhileBody, DoBody, DoCondition, ReturnValue}
+use Rattle.rhai_machine.specs.language.Loops.{is_endless, while_move}
 use Rattle.rhai_machine.specs.language.Statements.{has_option, return_move}
-use Rattle.rhai_machine.specs.language.Values.{truth, unit_value}
-use Rattle.std.specs.Prelude.{if◌then◌else◌}
+use Rattle.rhai_machine.specs.language.Values.{unit_value}
 use Rattle.rhai_machine.specs.language.Runs.{at, Goes, Steps}
 use Rattle.rhai_steps.specs.declared.loops.BodyEnd.{BodyEnd}
 use Rattle.rhai_steps.specs.declared.loops.BodyEnd.TheVariants.{Done, Continue, Break}
-use Rattle.rhai_steps.specs.Loops.{turn_in, after_body, after_test, after_turn}
+use Rattle.rhai_steps.specs.Loops.{turn_in, after_body, after_turn}
 use Rattle.rhai_steps.specs.States.{state_of}
 use Rattle.rhai_steps.proofs.Pieces.{or_wants, passed, step_by}
 
@@ -66,19 +61,6 @@ module _ {S H : Type 0} (rules : Rules S H) where
   while_ends (Err (error.LoopBreak v false pos)) test body k l = next here
   while_ends (Err (error.LoopBreak v true pos)) test body k l = next here
   while_ends (Err e) test body k l = next here
-
-  -- after its condition a `do` goes on, or ends
-  test_turn : (goes : Bool) (turn : Control H) → if_goes_on goes turn ≡ after_turn (Ok (if goes then None else Some unit_value)) turn
-  test_turn true turn = refl
-  test_turn false turn = refl
-
-  pub do_tested : (o : Option (Dynamic H)) (holds : Bool) (test : Expr) (body : StmtBlock) (options : ASTFlags) (v : Dynamic H)
-      (k : List (Frame H)) (l : State S H) →
-      Ok holds ≡ truth rules.setting.host_type l.local.around.cells v (position_of test) → o ≡ after_test (has_option 1 options) holds →
-      Goes rules (at (Back v) (DoCondition test body options ∷ k) l) (at (after_turn (Ok o) (DoTurn test body options)) k l)
-  unfolding after
-  do_tested o holds test body options v k l told is =
-      next (rw (← told, is, ← test_turn (goes_on (has_option 1 options) holds) (DoTurn test body options)) here)
 
   -- where a body's end leads a `do`: on to its condition, to its next turn, or out of it
   abbrev pub do_goes : Result (BodyEnd H) (EvalAltResult H) → Expr → StmtBlock → ASTFlags → List (Frame H) → State S H → Point S (Core H)
@@ -140,15 +122,6 @@ module _ {S H : Type 0} (rules : Rules S H) where
         Goes rules (at (WhileTurn test body) k (state_of t old scope this)) (at (Fail x) k (state_of t new scope this))
     unfolding after
     endless_refused t old new scope this x full refused same is empty = next (rw (is, empty, le-ltb _ _ full, refused, same) here)
-
-  -- an assignment to a variable begins with its value
-  pub begins_assignment : (op : OpAssignment) (lhs rhs : Expr) (offset : Option NonZeroUsize) (name : Name) (namespace : Namespace)
-      (pos : Position) (restoring : Bool) (k : List (Frame H)) (l : State S H) →
-      out-Expr lhs ≡ layer.Variable offset name namespace pos → is_unqualified namespace.path ≡ true →
-      Goes rules (at (OpenStmt (layer.Assignment op lhs rhs) restoring) k l)
-      (at (Eval rhs) (AssignValue (record { name = name; at = pos; op = op }) (position_of rhs) ∷ k) l)
-  unfolding after
-  begins_assignment op lhs rhs offset name namespace pos restoring k l is plain = next (rw (is, plain) here)
 
   -- a `break` without a value
   pub breaks_unit : (options : ASTFlags) (is_break : Bool) (v : Dynamic H) (e : EvalAltResult H) (pos : Position) (restoring : Bool)

@@ -3,14 +3,12 @@ use Rattle.std.proofs.Common.{◌≡◌, ◌<◌, ◌+◌, ℕ, Bool, true, fals
 use Rattle.std.proofs.Common.{take, map, refl, sym, ap, ◌∙◌}
 use Rattle.std.proofs.lemmas.List.{take-append-drop, take-map, length-map}
 use Rattle.std.proofs.Math.Seq.{take-append_seam}
-use Rattle.rhai_check.specs.Names.{Name, Begins, is_good}
-use Rattle.rhai_tree.specs.declared.expr.Expr.{Expr, out-Expr}
-use Rattle.rhai_tree.specs.declared.expr.FnCallExpr.{FnCallExpr}
+use Rattle.rhai_check.specs.Names.{Name, Begins}
+use Rattle.rhai_tree.specs.declared.expr.Expr.{Expr}
 use Rattle.rhai_check.specs.Frame.{tests_of, resolves_expr}
 use Rattle.rhai_check.specs.Reading as walk
 use Rattle.rhai_check.specs.Reading.{sound}
-use Rattle.rhai_check.specs.Frame.{resolves_call, all_resolve_exprs, all_resolve}
-use Rattle.rhai_tree.specs.declared.expr.Expr.TheFolds.{fold_out-FnCallExpr}
+use Rattle.rhai_check.specs.Frame.{all_resolve_exprs, all_resolve}
 use Rattle.rhai_state.specs.declared.scope.ScopeEntry.{ScopeEntry}
 use Rattle.rhai_state.specs.Scope.{name_of}
 use Rattle.rhai_check.specs.Declares.{any_of}
@@ -18,13 +16,12 @@ use Rattle.rhai_tree.specs.declared.expr.Stmt.{Stmt, out-Stmt}
 use Rattle.rhai_tree.specs.declared.expr.Expr.TheOpen as layer
 use Rattle.rhai_tree.specs.declared.flags.ASTFlags.{ASTFlags}
 use Rattle.rhai_tree.specs.declared.position.Position.{Position}
-use Rattle.rhai_check.specs.Forms.{is_exported, is_throw, is_unqualified}
-use Rattle.rhai_check.specs.Frame.{resolves_stmt, target_resolves}
-use Rattle.rhai_check.proofs.Walk.{resolves-expr, resolves-stmt}
-use Rattle.std.proofs.Common.{if◌then◌else◌, Option, None}
-use Rattle.std.specs.declared.num.NonZeroUsize.{NonZeroUsize}
-use Rattle.rhai_tree.specs.declared.expr.Namespace.{Namespace}
+use Rattle.rhai_check.specs.Forms.{is_exported, is_throw}
+use Rattle.rhai_check.specs.Frame.{resolves_stmt}
+use Rattle.rhai_check.proofs.Walk.{resolves-stmt}
+use Rattle.std.proofs.Common.{Option, None}
 use Rattle.rhai_tree.specs.declared.expr.Ident.{Ident}
+use Rattle.rhai_operands.proofs.Names.{both, fails_then}
 use Rattle.rhai_eval.proofs.Chain.{drop_item}
 
 module _ {H : Type 0} where
@@ -35,44 +32,6 @@ module _ {H : Type 0} where
       let long : count ≡ length (map name_of old) = is ∙ sym (length-map old name_of) in
       ap (map name_of) cut ∙ sym (take-map name_of count mid) ∙ ap (take count) e ∙ ap (λ n. take n (map name_of old ++ added)) long
       ∙ take-append_seam (map name_of old) added
-
-both : (a b : Bool) → IsTrue (a && b) → IsTrue a × IsTrue b
-both true true h = (refl, refl)
-both true false h = (refl, h)
-both false b h = (h, cc)
-
--- what resolves under a test has the test
-holds_then : (test b : Bool) → IsTrue (if test then b else false) → IsTrue test × IsTrue b
-holds_then true b h = (refl, h)
-holds_then false b h = (h, cc)
-
-fails_then : (test b : Bool) → IsTrue (if test then false else b) → (test ≡ false) × IsTrue b
-fails_then true b h = (cc, cc)
-fails_then false b h = (refl, h)
-
-place_then : (place b : Bool) → IsTrue (if place then b else (false && b)) → IsTrue b
-place_then true b h = h
-place_then false b h = cc
-
-two_resolve : (left right : Expr) (names : List Name) → IsTrue (all_resolve_exprs (map tests_of (left ∷ right ∷ [])) names) →
-    IsTrue (resolves_expr left names) × IsTrue (resolves_expr right names)
-two_resolve left right names h =
-    let first = both (resolves_expr left names) (resolves_expr right names && true) h in
-    (first.0, (both (resolves_expr right names) true first.1).0)
-
-operands_of_call : (call : FnCallExpr) (pos : Position) (names : List Name) → IsTrue (resolves_call call pos names) →
-    IsTrue (all_resolve_exprs (map tests_of call.args) names)
-operands_of_call call pos names h =
-    let opened = fold_out-FnCallExpr (walk.Seen sound) (walk.SeenStmt sound) (Unit {0}) (walk.SeenCall sound) (Unit {0}) (walk.Seen sound)
-    (walk.expr_step sound) (walk.stmt_step sound) (λ conditional. tt) (walk.call_step sound) (λ entry. tt) (walk.block_step sound)
-    call in
-    (holds_then _ _ (fails_then _ _ (subst (λ (s : walk.SeenCall sound). IsTrue (s.value pos names)) opened h)).1).1
-
--- the operands of a call that resolves do
-pub operands_resolve : (call : FnCallExpr) (pos : Position) (left right : Expr) (names : List Name) → call.args ≡ left ∷ right ∷ [] →
-    IsTrue (resolves_call call pos names) →
-    IsTrue (resolves_expr left names) × IsTrue (resolves_expr right names)
-operands_resolve call pos left right names is h = two_resolve left right names (rw is at (operands_of_call call pos names h))
 
 -- each of the parts that resolve does
 later_resolve : (before after : List Expr) (names : List Name) → IsTrue (all_resolve_exprs (map tests_of (before ++ after)) names) →
@@ -118,30 +77,7 @@ pub any_item : {A : Type 0} (f : A → Bool) (xs : List A) (i : ℕ) (x : A) →
 any_item f xs i x lt is h = subst (λ items. IsTrue (any_of (map f items))) (take-append-drop i xs)
     (any_later f (take i xs) (drop i xs) (rw (drop_item xs i x lt is) (or_left (f x) (any_of (map f (drop (i + 1) xs))) h)))
 
--- a variable that resolves has no path, and a new one is not exported
-pub plain_name : (e : Expr) (offset : Option NonZeroUsize) (name : Name) (namespace : Namespace) (pos : Position) (names : List Name) →
-    out-Expr e ≡ layer.Variable offset name namespace pos → IsTrue (resolves_expr e names) → is_unqualified namespace.path ≡ true
-plain_name e offset name namespace pos names is h = (holds_then (is_unqualified namespace.path) _
-    (subst (λ (t : walk.Seen sound). IsTrue (t.value names)) (resolves-expr e (layer.Variable offset name namespace pos) is) h)).0
-
--- and its offset leads to the newest variable of the name
-pub good_name : (e : Expr) (offset : Option NonZeroUsize) (name : Name) (namespace : Namespace) (pos : Position) (names : List Name) →
-    out-Expr e ≡ layer.Variable offset name namespace pos → IsTrue (resolves_expr e names) → IsTrue (is_good offset name names)
-good_name e offset name namespace pos names is h = (holds_then (is_good offset name names) _ (holds_then (is_unqualified namespace.path) _
-    (subst (λ (t : walk.Seen sound). IsTrue (t.value names)) (resolves-expr e (layer.Variable offset name namespace pos) is) h)).1).0
-
-pub good_target : (e : Expr) (offset : Option NonZeroUsize) (name : Name) (namespace : Namespace) (pos : Position) (names : List Name) →
-    out-Expr e ≡ layer.Variable offset name namespace pos → IsTrue (target_resolves (tests_of e) names) →
-    IsTrue (is_good offset name names)
-good_target e offset name namespace pos names is h = good_name e offset name namespace pos names is
-    (place_then (tests_of e).is_place ((tests_of e).value names) h)
-
-pub plain_target : (e : Expr) (offset : Option NonZeroUsize) (name : Name) (namespace : Namespace) (pos : Position) (names : List Name) →
-    out-Expr e ≡ layer.Variable offset name namespace pos → IsTrue (target_resolves (tests_of e) names) →
-    is_unqualified namespace.path ≡ true
-plain_target e offset name namespace pos names is h = plain_name e offset name namespace pos names is
-    (place_then (tests_of e).is_place ((tests_of e).value names) h)
-
+-- a new variable that resolves is not exported
 pub plain_var : (stmt : Stmt) (ident : Ident) (value : Expr) (options : ASTFlags) (pos : Position) (names : List Name) →
     out-Stmt stmt ≡ layer.Var ident value None options pos → IsTrue (resolves_stmt stmt names).0 → is_exported options ≡ false
 plain_var stmt ident value options pos names is h = (fails_then (is_exported options) _

@@ -13,6 +13,7 @@ use std::io::Write;
 /// - `scripts LIST`: how many scripts a list has
 /// - `ends LIST N`, `charges LIST N`, `leaves LIST N`, `says LIST N`: the line of a script of a
 ///   list, counted from 1, its operations, its variables, and what its error says beside its place
+/// - `above ends LIST N` and so on: the same above a scope of 300 other variables
 /// - `run [WORD] ..`: the lines of the program for the words, and its status
 /// - `refuses [WORD] ..`: the status of the program where one of its writes is refused
 /// - `prints NAME`: a value or a place of that name
@@ -33,6 +34,10 @@ fn write_answer(alloc: Global, call: &str, out: &mut Vec<u8>) -> io::Result<()> 
         "prints" => write_sample(alloc, rest, out),
         "finds" => write_search(alloc, rest, false, out),
         "searches" => write_search(alloc, rest, true, out),
-        _ => write_ways(alloc, form, rest, out),
+        "above" => {
+            let (form, rest) = rest.split_once(' ').unwrap_or((rest, ""));
+            write_ways(alloc, 300, form, rest, out)
+        }
+        _ => write_ways(alloc, 0, form, rest, out),
     }
 }

@@ -8,7 +8,7 @@ use rhai_bench::rows::operators::first_that_is_there;
 use rhai_bench::rows::scripts;
 use rhai_bench::script::Script;
 use rhai_bench::settings::Way;
-use rhai_eval::base::{EvalAltResult, Items, Scope};
+use rhai_eval::base::{AccessMode, Dynamic, EvalAltResult, Items, Scope, Union};
 use std::alloc::{AllocError, Global};
 use std::io;
 use std::io::Write;
@@ -48,12 +48,19 @@ pub fn write_number(alloc: Global, list: &str, out: &mut Vec<u8>) -> io::Result<
     }
 }
 
-/// Writes what a script comes to in every way of running. Where two ways differ both are written.
-pub fn write_ways(alloc: Global, form: &str, name: &str, out: &mut Vec<u8>) -> io::Result<()> {
-    write_way(alloc, form, name, Way::USUAL, out)?;
+/// Writes what a script comes to in every way of running, above so many other variables. Where two
+/// ways differ both are written.
+pub fn write_ways(
+    alloc: Global,
+    others: usize,
+    form: &str,
+    name: &str,
+    out: &mut Vec<u8>,
+) -> io::Result<()> {
+    write_way(alloc, others, form, name, Way::USUAL, out)?;
     for way in Way::ALL {
         let mut other = Vec::new(alloc);
-        write_way(alloc, form, name, way, &mut other)?;
+        write_way(alloc, others, form, name, way, &mut other)?;
         if other.as_slice() != out.as_slice() {
             write!(out, " or ")?;
             out.write_all(other.as_slice())?;
@@ -63,43 +70,74 @@ pub fn write_ways(alloc: Global, form: &str, name: &str, out: &mut Vec<u8>) -> i
 }
 
 /// Writes what a script comes to in one of the ways.
-fn write_way(alloc: Global, form: &str, name: &str, way: Way, out: &mut Vec<u8>) -> io::Result<()> {
+fn write_way(
+    alloc: Global,
+    others: usize,
+    form: &str,
+    name: &str,
+    way: Way,
+    out: &mut Vec<u8>,
+) -> io::Result<()> {
     match script_of(alloc, name)? {
-        Some(script) => write_script(alloc, form, script, way, out),
+        Some(script) => write_script(alloc, others, form, script, way, out),
         None => write!(out, "no script"),
     }
 }
 
 fn write_script(
     alloc: Global,
+    others: usize,
     form: &str,
     script: Script,
     way: Way,
     out: &mut Vec<u8>,
 ) -> io::Result<()> {
-    let outcome = script.run(alloc, way)?;
-    let wrote = write_outcome(form, &outcome, out);
+    let outcome = script.run_above(alloc, way, scope_of(alloc, others)?)?;
+    let wrote = write_outcome(others, form, &outcome, out);
     drop(outcome);
     wrote
 }
 
-fn write_outcome(form: &str, outcome: &Outcome, out: &mut Vec<u8>) -> io::Result<()> {
+/// A scope of so many variables, `x0` and so on, each with its number.
+fn scope_of(alloc: Global, others: usize) -> Result<Scope<Pair>, AllocError> {
+    let mut scope = Scope::new(alloc);
+    for number in 0..others {
+        push_numbered(alloc, &mut scope, number)?;
+    }
+    Ok(scope)
+}
+
+fn push_numbered(alloc: Global, scope: &mut Scope<Pair>, number: usize) -> Result<(), AllocError> {
+    let name = format!(in alloc; "x{number}")?;
+    let value = Dynamic::new(Union::Int(i64::try_from(number).unwrap_or(i64::MAX)));
+    scope.push_entry(name, AccessMode::ReadWrite, value)
+}
+
+fn write_outcome(
+    others: usize,
+    form: &str,
+    outcome: &Outcome,
+    out: &mut Vec<u8>,
+) -> io::Result<()> {
     match form {
         "ends" => write_ending(out, &outcome.ending),
         "charges" => write!(out, "{}", outcome.num_operations),
-        "leaves" => write_variables(&outcome.scope, out),
+        "leaves" => write_variables(others, &outcome.scope, out),
         "says" => write!(out, "{}", text_of(&outcome.ending)),
         _ => write!(out, "no form"),
     }
 }
 
-/// Writes the variables with their values, as `x = 1; y = 2;`, or `nothing`.
-fn write_variables(scope: &Scope<Pair>, out: &mut Vec<u8>) -> io::Result<()> {
-    if scope.entries().is_empty() {
+/// Writes the variables above so many others with their values, as `x = 1; y = 2;`, or `nothing`.
+fn write_variables(others: usize, scope: &Scope<Pair>, out: &mut Vec<u8>) -> io::Result<()> {
+    if scope.len() <= others {
         return write!(out, "nothing");
     }
     for (i, entry) in scope.entries().iter().enumerate() {
-        if i > 0 {
+        if i < others {
+            continue;
+        }
+        if i > others {
             write!(out, " ")?;
         }
         write!(out, "{} = ", entry.name.get().as_str())?;

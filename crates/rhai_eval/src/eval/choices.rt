@@ -12,7 +12,7 @@ use crate::engine::Engine;
 use rhai_context::Context;
 use rhai_state::error::EvalAltResult;
 use rhai_state::table::NativeTable;
-use rhai_steps::values::{bool_value, is_unit, truth_value, unit_value};
+use rhai_steps::values::{bool_value, is_unit, unit_value};
 use rhai_tree::expr::Expr;
 use rhai_values::base::value::{Dynamic, Host};
 use std::alloc::Global;
@@ -36,8 +36,7 @@ impl<H: Host> Engine<H> {
             (state_in (T.state table.old) run.old) result (state_in (T.state table.new) run.new) }
     {
         'each_part: for part in parts {
-            let value = self.run_expr(alloc, run, table, part)?;
-            let holds = truth_value(alloc, &run.global.cells, value, part.position())?;
+            let holds = self.run_condition(alloc, run, table, part)?;
             if !holds {
                 return Ok(bool_value(false));
             }
@@ -63,8 +62,7 @@ impl<H: Host> Engine<H> {
             (state_in (T.state table.old) run.old) result (state_in (T.state table.new) run.new) }
     {
         'each_part: for part in parts {
-            let value = self.run_expr(alloc, run, table, part)?;
-            let holds = truth_value(alloc, &run.global.cells, value, part.position())?;
+            let holds = self.run_condition(alloc, run, table, part)?;
             if holds {
                 return Ok(bool_value(true));
             }

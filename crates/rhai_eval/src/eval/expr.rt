@@ -11,6 +11,7 @@ ghost use Rattle.rhai_places.specs.declared.target.Part.TheVariants as part;
 ghost use Rattle.rhai_machine.specs.language.Values.{is_handle, is_truth};
 ghost use Rattle.rhai_machine.specs.language.Frames.{Eval};
 ghost use Rattle.rhai_machine.specs.language.Runs.{Runs};
+ghost use Rattle.rhai_operands.specs.Tests.{Tests};
 ghost use Rattle.rhai_steps.specs.Offsets.{offset_in, place_at};
 ghost use Rattle.rhai_steps.specs.States.{state_of};
 ghost use Rattle.rhai_laws.specs.Kept.{Kept};
@@ -23,6 +24,7 @@ ghost use Rattle.rhai_eval.specs.States.{names, state_in, under};
 use crate::engine::Engine;
 use crate::eval::search::variable_mut;
 use rhai_context::{Context, give_back, take};
+use rhai_operands::operators::holds_in_place;
 use rhai_places::target::{Part, Target};
 use rhai_state::caches::Caches;
 use rhai_state::error::EvalAltResult;
@@ -30,7 +32,7 @@ use rhai_state::scope::Scope;
 use rhai_state::state::GlobalRuntimeState;
 use rhai_state::table::NativeTable;
 use rhai_steps::charges::track_operation;
-use rhai_steps::values::{bool_value, int_value, unit_value};
+use rhai_steps::values::{bool_value, int_value, truth_value, unit_value};
 use rhai_steps::variables::{read_variable, scope_index};
 use rhai_tree::expr::Expr;
 use rhai_values::base::value::{Dynamic, Host};
@@ -166,5 +168,58 @@ impl<H: Host> Engine<H> {
             Expr::Coalesce(parts, _) => self.run_coalesce(alloc, run, table, parts.as_slice()),
             _ => unreachable!(),
         }
+    }
+
+    /// Whether a condition holds. One that compares operands which stand is answered in place.
+    #[cycle(eval)]
+    pub(crate) fn run_condition<T: NativeTable<H>>(
+        &self,
+        alloc: Global,
+        run: &mut Context<H>,
+        table: &mut T,
+        test: &Expr,
+    ) -> Result<bool, EvalAltResult<H>>
+        requires resolves { IsTrue (resolves_expr test.now (names run.old)) }
+        requires fast { self.now.fast_operators ≡ true }
+        ensures charges { OnOk result (run.old.global.num_operations < run.new.global.num_operations) }
+        ensures names { OnOk result (names run.new ≡ names run.old) }
+        ensures runs { Tests (under H.name_of self.now T.natives) test.now
+            (state_in (T.state table.old) run.old) result (state_in (T.state table.new) run.new) }
+        ensures memory { IfErr result (λ error. is_out_of_memory error ≡ true →
+            IsTrue (asks_expr test.now).1) }
+    {
+        match holds_in_place(
+            &self.limits,
+            alloc,
+            &mut run.global,
+            &*table,
+            &run.scope,
+            test,
+        ) {
+            Some(result) => result,
+            None => self.run_test(alloc, run, table, test),
+        }
+    }
+
+    /// Whether the value of a condition holds.
+    #[cycle(eval)]
+    fn run_test<T: NativeTable<H>>(
+        &self,
+        alloc: Global,
+        run: &mut Context<H>,
+        table: &mut T,
+        test: &Expr,
+    ) -> Result<bool, EvalAltResult<H>>
+        requires resolves { IsTrue (resolves_expr test.now (names run.old)) }
+        requires fast { self.now.fast_operators ≡ true }
+        ensures charges { OnOk result (run.old.global.num_operations < run.new.global.num_operations) }
+        ensures names { OnOk result (names run.new ≡ names run.old) }
+        ensures runs { Tests (under H.name_of self.now T.natives) test.now
+            (state_in (T.state table.old) run.old) result (state_in (T.state table.new) run.new) }
+        ensures memory { IfErr result (λ error. is_out_of_memory error ≡ true →
+            IsTrue (asks_expr test.now).1) }
+    {
+        let value = self.run_expr(alloc, run, table, test)?;
+        truth_value(alloc, &run.global.cells, value, test.position())
     }
 }

@@ -21,7 +21,7 @@ use rhai_state::table::NativeTable;
 use rhai_steps::charges::track_operation;
 use rhai_steps::errors::{loop_break, returned};
 use rhai_steps::loops::{BodyEnd, body_end, breaks, do_next, is_endless, while_next};
-use rhai_steps::values::{flatten, truth_value, unit_value};
+use rhai_steps::values::{flatten, unit_value};
 use rhai_tree::expr::{Expr, StmtBlock};
 use rhai_tree::flags::ASTFlags;
 use rhai_tree::position::Position;
@@ -77,8 +77,7 @@ impl<H: Host> Engine<H> {
         if is_endless(test) {
             return self.endless_turn(alloc, run, table, test, body);
         }
-        let value = self.run_expr(alloc, run, table, test)?;
-        let holds = truth_value(alloc, &run.global.cells, value, test.position())?;
+        let holds = self.run_condition(alloc, run, table, test)?;
         if holds {
             self.while_body(alloc, run, table, test, body)
         } else {
@@ -213,8 +212,7 @@ impl<H: Host> Engine<H> {
             (state_in (T.state table.old) run.old))
             (at (after_turn result (DoTurn test.now body options)) k (state_in (T.state table.new) run.new)) }
     {
-        let value = self.run_expr(alloc, run, table, test)?;
-        let holds = truth_value(alloc, &run.global.cells, value, test.position())?;
+        let holds = self.run_condition(alloc, run, table, test)?;
         Ok(do_next(options, holds))
     }
 

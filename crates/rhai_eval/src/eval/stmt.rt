@@ -22,6 +22,7 @@ ghost use Rattle.rhai_eval.specs.States.{names, state_in, under};
 
 use crate::engine::Engine;
 use rhai_assign::assign_variable;
+use rhai_assign::in_place::assign_in_place;
 use rhai_context::{Context, give_back, take};
 use rhai_state::caches::Caches;
 use rhai_state::error::EvalAltResult;
@@ -30,7 +31,7 @@ use rhai_state::state::GlobalRuntimeState;
 use rhai_state::table::NativeTable;
 use rhai_steps::charges::track_operation;
 use rhai_steps::loops::chosen;
-use rhai_steps::values::{flatten, truth_value, unit_value};
+use rhai_steps::values::{flatten, unit_value};
 use rhai_steps::variables::{define_variable, enter_list, leave_list, may_declare, mode_of};
 use rhai_tree::expr::{Expr, Ident, OpAssignment, Stmt, StmtBlock};
 use rhai_tree::flags::ASTFlags;
@@ -187,9 +188,46 @@ impl<H: Host> Engine<H> {
         flatten(alloc, &run.global.cells, value, expr.position())
     }
 
-    /// An assignment to a variable: its value, then the variable.
+    /// An assignment to a variable. By an operator it is done in place, where its value is an operand
+    /// that stands and there is a built-in for it.
     #[cycle(eval)]
     fn run_assignment<T: NativeTable<H>>(
+        &self,
+        alloc: Global,
+        run: &mut Context<H>,
+        table: &mut T,
+        op: OpAssignment,
+        lhs: &Expr,
+        rhs: &Expr,
+        restoring: bool,
+    ) -> Result<Dynamic<H>, EvalAltResult<H>>
+        requires resolves_target { IsTrue (target_resolves (tests_of lhs.now) (names run.old)) }
+        requires resolves { IsTrue (resolves_expr rhs.now (names run.old)) }
+        requires fast { self.now.fast_operators ≡ true }
+        ensures counts { OnOk result (run.old.global.num_operations ≤ run.new.global.num_operations) }
+        ensures names { OnOk result (names run.new ≡ names run.old) }
+        ensures runs { Runs (under H.name_of self.now T.natives)
+            (OpenStmt (layer.Assignment op lhs.now rhs.now) restoring)
+            (state_in (T.state table.old) run.old) result (state_in (T.state table.new) run.new) }
+    {
+        match assign_in_place(
+            &self.limits,
+            alloc,
+            &mut run.global,
+            &*table,
+            &mut run.scope,
+            op,
+            lhs,
+            rhs,
+        ) {
+            Some(result) => result,
+            None => self.assign_value(alloc, run, table, op, lhs, rhs, restoring),
+        }
+    }
+
+    /// An assignment whose value is evaluated first.
+    #[cycle(eval)]
+    fn assign_value<T: NativeTable<H>>(
         &self,
         alloc: Global,
         run: &mut Context<H>,
@@ -258,8 +296,7 @@ impl<H: Host> Engine<H> {
         ensures memory { IfErr result (λ error. is_out_of_memory error ≡ true →
             IsTrue ((asks_expr test.now).1 || (asks_block body.now || asks_block branch.now))) }
     {
-        let value = self.run_expr(alloc, run, table, test)?;
-        let holds = truth_value(alloc, &run.global.cells, value, test.position())?;
+        let holds = self.run_condition(alloc, run, table, test)?;
         self.run_stmt_block(alloc, run, table, chosen(holds, body, branch), true)
     }
 

@@ -11,6 +11,7 @@ ghost use Rattle.rhai_eval.specs.States.{names, state_in, under};
 use crate::engine::Engine;
 use rhai_calls::native::{operate_one, operate_two};
 use rhai_context::Context;
+use rhai_operands::operators::operate_in_place;
 use rhai_state::error::EvalAltResult;
 use rhai_state::table::NativeTable;
 use rhai_steps::charges::literal_arg;
@@ -58,7 +59,7 @@ impl<H: Host> Engine<H> {
         let (left, right) = operands_of(call);
         match right {
             None => self.run_unary(alloc, run, table, call, token, left, pos),
-            Some(right) => self.run_binary(alloc, run, table, call, token, left, right, pos),
+            Some(right) => self.run_operator(alloc, run, table, call, token, left, right, pos),
         }
     }
 
@@ -97,7 +98,47 @@ impl<H: Host> Engine<H> {
         )
     }
 
-    /// A binary operator: the left operand, then the right.
+    /// A binary operator. On operands that stand a built-in is done in place.
+    #[cycle(eval)]
+    fn run_operator<T: NativeTable<H>>(
+        &self,
+        alloc: Global,
+        run: &mut Context<H>,
+        table: &mut T,
+        call: &FnCallExpr,
+        token: Token,
+        left: &Expr,
+        right: &Expr,
+        pos: Position,
+    ) -> Result<Dynamic<H>, EvalAltResult<H>>
+        requires token { call.now.op_token ≡ Some token }
+        requires args { call.now.args ≡ left.now ∷ right.now ∷ [] }
+        requires resolves_left { IsTrue (resolves_expr left.now (names run.old)) }
+        requires resolves_right { IsTrue (resolves_expr right.now (names run.old)) }
+        requires fast { self.now.fast_operators ≡ true }
+        ensures counts { OnOk result (run.old.global.num_operations ≤ run.new.global.num_operations) }
+        ensures names { OnOk result (names run.new ≡ names run.old) }
+        ensures runs { Runs (under H.name_of self.now T.natives) (OpenExpr (layer.Expr::FnCall call.now pos))
+            (state_in (T.state table.old) run.old) result (state_in (T.state table.new) run.new) }
+    {
+        match operate_in_place(
+            &self.limits,
+            alloc,
+            &mut run.global,
+            &*table,
+            &run.scope,
+            call,
+            token,
+            left,
+            right,
+            pos,
+        ) {
+            Some(result) => result,
+            None => self.run_binary(alloc, run, table, call, token, left, right, pos),
+        }
+    }
+
+    /// A binary operator whose operands are evaluated, the left one first.
     #[cycle(eval)]
     fn run_binary<T: NativeTable<H>>(
         &self,

@@ -6,7 +6,8 @@ use Rattle.rhai_steps.proofs.variables.place_of_variable.Goals as goal
 
 pub place_of-requires : goal.place_of-requires
 place_of-requires g c = rw c.offset_in_use-offset.ensures (good_fits _ c.args.name.now (entries_of c.args.scope.now)
-    (good_in_use c.args.global.now.always_search_scope c.args.offset c.args.name.now (map name_of (entries_of c.args.scope.now)) c.requires))
+    (good_in_use c.args.global.now.always_search_scope c.args.offset c.args.name.now (map name_of (entries_of c.args.scope.now))
+    c.requires))
 
 pub returns-clause-exact : goal.returns-clause-exact
 returns-clause-exact g c =

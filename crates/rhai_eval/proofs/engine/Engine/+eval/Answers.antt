@@ -12,8 +12,8 @@ use Rattle.rhai_eval.proofs.engine.Engine.+eval.Answers.Choices as choices
 use Rattle.rhai_eval.proofs.engine.Engine.+eval.Answers.Loops as loops
 use Rattle.rhai_eval.proofs.engine.Engine.+eval.Answers.Leaving as leaving
 
-pub run_fn_call_expr-run_binary-requires : goal.run_fn_call_expr-run_binary-requires
-run_fn_call_expr-run_binary-requires = calls.run_fn_call_expr-run_binary-requires
+pub run_fn_call_expr-run_operator-requires : goal.run_fn_call_expr-run_operator-requires
+run_fn_call_expr-run_operator-requires = calls.run_fn_call_expr-run_operator-requires
 
 pub run_expr-returns-in_err-track_operation-clause-runs : goal.run_expr-returns-in_err-track_operation-clause-runs
 run_expr-returns-in_err-track_operation-clause-runs = expressions.run_expr-returns-in_err-track_operation-clause-runs
@@ -95,26 +95,23 @@ run_expr_stmt-returns-in_err-value-clause-runs = statements.run_expr_stmt-return
 pub run_expr_stmt-returns-clause-runs : goal.run_expr_stmt-returns-clause-runs
 run_expr_stmt-returns-clause-runs = statements.run_expr_stmt-returns-clause-runs
 
-pub run_if-returns-in_err-value-clause-runs : goal.run_if-returns-in_err-value-clause-runs
-run_if-returns-in_err-value-clause-runs = statements.run_if-returns-in_err-value-clause-runs
-
 pub run_if-returns-in_err-holds-clause-runs : goal.run_if-returns-in_err-holds-clause-runs
 run_if-returns-in_err-holds-clause-runs = statements.run_if-returns-in_err-holds-clause-runs
 
 pub run_if-returns-clause-runs : goal.run_if-returns-clause-runs
 run_if-returns-clause-runs = statements.run_if-returns-clause-runs
 
-pub run_assignment-returns-in_err-value-clause-runs : goal.run_assignment-returns-in_err-value-clause-runs
-run_assignment-returns-in_err-value-clause-runs = statements.run_assignment-returns-in_err-value-clause-runs
+pub assign_value-returns-in_err-value-clause-runs : goal.assign_value-returns-in_err-value-clause-runs
+assign_value-returns-in_err-value-clause-runs = statements.assign_value-returns-in_err-value-clause-runs
 
-pub run_assignment-returns-in_err-value-2-clause-runs : goal.run_assignment-returns-in_err-value-2-clause-runs
-run_assignment-returns-in_err-value-2-clause-runs = statements.run_assignment-returns-in_err-value-2-clause-runs
+pub assign_value-returns-in_err-value-2-clause-runs : goal.assign_value-returns-in_err-value-2-clause-runs
+assign_value-returns-in_err-value-2-clause-runs = statements.assign_value-returns-in_err-value-2-clause-runs
 
-pub run_assignment-assign_variable-requires : goal.run_assignment-assign_variable-requires
-run_assignment-assign_variable-requires = statements.run_assignment-assign_variable-requires
+pub assign_value-assign_variable-requires : goal.assign_value-assign_variable-requires
+assign_value-assign_variable-requires = statements.assign_value-assign_variable-requires
 
-pub run_assignment-returns-clause-runs : goal.run_assignment-returns-clause-runs
-run_assignment-returns-clause-runs = statements.run_assignment-returns-clause-runs
+pub assign_value-returns-clause-runs : goal.assign_value-returns-clause-runs
+assign_value-returns-clause-runs = statements.assign_value-returns-clause-runs
 
 pub run_var-returns-in_err-may_declare-clause-runs : goal.run_var-returns-in_err-may_declare-clause-runs
 run_var-returns-in_err-may_declare-clause-runs = statements.run_var-returns-in_err-may_declare-clause-runs
@@ -179,17 +176,14 @@ run_binary-returns-in-Err-flatten-clause-runs = calls.run_binary-returns-in-Err-
 pub run_binary-returns-in-Ok-flatten-clause-runs : goal.run_binary-returns-in-Ok-flatten-clause-runs
 run_binary-returns-in-Ok-flatten-clause-runs = calls.run_binary-returns-in-Ok-flatten-clause-runs
 
-pub run_and-run_expr-requires : goal.run_and-run_expr-requires
-run_and-run_expr-requires = choices.run_and-run_expr-requires
+pub run_and-run_condition-requires : goal.run_and-run_condition-requires
+run_and-run_condition-requires = choices.run_and-run_condition-requires
 
 pub run_and-each_part-init : goal.run_and-each_part-init
 run_and-each_part-init = choices.run_and-each_part-init
 
 pub run_and-each_part-preserved : goal.run_and-each_part-preserved
 run_and-each_part-preserved = choices.run_and-each_part-preserved
-
-pub run_and-returns-in_err-value-clause-runs : goal.run_and-returns-in_err-value-clause-runs
-run_and-returns-in_err-value-clause-runs = choices.run_and-returns-in_err-value-clause-runs
 
 pub run_and-returns-in_err-holds-clause-runs : goal.run_and-returns-in_err-holds-clause-runs
 run_and-returns-in_err-holds-clause-runs = choices.run_and-returns-in_err-holds-clause-runs
@@ -200,17 +194,14 @@ run_and-returns-then-not-holds-clause-runs = choices.run_and-returns-then-not-ho
 pub run_and-returns-clause-runs : goal.run_and-returns-clause-runs
 run_and-returns-clause-runs = choices.run_and-returns-clause-runs
 
-pub run_or-run_expr-requires : goal.run_or-run_expr-requires
-run_or-run_expr-requires = choices.run_or-run_expr-requires
+pub run_or-run_condition-requires : goal.run_or-run_condition-requires
+run_or-run_condition-requires = choices.run_or-run_condition-requires
 
 pub run_or-each_part-init : goal.run_or-each_part-init
 run_or-each_part-init = choices.run_or-each_part-init
 
 pub run_or-each_part-preserved : goal.run_or-each_part-preserved
 run_or-each_part-preserved = choices.run_or-each_part-preserved
-
-pub run_or-returns-in_err-value-clause-runs : goal.run_or-returns-in_err-value-clause-runs
-run_or-returns-in_err-value-clause-runs = choices.run_or-returns-in_err-value-clause-runs
 
 pub run_or-returns-in_err-holds-clause-runs : goal.run_or-returns-in_err-holds-clause-runs
 run_or-returns-in_err-holds-clause-runs = choices.run_or-returns-in_err-holds-clause-runs
@@ -317,9 +308,6 @@ do_turn-returns-in-Done-clause-names = loops.do_turn-returns-in-Done-clause-name
 pub do_turn-do_test-requires : goal.do_turn-do_test-requires
 do_turn-do_test-requires = loops.do_turn-do_test-requires
 
-pub do_test-returns-in_err-value-clause-runs : goal.do_test-returns-in_err-value-clause-runs
-do_test-returns-in_err-value-clause-runs = loops.do_test-returns-in_err-value-clause-runs
-
 pub do_test-returns-in_err-holds-clause-runs : goal.do_test-returns-in_err-holds-clause-runs
 do_test-returns-in_err-holds-clause-runs = loops.do_test-returns-in_err-holds-clause-runs
 
@@ -334,9 +322,6 @@ endless_turn-returns-then-is_empty-clause-runs = loops.endless_turn-returns-then
 
 pub endless_turn-returns-clause-runs : goal.endless_turn-returns-clause-runs
 endless_turn-returns-clause-runs = loops.endless_turn-returns-clause-runs
-
-pub while_turn-returns-in_err-value-clause-runs : goal.while_turn-returns-in_err-value-clause-runs
-while_turn-returns-in_err-value-clause-runs = loops.while_turn-returns-in_err-value-clause-runs
 
 pub while_turn-returns-in_err-holds-clause-runs : goal.while_turn-returns-in_err-holds-clause-runs
 while_turn-returns-in_err-holds-clause-runs = loops.while_turn-returns-in_err-holds-clause-runs
@@ -373,3 +358,27 @@ return_with-returns-in_err-value-2-clause-runs = leaving.return_with-returns-in_
 
 pub return_with-returns-clause-runs : goal.return_with-returns-clause-runs
 return_with-returns-clause-runs = leaving.return_with-returns-clause-runs
+
+pub run_assignment-returns-in-Some-clause-runs : goal.run_assignment-returns-in-Some-clause-runs
+run_assignment-returns-in-Some-clause-runs = statements.run_assignment-returns-in-Some-clause-runs
+
+pub run_assignment-returns-in-None-clause-runs : goal.run_assignment-returns-in-None-clause-runs
+run_assignment-returns-in-None-clause-runs = statements.run_assignment-returns-in-None-clause-runs
+
+pub run_operator-returns-in-Some-clause-runs : goal.run_operator-returns-in-Some-clause-runs
+run_operator-returns-in-Some-clause-runs = calls.run_operator-returns-in-Some-clause-runs
+
+pub run_operator-returns-in-None-clause-runs : goal.run_operator-returns-in-None-clause-runs
+run_operator-returns-in-None-clause-runs = calls.run_operator-returns-in-None-clause-runs
+
+pub run_condition-returns-in-Some-clause-runs : goal.run_condition-returns-in-Some-clause-runs
+run_condition-returns-in-Some-clause-runs = expressions.run_condition-returns-in-Some-clause-runs
+
+pub run_condition-returns-in-None-clause-runs : goal.run_condition-returns-in-None-clause-runs
+run_condition-returns-in-None-clause-runs = expressions.run_condition-returns-in-None-clause-runs
+
+pub run_test-returns-in_err-value-clause-runs : goal.run_test-returns-in_err-value-clause-runs
+run_test-returns-in_err-value-clause-runs = expressions.run_test-returns-in_err-value-clause-runs
+
+pub run_test-returns-clause-runs : goal.run_test-returns-clause-runs
+run_test-returns-clause-runs = expressions.run_test-returns-clause-runs

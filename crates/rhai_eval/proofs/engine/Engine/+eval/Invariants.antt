@@ -44,11 +44,23 @@ decreases-run_unary g l = 8 * left l.self.now l.run.now + 3
 abbrev pub decreases-run_binary : goal.decreases-run_binary
 decreases-run_binary g l = 8 * left l.self.now l.run.now + 3
 
+abbrev pub decreases-run_operator : goal.decreases-run_operator
+decreases-run_operator g l = 8 * left l.self.now l.run.now + 4
+
 abbrev pub decreases-run_fn_call_expr : goal.decreases-run_fn_call_expr
-decreases-run_fn_call_expr g l = 8 * left l.self.now l.run.now + 4
+decreases-run_fn_call_expr g l = 8 * left l.self.now l.run.now + 5
+
+abbrev pub decreases-run_test : goal.decreases-run_test
+decreases-run_test g l = 8 * left l.self.now l.run.now + 1
+
+abbrev pub decreases-run_condition : goal.decreases-run_condition
+decreases-run_condition g l = 8 * left l.self.now l.run.now + 2
+
+abbrev pub decreases-assign_value : goal.decreases-assign_value
+decreases-assign_value g l = 8 * left l.self.now l.run.now + 3
 
 abbrev pub decreases-run_assignment : goal.decreases-run_assignment
-decreases-run_assignment g l = 8 * left l.self.now l.run.now + 3
+decreases-run_assignment g l = 8 * left l.self.now l.run.now + 4
 
 abbrev pub decreases-run_while : goal.decreases-run_while
 decreases-run_while g l = 8 * left l.self.now l.run.now + 6
@@ -78,10 +90,10 @@ abbrev pub decreases-run_return : goal.decreases-run_return
 decreases-run_return g l = 8 * left l.self.now l.run.now + 3
 
 abbrev pub decreases-run_and : goal.decreases-run_and
-decreases-run_and g l = 8 * left l.self.now l.run.now + 1
+decreases-run_and g l = 8 * left l.self.now l.run.now + 3
 
 abbrev pub decreases-run_or : goal.decreases-run_or
-decreases-run_or g l = 8 * left l.self.now l.run.now + 1
+decreases-run_or g l = 8 * left l.self.now l.run.now + 3
 
 abbrev pub decreases-run_coalesce : goal.decreases-run_coalesce
 decreases-run_coalesce g l = 8 * left l.self.now l.run.now + 1

@@ -5,16 +5,25 @@ use Rattle.rhai_machine.specs.language.Frames.{UnaryOperand, LeftOperand, RightO
 use Rattle.rhai_machine.specs.language.Runs.{Steps}
 use Rattle.rhai_steps.proofs.Pieces.{exits}
 use Rattle.rhai_eval.specs.States.{names, offer_of, under}
-use Rattle.rhai_eval.proofs.NameLemmas.{operands_resolve}
-use Rattle.rhai_eval.proofs.Chain.{flat_fails, literal_runs, opens_unary, opens_binary}
+use Rattle.rhai_operands.proofs.Names.{operands_resolve}
+use Rattle.rhai_operands.proofs.InPlace.{opens_binary}
+use Rattle.rhai_eval.proofs.Chain.{flat_fails, literal_runs, opens_unary}
 use Rattle.rhai_eval.proofs.engine.Engine.+eval.Goals as goal
 
-pub run_fn_call_expr-run_binary-requires : goal.run_fn_call_expr-run_binary-requires
-run_fn_call_expr-run_binary-requires g t c =
+pub run_fn_call_expr-run_operator-requires : goal.run_fn_call_expr-run_operator-requires
+run_fn_call_expr-run_operator-requires g t c =
     let args = rw c.in-Some-right.is at c.operands_of.ensures in
     let resolved = operands_resolve c.args.call.now c.args.pos c.operands_of.result.0.now c.in-Some-right.right.now
     (names c.args.run.now) args c.requires.resolves in
     λ κs lives. (omega arith, (lives.0, (lives.1, (c.in-Some.is, (args, (resolved.0, (resolved.1, c.requires.fast)))))))
+
+pub run_operator-returns-in-Some-clause-runs : goal.run_operator-returns-in-Some-clause-runs
+run_operator-returns-in-Some-clause-runs g t c =
+    c.in-Some.ensures.runs (offer_of c.args.self.now) c.args.run.now.this c.requires.fast
+
+pub run_operator-returns-in-None-clause-runs : goal.run_operator-returns-in-None-clause-runs
+run_operator-returns-in-None-clause-runs g t c =
+    rw (c.operate_in_place.ensures.left_alone c.in-None.is) at c.run_binary.ensures.runs
 
 pub run_arg-returns-in-Some-clause-runs : goal.run_arg-returns-in-Some-clause-runs
 unfolding after Steps

@@ -7,11 +7,12 @@ use Rattle.rhai_steps.proofs.Pieces.{exits}
 use Rattle.rhai_eval.specs.States.{names, under}
 use Rattle.rhai_eval.proofs.NameLemmas.{part_resolves}
 use Rattle.rhai_eval.proofs.ChoiceSteps.{coalesce_on, coalesce_ends, coalesce_fails}
-use Rattle.rhai_eval.proofs.Chain.{truth_fails, drop_item, drop_all}
+use Rattle.rhai_operands.specs.Tests.{Tests}
+use Rattle.rhai_eval.proofs.Chain.{drop_item, drop_all}
 use Rattle.rhai_eval.proofs.engine.Engine.+eval.Goals as goal
 
-pub run_and-run_expr-requires : goal.run_and-run_expr-requires
-run_and-run_expr-requires g t c =
+pub run_and-run_condition-requires : goal.run_and-run_condition-requires
+run_and-run_condition-requires g t c =
     λ κs lives. (
       omega arith,
       (
@@ -33,46 +34,28 @@ run_and-each_part-init g t c =
     record { counts = omega arith; names = refl; steps = λ k. here }
 
 pub run_and-each_part-preserved : goal.run_and-each_part-preserved
-unfolding after Steps
+unfolding after Steps Tests
 run_and-each_part-preserved g t c =
     record {
-      counts = omega (arith, c.in_ok-value.ensures.charges);
-      names = c.in_ok-value.ensures.names ∙ c.each_part.invariant.names;
+      counts = omega (arith, c.in_ok-holds.ensures.charges);
+      names = c.in_ok-holds.ensures.names ∙ c.each_part.invariant.names;
       steps = λ k. c.each_part.invariant.steps k ⨾ rw (drop_item _ _ _ c.each_part-test.true c.part-item.is)
-          (c.in_ok-value.ensures.runs (AndPart _ _ ∷ k) ⨾ next (rw (
-            ← c.position.ensures,
-            ← (c.in_ok-holds.ensures.exact tt),
-            c.if-not-holds.false,
-          ) here));
+          ((rw c.if-not-holds.false at c.in_ok-holds.ensures.runs) (AndPart _ _) k refl);
     }
 
-pub run_and-returns-in_err-value-clause-runs : goal.run_and-returns-in_err-value-clause-runs
-unfolding after Steps
-run_and-returns-in_err-value-clause-runs g t c pos =
-    let rules = under g.H.Host.name_of c.args.self.now g.T.NativeTable.natives in
-    exits rules _ _ _ _ _ c.from_residual.ensures (λ k.
-    next (c.each_part.invariant.steps k ⨾ rw (drop_item _ _ _ c.each_part-test.true c.part-item.is) (c.in_err-value.ensures.runs
-    (AndPart _ _ ∷ k) ⨾ next here)))
-
 pub run_and-returns-in_err-holds-clause-runs : goal.run_and-returns-in_err-holds-clause-runs
-unfolding after Steps
+unfolding after Steps Tests
 run_and-returns-in_err-holds-clause-runs g t c pos =
     let rules = under g.H.Host.name_of c.args.self.now g.T.NativeTable.natives in
-    exits rules _ _ _ _ _ c.from_residual-in_err-holds.ensures (λ k.
-    next (c.each_part.invariant.steps k ⨾ rw (drop_item _ _ _ c.each_part-test.true c.part-item.is) (c.in_ok-value.ensures.runs
-    (AndPart _ _ ∷ k)
-    ⨾ truth_fails rules _ _ k _ _ (AndPart _ _) refl (rw c.position.ensures at c.in_err-holds.ensures.exact))))
+    exits rules _ _ _ _ _ c.from_residual.ensures (λ k.
+    next (c.each_part.invariant.steps k ⨾ rw (drop_item _ _ _ c.each_part-test.true c.part-item.is)
+    (c.in_err-holds.ensures.runs (AndPart _ _) k refl)))
 
 pub run_and-returns-then-not-holds-clause-runs : goal.run_and-returns-then-not-holds-clause-runs
-unfolding after Steps
+unfolding after Steps Tests
 run_and-returns-then-not-holds-clause-runs g t c pos k =
     next (c.each_part.invariant.steps k ⨾ rw (drop_item _ _ _ c.each_part-test.true c.part-item.is)
-    (c.in_ok-value.ensures.runs (AndPart _ _ ∷ k) ⨾ next (rw (
-      ← c.position.ensures,
-      ← (c.in_ok-holds.ensures.exact tt),
-      c.if-not-holds.true,
-      c.bool_value.ensures,
-    ) here)))
+    ((rw c.if-not-holds.true at c.in_ok-holds.ensures.runs) (AndPart _ _) k refl ⨾ rw c.bool_value.ensures here))
 
 pub run_and-returns-clause-runs : goal.run_and-returns-clause-runs
 unfolding after Steps
@@ -81,8 +64,8 @@ run_and-returns-clause-runs g t c pos k = next (c.each_part.invariant.steps k �
   c.bool_value-2.ensures,
 ) here)
 
-pub run_or-run_expr-requires : goal.run_or-run_expr-requires
-run_or-run_expr-requires g t c =
+pub run_or-run_condition-requires : goal.run_or-run_condition-requires
+run_or-run_condition-requires g t c =
     λ κs lives. (
       omega arith,
       (
@@ -104,46 +87,28 @@ run_or-each_part-init g t c =
     record { counts = omega arith; names = refl; steps = λ k. here }
 
 pub run_or-each_part-preserved : goal.run_or-each_part-preserved
-unfolding after Steps
+unfolding after Steps Tests
 run_or-each_part-preserved g t c =
     record {
-      counts = omega (arith, c.in_ok-value.ensures.charges);
-      names = c.in_ok-value.ensures.names ∙ c.each_part.invariant.names;
+      counts = omega (arith, c.in_ok-holds.ensures.charges);
+      names = c.in_ok-holds.ensures.names ∙ c.each_part.invariant.names;
       steps = λ k. c.each_part.invariant.steps k ⨾ rw (drop_item _ _ _ c.each_part-test.true c.part-item.is)
-          (c.in_ok-value.ensures.runs (OrPart _ _ ∷ k) ⨾ next (rw (
-            ← c.position.ensures,
-            ← (c.in_ok-holds.ensures.exact tt),
-            c.if-holds.false,
-          ) here));
+          ((rw c.if-holds.false at c.in_ok-holds.ensures.runs) (OrPart _ _) k refl);
     }
 
-pub run_or-returns-in_err-value-clause-runs : goal.run_or-returns-in_err-value-clause-runs
-unfolding after Steps
-run_or-returns-in_err-value-clause-runs g t c pos =
-    let rules = under g.H.Host.name_of c.args.self.now g.T.NativeTable.natives in
-    exits rules _ _ _ _ _ c.from_residual.ensures (λ k.
-    next (c.each_part.invariant.steps k ⨾ rw (drop_item _ _ _ c.each_part-test.true c.part-item.is) (c.in_err-value.ensures.runs
-    (OrPart _ _ ∷ k) ⨾ next here)))
-
 pub run_or-returns-in_err-holds-clause-runs : goal.run_or-returns-in_err-holds-clause-runs
-unfolding after Steps
+unfolding after Steps Tests
 run_or-returns-in_err-holds-clause-runs g t c pos =
     let rules = under g.H.Host.name_of c.args.self.now g.T.NativeTable.natives in
-    exits rules _ _ _ _ _ c.from_residual-in_err-holds.ensures (λ k.
-    next (c.each_part.invariant.steps k ⨾ rw (drop_item _ _ _ c.each_part-test.true c.part-item.is) (c.in_ok-value.ensures.runs (OrPart
-    _ _ ∷ k)
-    ⨾ truth_fails rules _ _ k _ _ (OrPart _ _) refl (rw c.position.ensures at c.in_err-holds.ensures.exact))))
+    exits rules _ _ _ _ _ c.from_residual.ensures (λ k.
+    next (c.each_part.invariant.steps k ⨾ rw (drop_item _ _ _ c.each_part-test.true c.part-item.is)
+    (c.in_err-holds.ensures.runs (OrPart _ _) k refl)))
 
 pub run_or-returns-then-holds-clause-runs : goal.run_or-returns-then-holds-clause-runs
-unfolding after Steps
+unfolding after Steps Tests
 run_or-returns-then-holds-clause-runs g t c pos k =
     next (c.each_part.invariant.steps k ⨾ rw (drop_item _ _ _ c.each_part-test.true c.part-item.is)
-    (c.in_ok-value.ensures.runs (OrPart _ _ ∷ k) ⨾ next (rw (
-      ← c.position.ensures,
-      ← (c.in_ok-holds.ensures.exact tt),
-      c.if-holds.true,
-      c.bool_value.ensures,
-    ) here)))
+    ((rw c.if-holds.true at c.in_ok-holds.ensures.runs) (OrPart _ _) k refl ⨾ rw c.bool_value.ensures here))
 
 pub run_or-returns-clause-runs : goal.run_or-returns-clause-runs
 unfolding after Steps

@@ -5,9 +5,10 @@ use Rattle.rhai_machine.specs.machine.Point.{after}
 use Rattle.rhai_machine.specs.machine.Memory.{here, next, ◌⨾◌}
 use Rattle.rhai_machine.specs.language.Runs.{Steps}
 use Rattle.rhai_steps.proofs.Pieces.{passed, told}
-use Rattle.rhai_eval.specs.States.{under}
+use Rattle.rhai_eval.specs.States.{offer_of, under}
 use Rattle.rhai_eval.proofs.Chain.{begins, opens, reads, refuses}
-use Rattle.rhai_eval.proofs.NameLemmas.{good_name, plain_name}
+use Rattle.rhai_operands.proofs.Names.{good_name, plain_name}
+use Rattle.rhai_eval.proofs.Conditions.{tests_by, tests_fail}
 use Rattle.rhai_eval.proofs.engine.Engine.+eval.Goals as goal
 
 pub run_expr-returns-in_err-track_operation-clause-runs : goal.run_expr-returns-in_err-track_operation-clause-runs
@@ -96,3 +97,22 @@ run_expr-returns-in-Coalesce-clause-runs g t c =
       c.in-Coalesce.is,
       exprs.outs-Coalesce,
     ) refl)
+
+pub run_condition-returns-in-Some-clause-runs : goal.run_condition-returns-in-Some-clause-runs
+run_condition-returns-in-Some-clause-runs g t c =
+    c.in-Some.ensures.runs (offer_of c.args.self.now) c.args.run.now.this c.requires.fast
+
+pub run_condition-returns-in-None-clause-runs : goal.run_condition-returns-in-None-clause-runs
+run_condition-returns-in-None-clause-runs g t c =
+    rw (c.holds_in_place.ensures.left_alone c.in-None.is) at c.run_test.ensures.runs
+
+pub run_test-returns-in_err-value-clause-runs : goal.run_test-returns-in_err-value-clause-runs
+run_test-returns-in_err-value-clause-runs g t c =
+    let rules = under g.H.Host.name_of c.args.self.now g.T.NativeTable.natives in
+    rw (passed _ c.from_residual.ensures) (tests_fail rules c.args.test.now _ _ _ c.in_err-value.ensures.runs)
+
+pub run_test-returns-clause-runs : goal.run_test-returns-clause-runs
+run_test-returns-clause-runs g t c =
+    let rules = under g.H.Host.name_of c.args.self.now g.T.NativeTable.natives in
+    tests_by rules c.args.test.now c.in_ok-value.value _ _ c.truth_value.result c.in_ok-value.ensures.runs
+    (rw c.position.ensures at c.truth_value.ensures.exact)

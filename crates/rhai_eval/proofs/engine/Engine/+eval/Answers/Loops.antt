@@ -5,14 +5,17 @@ use Rattle.rhai_machine.specs.machine.Point.{after}
 use Rattle.rhai_machine.specs.machine.Memory.{here, next, ◌⨾◌}
 use Rattle.rhai_machine.specs.language.Frames.{ended, Enter, WhileCondition, WhileBody, DoCondition, DoBody}
 use Rattle.rhai_machine.specs.language.Runs.{Steps}
+use Rattle.rhai_machine.specs.language.Statements.{has_option}
 use Rattle.rhai_laws.proofs.KeptLaws.{counted, names_stay}
 use Rattle.rhai_steps.proofs.Pieces.{passed, exits}
 use Rattle.rhai_eval.specs.States.{names, under}
 use Rattle.rhai_steps.specs.declared.loops.BodyEnd.TheVariants.{Continue, Break}
-use Rattle.rhai_eval.proofs.LoopSteps.{while_ends, do_leads, do_tested, turn_exits, while_asks, endless_enters, endless_charged}
+use Rattle.rhai_operands.specs.Tests.{Tests}
+use Rattle.rhai_eval.proofs.Conditions.{do_tested}
+use Rattle.rhai_eval.proofs.LoopSteps.{while_ends, do_leads, turn_exits, while_asks, endless_enters, endless_charged}
 use Rattle.rhai_eval.proofs.LoopSteps.{endless_refused, stays_full}
 use Rattle.rhai_eval.proofs.Turns.{body_charges, left_charges}
-use Rattle.rhai_eval.proofs.Chain.{on_ok_map, truth_fails, on_ok}
+use Rattle.rhai_eval.proofs.Chain.{on_ok_map, on_ok}
 use Rattle.rhai_eval.proofs.engine.Engine.+eval.Goals as goal
 
 pub run_while-turns-init : goal.run_while-turns-init
@@ -186,24 +189,17 @@ do_turn-do_test-requires g t c =
     c.as_slice-statements.ensures at c.run_stmt_block-outcome.ensures.runs) in
     λ κs lives. (omega (arith, counts), (lives.0, (lives.1, (rw stays c.requires.resolves_test, c.requires.fast))))
 
-pub do_test-returns-in_err-value-clause-runs : goal.do_test-returns-in_err-value-clause-runs
-unfolding after Steps
-do_test-returns-in_err-value-clause-runs g t c body k =
-    rw (passed _ c.from_residual.ensures) (c.in_err-value.ensures.runs (DoCondition _ _ _ ∷ k) ⨾ next here)
-
 pub do_test-returns-in_err-holds-clause-runs : goal.do_test-returns-in_err-holds-clause-runs
-unfolding after Steps
+unfolding after Steps Tests
 do_test-returns-in_err-holds-clause-runs g t c body k =
-    let rules = under g.H.Host.name_of c.args.self.now g.T.NativeTable.natives in
-    rw (passed _ c.from_residual-in_err-holds.ensures) (c.in_ok-value.ensures.runs (DoCondition _ _ _ ∷ k)
-    ⨾ truth_fails rules _ _ k _ _ (DoCondition _ _ _) refl (rw c.position.ensures at c.in_err-holds.ensures.exact))
+    rw (passed _ c.from_residual.ensures) (c.in_err-holds.ensures.runs (DoCondition _ _ _) k refl)
 
 pub do_test-returns-clause-runs : goal.do_test-returns-clause-runs
-unfolding after Steps
+unfolding after Steps Tests
 do_test-returns-clause-runs g t c body k =
     let rules = under g.H.Host.name_of c.args.self.now g.T.NativeTable.natives in
-    c.in_ok-value.ensures.runs (DoCondition _ _ _ ∷ k)
-    ⨾ do_tested rules _ _ _ _ _ _ k _ (rw c.position.ensures at c.in_ok-holds.ensures.exact tt) c.do_next.ensures
+    c.in_ok-holds.ensures.runs (DoCondition _ _ _) k refl
+    ⨾ do_tested rules _ (has_option 1 c.args.options) c.in_ok-holds.holds _ k _ c.do_next.ensures
 
 pub endless_turn-returns-in_err-track_operation-clause-runs : goal.endless_turn-returns-in_err-track_operation-clause-runs
 unfolding after Steps
@@ -229,32 +225,23 @@ endless_turn-returns-clause-runs g t c k =
     c.if-is_empty.false)))
     ⨾ c.while_body.ensures.runs k
 
-pub while_turn-returns-in_err-value-clause-runs : goal.while_turn-returns-in_err-value-clause-runs
-unfolding after Steps
-while_turn-returns-in_err-value-clause-runs g t c =
-    let rules = under g.H.Host.name_of c.args.self.now g.T.NativeTable.natives in
-    turn_exits rules _ _ _ _ _ _ c.from_residual.ensures (λ k.
-    while_asks rules _ _ k _ (sym c.is_endless.ensures ∙ c.if-is_endless.false) ⨾ c.in_err-value.ensures.runs (WhileCondition _ _ ∷ k)
-    ⨾ next here)
-
 pub while_turn-returns-in_err-holds-clause-runs : goal.while_turn-returns-in_err-holds-clause-runs
-unfolding after Steps
+unfolding after Steps Tests
 while_turn-returns-in_err-holds-clause-runs g t c =
     let rules = under g.H.Host.name_of c.args.self.now g.T.NativeTable.natives in
-    turn_exits rules _ _ _ _ _ _ c.from_residual-in_err-holds.ensures (λ k.
-    while_asks rules _ _ k _ (sym c.is_endless.ensures ∙ c.if-is_endless.false) ⨾ c.in_ok-value.ensures.runs (WhileCondition _ _ ∷ k)
-    ⨾ truth_fails rules _ _ k _ _ (WhileCondition _ _) refl (rw c.position.ensures at c.in_err-holds.ensures.exact))
+    turn_exits rules _ _ _ _ _ _ c.from_residual.ensures (λ k.
+    while_asks rules _ _ k _ (sym c.is_endless.ensures ∙ c.if-is_endless.false) ⨾ c.in_err-holds.ensures.runs (WhileCondition _ _) k refl)
 
 pub while_turn-returns-then-holds-clause-runs : goal.while_turn-returns-then-holds-clause-runs
-unfolding after Steps
+unfolding after Steps Tests
 while_turn-returns-then-holds-clause-runs g t c k =
     let rules = under g.H.Host.name_of c.args.self.now g.T.NativeTable.natives in
-    while_asks rules _ _ k _ (sym c.is_endless.ensures ∙ c.if-is_endless.false) ⨾ c.in_ok-value.ensures.runs (WhileCondition _ _ ∷ k)
-    ⨾ next (rw (← c.position.ensures, ← (c.in_ok-holds.ensures.exact tt), c.if-holds.true) (c.while_body.ensures.runs k))
+    while_asks rules _ _ k _ (sym c.is_endless.ensures ∙ c.if-is_endless.false)
+    ⨾ (rw c.if-holds.true at c.in_ok-holds.ensures.runs) (WhileCondition _ _) k refl ⨾ c.while_body.ensures.runs k
 
 pub while_turn-returns-else-holds-clause-runs : goal.while_turn-returns-else-holds-clause-runs
-unfolding after Steps
+unfolding after Steps Tests
 while_turn-returns-else-holds-clause-runs g t c k =
     let rules = under g.H.Host.name_of c.args.self.now g.T.NativeTable.natives in
-    while_asks rules _ _ k _ (sym c.is_endless.ensures ∙ c.if-is_endless.false) ⨾ c.in_ok-value.ensures.runs (WhileCondition _ _ ∷ k)
-    ⨾ next (rw (← c.position.ensures, ← (c.in_ok-holds.ensures.exact tt), c.if-holds.false, c.unit_value.ensures) here)
+    while_asks rules _ _ k _ (sym c.is_endless.ensures ∙ c.if-is_endless.false)
+    ⨾ (rw c.if-holds.false at c.in_ok-holds.ensures.runs) (WhileCondition _ _) k refl ⨾ rw c.unit_value.ensures here

@@ -13,9 +13,12 @@ use Rattle.rhai_laws.proofs.KeptLaws.{names_begin}
 use Rattle.rhai_steps.proofs.Pieces.{passed, exits, told}
 use Rattle.rhai_eval.specs.Memory.{asks_stmt}
 use Rattle.rhai_eval.specs.States.{names, offer_of, under}
-use Rattle.rhai_eval.proofs.NameLemmas.{good_target, plain_return, plain_target, plain_var, names_restored, rest_resolves, any_item}
-use Rattle.rhai_eval.proofs.LoopSteps.{begins_assignment}
-use Rattle.rhai_eval.proofs.Chain.{chooses, truth_fails, flat_fails, on_ok_given, drop_item, drop_all, begins_stmt, on_ok, opens_stmt}
+use Rattle.rhai_operands.specs.Tests.{Tests}
+use Rattle.rhai_operands.proofs.Names.{good_target, plain_target}
+use Rattle.rhai_assign.proofs.Prepared.{begins_assignment}
+use Rattle.rhai_eval.proofs.Conditions.{chooses}
+use Rattle.rhai_eval.proofs.NameLemmas.{plain_return, plain_var, names_restored, rest_resolves, any_item}
+use Rattle.rhai_eval.proofs.Chain.{flat_fails, on_ok_given, drop_item, drop_all, begins_stmt, on_ok, opens_stmt}
 use Rattle.rhai_eval.proofs.Chain.{refuses_stmt, restores, enters_empty, enters_plain, enters_restoring, is_empty_list, is_not_empty}
 use Rattle.rhai_eval.proofs.Chain.{left_state, not_declared, begins_value, defines}
 use Rattle.rhai_eval.proofs.engine.Engine.+eval.Goals as goal
@@ -131,44 +134,44 @@ run_expr_stmt-returns-clause-runs g t c k =
     next (c.in_ok-value.ensures.runs (StatementValue _ ∷ k) ⨾ next (rw (← c.position.ensures) (told rules _ _ c.flatten.ensures.exact k
     _)))
 
-pub run_if-returns-in_err-value-clause-runs : goal.run_if-returns-in_err-value-clause-runs
-unfolding after Steps
-run_if-returns-in_err-value-clause-runs g t c =
-    let rules = under g.H.Host.name_of c.args.self.now g.T.NativeTable.natives in
-    exits rules _ _ _ _ _ c.from_residual.ensures (λ k.
-    next (c.in_err-value.ensures.runs (IfCondition _ _ _ ∷ k) ⨾ next here))
-
 pub run_if-returns-in_err-holds-clause-runs : goal.run_if-returns-in_err-holds-clause-runs
-unfolding after Steps
+unfolding after Steps Tests
 run_if-returns-in_err-holds-clause-runs g t c =
     let rules = under g.H.Host.name_of c.args.self.now g.T.NativeTable.natives in
-    exits rules _ _ _ _ _ c.from_residual-in_err-holds.ensures (λ k.
-    next (c.in_ok-value.ensures.runs (IfCondition _ _ _ ∷ k)
-    ⨾ truth_fails rules _ _ k _ _ (IfCondition _ _ _) refl (rw c.position.ensures at c.in_err-holds.ensures.exact)))
+    exits rules _ _ _ _ _ c.from_residual.ensures (λ k. next (c.in_err-holds.ensures.runs (IfCondition _ _ _) k refl))
 
 pub run_if-returns-clause-runs : goal.run_if-returns-clause-runs
-unfolding after Steps
+unfolding after Steps Tests
 run_if-returns-clause-runs g t c k =
     let rules = under g.H.Host.name_of c.args.self.now g.T.NativeTable.natives in
-    next (c.in_ok-value.ensures.runs (IfCondition _ _ _ ∷ k)
-    ⨾ chooses rules _ _ _ c.args.body.now c.args.branch.now k _ (rw c.position.ensures at c.in_ok-holds.ensures.exact tt) ((rw
-    c.chosen.ensures at c.run_stmt_block.ensures.runs) k))
+    next (c.in_ok-holds.ensures.runs (IfCondition _ _ _) k refl
+    ⨾ chooses rules c.in_ok-holds.holds c.args.body.now c.args.branch.now k _ ((rw c.chosen.ensures at c.run_stmt_block.ensures.runs) k))
 
-pub run_assignment-returns-in_err-value-clause-runs : goal.run_assignment-returns-in_err-value-clause-runs
+pub run_assignment-returns-in-Some-clause-runs : goal.run_assignment-returns-in-Some-clause-runs
+run_assignment-returns-in-Some-clause-runs g t c =
+    c.in-Some.ensures.runs (offer_of c.args.self.now) c.args.run.now.this c.args.restoring c.requires.fast
+
+pub run_assignment-returns-in-None-clause-runs : goal.run_assignment-returns-in-None-clause-runs
+run_assignment-returns-in-None-clause-runs g t c =
+    rw (c.assign_in_place.ensures.left_global c.in-None.is, c.assign_in_place.ensures.left_scope c.in-None.is)
+    at c.assign_value.ensures.runs
+
+pub assign_value-returns-in_err-value-clause-runs : goal.assign_value-returns-in_err-value-clause-runs
 unfolding after Steps
-run_assignment-returns-in_err-value-clause-runs g t c =
+assign_value-returns-in_err-value-clause-runs g t c =
     let rules = under g.H.Host.name_of c.args.self.now g.T.NativeTable.natives in
     exits rules _ _ _ _ _ c.from_residual.ensures (λ k.
     begins_assignment rules c.args.op c.args.lhs.now c.args.rhs.now c.in-Variable.offset c.in-Variable.name c.in-Variable.namespace
     c.in-Variable.pos
     c.args.restoring k _ (rw (c.in-Variable.is, exprs.outs-Variable) refl)
     (plain_target c.args.lhs.now c.in-Variable.offset c.in-Variable.name c.in-Variable.namespace c.in-Variable.pos _
-    (rw (c.in-Variable.is, exprs.outs-Variable) refl) c.requires.resolves_target) ⨾ c.in_err-value.ensures.runs (AssignValue _ _ ∷ k) ⨾ next
+    (rw (c.in-Variable.is, exprs.outs-Variable) refl) c.requires.resolves_target) ⨾ c.in_err-value.ensures.runs (AssignValue _ _ ∷ k) ⨾
+    next
     here)
 
-pub run_assignment-returns-in_err-value-2-clause-runs : goal.run_assignment-returns-in_err-value-2-clause-runs
+pub assign_value-returns-in_err-value-2-clause-runs : goal.assign_value-returns-in_err-value-2-clause-runs
 unfolding after Steps
-run_assignment-returns-in_err-value-2-clause-runs g t c =
+assign_value-returns-in_err-value-2-clause-runs g t c =
     let rules = under g.H.Host.name_of c.args.self.now g.T.NativeTable.natives in
     exits rules _ _ _ _ _ c.from_residual-in_err-value-2.ensures (λ k.
     begins_assignment rules c.args.op c.args.lhs.now c.args.rhs.now c.in-Variable.offset c.in-Variable.name c.in-Variable.namespace
@@ -178,14 +181,14 @@ run_assignment-returns-in_err-value-2-clause-runs g t c =
     (rw (c.in-Variable.is, exprs.outs-Variable) refl) c.requires.resolves_target) ⨾ c.in_ok-value.ensures.runs (AssignValue _ _ ∷ k)
     ⨾ flat_fails rules _ _ k _ _ (AssignValue _ _) refl (rw c.position.ensures at c.in_err-value-2.ensures.exact))
 
-pub run_assignment-assign_variable-requires : goal.run_assignment-assign_variable-requires
-run_assignment-assign_variable-requires g t c = rw c.in_ok-value.ensures.names
+pub assign_value-assign_variable-requires : goal.assign_value-assign_variable-requires
+assign_value-assign_variable-requires g t c = rw c.in_ok-value.ensures.names
     (good_target c.args.lhs.now c.in-Variable.offset c.in-Variable.name c.in-Variable.namespace c.in-Variable.pos _
     (rw (c.in-Variable.is, exprs.outs-Variable) refl) c.requires.resolves_target)
 
-pub run_assignment-returns-clause-runs : goal.run_assignment-returns-clause-runs
+pub assign_value-returns-clause-runs : goal.assign_value-returns-clause-runs
 unfolding after Steps
-run_assignment-returns-clause-runs g t c k =
+assign_value-returns-clause-runs g t c k =
     let rules = under g.H.Host.name_of c.args.self.now g.T.NativeTable.natives in
     begins_assignment rules c.args.op c.args.lhs.now c.args.rhs.now c.in-Variable.offset c.in-Variable.name c.in-Variable.namespace
     c.in-Variable.pos
@@ -200,7 +203,8 @@ unfolding after Steps
 run_var-returns-in_err-may_declare-clause-runs g t c kept =
     let rules = under g.H.Host.name_of c.args.self.now g.T.NativeTable.natives in
     exits rules _ _ _ _ _ c.from_residual.ensures (λ k.
-    not_declared rules c.args.ident.now c.args.value.now c.args.options c.args.pos c.args.restoring k _ _ c.in_err-may_declare.ensures kept)
+    not_declared rules c.args.ident.now c.args.value.now c.args.options c.args.pos c.args.restoring k _ _ c.in_err-may_declare.ensures
+    kept)
 
 pub run_var-returns-in_err-given-clause-runs : goal.run_var-returns-in_err-given-clause-runs
 unfolding after Steps

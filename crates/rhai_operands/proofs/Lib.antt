@@ -1,0 +1,4 @@
+pub mod Conditions
+pub mod InPlace
+pub mod Names
+pub mod Standing

@@ -1,0 +1,85 @@
+-- What it says of a form's parts that it resolves to the names of a scope.
+use Rattle.std.proofs.Common.{◌≡◌, Bool, true, false, ◌&&◌, IsTrue, subst, List, [], ◌∷◌, map, refl, if◌then◌else◌, Option}
+use Rattle.std.specs.declared.num.NonZeroUsize.{NonZeroUsize}
+use Rattle.rhai_tree.specs.declared.expr.Expr.{Expr, out-Expr}
+use Rattle.rhai_tree.specs.declared.expr.Expr.TheOpen as layer
+use Rattle.rhai_tree.specs.declared.expr.Expr.TheFolds.{fold_out-FnCallExpr}
+use Rattle.rhai_tree.specs.declared.expr.FnCallExpr.{FnCallExpr}
+use Rattle.rhai_tree.specs.declared.expr.Namespace.{Namespace}
+use Rattle.rhai_tree.specs.declared.position.Position.{Position}
+use Rattle.rhai_check.specs.Forms.{is_unqualified}
+use Rattle.rhai_check.specs.Frame.{tests_of, resolves_expr, resolves_call, all_resolve_exprs, target_resolves}
+use Rattle.rhai_check.specs.Names.{Name, is_good}
+use Rattle.rhai_check.specs.Reading as walk
+use Rattle.rhai_check.specs.Reading.{sound}
+use Rattle.rhai_check.proofs.Walk.{resolves-expr}
+
+pub both : (a b : Bool) → IsTrue (a && b) → IsTrue a × IsTrue b
+both true true h = (refl, refl)
+both true false h = (refl, h)
+both false b h = (h, cc)
+
+-- what resolves under a test has the test
+pub holds_then : (test b : Bool) → IsTrue (if test then b else false) → IsTrue test × IsTrue b
+holds_then true b h = (refl, h)
+holds_then false b h = (h, cc)
+
+pub fails_then : (test b : Bool) → IsTrue (if test then false else b) → (test ≡ false) × IsTrue b
+fails_then true b h = (cc, cc)
+fails_then false b h = (refl, h)
+
+two_resolve : (left right : Expr) (names : List Name) → IsTrue (all_resolve_exprs (map tests_of (left ∷ right ∷ [])) names) →
+    IsTrue (resolves_expr left names) × IsTrue (resolves_expr right names)
+two_resolve left right names h =
+    let first = both (resolves_expr left names) (resolves_expr right names && true) h in
+    (first.0, (both (resolves_expr right names) true first.1).0)
+
+operands_of_call : (call : FnCallExpr) (pos : Position) (names : List Name) → IsTrue (resolves_call call pos names) →
+    IsTrue (all_resolve_exprs (map tests_of call.args) names)
+operands_of_call call pos names h =
+    let opened = fold_out-FnCallExpr (walk.Seen sound) (walk.SeenStmt sound) (Unit {0}) (walk.SeenCall sound) (Unit {0}) (walk.Seen sound)
+    (walk.expr_step sound) (walk.stmt_step sound) (λ conditional. tt) (walk.call_step sound) (λ entry. tt) (walk.block_step sound)
+    call in
+    (holds_then _ _ (fails_then _ _ (subst (λ (s : walk.SeenCall sound). IsTrue (s.value pos names)) opened h)).1).1
+
+-- the operands of a call that resolves do
+pub operands_resolve : (call : FnCallExpr) (pos : Position) (left right : Expr) (names : List Name) → call.args ≡ left ∷ right ∷ [] →
+    IsTrue (resolves_call call pos names) →
+    IsTrue (resolves_expr left names) × IsTrue (resolves_expr right names)
+operands_resolve call pos left right names is h = two_resolve left right names (rw is at (operands_of_call call pos names h))
+
+-- those of an expression that is such a call
+pub call_resolves : (e : Expr) (call : FnCallExpr) (pos : Position) (left right : Expr) (names : List Name) →
+    out-Expr e ≡ layer.Expr::FnCall call pos → call.args ≡ left ∷ right ∷ [] → IsTrue (resolves_expr e names) →
+    IsTrue (resolves_expr left names) × IsTrue (resolves_expr right names)
+call_resolves e call pos left right names is args h = operands_resolve call pos left right names args
+    (subst (λ (t : walk.Seen sound). IsTrue (t.value names)) (resolves-expr e (layer.Expr::FnCall call pos) is) h)
+
+-- a variable that resolves has no path
+pub plain_name : (e : Expr) (offset : Option NonZeroUsize) (name : Name) (namespace : Namespace) (pos : Position) (names : List Name) →
+    out-Expr e ≡ layer.Variable offset name namespace pos → IsTrue (resolves_expr e names) → is_unqualified namespace.path ≡ true
+plain_name e offset name namespace pos names is h = (holds_then (is_unqualified namespace.path) _
+    (subst (λ (t : walk.Seen sound). IsTrue (t.value names)) (resolves-expr e (layer.Variable offset name namespace pos) is) h)).0
+
+-- and its offset leads to the newest variable of the name
+pub good_name : (e : Expr) (offset : Option NonZeroUsize) (name : Name) (namespace : Namespace) (pos : Position) (names : List Name) →
+    out-Expr e ≡ layer.Variable offset name namespace pos → IsTrue (resolves_expr e names) → IsTrue (is_good offset name names)
+good_name e offset name namespace pos names is h = (holds_then (is_good offset name names) _ (holds_then (is_unqualified namespace.path) _
+    (subst (λ (t : walk.Seen sound). IsTrue (t.value names)) (resolves-expr e (layer.Variable offset name namespace pos) is) h)).1).0
+
+-- so it is with the target of an assignment
+place_then : (place b : Bool) → IsTrue (if place then b else (false && b)) → IsTrue b
+place_then true b h = h
+place_then false b h = cc
+
+pub good_target : (e : Expr) (offset : Option NonZeroUsize) (name : Name) (namespace : Namespace) (pos : Position) (names : List Name) →
+    out-Expr e ≡ layer.Variable offset name namespace pos → IsTrue (target_resolves (tests_of e) names) →
+    IsTrue (is_good offset name names)
+good_target e offset name namespace pos names is h = good_name e offset name namespace pos names is
+    (place_then (tests_of e).is_place ((tests_of e).value names) h)
+
+pub plain_target : (e : Expr) (offset : Option NonZeroUsize) (name : Name) (namespace : Namespace) (pos : Position) (names : List Name) →
+    out-Expr e ≡ layer.Variable offset name namespace pos → IsTrue (target_resolves (tests_of e) names) →
+    is_unqualified namespace.path ≡ true
+plain_target e offset name namespace pos names is h = plain_name e offset name namespace pos names is
+    (place_then (tests_of e).is_place ((tests_of e).value names) h)

@@ -1,0 +1,148 @@
+-- How the machine reads an operand that stands: one charge at its position, and a copy of its value.
+use Rattle.std.proofs.Common.{◌≡◌, ◌<◌, ◌≤◌, ◌+◌, false, IsTrue, List, Option, Some, None, Ok, refl, ap}
+use Rattle.std.proofs.Common.{if◌then◌else◌}
+use Rattle.rhai_tree.specs.declared.position.Position.{Position}
+use Rattle.rhai_tree.specs.declared.expr.Expr.{Expr, out-Expr}
+use Rattle.rhai_tree.specs.declared.expr.Expr.TheOpen as layer
+use Rattle.rhai_tree.specs.declared.expr.Expr.TheFolds.{fold_out-Expr}
+use Rattle.rhai_tree.specs.Layers.{ExprLayer}
+use Rattle.rhai_tree.specs.Positions.{position_of, start_of}
+use Rattle.rhai_check.specs.Frame.{resolves_expr}
+use Rattle.rhai_values.specs.declared.base.value.Dynamic.{Dynamic}
+use Rattle.rhai_values.specs.declared.base.value.Union.{Union}
+use Rattle.rhai_values.specs.declared.base.value.Union.TheVariants as value
+use Rattle.rhai_values.specs.Copy.{copy_of, plain}
+use Rattle.rhai_state.specs.declared.scope.Scope.{Scope}
+use Rattle.rhai_state.specs.declared.scope.ScopeEntry.{ScopeEntry}
+use Rattle.rhai_state.specs.declared.state.GlobalRuntimeState.{GlobalRuntimeState}
+use Rattle.rhai_state.specs.declared.error.EvalAltResult.{EvalAltResult}
+use Rattle.rhai_state.specs.declared.error.EvalAltResult.TheVariants as error
+use Rattle.rhai_state.specs.Scope.{entries_of, names_in, found}
+use Rattle.rhai_machine.specs.machine.Machine.{Go}
+use Rattle.rhai_machine.specs.machine.Memory.{here, next, ◌⨾◌}
+use Rattle.rhai_machine.specs.machine.Point.{after}
+use Rattle.rhai_machine.specs.language.Setting.{Rules, limit_under}
+use Rattle.rhai_machine.specs.language.Values.{Cells, bool_value, copied, is_handle, unit_value}
+use Rattle.rhai_machine.specs.language.Names.{looked_up, read, variable_of}
+use Rattle.rhai_machine.specs.language.Expressions.{literal_of}
+use Rattle.rhai_machine.specs.language.Frames.{Frame, core, Argument, Eval, OpenExpr, Back, Fail}
+use Rattle.rhai_machine.specs.language.Runs.{at, Goes}
+use Rattle.rhai_steps.specs.States.{state_of}
+use Rattle.rhai_steps.proofs.Pieces.{step_by, charged, refused}
+use Rattle.rhai_operands.specs.Standing.{standing, unless_handle}
+use Rattle.rhai_operands.proofs.Names.{plain_name}
+
+module _ {H : Type 0} where
+  -- a variable that is no handle is read as a copy
+  read_value : (cells : Cells H) (name : _) (pos : Position) (u : Union H) (w v : Dynamic H) →
+      (if is_handle u then None else Some w) ≡ Some v → copied (looked_up cells name pos u w) ≡ Ok (copy_of v)
+  read_value cells name pos (value.Cell id) w v is = cc
+  read_value cells name pos _ w v is = let same : w ≡ v = cc in ap (λ (x : Dynamic H). Ok (copy_of x)) same
+
+  read_found : (cells : Cells H) (name : _) (pos : Position) (o : Option (Dynamic H)) (v : Dynamic H) →
+      unless_handle o ≡ Some v → copied (variable_of cells name pos o) ≡ Ok (copy_of v)
+  read_found cells name pos None v is = cc
+  read_found cells name pos (Some w) v is = read_value cells name pos w.value w v is
+
+  pub reads_standing : (cells : Cells H) (name : _) (pos : Position) (entries : List (ScopeEntry H)) (v : Dynamic H) →
+      unless_handle (found name entries) ≡ Some v → read cells name pos entries ≡ Ok (copy_of v)
+  reads_standing cells name pos entries v is = read_found cells name pos (found name entries) v is
+
+-- what stands is no handle
+value_plain : {H : Type 0} (u : Union H) (w v : Dynamic H) → u ≡ w.value → (if is_handle u then None else Some w) ≡ Some v →
+    is_handle v.value ≡ false
+value_plain (value.Cell id) w v of is = cc
+value_plain _ w v of is = let same : w ≡ v = cc in rw (← same, ← of) refl
+
+found_plain : {H : Type 0} (o : Option (Dynamic H)) (v : Dynamic H) → unless_handle o ≡ Some v → is_handle v.value ≡ false
+found_plain None v is = cc
+found_plain (Some w) v is = value_plain w.value w v refl is
+
+pub standing_plain : {H : Type 0} (form : ExprLayer) (entries : List (ScopeEntry H)) (v : Dynamic H) → standing form entries ≡ Some v →
+    is_handle v.value ≡ false
+standing_plain (layer.BoolConstant b pos) entries v is = let same : bool_value b ≡ v = cc in rw (← same) refl
+standing_plain (layer.IntegerConstant n pos) entries v is = let same : plain (value.Int n) ≡ v = cc in rw (← same) refl
+standing_plain (layer.Unit pos) entries v is = let same : unit_value ≡ v = cc in rw (← same) refl
+standing_plain (layer.Variable offset name namespace pos) entries v is = found_plain (found name entries) v is
+standing_plain _ entries v is = cc
+
+-- a literal's text starts where it stands
+literal_starts : {H : Type 0} (e : Expr) (form : ExprLayer) (w : Dynamic H) → out-Expr e ≡ form → literal_of form ≡ Some w →
+    start_of e ≡ position_of e
+literal_starts e (layer.BoolConstant b pos) w is literal = rw (fold_out-Expr, is) refl
+literal_starts e (layer.IntegerConstant n pos) w is literal = rw (fold_out-Expr, is) refl
+literal_starts e (layer.Unit pos) w is literal = rw (fold_out-Expr, is) refl
+literal_starts e _ w is literal = cc
+
+module _ {S H : Type 0} (rules : Rules S H) where
+  -- its form, once it is charged, gives its value
+  opens_standing : (e : Expr) (form : ExprLayer) (v : Dynamic H) (k : List (Frame H)) (t : S) (g : GlobalRuntimeState H) (scope : Scope H)
+      (this : Option (Dynamic H)) →
+      out-Expr e ≡ form → IsTrue (resolves_expr e (names_in scope)) → standing form (entries_of scope) ≡ Some v →
+      Goes rules (at (OpenExpr form) k (state_of t g scope this)) (at (Back (copy_of v)) k (state_of t g scope this))
+  unfolding after
+  opens_standing e (layer.BoolConstant b pos) v k t g scope this is resolves stands = let same : bool_value b ≡ v = cc in rw (← same)
+      (next here)
+  opens_standing e (layer.IntegerConstant n pos) v k t g scope this is resolves stands =
+      let same : plain (value.Int n) ≡ v = cc in rw (← same) (next here)
+  opens_standing e (layer.Unit pos) v k t g scope this is resolves stands = let same : unit_value ≡ v = cc in rw (← same) (next here)
+  opens_standing e (layer.Variable offset name namespace pos) v k t g scope this is resolves stands =
+      step_by rules _ _ (Go (core (Back (copy_of v)) k (state_of t g scope this).local))
+      (rw (
+        plain_name e offset name namespace pos (names_in scope) is resolves,
+        reads_standing (state_of t g scope this).local.around.cells
+            name pos (entries_of scope) v stands,
+      ) refl) here
+  opens_standing e _ v k t g scope this is resolves stands = cc
+
+  module _ (e : Expr) (v : Dynamic H) (t : S) (old new : GlobalRuntimeState H) (scope : Scope H) (this : Option (Dynamic H))
+      (resolves : IsTrue (resolves_expr e (names_in scope))) (stands : standing (out-Expr e) (entries_of scope) ≡ Some v) where
+    module _ (room : old.num_operations < limit_under rules) (is : new ≡ record old { num_operations = old.num_operations + 1 }) where
+      -- an expression that stands is charged, and there
+      pub value_goes : (k : List (Frame H)) →
+          Goes rules (at (Eval e) k (state_of t old scope this)) (at (Back (copy_of v)) k (state_of t new scope this))
+      value_goes k = charged rules t old new scope this (Eval e) (OpenExpr (out-Expr e)) (position_of e) (λ k. refl) room is k
+          ⨾ opens_standing e (out-Expr e) v k t new scope this refl resolves stands
+
+      argument_by : (form : ExprLayer) → out-Expr e ≡ form → standing form (entries_of scope) ≡ Some v → (k : List (Frame H)) →
+          Goes rules (at (Argument e) k (state_of t old scope this)) (at (Back (copy_of v)) k (state_of t new scope this))
+      argument_by (layer.BoolConstant b pos) form stand k = let same : bool_value b ≡ v = cc in rw (← same)
+          (charged rules t old new scope this (Argument e) (Back (bool_value b)) (start_of e) (λ k. rw form refl) room is k)
+      argument_by (layer.IntegerConstant n pos) form stand k = let same : plain (value.Int n) ≡ v = cc in rw (← same)
+          (charged rules t old new scope this (Argument e) (Back (plain (value.Int n))) (start_of e) (λ k. rw form refl) room is k)
+      argument_by (layer.Unit pos) form stand k = let same : unit_value ≡ v = cc in rw (← same)
+          (charged rules t old new scope this (Argument e) (Back unit_value) (start_of e) (λ k. rw form refl) room is k)
+      argument_by (layer.Variable offset name namespace pos) form stand k =
+          step_by rules _ _ (Go (core (Eval e) k (state_of t old scope this).local)) (rw form refl) (value_goes k)
+      argument_by _ form stand k = cc
+
+      -- so is an argument
+      pub argument_goes : (k : List (Frame H)) →
+          Goes rules (at (Argument e) k (state_of t old scope this)) (at (Back (copy_of v)) k (state_of t new scope this))
+      argument_goes k = argument_by (out-Expr e) refl stands k
+
+    module _ (x : EvalAltResult H) (full : limit_under rules ≤ old.num_operations) (is : x ≡ error.ErrorTooManyOperations (position_of e))
+        (same : new ≡ old) where
+      -- or its charge is refused
+      pub value_refused : (k : List (Frame H)) →
+          Goes rules (at (Eval e) k (state_of t old scope this)) (at (Fail x) k (state_of t new scope this))
+      value_refused k = refused rules t old new scope this (Eval e) (OpenExpr (out-Expr e)) (position_of e) (λ k. refl) x full is same k
+
+      refused_by : (form : ExprLayer) → out-Expr e ≡ form → standing form (entries_of scope) ≡ Some v → (k : List (Frame H)) →
+          Goes rules (at (Argument e) k (state_of t old scope this)) (at (Fail x) k (state_of t new scope this))
+      refused_by (layer.BoolConstant b pos) form stand k = refused rules t old new scope this (Argument e) (Back (bool_value b))
+          (start_of e)
+          (λ k. rw form refl) x full (rw (literal_starts {H = H} e (layer.BoolConstant b pos) (bool_value b) form refl) is) same k
+      refused_by (layer.IntegerConstant n pos) form stand k = refused rules t old new scope this (Argument e) (Back (plain (value.Int n)))
+          (start_of e) (λ k. rw form refl) x full (rw (literal_starts {H = H} e (layer.IntegerConstant n pos) (plain (value.Int n))
+          form refl) is)
+          same k
+      refused_by (layer.Unit pos) form stand k = refused rules t old new scope this (Argument e) (Back unit_value) (start_of e)
+          (λ k. rw form refl) x full (rw (literal_starts {H = H} e (layer.Unit pos) unit_value form refl) is) same k
+      refused_by (layer.Variable offset name namespace pos) form stand k =
+          step_by rules _ _ (Go (core (Eval e) k (state_of t old scope this).local)) (rw form refl) (value_refused k)
+      refused_by _ form stand k = cc
+
+      pub argument_refused : (k : List (Frame H)) →
+          Goes rules (at (Argument e) k (state_of t old scope this)) (at (Fail x) k (state_of t new scope this))
+      argument_refused k = refused_by (out-Expr e) refl stands k

@@ -1,0 +1,72 @@
+//! Operands as they stand.
+
+ghost use Rattle.std.specs.Prelude.{◌≡◌, ◌∷◌, [], IsTrue, IfSome, Some};
+ghost use Rattle.std.specs.Option.{option_map};
+ghost use Rattle.rhai_tree.specs.declared.expr.Expr.{out-Expr};
+ghost use Rattle.rhai_check.specs.Frame.{resolves_expr};
+ghost use Rattle.rhai_state.specs.Scope.{entries_of, names_in};
+ghost use Rattle.rhai_operands.specs.Standing.{standing, value_of};
+
+use rhai_state::scope::Scope;
+use rhai_state::state::GlobalRuntimeState;
+use rhai_steps::values::{bool_value, int_value, is_bare_handle, unit_value};
+use rhai_steps::variables::place_of_variable;
+use rhai_tree::expr::{Expr, FnCallExpr};
+use rhai_values::base::value::{Dynamic, Host};
+
+/// An operand as it stands.
+#[derive(Drop)]
+pub enum Operand<'a, H> {
+    /// The value of a literal.
+    Literal(Dynamic<H>),
+    /// The value of a variable, where it stands in the scope.
+    Variable(&'a Dynamic<H>),
+}
+
+impl<'a, H> Operand<'a, H> {
+    /// Its value.
+    pub fn value(&self) -> &Dynamic<H>
+        ensures { result.now ≡ value_of self.now }
+    {
+        match self {
+            Operand::Literal(value) => value,
+            Operand::Variable(value) => *value,
+        }
+    }
+}
+
+/// An operand as it stands: a literal, or a variable that is no handle, and None for any other
+/// expression. Asked: the expression resolves to the variables of the scope.
+pub fn operand_in_place<'a, H: Host>(
+    global: &GlobalRuntimeState<H>,
+    scope: &'a Scope<H>,
+    expr: &Expr,
+) -> Option<Operand<'a, H>>
+    requires { IsTrue (resolves_expr expr.now (names_in scope.now)) }
+    ensures { option_map value_of result ≡ standing (out-Expr expr.now) (entries_of scope.now) }
+{
+    match expr {
+        Expr::BoolConstant(value, _) => Some(Operand::Literal(bool_value(*value))),
+        Expr::IntegerConstant(value, _) => Some(Operand::Literal(int_value(value))),
+        Expr::Unit(_) => Some(Operand::Literal(unit_value())),
+        Expr::Variable { offset, name, .. } => {
+            let index = place_of_variable(global, scope, *offset, name)?;
+            let value = scope.value_at(index);
+            if is_bare_handle(value) {
+                return None;
+            }
+            Some(Operand::Variable(value))
+        }
+        _ => None,
+    }
+}
+
+/// The operands of a call that has two.
+pub(crate) fn two_operands(call: &FnCallExpr) -> Option<(&Expr, &Expr)>
+    ensures { IfSome result (λ pair. call.now.args ≡ pair.0.now ∷ pair.1.now ∷ []) }
+{
+    match call.args.as_slice() {
+        [left, right] => Some((left, right)),
+        _ => None,
+    }
+}

@@ -1,0 +1,152 @@
+//! Binary operators on operands as they stand, and conditions that compare them. Ports the fast
+//! operators of upstream's `func/call.rs`.
+
+ghost use Rattle.std.specs.Prelude.{◌≡◌, ◌≤◌, ◌<◌, ◌∷◌, [], IsTrue, IfSome, IfErr, OnOk, Some, None, true, false};
+ghost use Rattle.rhai_tree.specs.declared.expr.Expr.{out-Expr};
+ghost use Rattle.rhai_tree.specs.declared.expr.Expr.TheOpen as layer;
+ghost use Rattle.rhai_check.specs.Frame.{resolves_expr};
+ghost use Rattle.rhai_state.specs.Errors.{is_out_of_memory};
+ghost use Rattle.rhai_state.specs.Scope.{entries_of, names_in};
+ghost use Rattle.rhai_machine.specs.language.Frames.{OpenExpr};
+ghost use Rattle.rhai_machine.specs.language.Runs.{Runs};
+ghost use Rattle.rhai_machine.specs.language.Setting.{rules_of};
+ghost use Rattle.rhai_steps.specs.States.{state_of};
+ghost use Rattle.rhai_operands.specs.Standing.{compared, standing, truth_answered};
+ghost use Rattle.rhai_operands.specs.Tests.{Tests};
+
+use crate::operands::{operand_in_place, two_operands};
+use rhai_operators::builtin_binary;
+use rhai_state::error::EvalAltResult;
+use rhai_state::limits::Limits;
+use rhai_state::scope::Scope;
+use rhai_state::state::GlobalRuntimeState;
+use rhai_state::table::NativeTable;
+use rhai_steps::charges::track_operation;
+use rhai_steps::replies::applied;
+use rhai_tree::expr::{Expr, FnCallExpr};
+use rhai_tree::position::Position;
+use rhai_tree::token::Token;
+use rhai_values::base::value::{Dynamic, Host, Union};
+use std::alloc::Global;
+
+/// A binary operator on two operands as they stand. None where one of them has to be evaluated, or
+/// there is no built-in for them: then nothing is charged. The table is not called.
+///
+/// # Errors
+/// `ErrorTooManyOperations` at an operand where the count has reached the limit. At the operator:
+/// what the operator answers, and `ErrorDataTooLarge` for a value above a limit.
+pub fn operate_in_place<H: Host, T: NativeTable<H>>(
+    limits: &Limits,
+    alloc: Global,
+    global: &mut GlobalRuntimeState<H>,
+    _table: &T,
+    scope: &Scope<H>,
+    call: &FnCallExpr,
+    token: Token,
+    left: &Expr,
+    right: &Expr,
+    pos: Position,
+) -> Option<Result<Dynamic<H>, EvalAltResult<H>>>
+    requires token { call.now.op_token ≡ Some token }
+    requires args { call.now.args ≡ left.now ∷ right.now ∷ [] }
+    requires resolves_left { IsTrue (resolves_expr left.now (names_in scope.now)) }
+    requires resolves_right { IsTrue (resolves_expr right.now (names_in scope.now)) }
+    ensures left_alone { result ≡ None → global.new ≡ global.old }
+    ensures counts { global.old.num_operations ≤ global.new.num_operations }
+    ensures runs { (offer : _) (this : _) → offer.fast_operators ≡ true →
+        IfSome result (λ result. Runs (rules_of limits.now H.name_of offer T.natives)
+        (OpenExpr (layer.Expr::FnCall call.now pos))
+        (state_of (T.state _table.now) global.old scope.now this)
+        result (state_of (T.state _table.now) global.new scope.now this)) }
+{
+    let first = operand_in_place(global, scope, left)?;
+    let second = operand_in_place(global, scope, right)?;
+    let outcome = builtin_binary(alloc, token, first.value(), second.value())?;
+    if let Err(error) = track_operation(limits, global, left.position()) {
+        drop(outcome);
+        return Some(Err(error));
+    }
+    if let Err(error) = track_operation(limits, global, right.position()) {
+        drop(outcome);
+        return Some(Err(error));
+    }
+    Some(applied(alloc, limits, outcome, pos))
+}
+
+/// The truth value that an operator gave, None where it gave something else.
+fn truth_given<H: Host>(outcome: &Result<Dynamic<H>, EvalAltResult<H>>) -> Option<bool>
+    ensures { IfSome result (λ holds. truth_answered (Some outcome.now) ≡ Some holds) }
+{
+    match outcome {
+        Ok(value) => match &value.value {
+            Union::Bool(holds) => Some(*holds),
+            _ => None,
+        },
+        Err(_) => None,
+    }
+}
+
+/// What an operator says of two operands as they stand, None where one of them has to be evaluated
+/// or the operator gives no truth value.
+fn compare_in_place<H: Host>(
+    alloc: Global,
+    global: &GlobalRuntimeState<H>,
+    scope: &Scope<H>,
+    token: Token,
+    left: &Expr,
+    right: &Expr,
+) -> Option<bool>
+    requires resolves_left { IsTrue (resolves_expr left.now (names_in scope.now)) }
+    requires resolves_right { IsTrue (resolves_expr right.now (names_in scope.now)) }
+    ensures { IfSome result (λ holds.
+        compared token (standing (out-Expr left.now) (entries_of scope.now))
+        (standing (out-Expr right.now) (entries_of scope.now)) ≡ Some holds) }
+{
+    let first = operand_in_place(global, scope, left)?;
+    let second = operand_in_place(global, scope, right)?;
+    let outcome = builtin_binary(alloc, token, first.value(), second.value())?;
+    let holds = truth_given(&outcome);
+    drop(outcome);
+    holds
+}
+
+/// A condition that compares two operands as they stand. None where it is another expression, or an
+/// operand has to be evaluated: then nothing is charged. The table is not called.
+///
+/// # Errors
+/// `ErrorTooManyOperations` at the operator or an operand where the count has reached the limit.
+pub fn holds_in_place<H: Host, T: NativeTable<H>>(
+    limits: &Limits,
+    alloc: Global,
+    global: &mut GlobalRuntimeState<H>,
+    _table: &T,
+    scope: &Scope<H>,
+    test: &Expr,
+) -> Option<Result<bool, EvalAltResult<H>>>
+    requires { IsTrue (resolves_expr test.now (names_in scope.now)) }
+    ensures left_alone { result ≡ None → global.new ≡ global.old }
+    ensures charges { IfSome result (λ result. OnOk result
+        (global.old.num_operations < global.new.num_operations)) }
+    ensures memory { IfSome result (λ result. IfErr result (λ error. is_out_of_memory error ≡ false)) }
+    ensures runs { (offer : _) (this : _) → offer.fast_operators ≡ true →
+        IfSome result (λ result. Tests (rules_of limits.now H.name_of offer T.natives) test.now
+        (state_of (T.state _table.now) global.old scope.now this)
+        result (state_of (T.state _table.now) global.new scope.now this)) }
+{
+    let Expr::FnCall(call, pos) = test else {
+        return None;
+    };
+    let token = call.op_token?;
+    let (left, right) = two_operands(call)?;
+    let holds = compare_in_place(alloc, global, scope, token, left, right)?;
+    if let Err(error) = track_operation(limits, global, *pos) {
+        return Some(Err(error));
+    }
+    if let Err(error) = track_operation(limits, global, left.position()) {
+        return Some(Err(error));
+    }
+    if let Err(error) = track_operation(limits, global, right.position()) {
+        return Some(Err(error));
+    }
+    Some(Ok(holds))
+}
