@@ -3,3 +3,4 @@ pub mod Natives
 pub mod Writes
 pub mod Updates
 pub mod Prepared
+pub mod Integers

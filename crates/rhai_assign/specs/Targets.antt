@@ -1,5 +1,5 @@
 -- Where the value of a variable stands in the code, and what is written there.
-use Rattle.std.specs.Prelude.{◌≡◌, ◌<◌, ℕ, Bool, true, false, List, length, Option, Some, is_some, unwrap_or, slice_get, Result, Ok, Err}
+use Rattle.std.specs.Prelude.{◌≡◌, ◌<◌, ℕ, Bool, true, false, List, length, Option, Some, is_some, unwrap_or, slice_get, Result, Ok, Err, is_ok}
 use Rattle.rhai_tree.specs.declared.position.Position.{Position}
 use Rattle.rhai_values.specs.declared.base.value.Dynamic.{Dynamic}
 use Rattle.rhai_state.specs.declared.scope.Scope.{Scope}
@@ -70,8 +70,8 @@ module _ {H : Type 0} where
   lent_request place scope cells name rest at =
       request (while_lent (place_in place) (cells_of cells)) (Named name) (Some (standing_at place scope cells)) rest at
 
-  -- a place that was found has the target's value, and an error is the machine's, want of memory aside
+  -- a place that was found has the target's value; else there is none, and the error is the machine's, want of memory aside
   abbrev pub Finds : Result code.Place (EvalAltResult H) → List (ScopeEntry H) → Cells H → Result (Target H) (EvalAltResult H) → Type 0
   Finds (Ok p) entries cells wanted =
       (wanted ≡ Ok (target (place_in p) (standing (place_in p) entries cells))) × (stands (place_in p) entries cells ≡ true)
-  Finds (Err e) entries cells wanted = is_out_of_memory e ≡ false → wanted ≡ Err e
+  Finds (Err e) entries cells wanted = (is_ok wanted ≡ false) × (is_out_of_memory e ≡ false → wanted ≡ Err e)

@@ -1,34 +1,41 @@
 //! An assignment by a built-in operator whose value is an operand as it stands: the target is changed
 //! where it stands, and no operand is copied.
 
-ghost use Rattle.std.specs.Prelude.{◌≡◌, IsTrue, IfSome, None, true};
+ghost use Rattle.std.specs.Prelude.{◌≡◌, IsTrue, IfSome, Some, None, Ok, is_some, true, false};
 ghost use Rattle.rhai_tree.specs.declared.expr.Expr.{out-Expr};
 ghost use Rattle.rhai_tree.specs.declared.expr.Expr.TheOpen as layer;
 ghost use Rattle.rhai_check.specs.Frame.{tests_of, target_resolves, resolves_expr};
 ghost use Rattle.rhai_check.specs.Names.{is_good};
-ghost use Rattle.rhai_state.specs.Scope.{names_in};
+ghost use Rattle.rhai_values.specs.Cells.{cells_of};
+ghost use Rattle.rhai_state.specs.Scope.{entries_of, names_in};
 ghost use Rattle.rhai_machine.specs.language.Frames.{OpenStmt};
 ghost use Rattle.rhai_machine.specs.language.Runs.{Runs};
+ghost use Rattle.rhai_machine.specs.language.Places.{target_of};
 ghost use Rattle.rhai_machine.specs.language.Setting.{rules_of};
+ghost use Rattle.rhai_machine.specs.language.Values.{unit_value as unit};
 ghost use Rattle.rhai_steps.specs.States.{state_of};
-ghost use Rattle.rhai_assign.specs.InPlace.{IsReady};
+ghost use Rattle.rhai_operands.specs.Standing.{standing};
+ghost use Rattle.rhai_assign.specs.InPlace.{IsReady, assigned, assigned_by, assigned_known, writable_in};
 ghost use Rattle.rhai_assign.specs.Keeps.{Keeps};
 
 use crate::place::{Place, Update, find_target, value_at};
 use crate::write::write_outcome;
 use rhai_items::{Shared, Text};
-use rhai_operands::operands::operand_in_place;
+use rhai_operands::operands::{integer_at, integer_in_place, operand_in_place};
 use rhai_operators::builtin_op_assign;
+use rhai_operators::direct::assign_integers;
 use rhai_state::error::EvalAltResult;
 use rhai_state::limits::Limits;
 use rhai_state::scope::Scope;
 use rhai_state::state::GlobalRuntimeState;
 use rhai_state::table::NativeTable;
-use rhai_steps::charges::track_operation;
+use rhai_steps::charges::{charge_all, track_operation};
+use rhai_steps::values::{int_value, let_go, unit_value};
+use rhai_steps::variables::place_of_variable;
 use rhai_tree::expr::{Expr, OpAssignment};
 use rhai_tree::position::Position;
 use rhai_tree::token::Token;
-use rhai_values::base::value::{Dynamic, Host};
+use rhai_values::base::value::{AccessMode, Dynamic, Host};
 use std::alloc::Global;
 use std::num::NonZeroUsize;
 
@@ -53,7 +60,10 @@ fn prepare<H: Host>(
 ) -> Option<Ready<H>>
     requires good { IsTrue (is_good offset name.now (names_in scope.now)) }
     requires resolves { IsTrue (resolves_expr operand.now (names_in scope.now)) }
-    ensures { IfSome result (λ ready. IsReady ready name.now pos token (out-Expr operand.now) scope.now
+    ensures found { is_some result ≡ is_some (assigned_by (Some token)
+        (target_of (cells_of global.now.cells) name.now pos (entries_of scope.now))
+        (standing (out-Expr operand.now) (entries_of scope.now))) }
+    ensures ready { IfSome result (λ ready. IsReady ready name.now pos token (out-Expr operand.now) scope.now
         global.now.cells) }
 {
     let place = match find_target(global, scope, offset, name, pos) {
@@ -69,14 +79,75 @@ fn prepare<H: Host>(
     Some(Ready { place, outcome })
 }
 
-/// An assignment by a built-in operator, whose value is an operand as it stands, charged at the value
-/// and then at the variable. None for any other assignment: then nothing is charged. The table is not
-/// called.
-///
-/// # Errors
-/// `ErrorTooManyOperations` at the value or the variable where the count has reached the limit. At the
-/// operator: what the operator answers, and `ErrorDataTooLarge` for a value above a limit.
-pub fn assign_in_place<H: Host, T: NativeTable<H>>(
+/// The integer that a value is, None where it is a constant or of another type.
+fn writable_integer<H: Host>(value: &Dynamic<H>) -> Option<i64>
+    ensures { result ≡ writable_in value.now }
+{
+    match value.access_mode() {
+        AccessMode::ReadWrite => integer_at(value),
+        AccessMode::ReadOnly => None,
+    }
+}
+
+/// The value that an operator before an `=` gives for two integers, None where one of them is none or the
+/// operator gives no integer.
+fn assign_known<H: Host>(token: Token, x: Option<i64>, y: Option<i64>) -> Option<Dynamic<H>>
+    ensures { result ≡ assigned_known token x y }
+{
+    let number = assign_integers::<H>(token, x?, y?)?;
+    Some(int_value(&number))
+}
+
+/// Assigns to a variable that holds an integer, by an operator whose value is an integer as it stands,
+/// and charges the value and the variable at once. False where that is not so, or the limit has no room
+/// for both charges: then nothing is changed. The table is not called.
+fn assign_integer<H: Host, T: NativeTable<H>>(
+    limits: &Limits,
+    global: &mut GlobalRuntimeState<H>,
+    _table: &T,
+    scope: &mut Scope<H>,
+    op: OpAssignment,
+    lhs: &Expr,
+    rhs: &Expr,
+) -> bool
+    requires resolves_target { IsTrue (target_resolves (tests_of lhs.now) (names_in scope.old)) }
+    requires resolves { IsTrue (resolves_expr rhs.now (names_in scope.old)) }
+    ensures found { result ≡ true → is_some (assigned op.op (out-Expr lhs.now) (out-Expr rhs.now)
+        (entries_of scope.old) (cells_of global.old.cells)) ≡ true }
+    ensures left_global { result ≡ false → global.new ≡ global.old }
+    ensures left_scope { result ≡ false → scope.new ≡ scope.old }
+    ensures keeps { Keeps global.old global.new scope.old scope.new }
+    ensures runs { result ≡ true → (offer : _) (this : _) (restoring : _) → offer.fast_operators ≡ true →
+        Runs (rules_of limits.now H.name_of offer T.natives)
+        (OpenStmt (layer.Assignment op lhs.now rhs.now) restoring)
+        (state_of (T.state _table.now) global.old scope.old this)
+        (Ok unit) (state_of (T.state _table.now) global.new scope.new this) }
+{
+    let Expr::Variable { offset, name, .. } = lhs else {
+        return false;
+    };
+    let Some(token) = op.op else {
+        return false;
+    };
+    let Some(index) = place_of_variable(global, scope, *offset, name) else {
+        return false;
+    };
+    let target = writable_integer(scope.value_at(index));
+    let operand = integer_in_place(global, scope, rhs);
+    let Some(value) = assign_known(token, target, operand) else {
+        return false;
+    };
+    if !charge_all(limits, global, 2) {
+        drop(value);
+        return false;
+    }
+    let_go(scope.replace_value(index, value));
+    true
+}
+
+/// An assignment by a built-in operator of values of any type, charged at the value and then at the
+/// variable.
+fn assign_prepared<H: Host, T: NativeTable<H>>(
     limits: &Limits,
     alloc: Global,
     global: &mut GlobalRuntimeState<H>,
@@ -88,6 +159,8 @@ pub fn assign_in_place<H: Host, T: NativeTable<H>>(
 ) -> Option<Result<Dynamic<H>, EvalAltResult<H>>>
     requires resolves_target { IsTrue (target_resolves (tests_of lhs.now) (names_in scope.old)) }
     requires resolves { IsTrue (resolves_expr rhs.now (names_in scope.old)) }
+    ensures found { is_some result ≡ is_some (assigned op.op (out-Expr lhs.now) (out-Expr rhs.now)
+        (entries_of scope.old) (cells_of global.old.cells)) }
     ensures left_global { result ≡ None → global.new ≡ global.old }
     ensures left_scope { result ≡ None → scope.new ≡ scope.old }
     ensures keeps { Keeps global.old global.new scope.old scope.new }
@@ -124,4 +197,40 @@ pub fn assign_in_place<H: Host, T: NativeTable<H>>(
     };
     let outcome = ready.outcome;
     Some(write_outcome(limits, alloc, global, scope, update, outcome))
+}
+
+/// An assignment by a built-in operator, whose value is an operand as it stands, charged at the value
+/// and then at the variable. None for any other assignment: then nothing is charged. The table is not
+/// called.
+///
+/// # Errors
+/// `ErrorTooManyOperations` at the value or the variable where the count has reached the limit. At the
+/// operator: what the operator answers, and `ErrorDataTooLarge` for a value above a limit.
+pub fn assign_in_place<H: Host, T: NativeTable<H>>(
+    limits: &Limits,
+    alloc: Global,
+    global: &mut GlobalRuntimeState<H>,
+    _table: &T,
+    scope: &mut Scope<H>,
+    op: OpAssignment,
+    lhs: &Expr,
+    rhs: &Expr,
+) -> Option<Result<Dynamic<H>, EvalAltResult<H>>>
+    requires resolves_target { IsTrue (target_resolves (tests_of lhs.now) (names_in scope.old)) }
+    requires resolves { IsTrue (resolves_expr rhs.now (names_in scope.old)) }
+    ensures found { is_some result ≡ is_some (assigned op.op (out-Expr lhs.now) (out-Expr rhs.now)
+        (entries_of scope.old) (cells_of global.old.cells)) }
+    ensures left_global { result ≡ None → global.new ≡ global.old }
+    ensures left_scope { result ≡ None → scope.new ≡ scope.old }
+    ensures keeps { Keeps global.old global.new scope.old scope.new }
+    ensures runs { (offer : _) (this : _) (restoring : _) → offer.fast_operators ≡ true →
+        IfSome result (λ result. Runs (rules_of limits.now H.name_of offer T.natives)
+        (OpenStmt (layer.Assignment op lhs.now rhs.now) restoring)
+        (state_of (T.state _table.now) global.old scope.old this)
+        result (state_of (T.state _table.now) global.new scope.new this)) }
+{
+    if assign_integer(limits, global, _table, scope, op, lhs, rhs) {
+        return Some(Ok(unit_value()));
+    }
+    assign_prepared(limits, alloc, global, _table, scope, op, lhs, rhs)
 }

@@ -1,13 +1,12 @@
 //! The work of the programs `tree_run` and `loop_bench`, over any writer.
 
-ghost use Rattle.std.specs.Prelude.{◌≡◌, ◌≤◌, ◌*◌, ◌/◌, ◌↔◌, IfOk, OnOk, IsNone, IfSome, is_some, false};
+ghost use Rattle.std.specs.Prelude.{◌≡◌, ◌≤◌, ◌*◌, ◌/◌, ◌↔◌, IfOk, IsNone, IfSome, is_some, false};
 ghost use Rattle.std.specs.Prelude.{map, string_bytes};
 ghost use Rattle.std.specs.Duration.{as_nanos};
 ghost use Rattle.rhai_bench.specs.Arguments.{IsCall};
 
 use crate::outcome::Outcome;
 use crate::print::write_line;
-use crate::rows::loops::million_decrements;
 use crate::rows::scripts;
 use crate::script::Script;
 use crate::settings::Way;
@@ -74,17 +73,8 @@ fn run_script<W: Write>(alloc: Global, script: Script, out: &mut W) -> io::Resul
     wrote.map(|()| status)
 }
 
-/// Runs the loop of a million decrements, writes how it ended and how many operations it charged, and
-/// answers that number. An error says that there was no memory, or that a line could not be written.
-pub fn run_loop<W: Write>(alloc: Global, out: &mut W) -> io::Result<u64> {
-    let outcome = million_decrements(alloc)?.run(alloc, Way::USUAL)?;
-    let count = outcome.num_operations;
-    let wrote = write_loop(out, &outcome);
-    drop(outcome);
-    wrote.map(|()| count)
-}
-
-fn write_loop<W: Write>(out: &mut W, outcome: &Outcome) -> io::Result<()> {
+/// Writes how a loop ended, and how many operations it charged.
+pub fn write_loop<W: Write>(out: &mut W, outcome: &Outcome) -> io::Result<()> {
     write_line(out, &outcome.ending)?;
     writeln!(out, "{} charges", outcome.num_operations)
 }

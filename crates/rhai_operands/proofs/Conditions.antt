@@ -1,5 +1,6 @@
 -- A condition that compares operands which stand, over the frame that asks for its truth value.
-use Rattle.std.proofs.Common.{◌≡◌, ◌<◌, ◌≤◌, ◌+◌, Bool, true, IsTrue, List, [], ◌∷◌, Option, Some, Ok, Err, refl, ap}
+use Rattle.std.proofs.Common.{◌≡◌, ◌<◌, ◌≤◌, ◌+◌, ℕ, Bool, true, IsTrue, List, [], ◌∷◌, Option, Some, Result, Ok, Err, refl, ap}
+use Rattle.std.proofs.Common.{arith, subst, ◌∙◌}
 use Rattle.rhai_tree.specs.declared.position.Position.{Position}
 use Rattle.rhai_tree.specs.declared.token.Token.{Token}
 use Rattle.rhai_tree.specs.declared.expr.Expr.{Expr, out-Expr}
@@ -105,3 +106,21 @@ module _ {S H : Type 0} (rules : Rules S H) where
             ⨾ compares rules t scope this call token left right pos x y (f ∷ k) fast is_token args resolves_left resolves_right
             left_stands right_stands first second new more then most last holds is
             ⨾ next here
+
+    -- the operator says whether it holds, and its charge and those of its operands are taken at once
+    pub test_holds_at_once : (old new : GlobalRuntimeState H) → old.num_operations + 3 ≤ limit_under rules →
+        new ≡ record old { num_operations = old.num_operations + 3 } → (holds : Bool) → binary_of token x y ≡ Some (Ok (bool_value holds)) →
+        Tests rules test (state_of t old scope this) (Ok holds) (state_of t new scope this)
+    test_holds_at_once old new room is holds says =
+        let first = record old { num_operations = old.num_operations + 1 } in
+        let second = record first { num_operations = first.num_operations + 1 } in
+        test_holds old first (omega arith) refl second (omega arith) refl new (omega arith)
+        (is ∙ ap (λ (n : ℕ). record old { num_operations = n }) (omega arith)) holds says
+
+  -- what starts in a state that is the same
+  pub from_same : (t : S) (scope : Scope H) (this : Option (Dynamic H)) (test : Expr) (old mid new : GlobalRuntimeState H) (r : Result Bool
+      (EvalAltResult H)) →
+      mid ≡ old → Tests rules test (state_of t mid scope this) r (state_of t new scope this) →
+      Tests rules test (state_of t old scope this) r (state_of t new scope this)
+  from_same t scope this test old mid new r is tests =
+      subst (λ (g : GlobalRuntimeState H). Tests rules test (state_of t g scope this) r (state_of t new scope this)) is tests

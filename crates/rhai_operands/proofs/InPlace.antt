@@ -1,6 +1,6 @@
 -- A binary operator on operands that stand: its charges, and what it gives.
 use Rattle.std.proofs.Common.{◌≡◌, ◌<◌, ◌≤◌, ◌+◌, ℕ, Bool, ◌&&◌, nat_lt, arith, true, false, IsTrue, List, [], ◌∷◌, Option}
-use Rattle.std.proofs.Common.{Some, None, Result, Ok, Err, refl, sym, ap, ◌∙◌}
+use Rattle.std.proofs.Common.{Some, None, Result, Ok, Err, refl, sym, ap, ◌∙◌, ℤ, if◌then◌else◌}
 use Rattle.std.proofs.lemmas.Bool.{le-ltb}
 use Rattle.std.specs.Prelude.{option_map}
 use Rattle.rhai_tree.specs.declared.position.Position.{Position}
@@ -13,9 +13,9 @@ use Rattle.rhai_check.specs.Frame.{resolves_expr}
 use Rattle.rhai_values.specs.declared.base.value.Dynamic.{Dynamic}
 use Rattle.rhai_values.specs.declared.base.value.Union.{Union}
 use Rattle.rhai_values.specs.declared.base.value.Union.TheVariants as value
-use Rattle.rhai_values.specs.declared.base.value.Union.TheVariants.{outs-Bool}
+use Rattle.rhai_values.specs.declared.base.value.Union.TheVariants.{outs-Bool, outs-Int}
 use Rattle.rhai_values.specs.declared.base.value.FnPtrKind.TheFolds.{fold_out-Dynamic, fold_out-Union}
-use Rattle.rhai_values.specs.Copy.{copy_of, copy_union}
+use Rattle.rhai_values.specs.Copy.{copy_of, copy_union, plain}
 use Rattle.rhai_values.specs.DataSize.{data_sizes, exceeded, fault_text, is_above, sizes, too_large}
 use Rattle.rhai_values.specs.declared.base.size.DataSizes.{DataSizes}
 use Rattle.rhai_state.specs.declared.scope.Scope.{Scope}
@@ -25,8 +25,8 @@ use Rattle.rhai_state.specs.declared.error.EvalAltResult.TheVariants as error
 use Rattle.rhai_state.specs.declared.limits.Limits.{Limits}
 use Rattle.rhai_state.specs.Scope.{entries_of, names_in}
 use Rattle.rhai_operators.specs.Compare.{type_of}
-use Rattle.rhai_operators.specs.Operators.{Outcome, binary_at, op_assign_at}
-use Rattle.rhai_operators.specs.Answers.{answer, binary_of, op_assign_of}
+use Rattle.rhai_operators.specs.Operators.{Outcome, binary_at, of_integers, op_assign_at}
+use Rattle.rhai_operators.specs.Answers.{Answer, IsAnswer, answer, binary_of, op_assign_of}
 use Rattle.rhai_operators.specs.Answers as operators
 use Rattle.rhai_machine.specs.machine.Machine.{Go}
 use Rattle.rhai_machine.specs.machine.Memory.{here, next, ◌⨾◌}
@@ -42,7 +42,8 @@ use Rattle.rhai_machine.specs.language.Runs.{at, with_core, Goes}
 use Rattle.rhai_steps.specs.States.{state_of}
 use Rattle.rhai_steps.proofs.Pieces.{step_by}
 use Rattle.rhai_calls.proofs.NativeCalls.{built}
-use Rattle.rhai_operands.specs.Standing.{compared, standing, truth_answered, truth_in}
+use Rattle.rhai_operators.specs.Direct.{integer_in, truth_given, truth_in}
+use Rattle.rhai_operands.specs.Standing.{compared, compared_known, integer_of, standing, truth_answered, two_in, unless_handle}
 use Rattle.rhai_operands.proofs.Standing.{argument_goes, argument_refused, standing_plain}
 
 module _ {S H : Type 0} (rules : Rules S H) where
@@ -125,6 +126,39 @@ truth_sized : (H : Type 0) (limits : Limits) (b : Bool) (pos : Position) →
 truth_sized H limits b pos = ap (λ fault. sized_by {H = H} limits fault (bool_value b) pos)
     (truth_fits H limits.max_string_size limits.max_array_size limits.max_map_size b)
 
+-- nor does an integer
+integer_sizes : (H : Type 0) (z : ℤ) → data_sizes (plain {H = H} (value.Int z)) ≡ sizes 0 0 0
+integer_sizes H z = rw (fold_out-Dynamic, fold_out-Union, outs-Int) refl
+
+integer_fits : (H : Type 0) (strings arrays maps : ℕ) (z : ℤ) → too_large strings arrays maps (plain {H = H} (value.Int z)) ≡ None
+integer_fits H strings arrays maps z =
+    ap (λ (held : DataSizes). option_map fault_text (exceeded strings arrays maps held)) (integer_sizes H z) ∙ nothing_exceeds strings
+    arrays maps
+
+pub integer_sized : (H : Type 0) (limits : Limits) (z : ℤ) (pos : Position) →
+    applied limits (Ok (plain {H = H} (value.Int z))) pos ≡ Ok (plain (value.Int z))
+integer_sized H limits z pos = ap (λ fault. sized_by {H = H} limits fault (plain (value.Int z)) pos)
+    (integer_fits H limits.max_string_size limits.max_array_size limits.max_map_size z)
+
+-- a truth value takes no memory, so it is answered where it is wanted
+module _ {H : Type 0} where
+  error_given : (e : EvalAltResult H) (v : Dynamic H) (u : Union H) → u ≡ v.value → IsAnswer (Some (Err e)) (Some (Ok v)) →
+      None ≡ truth_in u
+  error_given e v (value.Bool b) is given = let same : Some (Err e) ≡ Some (Ok v) = given.exact (rw (← is) refl) in cc
+  error_given e v _ is given = refl
+
+  truth_same : (result wanted : Answer H) → IsAnswer result wanted → truth_answered result ≡ truth_answered wanted
+  truth_same None None is = refl
+  truth_same None (Some w) is = let no : false ≡ true = is.found in cc
+  truth_same (Some (Ok v)) wanted is = ap (λ (a : Answer H). truth_answered a) (is.value tt)
+  truth_same (Some (Err e)) None is = let no : true ≡ false = is.found in cc
+  truth_same (Some (Err e)) (Some (Ok v)) is = error_given e v v.value refl is
+  truth_same (Some (Err e)) (Some (Err x)) is = refl
+
+  pub truth_came : (outcome : Result (Dynamic H) (EvalAltResult H)) (result wanted : Answer H) → result ≡ Some outcome →
+      IsAnswer result wanted → truth_answered (Some outcome) ≡ truth_answered wanted
+  truth_came outcome result wanted is given = ap (λ (a : Answer H). truth_answered a) (sym is) ∙ truth_same result wanted given
+
 -- where an operator says a truth value, both operands stand, and that is its answer
 module _ {H : Type 0} (token : Token) where
   truth_value_is : (u : Union H) (holds : Bool) → truth_in u ≡ Some holds → answer {H = H} (Some (Ok u)) ≡ Some (Ok (bool_value holds))
@@ -141,6 +175,47 @@ module _ {H : Type 0} (token : Token) where
   compared_stands None right holds is = cc
   compared_stands (Some x) None holds is = cc
   compared_stands (Some x) (Some y) holds is = (x, y, refl, refl, truth_is (binary_at token x.value y.value) holds is)
+
+-- a call's two operands are all that it has
+pub two_args : (args : List Expr) (left right : Expr) → Some (left, right) ≡ two_in args → args ≡ left ∷ right ∷ []
+two_args [] left right is = cc
+two_args (x ∷ []) left right is = cc
+two_args (x ∷ y ∷ []) left right is = let same : (left, right) ≡ (x, y) = cc in
+    ap (λ (pair : Expr × Expr). pair.0 ∷ pair.1 ∷ []) (sym same)
+two_args (x ∷ y ∷ z ∷ rest) left right is = cc
+
+-- the integer of a variable is that of its value, since a handle is none
+module _ {H : Type 0} where
+  integer_unless : (u : Union H) (v : Dynamic H) → u ≡ v.value → integer_of (if is_handle u then None else Some v) ≡ integer_in u
+  integer_unless (value.Cell id) v is = refl
+  integer_unless _ v is = ap integer_in (sym is)
+
+  pub integer_is : (o : Option (Dynamic H)) (v : Dynamic H) → o ≡ Some v → integer_in v.value ≡ integer_of (unless_handle o)
+  integer_is o v is = rw is (sym (integer_unless v.value v refl))
+
+-- nothing is said of one integer alone
+one_known : {A : Type 0} (H : Type 0) (token : Token) (x : Option ℤ) (holds : Bool) → compared_known H token x None ≡ Some holds → A
+one_known H token None holds is = cc
+one_known H token (Some m) holds is = cc
+
+-- what an operator says of two integers is what it says of their values
+module _ {H : Type 0} (token : Token) where
+  given_answered : (o : Outcome H) → truth_answered (answer o) ≡ truth_given o
+  given_answered None = refl
+  given_answered (Some (Ok u)) = refl
+  given_answered (Some (Err why)) = refl
+
+  known_at : (u w : Union H) (holds : Bool) → compared_known H token (integer_in u) (integer_in w) ≡ Some holds →
+      truth_answered (answer (binary_at token u w)) ≡ Some holds
+  known_at (value.Int m) (value.Int n) holds is = given_answered (of_integers token m n) ∙ is
+  known_at (value.Int m) _ holds is = cc
+  known_at _ w holds is = cc
+
+  pub known_stands : (left right : Option (Dynamic H)) (holds : Bool) →
+      compared_known H token (integer_of left) (integer_of right) ≡ Some holds → compared token left right ≡ Some holds
+  known_stands None right holds is = cc
+  known_stands (Some x) None holds is = one_known H token (integer_in x.value) holds is
+  known_stands (Some x) (Some y) holds is = known_at x.value y.value holds is
 
 module _ {S H : Type 0} (rules : Rules S H) (t : S) (scope : Scope H) (this : Option (Dynamic H)) (call : FnCallExpr) (token : Token)
     (left right : Expr) (pos : Position) (x y : Dynamic H) (k : List (Frame H)) (fast : rules.setting.offer.fast_operators ≡ true)

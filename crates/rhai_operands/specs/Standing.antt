@@ -1,18 +1,24 @@
 -- Operands that are read where they stand.
-use Rattle.std.specs.Prelude.{Bool, List, Option, Some, None, Ok, if◌then◌else◌}
+use Rattle.std.specs.Prelude.{ℤ, Bool, List, [], ◌∷◌, Option, Some, None, Ok, if◌then◌else◌}
+use Rattle.rhai_tree.specs.declared.expr.Expr.{Expr, out-Expr}
 use Rattle.rhai_tree.specs.declared.expr.Expr.TheOpen as layer
 use Rattle.rhai_tree.specs.Layers.{ExprLayer}
 use Rattle.rhai_tree.specs.declared.token.Token.{Token}
 use Rattle.rhai_values.specs.declared.base.value.Dynamic.{Dynamic}
-use Rattle.rhai_values.specs.declared.base.value.Union.{Union}
-use Rattle.rhai_values.specs.declared.base.value.Union.TheVariants as value
 use Rattle.rhai_state.specs.declared.scope.ScopeEntry.{ScopeEntry}
 use Rattle.rhai_state.specs.Scope.{found}
 use Rattle.rhai_operators.specs.Answers.{Answer, binary_of}
+use Rattle.rhai_operators.specs.Direct.{integer_in, truth_given, truth_in}
+use Rattle.rhai_operators.specs.Operators.{of_integers}
 use Rattle.rhai_machine.specs.language.Values.{is_handle}
 use Rattle.rhai_machine.specs.language.Expressions.{literal_of}
 use Rattle.rhai_operands.specs.declared.operands.Operand.{Operand}
 use Rattle.rhai_operands.specs.declared.operands.Operand.TheVariants as operand
+
+-- the operands of a call that has two
+abbrev pub two_in : List Expr → Option (Expr × Expr)
+two_in (left ∷ right ∷ []) = Some (left, right)
+two_in _ = None
 
 module _ {H : Type 0} where
   -- the value of an operand in the code
@@ -30,16 +36,36 @@ module _ {H : Type 0} where
   standing (layer.Variable offset name namespace pos) entries = unless_handle (found name entries)
   standing form entries = literal_of form
 
-  -- a truth value that was answered
-  abbrev pub truth_in : Union H → Option Bool
-  truth_in (value.Bool b) = Some b
-  truth_in _ = None
+  -- the integer of a value that stands
+  abbrev pub integer_of : Option (Dynamic H) → Option ℤ
+  integer_of (Some v) = integer_in v.value
+  integer_of None = None
 
+  -- a truth value that was answered
   abbrev pub truth_answered : Answer H → Option Bool
   truth_answered (Some (Ok v)) = truth_in v.value
   truth_answered _ = None
 
-  -- what an operator says of two operands that stand, where it says a truth value
+  -- what an operator gives for two operands that stand, None too where there is no built-in for them
+  abbrev pub operated : Token → Option (Dynamic H) → Option (Dynamic H) → Answer H
+  operated token (Some x) (Some y) = binary_of token x y
+  operated token _ _ = None
+
+  -- the truth value that it says of them
   abbrev pub compared : Token → Option (Dynamic H) → Option (Dynamic H) → Option Bool
-  compared token (Some x) (Some y) = truth_answered (binary_of token x y)
-  compared token _ _ = None
+  compared token left right = truth_answered (operated token left right)
+
+  -- what a condition says that compares two operands which stand
+  abbrev pub compared_by : Option Token → Option (Expr × Expr) → List (ScopeEntry H) → Option Bool
+  compared_by (Some token) (Some pair) entries =
+      compared token (standing (out-Expr pair.0) entries) (standing (out-Expr pair.1) entries)
+  compared_by _ _ entries = None
+
+  abbrev pub said : ExprLayer → List (ScopeEntry H) → Option Bool
+  said (layer.Expr::FnCall call pos) entries = compared_by call.op_token (two_in call.args) entries
+  said form entries = None
+
+-- what it says of two integers
+abbrev pub compared_known : (H : Type 0) → Token → Option ℤ → Option ℤ → Option Bool
+compared_known H token (Some x) (Some y) = truth_given {H = H} (of_integers token x y)
+compared_known H token _ _ = None

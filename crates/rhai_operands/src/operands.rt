@@ -1,18 +1,19 @@
 //! Operands as they stand.
 
-ghost use Rattle.std.specs.Prelude.{◌≡◌, ◌∷◌, [], IsTrue, IfSome, Some};
+ghost use Rattle.std.specs.Prelude.{◌≡◌, IsTrue, Some};
 ghost use Rattle.std.specs.Option.{option_map};
 ghost use Rattle.rhai_tree.specs.declared.expr.Expr.{out-Expr};
 ghost use Rattle.rhai_check.specs.Frame.{resolves_expr};
 ghost use Rattle.rhai_state.specs.Scope.{entries_of, names_in};
-ghost use Rattle.rhai_operands.specs.Standing.{standing, value_of};
+ghost use Rattle.rhai_operators.specs.Direct.{integer_in};
+ghost use Rattle.rhai_operands.specs.Standing.{integer_of, standing, two_in, value_of};
 
 use rhai_state::scope::Scope;
 use rhai_state::state::GlobalRuntimeState;
 use rhai_steps::values::{bool_value, int_value, is_bare_handle, unit_value};
 use rhai_steps::variables::place_of_variable;
 use rhai_tree::expr::{Expr, FnCallExpr};
-use rhai_values::base::value::{Dynamic, Host};
+use rhai_values::base::value::{Dynamic, Host, Union};
 
 /// An operand as it stands.
 #[derive(Drop)]
@@ -61,12 +62,43 @@ pub fn operand_in_place<'a, H: Host>(
     }
 }
 
-/// The operands of a call that has two.
-pub(crate) fn two_operands(call: &FnCallExpr) -> Option<(&Expr, &Expr)>
-    ensures { IfSome result (λ pair. call.now.args ≡ pair.0.now ∷ pair.1.now ∷ []) }
+/// The integer that a value is, None where it is of another type.
+pub fn integer_at<H>(value: &Dynamic<H>) -> Option<i64>
+    ensures { result ≡ integer_in value.now.value }
 {
-    match call.args.as_slice() {
-        [left, right] => Some((left, right)),
+    match &value.value {
+        Union::Int(number) => Some(*number),
         _ => None,
     }
+}
+
+/// The integer that an operand as it stands is, None where it is of another type or has to be evaluated.
+/// Asked: the expression resolves to the variables of the scope.
+pub fn integer_in_place<H: Host>(
+    global: &GlobalRuntimeState<H>,
+    scope: &Scope<H>,
+    expr: &Expr,
+) -> Option<i64>
+    requires { IsTrue (resolves_expr expr.now (names_in scope.now)) }
+    ensures { result ≡ integer_of (standing (out-Expr expr.now) (entries_of scope.now)) }
+{
+    match expr {
+        Expr::IntegerConstant(value, _) => Some(*value),
+        Expr::Variable { offset, name, .. } => {
+            let index = place_of_variable(global, scope, *offset, name)?;
+            integer_at(scope.value_at(index))
+        }
+        _ => None,
+    }
+}
+
+/// The operands of a call that has two.
+pub(crate) fn two_operands(call: &FnCallExpr) -> Option<(&Expr, &Expr)>
+    ensures { option_map (λ pair. (pair.0.now, pair.1.now)) result ≡ two_in call.now.args }
+{
+    let args = call.args.as_slice();
+    if args.len() != 2 {
+        return None;
+    }
+    Some((&args[0], &args[1]))
 }

@@ -1,7 +1,7 @@
 //! Binary operators on operands as they stand, and conditions that compare them. Ports the fast
 //! operators of upstream's `func/call.rs`.
 
-ghost use Rattle.std.specs.Prelude.{◌≡◌, ◌≤◌, ◌<◌, ◌∷◌, [], IsTrue, IfSome, IfErr, OnOk, Some, None, true, false};
+ghost use Rattle.std.specs.Prelude.{◌≡◌, ◌≤◌, ◌<◌, ◌∷◌, [], IsTrue, IfSome, IfErr, OnOk, Some, None, is_some, true, false};
 ghost use Rattle.rhai_tree.specs.declared.expr.Expr.{out-Expr};
 ghost use Rattle.rhai_tree.specs.declared.expr.Expr.TheOpen as layer;
 ghost use Rattle.rhai_check.specs.Frame.{resolves_expr};
@@ -11,17 +11,18 @@ ghost use Rattle.rhai_machine.specs.language.Frames.{OpenExpr};
 ghost use Rattle.rhai_machine.specs.language.Runs.{Runs};
 ghost use Rattle.rhai_machine.specs.language.Setting.{rules_of};
 ghost use Rattle.rhai_steps.specs.States.{state_of};
-ghost use Rattle.rhai_operands.specs.Standing.{compared, standing, truth_answered};
+ghost use Rattle.rhai_operands.specs.Standing.{compared, compared_known, operated, said, standing, truth_answered};
 ghost use Rattle.rhai_operands.specs.Tests.{Tests};
 
-use crate::operands::{operand_in_place, two_operands};
+use crate::operands::{integer_in_place, operand_in_place, two_operands};
 use rhai_operators::builtin_binary;
+use rhai_operators::direct::compare_integers;
 use rhai_state::error::EvalAltResult;
 use rhai_state::limits::Limits;
 use rhai_state::scope::Scope;
 use rhai_state::state::GlobalRuntimeState;
 use rhai_state::table::NativeTable;
-use rhai_steps::charges::track_operation;
+use rhai_steps::charges::{charge_all, track_operation};
 use rhai_steps::replies::applied;
 use rhai_tree::expr::{Expr, FnCallExpr};
 use rhai_tree::position::Position;
@@ -51,6 +52,9 @@ pub fn operate_in_place<H: Host, T: NativeTable<H>>(
     requires args { call.now.args ≡ left.now ∷ right.now ∷ [] }
     requires resolves_left { IsTrue (resolves_expr left.now (names_in scope.now)) }
     requires resolves_right { IsTrue (resolves_expr right.now (names_in scope.now)) }
+    ensures found { is_some result ≡ is_some (operated token
+        (standing (out-Expr left.now) (entries_of scope.now))
+        (standing (out-Expr right.now) (entries_of scope.now))) }
     ensures left_alone { result ≡ None → global.new ≡ global.old }
     ensures counts { global.old.num_operations ≤ global.new.num_operations }
     ensures runs { (offer : _) (this : _) → offer.fast_operators ≡ true →
@@ -75,7 +79,7 @@ pub fn operate_in_place<H: Host, T: NativeTable<H>>(
 
 /// The truth value that an operator gave, None where it gave something else.
 fn truth_given<H: Host>(outcome: &Result<Dynamic<H>, EvalAltResult<H>>) -> Option<bool>
-    ensures { IfSome result (λ holds. truth_answered (Some outcome.now) ≡ Some holds) }
+    ensures { result ≡ truth_answered (Some outcome.now) }
 {
     match outcome {
         Ok(value) => match &value.value {
@@ -86,8 +90,38 @@ fn truth_given<H: Host>(outcome: &Result<Dynamic<H>, EvalAltResult<H>>) -> Optio
     }
 }
 
+/// What an operator says of two integers, None where one of them is none or the operator gives no truth
+/// value.
+fn compare_known<H: Host>(token: Token, left: Option<i64>, right: Option<i64>) -> Option<bool>
+    ensures { result ≡ compared_known H token left right }
+{
+    compare_integers::<H>(token, left?, right?)
+}
+
 /// What an operator says of two operands as they stand, None where one of them has to be evaluated
 /// or the operator gives no truth value.
+fn compare_values<H: Host>(
+    alloc: Global,
+    global: &GlobalRuntimeState<H>,
+    scope: &Scope<H>,
+    token: Token,
+    left: &Expr,
+    right: &Expr,
+) -> Option<bool>
+    requires resolves_left { IsTrue (resolves_expr left.now (names_in scope.now)) }
+    requires resolves_right { IsTrue (resolves_expr right.now (names_in scope.now)) }
+    ensures { result ≡ compared token (standing (out-Expr left.now) (entries_of scope.now))
+        (standing (out-Expr right.now) (entries_of scope.now)) }
+{
+    let first = operand_in_place(global, scope, left)?;
+    let second = operand_in_place(global, scope, right)?;
+    let outcome = builtin_binary(alloc, token, first.value(), second.value())?;
+    let holds = truth_given(&outcome);
+    drop(outcome);
+    holds
+}
+
+/// The same, which tries first whether both are integers: then no value is made.
 fn compare_in_place<H: Host>(
     alloc: Global,
     global: &GlobalRuntimeState<H>,
@@ -98,16 +132,15 @@ fn compare_in_place<H: Host>(
 ) -> Option<bool>
     requires resolves_left { IsTrue (resolves_expr left.now (names_in scope.now)) }
     requires resolves_right { IsTrue (resolves_expr right.now (names_in scope.now)) }
-    ensures { IfSome result (λ holds.
-        compared token (standing (out-Expr left.now) (entries_of scope.now))
-        (standing (out-Expr right.now) (entries_of scope.now)) ≡ Some holds) }
+    ensures { result ≡ compared token (standing (out-Expr left.now) (entries_of scope.now))
+        (standing (out-Expr right.now) (entries_of scope.now)) }
 {
-    let first = operand_in_place(global, scope, left)?;
-    let second = operand_in_place(global, scope, right)?;
-    let outcome = builtin_binary(alloc, token, first.value(), second.value())?;
-    let holds = truth_given(&outcome);
-    drop(outcome);
-    holds
+    let first = integer_in_place(global, scope, left);
+    let second = integer_in_place(global, scope, right);
+    if let Some(holds) = compare_known::<H>(token, first, second) {
+        return Some(holds);
+    }
+    compare_values(alloc, global, scope, token, left, right)
 }
 
 /// A condition that compares two operands as they stand. None where it is another expression, or an
@@ -124,6 +157,7 @@ pub fn holds_in_place<H: Host, T: NativeTable<H>>(
     test: &Expr,
 ) -> Option<Result<bool, EvalAltResult<H>>>
     requires { IsTrue (resolves_expr test.now (names_in scope.now)) }
+    ensures found { is_some result ≡ is_some (said (out-Expr test.now) (entries_of scope.now)) }
     ensures left_alone { result ≡ None → global.new ≡ global.old }
     ensures charges { IfSome result (λ result. OnOk result
         (global.old.num_operations < global.new.num_operations)) }
@@ -139,6 +173,9 @@ pub fn holds_in_place<H: Host, T: NativeTable<H>>(
     let token = call.op_token?;
     let (left, right) = two_operands(call)?;
     let holds = compare_in_place(alloc, global, scope, token, left, right)?;
+    if charge_all(limits, global, 3) {
+        return Some(Ok(holds));
+    }
     if let Err(error) = track_operation(limits, global, *pos) {
         return Some(Err(error));
     }

@@ -1,5 +1,6 @@
 pub mod Answers
 pub mod Compare
+pub mod Direct
 pub mod Integers
 pub mod Operators
 pub mod Texts

@@ -8,6 +8,7 @@ ghost use Rattle.rhai_operators.specs.Operators.{binary_at};
 
 mod answer;
 mod compare;
+pub mod direct;
 mod integers;
 mod rows;
 mod texts;

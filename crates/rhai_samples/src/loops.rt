@@ -84,10 +84,10 @@ pub fn break_at_the_top(alloc: Global) -> Result<Items<Stmt>, AllocError> {
     Builder::new(alloc).finish([break_stmt(None, 1)])
 }
 
-/// `let n = 1000000; while n > 0 { n -= 1; }`
-pub fn decrements(alloc: Global) -> Result<Items<Stmt>, AllocError> {
+/// `let n = 1000000; while n > 0 { n -= 1; }`, with as many turns in the place of the million.
+pub fn decrements(alloc: Global, turns: i64) -> Result<Items<Stmt>, AllocError> {
     let mut tree = Builder::new(alloc);
-    let start = tree.let_stmt("n", 5, int(1000000, 9), 1);
+    let start = tree.let_stmt("n", 5, int(turns, 9), 1);
     let left = [tree.variable("n", 1, 24), int(0, 28)];
     let left = tree.operator(Token::GreaterThan, ">", 26, left);
     let n = tree.variable("n", 1, 32);

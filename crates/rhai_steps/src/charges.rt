@@ -1,6 +1,6 @@
 //! Charges of operations. Ports upstream's `track_operation`.
 
-ghost use Rattle.std.specs.Prelude.{◌≡◌, ◌<◌, ◌≤◌, ◌+◌, OnOk, IfErr, IfOk};
+ghost use Rattle.std.specs.Prelude.{◌≡◌, ◌<◌, ◌≤◌, ◌+◌, OnOk, IfErr, IfOk, true, false};
 ghost use Rattle.rhai_state.specs.Limits.{limit_of};
 ghost use Rattle.rhai_state.specs.declared.error.EvalAltResult.TheVariants as error;
 
@@ -42,6 +42,28 @@ pub fn track_operation<H: Host>(
     }
     global.num_operations += 1;
     Ok(())
+}
+
+/// Charges several operations at once where the limit has room for all of them. Else it charges none
+/// and answers false.
+pub fn charge_all<H: Host>(limits: &Limits, global: &mut GlobalRuntimeState<H>, count: u64) -> bool
+    ensures room { result ≡ true →
+        global.old.num_operations + count ≤ limit_of limits.now.max_operations }
+    ensures charged { result ≡ true → global.new ≡ record global.old
+        { num_operations = global.old.num_operations + count } }
+    ensures full { result ≡ false →
+        limit_of limits.now.max_operations < global.old.num_operations + count }
+    ensures same { result ≡ false → global.new ≡ global.old }
+{
+    let Some(left) = limit(limits).checked_sub(global.num_operations) else {
+        return false;
+    };
+    let has_room = count <= left;
+    if !has_room {
+        return false;
+    }
+    global.num_operations += count;
+    true
 }
 
 /// Charges a literal argument at its start, and hands it on.

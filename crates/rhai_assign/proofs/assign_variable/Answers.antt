@@ -28,4 +28,4 @@ returns-in-Err-find_target-clause-runs g c offer this fast =
     let rules : Rules _ _ = rules_of c.args.limits.now g.H.Host.name_of offer g.T.NativeTable.natives in
     let assignment : Assignment = record { name = c.args.name.now; at = c.args.pos; op = c.args.op } in
     misses rules (g.T.NativeTable.state c.args.table.now) c.args.global.now c.track_operation.new.global c.args.scope.now this
-    assignment c.args.value c.in_default.ensures.room c.in_default.ensures.charged c.in-Err-find_target.error c.in-Err-find_target.ensures
+    assignment c.args.value c.in_default.ensures.room c.in_default.ensures.charged c.in-Err-find_target.error c.in-Err-find_target.ensures.1

@@ -48,7 +48,7 @@ pub fn outside_of_loops(alloc: Global) -> Result<Items<Script>, AllocError> {
     row.finish()
 }
 
-/// A million decrements of a variable.
-pub(crate) fn million_decrements(alloc: Global) -> Result<Script, AllocError> {
-    Ok(Script::new(alloc, decrements(alloc)?))
+/// A variable that is counted down to zero, in so many turns.
+pub fn counted_down(alloc: Global, turns: i64) -> Result<Script, AllocError> {
+    Ok(Script::new(alloc, decrements(alloc, turns)?))
 }

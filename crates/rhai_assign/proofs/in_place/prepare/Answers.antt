@@ -5,8 +5,8 @@ use Rattle.rhai_assign.specs.Targets.{place_in}
 use Rattle.rhai_assign.proofs.Places.{standing_is}
 use Rattle.rhai_assign.proofs.in_place.prepare.Goals as goal
 
-pub returns : goal.returns
-returns g c = record {
+pub returns-clause-ready : goal.returns-clause-ready
+returns-clause-ready g c = record {
   finds = c.in-Ok.ensures.0;
   stands = c.in-Ok.ensures.1;
   operand = c.value.result.now;

@@ -7,14 +7,14 @@ use Rattle.rhai_machine.specs.language.Setting.{rules_of}
 use Rattle.rhai_operands.proofs.Names.{plain_target}
 use Rattle.rhai_assign.specs.InPlace.{IsReady}
 use Rattle.rhai_assign.proofs.Prepared.{target_stops, updates_in_place, value_stops}
-use Rattle.rhai_assign.proofs.in_place.assign_in_place.Goals as goal
+use Rattle.rhai_assign.proofs.in_place.assign_prepared.Goals as goal
 
 pub returns-in-Err-clause-runs : goal.returns-in-Err-clause-runs
 returns-in-Err-clause-runs g c offer this restoring fast =
     let rules = rules_of c.args.limits.now g.H.Host.name_of offer g.T.NativeTable.natives in
     let ready : IsReady c.in_ok-ready.ready c.in-Variable.name c.in-Variable.pos c.in_ok-token.token (out-Expr c.args.rhs.now)
     c.args.scope.now
-    c.args.global.now.cells = c.in_ok-ready.ensures in
+    c.args.global.now.cells = c.in_ok-ready.ensures.ready in
     let form : out-Expr c.args.lhs.now ≡ layer.Variable c.in-Variable.offset c.in-Variable.name c.in-Variable.namespace
     c.in-Variable.pos =
     rw (c.in-Variable.is, exprs.outs-Variable) refl in
@@ -31,7 +31,7 @@ returns-in-Err-track_operation-clause-runs g c offer this restoring fast =
     let rules = rules_of c.args.limits.now g.H.Host.name_of offer g.T.NativeTable.natives in
     let ready : IsReady c.in_ok-ready.ready c.in-Variable.name c.in-Variable.pos c.in_ok-token.token (out-Expr c.args.rhs.now)
     c.args.scope.now
-    c.args.global.now.cells = c.in_ok-ready.ensures in
+    c.args.global.now.cells = c.in_ok-ready.ensures.ready in
     let form : out-Expr c.args.lhs.now ≡ layer.Variable c.in-Variable.offset c.in-Variable.name c.in-Variable.namespace
     c.in-Variable.pos =
     rw (c.in-Variable.is, exprs.outs-Variable) refl in
@@ -49,7 +49,7 @@ returns-clause-runs g c offer this restoring fast =
     let rules = rules_of c.args.limits.now g.H.Host.name_of offer g.T.NativeTable.natives in
     let ready : IsReady c.in_ok-ready.ready c.in-Variable.name c.in-Variable.pos c.in_ok-token.token (out-Expr c.args.rhs.now)
     c.args.scope.now
-    c.args.global.now.cells = c.in_ok-ready.ensures in
+    c.args.global.now.cells = c.in_ok-ready.ensures.ready in
     let form : out-Expr c.args.lhs.now ≡ layer.Variable c.in-Variable.offset c.in-Variable.name c.in-Variable.namespace
     c.in-Variable.pos =
     rw (c.in-Variable.is, exprs.outs-Variable) refl in

@@ -1,0 +1,39 @@
+use Rattle.std.proofs.Common.{◌≡◌, sym, refl, ◌∙◌}
+use Rattle.rhai_tree.specs.declared.expr.Expr.{out-Expr}
+use Rattle.rhai_tree.specs.declared.expr.Expr.TheVariants as exprs
+use Rattle.rhai_tree.specs.declared.expr.Expr.TheOpen as layer
+use Rattle.rhai_values.specs.Cells.{cells_of}
+use Rattle.rhai_state.specs.Scope.{names_in}
+use Rattle.rhai_machine.specs.language.Setting.{rules_of}
+use Rattle.rhai_operands.proofs.Names.{plain_target}
+use Rattle.rhai_assign.proofs.Integers.{integer_assigned, integer_found, integer_keeps}
+use Rattle.rhai_assign.proofs.in_place.assign_integer.Goals as goal
+
+pub returns-clause-keeps : goal.returns-clause-keeps
+returns-clause-keeps g c = integer_keeps c.args.global.now c.charge_all.new.global c.args.scope.now c.replace_value.new.self
+    c.in-Some-place_of_variable.index c.in-Some-assign_known.value (c.charge_all.ensures.charged c.if-not-charge_all.false)
+    c.replace_value.ensures.after
+
+pub returns-clause-found : goal.returns-clause-found
+returns-clause-found g c is = integer_found c.args.scope.now (cells_of c.args.global.now.cells) c.args.op c.args.lhs.now c.args.rhs.now
+    c.in-Variable.offset c.in-Variable.name c.in-Variable.namespace c.in-Variable.pos (rw (c.in-Variable.is, exprs.outs-Variable) refl)
+    c.in-Some.token c.in-Some.is c.in-Some-place_of_variable.index c.value_at.result.now c.in-Some-assign_known.value
+    (sym c.place_of_variable.ensures.exact ∙ c.in-Some-place_of_variable.is) c.value_at.ensures
+    (sym (rw (c.writable_integer-target.ensures, c.integer_in_place-operand.ensures) at c.assign_known.ensures)
+    ∙ c.in-Some-assign_known.is)
+
+pub returns-clause-runs : goal.returns-clause-runs
+returns-clause-runs g c is offer this restoring fast =
+    let form : out-Expr c.args.lhs.now ≡ layer.Variable c.in-Variable.offset c.in-Variable.name c.in-Variable.namespace
+    c.in-Variable.pos =
+    rw (c.in-Variable.is, exprs.outs-Variable) refl in
+    let plain = plain_target c.args.lhs.now c.in-Variable.offset c.in-Variable.name c.in-Variable.namespace c.in-Variable.pos
+    (names_in c.args.scope.now) form c.requires.resolves_target in
+    integer_assigned (rules_of c.args.limits.now g.H.Host.name_of offer g.T.NativeTable.natives)
+    (g.T.NativeTable.state c.args._table.now) c.args.scope.now this c.args.op c.args.lhs.now c.args.rhs.now c.in-Variable.offset
+    c.in-Variable.name c.in-Variable.namespace c.in-Variable.pos restoring form plain c.requires.resolves c.args.global.now
+    c.charge_all.new.global c.replace_value.new.self (c.charge_all.ensures.room c.if-not-charge_all.false)
+    (c.charge_all.ensures.charged c.if-not-charge_all.false) c.in-Some.token c.in-Some.is fast c.in-Some-place_of_variable.index
+    c.value_at.result.now c.in-Some-assign_known.value (sym c.place_of_variable.ensures.exact ∙ c.in-Some-place_of_variable.is)
+    c.value_at.ensures (sym (rw (c.writable_integer-target.ensures, c.integer_in_place-operand.ensures) at c.assign_known.ensures)
+    ∙ c.in-Some-assign_known.is) c.replace_value.ensures.after
