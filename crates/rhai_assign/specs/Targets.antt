@@ -1,5 +1,6 @@
 -- Where the value of a variable stands in the code, and what is written there.
-use Rattle.std.specs.Prelude.{◌≡◌, ◌<◌, ℕ, Bool, true, false, List, length, Option, Some, is_some, unwrap_or, slice_get, Result, Ok, Err, is_ok}
+use Rattle.std.specs.Prelude.{◌≡◌, ◌<◌, ℕ, Bool, true, false, List, length, Option, Some, is_some, unwrap_or, slice_get}
+use Rattle.std.specs.Prelude.{Result, Ok, Err, is_ok}
 use Rattle.rhai_tree.specs.declared.position.Position.{Position}
 use Rattle.rhai_values.specs.declared.base.value.Dynamic.{Dynamic}
 use Rattle.rhai_state.specs.declared.scope.Scope.{Scope}

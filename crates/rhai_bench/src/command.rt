@@ -1,11 +1,8 @@
-//! The work of the programs `tree_run` and `loop_bench`, over any writer.
+//! The work of the program `tree_run`, over any writer.
 
-ghost use Rattle.std.specs.Prelude.{◌≡◌, ◌≤◌, ◌*◌, ◌/◌, ◌↔◌, IfOk, IsNone, IfSome, is_some, false};
-ghost use Rattle.std.specs.Prelude.{map, string_bytes};
-ghost use Rattle.std.specs.Duration.{as_nanos};
+ghost use Rattle.std.specs.Prelude.{◌≡◌, ◌≤◌, IfOk, is_some, false, map, string_bytes};
 ghost use Rattle.rhai_bench.specs.Arguments.{IsCall};
 
-use crate::outcome::Outcome;
 use crate::print::write_line;
 use crate::rows::scripts;
 use crate::script::Script;
@@ -14,7 +11,6 @@ use rhai_eval::base::Items;
 use std::alloc::{AllocError, Global};
 use std::io;
 use std::io::Write;
-use std::time::Duration;
 
 /// The status of a wrong argument.
 pub const WRONG_ARGUMENTS: u8 = 3;
@@ -73,24 +69,10 @@ fn run_script<W: Write>(alloc: Global, script: Script, out: &mut W) -> io::Resul
     wrote.map(|()| status)
 }
 
-/// Writes how a loop ended, and how many operations it charged.
-pub fn write_loop<W: Write>(out: &mut W, outcome: &Outcome) -> io::Result<()> {
-    write_line(out, &outcome.ending)?;
-    writeln!(out, "{} charges", outcome.num_operations)
-}
-
 /// Prints how the program is called, and answers the status of wrong arguments.
 pub fn print_usage<W: Write>(out: &mut W) -> io::Result<u8>
     ensures { IfOk result (λ s. s ≡ 3) }
 {
     writeln!(out, "usage: tree_run row N")?;
     Ok(WRONG_ARGUMENTS)
-}
-
-/// How many of so many charges a second had, None where no time has passed.
-pub fn per_second(count: u64, elapsed: Duration) -> Option<u128>
-    ensures none { IsNone result ↔ (as_nanos elapsed ≡ 0) }
-    ensures some { IfSome result (λ n. n ≡ count * 1000000000 / as_nanos elapsed) }
-{
-    (u128::from(count) * 1_000_000_000).checked_div(elapsed.as_nanos())
 }

@@ -11,3 +11,4 @@ pub mod script;
 pub mod searches;
 pub mod settings;
 mod tables;
+pub mod timing;

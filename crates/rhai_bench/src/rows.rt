@@ -4,6 +4,7 @@ use crate::script::Script;
 use rhai_eval::base::{Items, Stmt};
 use std::alloc::{AllocError, Global};
 
+pub mod data;
 pub mod loops;
 pub mod operators;
 mod variables;
@@ -15,10 +16,12 @@ pub fn scripts(alloc: Global, row: &str) -> Result<Option<Items<Script>>, AllocE
         "1" => operators::sum_under_limits(alloc),
         "11" => loops::continued(alloc),
         "20" => variables::hidden_and_constant(alloc),
+        "22" => data::too_large(alloc),
         "26" => variables::blocks_under_limits(alloc),
         "27" => operators::refused_operands(alloc),
         "28" => loops::turns_under_limits(alloc),
         "29" => loops::left_early(alloc),
+        "30" => data::joined_and_gathered(alloc),
         _ => return Ok(None),
     };
     scripts.map(Some)
@@ -65,6 +68,16 @@ impl Row {
         match tree {
             Ok(statements) => {
                 self.push(Script::with_max_operations(self.alloc, statements, count));
+            }
+            Err(AllocError) => self.has_memory = false,
+        }
+    }
+
+    /// Adds a script under a limit of an array's items.
+    fn add_with_max_array_size(&mut self, tree: Result<Items<Stmt>, AllocError>, size: usize) {
+        match tree {
+            Ok(statements) => {
+                self.push(Script::with_max_array_size(self.alloc, statements, size));
             }
             Err(AllocError) => self.has_memory = false,
         }

@@ -45,6 +45,15 @@ impl Script {
         Script::with_settings(alloc, statements, Settings::with_max_operations(count))
     }
 
+    /// A script without functions, under a limit of an array's items.
+    pub fn with_max_array_size(alloc: Global, statements: Items<Stmt>, size: usize) -> Script
+        ensures statements { result.statements ≡ statements }
+        ensures functions { result.functions ≡ [] }
+        ensures arrays { result.settings.limits.max_array_size ≡ size }
+    {
+        Script::with_settings(alloc, statements, Settings::with_max_array_size(size))
+    }
+
     fn with_settings(alloc: Global, statements: Items<Stmt>, settings: Settings) -> Script
         ensures statements { result.statements ≡ statements }
         ensures functions { result.functions ≡ [] }

@@ -43,6 +43,15 @@ impl Settings {
         settings
     }
 
+    /// The usual settings, but for the limit of an array's items.
+    pub fn with_max_array_size(size: usize) -> Settings
+        ensures { result.limits.max_array_size ≡ size }
+    {
+        let mut settings = Settings::USUAL;
+        settings.limits.max_array_size = size;
+        settings
+    }
+
     /// An engine with these limits and switches, with fast operators and without modules.
     pub fn engine(&self, alloc: Global) -> Engine<Pair>
         ensures limits { result.limits ≡ self.now.limits }

@@ -7,6 +7,7 @@ use Rattle.rhai_tree.specs.Position.{at, none}
 use Rattle.rhai_tree.specs.declared.flags.ASTFlags.{ASTFlags}
 use Rattle.rhai_tree.specs.declared.token.Token.{Token}
 use Rattle.rhai_tree.specs.declared.expr.Ident.{Ident}
+use Rattle.rhai_tree.specs.declared.expr.MapEntry.{MapEntry}
 use Rattle.rhai_tree.specs.declared.expr.Namespace.{Namespace}
 use Rattle.rhai_tree.specs.declared.expr.OpAssignment.{OpAssignment}
 use Rattle.rhai_tree.specs.declared.expr.StmtBlock.{StmtBlock}
@@ -41,6 +42,10 @@ operator_at token name column args =
     expr.FnCall
     (record { namespace = unqualified; name = name; args = args; op_token = Some token; capture_parent_scope = false })
     (at 1 column)
+
+-- an entry of a map
+abbrev pub entry_at : List ℕ → Expr → MapEntry
+entry_at key value = record { key = key; value = value }
 
 -- statements between two braces
 abbrev pub block_at : List Stmt → ℕ → ℕ → StmtBlock

@@ -1,13 +1,18 @@
 //! Expressions.
 
-ghost use Rattle.std.specs.Prelude.{◌≡◌, ◌≢◌};
+ghost use Rattle.std.specs.Prelude.{◌≡◌, ◌≢◌, [], ◌∷◌, ◌++◌};
+ghost use Rattle.rhai_items.specs.Lookup.{with_entry};
 ghost use Rattle.rhai_tree.specs.Position.{at as place};
 ghost use Rattle.rhai_tree.specs.declared.expr.Expr.TheVariants as expr;
-ghost use Rattle.rhai_build.specs.Build.{IsVariable, Made, operator_at};
+ghost use Rattle.rhai_tree.specs.declared.literal.Literal.TheVariants as Literal;
+ghost use Rattle.rhai_build.specs.Build.{IsVariable, Made, entry_at, operator_at};
 
 use crate::{Builder, at, no_namespace};
-use rhai_tree::expr::{Expr, FnCallExpr};
+use rhai_items::{Items, Table};
+use rhai_tree::expr::{Expr, FnCallExpr, MapEntry};
+use rhai_tree::literal::Literal;
 use rhai_tree::token::Token;
+use std::alloc::Global;
 use std::num::NonZeroUsize;
 
 /// An integer.
@@ -26,12 +31,49 @@ pub fn truth(value: bool, column: u16) -> Expr
     Expr::BoolConstant(value, at(column))
 }
 
+/// A character.
+pub fn character(value: char, column: u16) -> Expr
+    requires { column ≢ 0 }
+    ensures { result ≡ expr.CharConstant value (place 1 column) }
+{
+    Expr::CharConstant(value, at(column))
+}
+
 /// The value `()`.
 pub fn unit(column: u16) -> Expr
     requires { column ≢ 0 }
     ensures { result ≡ expr.Unit (place 1 column) }
 {
     Expr::Unit(at(column))
+}
+
+/// The entries of a map, and the template that holds their keys.
+#[derive(Drop)]
+pub struct MapParts {
+    pub entries: Items<MapEntry>,
+    pub template: Table<Literal>,
+}
+
+impl MapParts {
+    /// No entries.
+    pub fn new(alloc: Global) -> MapParts
+        ensures entries { result.entries ≡ [] }
+        ensures template { result.template ≡ ([], []) }
+    {
+        MapParts {
+            entries: Items::new(alloc),
+            template: Table::new(alloc),
+        }
+    }
+
+    /// The map.
+    pub fn map(self, column: u16) -> Expr
+        requires { column ≢ 0 }
+        ensures { result ≡ expr.Map self.entries self.template (place 1 column) }
+    {
+        let MapParts { entries, template } = self;
+        Expr::Map(entries, template, at(column))
+    }
 }
 
 impl Builder {
@@ -49,6 +91,50 @@ impl Builder {
                 pos: at(column),
             },
             None => unit(column),
+        }
+    }
+
+    /// A text.
+    pub fn text(&mut self, text: &str, column: u16) -> Expr
+        requires { column ≢ 0 }
+        ensures { Made self.old self.new (result ≡ expr.StringConstant text.now (place 1 column)) }
+    {
+        match self.name(text) {
+            Some(text) => Expr::StringConstant(text, at(column)),
+            None => unit(column),
+        }
+    }
+
+    /// A text with the values of expressions in it.
+    pub fn interpolated<const N: usize>(&mut self, column: u16, parts: [Expr; N]) -> Expr
+        requires { column ≢ 0 }
+        ensures { Made self.old self.new (result ≡ expr.InterpolatedString parts.entry (place 1 column)) }
+    {
+        Expr::InterpolatedString(self.list(parts), at(column))
+    }
+
+    /// An array.
+    pub fn array<const N: usize>(&mut self, column: u16, items: [Expr; N]) -> Expr
+        requires { column ≢ 0 }
+        ensures { Made self.old self.new (result ≡ expr.Array items.entry (place 1 column)) }
+    {
+        Expr::Array(self.list(items), at(column))
+    }
+
+    /// Adds an entry to those of a map, and its key to the map's template.
+    pub fn entry(&mut self, map: &mut MapParts, key: &str, value: Expr)
+        ensures entries { Made self.old self.new
+            (map.new.entries ≡ map.old.entries ++ entry_at key.now value ∷ []) }
+        ensures template { Made self.old self.new
+            (map.new.template ≡ with_entry key.now Literal.Unit map.old.template) }
+    {
+        let (Some(key), Some(name)) = (self.name(key), self.name(key)) else {
+            return;
+        };
+        let added = map.template.insert(name, Literal::Unit);
+        let pushed = map.entries.push(MapEntry { key, value });
+        if added.is_err() || pushed.is_err() {
+            self.has_memory = false;
         }
     }
 

@@ -17,7 +17,7 @@ use Rattle.rhai_check.specs.Reading.{faulty, sound}
 use Rattle.rhai_check.specs.Frame.{tests_of, resolves_stmt}
 use Rattle.rhai_tree.specs.Layers.{ExprLayer, StmtLayer}
 use Rattle.rhai_check.specs.Refusals.{Refuses}
-use Rattle.rhai_check.specs.WellFormed.{seen_expr, seen_call, seen_block, seen_stmt}
+use Rattle.rhai_check.specs.WellFormed.{seen_expr, seen_call, seen_block, seen_entry, seen_stmt}
 
 -- what is seen of forms for their faults, and for whether they may run
 abbrev pub Seen : Type 0
@@ -25,6 +25,9 @@ Seen = walk.Seen faulty
 
 abbrev pub SeenCall : Type 0
 SeenCall = walk.SeenCall faulty
+
+abbrev pub SeenEntry : Type 0
+SeenEntry = walk.SeenEntry faulty
 
 abbrev pub SeenStmt : Type 0
 SeenStmt = walk.SeenStmt faulty
@@ -36,13 +39,13 @@ abbrev pub Verdict : Type 0
 Verdict = walk.SeenStmt sound
 
 -- the faults of the parts of one level
-abbrev pub expr_faults : ExprLayer → layer.Expr-F Seen SeenStmt (Unit {0}) SeenCall (Unit {0}) Seen
-expr_faults = map-Expr Expr Stmt ConditionalExpr FnCallExpr MapEntry StmtBlock Seen SeenStmt (Unit {0}) SeenCall (Unit {0}) Seen
-    seen_expr seen_stmt (λ conditional. tt) seen_call (λ entry. tt) seen_block
+abbrev pub expr_faults : ExprLayer → layer.Expr-F Seen SeenStmt (Unit {0}) SeenCall SeenEntry Seen
+expr_faults = map-Expr Expr Stmt ConditionalExpr FnCallExpr MapEntry StmtBlock Seen SeenStmt (Unit {0}) SeenCall SeenEntry Seen
+    seen_expr seen_stmt (λ conditional. tt) seen_call seen_entry seen_block
 
-abbrev pub stmt_faults : StmtLayer → layer.Stmt-F Seen SeenStmt (Unit {0}) SeenCall (Unit {0}) Seen
-stmt_faults = map-Stmt Expr Stmt ConditionalExpr FnCallExpr MapEntry StmtBlock Seen SeenStmt (Unit {0}) SeenCall (Unit {0}) Seen
-    seen_expr seen_stmt (λ conditional. tt) seen_call (λ entry. tt) seen_block
+abbrev pub stmt_faults : StmtLayer → layer.Stmt-F Seen SeenStmt (Unit {0}) SeenCall SeenEntry Seen
+stmt_faults = map-Stmt Expr Stmt ConditionalExpr FnCallExpr MapEntry StmtBlock Seen SeenStmt (Unit {0}) SeenCall SeenEntry Seen
+    seen_expr seen_stmt (λ conditional. tt) seen_call seen_entry seen_block
 
 -- whether the parts of one level declare
 abbrev pub expr_declares : ExprLayer → layer.Expr-F Bool Bool (Unit {0}) Bool (Unit {0}) Bool
@@ -54,22 +57,26 @@ stmt_declares = map-Stmt Expr Stmt ConditionalExpr FnCallExpr MapEntry StmtBlock
     declares_expr declares_stmt (λ conditional. tt) declares_call (λ entry. tt) declares_block
 
 -- whether the parts of one level may run
-abbrev pub expr_tests : ExprLayer → layer.Expr-F Tests Verdict (Unit {0}) (walk.SeenCall sound) (Unit {0}) Tests
-expr_tests = map-Expr Expr Stmt ConditionalExpr FnCallExpr MapEntry StmtBlock Tests Verdict (Unit {0}) (walk.SeenCall sound) (Unit {0})
-    Tests tests_of resolves_stmt (λ conditional. tt) (walk.seen_call sound) (λ entry. tt) (walk.seen_block sound)
+abbrev pub expr_tests : ExprLayer → layer.Expr-F Tests Verdict (Unit {0}) (walk.SeenCall sound) (walk.SeenEntry sound) Tests
+expr_tests = map-Expr Expr Stmt ConditionalExpr FnCallExpr MapEntry StmtBlock Tests Verdict (Unit {0}) (walk.SeenCall sound)
+    (walk.SeenEntry sound) Tests tests_of resolves_stmt (λ conditional. tt) (walk.seen_call sound) (walk.seen_entry sound)
+    (walk.seen_block sound)
 
-abbrev pub stmt_tests : StmtLayer → layer.Stmt-F Tests Verdict (Unit {0}) (walk.SeenCall sound) (Unit {0}) Tests
-stmt_tests = map-Stmt Expr Stmt ConditionalExpr FnCallExpr MapEntry StmtBlock Tests Verdict (Unit {0}) (walk.SeenCall sound) (Unit {0})
-    Tests tests_of resolves_stmt (λ conditional. tt) (walk.seen_call sound) (λ entry. tt) (walk.seen_block sound)
+abbrev pub stmt_tests : StmtLayer → layer.Stmt-F Tests Verdict (Unit {0}) (walk.SeenCall sound) (walk.SeenEntry sound) Tests
+stmt_tests = map-Stmt Expr Stmt ConditionalExpr FnCallExpr MapEntry StmtBlock Tests Verdict (Unit {0}) (walk.SeenCall sound)
+    (walk.SeenEntry sound) Tests tests_of resolves_stmt (λ conditional. tt) (walk.seen_call sound) (walk.seen_entry sound)
+    (walk.seen_block sound)
 
 pub seen-expr : (e : Expr) (l : ExprLayer) → out-Expr e ≡ l → seen_expr e ≡ walk.expr_step faulty (expr_faults l)
-seen-expr e l is = fold_out-Expr Seen SeenStmt (Unit {0}) SeenCall (Unit {0}) Seen
-    (walk.expr_step faulty) (walk.stmt_step faulty) (λ conditional. tt) (walk.call_step faulty) (λ entry. tt) (walk.block_step faulty) e
+seen-expr e l is = fold_out-Expr Seen SeenStmt (Unit {0}) SeenCall SeenEntry Seen
+    (walk.expr_step faulty) (walk.stmt_step faulty) (λ conditional. tt) (walk.call_step faulty) (walk.entry_step faulty)
+    (walk.block_step faulty) e
     ∙ ap (λ (k : ExprLayer). walk.expr_step faulty (expr_faults k)) is
 
 pub seen-stmt : (s : Stmt) (l : StmtLayer) → out-Stmt s ≡ l → seen_stmt s ≡ walk.stmt_step faulty (stmt_faults l)
-seen-stmt s l is = fold_out-Stmt Seen SeenStmt (Unit {0}) SeenCall (Unit {0}) Seen
-    (walk.expr_step faulty) (walk.stmt_step faulty) (λ conditional. tt) (walk.call_step faulty) (λ entry. tt) (walk.block_step faulty) s
+seen-stmt s l is = fold_out-Stmt Seen SeenStmt (Unit {0}) SeenCall SeenEntry Seen
+    (walk.expr_step faulty) (walk.stmt_step faulty) (λ conditional. tt) (walk.call_step faulty) (walk.entry_step faulty)
+    (walk.block_step faulty) s
     ∙ ap (λ (k : StmtLayer). walk.stmt_step faulty (stmt_faults k)) is
 
 declares-expr : (e : Expr) (l : ExprLayer) → out-Expr e ≡ l → declares_expr e ≡ declares.expr_step (expr_declares l)
@@ -83,13 +90,15 @@ declares-stmt s l is = fold_out-Stmt Bool Bool (Unit {0}) Bool (Unit {0}) Bool
     ∙ ap (λ (k : StmtLayer). declares.stmt_step (stmt_declares k)) is
 
 pub resolves-expr : (e : Expr) (l : ExprLayer) → out-Expr e ≡ l → tests_of e ≡ walk.expr_step sound (expr_tests l)
-resolves-expr e l is = fold_out-Expr Tests Verdict (Unit {0}) (walk.SeenCall sound) (Unit {0}) Tests
-    (walk.expr_step sound) (walk.stmt_step sound) (λ conditional. tt) (walk.call_step sound) (λ entry. tt) (walk.block_step sound) e
+resolves-expr e l is = fold_out-Expr Tests Verdict (Unit {0}) (walk.SeenCall sound) (walk.SeenEntry sound) Tests
+    (walk.expr_step sound) (walk.stmt_step sound) (λ conditional. tt) (walk.call_step sound) (walk.entry_step sound)
+    (walk.block_step sound) e
     ∙ ap (λ (k : ExprLayer). walk.expr_step sound (expr_tests k)) is
 
 pub resolves-stmt : (s : Stmt) (l : StmtLayer) → out-Stmt s ≡ l → resolves_stmt s ≡ walk.stmt_step sound (stmt_tests l)
-resolves-stmt s l is = fold_out-Stmt Tests Verdict (Unit {0}) (walk.SeenCall sound) (Unit {0}) Tests
-    (walk.expr_step sound) (walk.stmt_step sound) (λ conditional. tt) (walk.call_step sound) (λ entry. tt) (walk.block_step sound) s
+resolves-stmt s l is = fold_out-Stmt Tests Verdict (Unit {0}) (walk.SeenCall sound) (walk.SeenEntry sound) Tests
+    (walk.expr_step sound) (walk.stmt_step sound) (λ conditional. tt) (walk.call_step sound) (walk.entry_step sound)
+    (walk.block_step sound) s
     ∙ ap (λ (k : StmtLayer). walk.stmt_step sound (stmt_tests k)) is
 
 -- what refuses one level refuses the form

@@ -1,4 +1,4 @@
--- Whether a part of a tree declares a variable: the checker needs memory for the names alone.
+-- Whether a part of a tree declares a variable or makes a map: the checker needs memory for names and keys alone.
 use Rattle.std.specs.Prelude.{Bool, true, false, ◌||◌, List, [], ◌∷◌, map, Option, Some, None}
 use Rattle.rhai_check.specs.Types.{Expr, FnCallExpr, ScriptFuncDef, Stmt, StmtBlock}
 use Rattle.rhai_tree.specs.declared.expr.Expr.TheOpen as layer
@@ -16,6 +16,9 @@ in_option (Some part) = part
 
 -- a form that is not there yet is refused without a look inside
 abbrev pub expr_step : layer.Expr-F Bool Bool (Unit {0}) Bool (Unit {0}) Bool → Bool
+expr_step (layer.InterpolatedString parts pos) = any_of parts
+expr_step (layer.Array items pos) = any_of items
+expr_step (layer.Map entries template pos) = true
 expr_step (layer.Expr::FnCall call pos) = call
 expr_step (layer.Stmt block) = block
 expr_step (layer.And parts pos) = any_of parts

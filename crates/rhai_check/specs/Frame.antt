@@ -1,7 +1,7 @@
 -- What a run may rely on in a part of a checked tree: it has forms that are there alone, and each offset is that of the newest variable
 -- of its name in the scope, whose names are taken oldest first.
-use Rattle.std.specs.Prelude.{Bool, IsTrue, List, [], ◌∷◌, ◌++◌, map, Option}
-use Rattle.rhai_check.specs.Types.{ASTFlags, Expr, FnCallExpr, Position, ScriptFuncDef, ScriptFuncPayload, Stmt, StmtBlock}
+use Rattle.std.specs.Prelude.{IsTrue, List, [], ◌∷◌, ◌++◌, map, Option}
+use Rattle.rhai_check.specs.Types.{ASTFlags, Expr, FnCallExpr, MapEntry, Position, ScriptFuncDef, ScriptFuncPayload, Stmt, StmtBlock}
 use Rattle.rhai_tree.specs.declared.function.ScriptFuncPayload.TheVariants.{Statements}
 use Rattle.rhai_check.specs.Names.{Name}
 use Rattle.rhai_check.specs.Reading as walk
@@ -35,6 +35,16 @@ all_resolve_exprs = walk.found_in_all sound
 
 abbrev pub all_resolve : List (walk.SeenStmt sound) → walk.SeenStmt sound
 all_resolve = walk.found_in_list sound
+
+-- of an entry of a map, and of a map
+abbrev pub tests_of_entry : MapEntry → walk.SeenEntry sound
+tests_of_entry = walk.seen_entry sound
+
+abbrev pub entries_resolve : List (walk.SeenEntry sound) → walk.Finds sound
+entries_resolve = walk.found_in_entries sound
+
+abbrev pub map_resolves : List (walk.SeenEntry sound) → List Name → Position → walk.Finds sound
+map_resolves = walk.found_in_map sound
 
 -- and of a variable, which stands after the names before it
 abbrev pub var_resolves : walk.Seen sound → ASTFlags → Position → Name → walk.SeenStmt sound

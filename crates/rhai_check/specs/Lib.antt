@@ -3,6 +3,7 @@ pub mod Declares
 pub mod Faults
 pub mod Forms
 pub mod Frame
+pub mod Keys
 pub mod Names
 pub mod Reading
 pub mod Refusals

@@ -1,12 +1,14 @@
 -- One walk over a tree, which is read in two ways: for the faults that stand in it, and for whether a part may run above some names.
 use Rattle.std.specs.Prelude.{Bool, true, false, ◌&&◌, if◌then◌else◌, List, [], ◌∷◌, ◌++◌, length, map, Option, Some, None}
 use Rattle.std.specs.declared.num.NonZeroUsize.{NonZeroUsize}
-use Rattle.rhai_check.specs.Types.{ASTFlags, CheckFault, Expr, FnCallExpr, Position, Stmt, StmtBlock}
-use Rattle.rhai_check.specs.declared.check.CheckFault.TheVariants.{BadOffset, BadAssignment, LoopControlOutside, EvalCall, NotYet}
+use Rattle.rhai_check.specs.Types.{ASTFlags, CheckFault, Expr, FnCallExpr, MapEntry, Position, Stmt, StmtBlock}
+use Rattle.rhai_check.specs.declared.check.CheckFault.TheVariants.{BadOffset, BadAssignment, BadMapKey}
+use Rattle.rhai_check.specs.declared.check.CheckFault.TheVariants.{LoopControlOutside, EvalCall, NotYet}
 use Rattle.rhai_tree.specs.declared.expr.Expr.TheOpen as layer
-use Rattle.rhai_tree.specs.declared.expr.Expr.TheFolds.{fold-Expr, fold-FnCallExpr, fold-StmtBlock, fold-Stmt}
+use Rattle.rhai_tree.specs.declared.expr.Expr.TheFolds.{fold-Expr, fold-FnCallExpr, fold-MapEntry, fold-StmtBlock, fold-Stmt}
 use Rattle.rhai_check.specs.Context.{Context, inside, looping, declaring}
 use Rattle.rhai_check.specs.Forms.{is_unqualified, is_eval_call, is_operator_call, is_exported, is_throw}
+use Rattle.rhai_check.specs.Keys.{are_keys}
 use Rattle.rhai_check.specs.Names.{Name, is_good}
 use Rattle.rhai_tree.specs.Positions.{first_or, start_of_name, start_of_operands, start_of_call, first_shared}
 
@@ -74,6 +76,14 @@ module _ (r : Reading) where
   abbrev pub SeenStmt : Type 0
   SeenStmt = r.Around → r.Found × r.Around
 
+  -- what is seen of an entry of a map: its key, and what is found of its value
+  pub record SeenEntry : Type 0 where
+    pub key : Name
+    pub value : Finds
+
+  abbrev pub key_in : SeenEntry → Name
+  key_in entry = entry.key
+
   abbrev pub start_in : Seen → Position
   start_in seen = seen.start
 
@@ -105,6 +115,19 @@ module _ (r : Reading) where
   found_in_all [] c = r.none
   found_in_all (part ∷ parts) c = r.both (part.value c) (found_in_all parts c)
 
+  -- the values of a map's entries
+  abbrev pub found_in_entries : List SeenEntry → Finds
+  found_in_entries [] c = r.none
+  found_in_entries (entry ∷ entries) c = r.both (entry.value c) (found_in_entries entries c)
+
+  -- the keys of a map are those of its template, each once
+  abbrev pub found_in_keys : Bool → Position → Finds
+  found_in_keys good pos c = if good then r.none else r.fault (BadMapKey pos)
+
+  abbrev pub found_in_map : List SeenEntry → (template : List Name) → Position → Finds
+  found_in_map entries template pos c =
+      r.both (found_in_keys (are_keys (map key_in entries) template) pos c) (found_in_entries entries c)
+
   -- a list of statements, each after the ones before it
   abbrev pub found_in_list : List SeenStmt → SeenStmt
   found_in_list [] c = (r.none, c)
@@ -124,16 +147,16 @@ module _ (r : Reading) where
   abbrev pub found_in_var : Seen → ASTFlags → Position → Finds
   found_in_var expr options pos c = if is_exported options then r.fault (NotYet pos) else expr.value c
 
-  abbrev pub expr_step : layer.Expr-F Seen SeenStmt (Unit {0}) SeenCall (Unit {0}) Seen → Seen
-  expr_step (layer.DynamicConstant value pos) = plain pos (not_yet pos)
+  abbrev pub expr_step : layer.Expr-F Seen SeenStmt (Unit {0}) SeenCall SeenEntry Seen → Seen
+  expr_step (layer.DynamicConstant value pos) = plain pos nothing
   expr_step (layer.BoolConstant value pos) = plain pos nothing
   expr_step (layer.IntegerConstant value pos) = plain pos nothing
-  expr_step (layer.CharConstant value pos) = plain pos (not_yet pos)
-  expr_step (layer.StringConstant value pos) = plain pos (not_yet pos)
+  expr_step (layer.CharConstant value pos) = plain pos nothing
+  expr_step (layer.StringConstant value pos) = plain pos nothing
   expr_step (layer.Unit pos) = plain pos nothing
-  expr_step (layer.InterpolatedString parts pos) = plain pos (not_yet pos)
-  expr_step (layer.Array items pos) = plain pos (not_yet pos)
-  expr_step (layer.Map entries template pos) = plain pos (not_yet pos)
+  expr_step (layer.InterpolatedString parts pos) = plain pos (found_in_all parts)
+  expr_step (layer.Array items pos) = plain pos (found_in_all items)
+  expr_step (layer.Map entries template pos) = plain pos (found_in_map entries template.0 pos)
   expr_step (layer.ThisPtr pos) = place pos (not_yet pos)
   expr_step (layer.Variable offset name namespace pos) =
       place (start_of_name namespace.path namespace.position pos) (found_in_variable offset name namespace.path pos)
@@ -147,7 +170,7 @@ module _ (r : Reading) where
   expr_step (layer.Or parts pos) = plain (first_or pos (map start_in parts)) (found_in_all parts)
   expr_step (layer.Coalesce parts pos) = plain (first_or pos (map start_in parts)) (found_in_all parts)
 
-  abbrev pub call_step : layer.FnCallExpr-F Seen SeenStmt (Unit {0}) SeenCall (Unit {0}) Seen → SeenCall
+  abbrev pub call_step : layer.FnCallExpr-F Seen SeenStmt (Unit {0}) SeenCall SeenEntry Seen → SeenCall
   call_step call = record {
     operand = start_of_operands call.op_token (map start_in call.args);
     value = λ pos c.
@@ -157,15 +180,18 @@ module _ (r : Reading) where
         else r.fault (NotYet pos);
   }
 
+  abbrev pub entry_step : layer.MapEntry-F Seen SeenStmt (Unit {0}) SeenCall SeenEntry Seen → SeenEntry
+  entry_step entry = record { key = entry.key; value = entry.value.value }
+
   -- what a block declares ends with it
-  abbrev pub block_step : layer.StmtBlock-F Seen SeenStmt (Unit {0}) SeenCall (Unit {0}) Seen → Seen
+  abbrev pub block_step : layer.StmtBlock-F Seen SeenStmt (Unit {0}) SeenCall SeenEntry Seen → Seen
   block_step block = record {
     start = block.position;
     is_place = false;
     value = λ c. (found_in_list block.statements (r.inside c)).0;
   }
 
-  abbrev pub stmt_step : layer.Stmt-F Seen SeenStmt (Unit {0}) SeenCall (Unit {0}) Seen → SeenStmt
+  abbrev pub stmt_step : layer.Stmt-F Seen SeenStmt (Unit {0}) SeenCall SeenEntry Seen → SeenStmt
   stmt_step (layer.Noop pos) c = (r.none, c)
   stmt_step (layer.Expr expr) c = (expr.value c, c)
   stmt_step (layer.Stmt::FnCall call pos) c = (r.fault (NotYet pos), c)
@@ -186,17 +212,21 @@ module _ (r : Reading) where
   stmt_step (layer.Share variables) c = (r.fault (NotYet (first_shared variables)), c)
 
   abbrev pub seen_expr : Expr → Seen
-  seen_expr = fold-Expr Seen SeenStmt (Unit {0}) SeenCall (Unit {0}) Seen expr_step stmt_step (λ conditional. tt) call_step (λ entry. tt)
+  seen_expr = fold-Expr Seen SeenStmt (Unit {0}) SeenCall SeenEntry Seen expr_step stmt_step (λ conditional. tt) call_step entry_step
       block_step
 
   abbrev pub seen_call : FnCallExpr → SeenCall
-  seen_call = fold-FnCallExpr Seen SeenStmt (Unit {0}) SeenCall (Unit {0}) Seen expr_step stmt_step (λ conditional. tt) call_step
-      (λ entry. tt) block_step
+  seen_call = fold-FnCallExpr Seen SeenStmt (Unit {0}) SeenCall SeenEntry Seen expr_step stmt_step (λ conditional. tt) call_step
+      entry_step block_step
 
   abbrev pub seen_block : StmtBlock → Seen
-  seen_block = fold-StmtBlock Seen SeenStmt (Unit {0}) SeenCall (Unit {0}) Seen expr_step stmt_step (λ conditional. tt) call_step
-      (λ entry. tt) block_step
+  seen_block = fold-StmtBlock Seen SeenStmt (Unit {0}) SeenCall SeenEntry Seen expr_step stmt_step (λ conditional. tt) call_step
+      entry_step block_step
 
   abbrev pub seen_stmt : Stmt → SeenStmt
-  seen_stmt = fold-Stmt Seen SeenStmt (Unit {0}) SeenCall (Unit {0}) Seen expr_step stmt_step (λ conditional. tt) call_step (λ entry. tt)
+  seen_stmt = fold-Stmt Seen SeenStmt (Unit {0}) SeenCall SeenEntry Seen expr_step stmt_step (λ conditional. tt) call_step entry_step
       block_step
+
+  abbrev pub seen_entry : MapEntry → SeenEntry
+  seen_entry = fold-MapEntry Seen SeenStmt (Unit {0}) SeenCall SeenEntry Seen expr_step stmt_step (λ conditional. tt) call_step
+      entry_step block_step

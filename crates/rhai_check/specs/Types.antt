@@ -2,6 +2,7 @@
 pub use Rattle.rhai_check.specs.declared.check.CheckFault.{CheckFault}
 pub use Rattle.rhai_tree.specs.declared.expr.Expr.{Expr}
 pub use Rattle.rhai_tree.specs.declared.expr.FnCallExpr.{FnCallExpr}
+pub use Rattle.rhai_tree.specs.declared.expr.MapEntry.{MapEntry}
 pub use Rattle.rhai_tree.specs.declared.expr.Stmt.{Stmt}
 pub use Rattle.rhai_tree.specs.declared.expr.StmtBlock.{StmtBlock}
 pub use Rattle.rhai_tree.specs.declared.flags.ASTFlags.{ASTFlags}

@@ -1,7 +1,9 @@
 -- Well-formed trees: the faults that stand in a tree, each with its position, in the order of the tree.
 use Rattle.std.specs.Prelude.{◌≡◌, List, [], ◌∷◌, ◌++◌, map, Option}
 use Rattle.std.specs.List.{Contains}
-use Rattle.rhai_check.specs.Types.{ASTFlags, CheckFault, Expr, FnCallExpr, Position, ScriptFuncDef, ScriptFuncPayload, Stmt, StmtBlock}
+use Rattle.rhai_check.specs.Types.{ASTFlags, CheckFault, Expr, FnCallExpr, MapEntry, Position, ScriptFuncDef, ScriptFuncPayload, Stmt}
+use Rattle.rhai_check.specs.Types.{StmtBlock}
+use Rattle.rhai_check.specs.Names.{Name}
 use Rattle.rhai_tree.specs.declared.function.ScriptFuncPayload.TheVariants.{Statements}
 use Rattle.rhai_check.specs.Context.{top, body_with}
 use Rattle.rhai_check.specs.Reading as walk
@@ -23,6 +25,15 @@ seen_stmt = walk.seen_stmt faulty
 -- the faults of expressions and of statements in a row, of an expression that may be left out, and of the parts of some forms
 abbrev pub faults_in_all : List (walk.Seen faulty) → walk.Finds faulty
 faults_in_all = walk.found_in_all faulty
+
+abbrev pub seen_entry : MapEntry → walk.SeenEntry faulty
+seen_entry = walk.seen_entry faulty
+
+abbrev pub faults_in_entries : List (walk.SeenEntry faulty) → walk.Finds faulty
+faults_in_entries = walk.found_in_entries faulty
+
+abbrev pub faults_in_map : List (walk.SeenEntry faulty) → List Name → Position → walk.Finds faulty
+faults_in_map = walk.found_in_map faulty
 
 abbrev pub faults_in_list : List (walk.SeenStmt faulty) → walk.SeenStmt faulty
 faults_in_list = walk.found_in_list faulty

@@ -8,6 +8,7 @@ ghost use Rattle.rhai_check.specs.WellFormed.{Stands, faults_in_function, IsForm
 
 mod expr;
 mod function;
+mod keys;
 mod names;
 mod place;
 mod stmt;

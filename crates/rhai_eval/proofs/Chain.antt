@@ -8,7 +8,7 @@ use Rattle.rhai_tree.specs.declared.position.Position.{Position}
 use Rattle.rhai_tree.specs.declared.expr.Expr.{Expr, out-Expr}
 use Rattle.rhai_tree.specs.declared.expr.Stmt.{Stmt, out-Stmt}
 use Rattle.rhai_tree.specs.Layers.{ExprLayer, StmtLayer}
-use Rattle.rhai_tree.specs.Positions.{position_of, stmt_position_of, start_of}
+use Rattle.rhai_tree.specs.Positions.{position_of, stmt_position_of}
 use Rattle.rhai_values.specs.declared.base.value.Dynamic.{Dynamic}
 use Rattle.rhai_state.specs.declared.scope.Scope.{Scope}
 use Rattle.rhai_state.specs.declared.state.GlobalRuntimeState.{GlobalRuntimeState}
@@ -24,7 +24,6 @@ use Rattle.rhai_machine.specs.language.Frames.{StatementValue, RightOperand, Ass
 use Rattle.rhai_machine.specs.language.Frames.{ReturnValue, Control, Frame, Core, core, ended, UnaryOperand, LeftOperand}
 use Rattle.rhai_machine.specs.language.Frames.{DefineValue, Eval, Exec, Argument, OpenExpr, OpenStmt, Enter, Run, Back, Fail, RestoreList}
 use Rattle.rhai_machine.specs.language.Frames.{Saved}
-use Rattle.rhai_machine.specs.language.Expressions.{literal_of}
 use Rattle.rhai_machine.specs.language.Calls.{operation_at}
 use Rattle.rhai_tree.specs.declared.expr.Expr.TheOpen as layer
 use Rattle.rhai_tree.specs.declared.expr.FnCallExpr.{FnCallExpr}
@@ -87,12 +86,6 @@ module _ {S H : Type 0} (rules : Rules S H) where
     unfolding after
     begins_stmt x restoring o is k = next (rw (lt-ltb _ _ room, charged, is) here)
 
-    -- a literal argument is charged, and there
-    pub begins_literal : (e : Expr) (v : Dynamic H) → literal_of (out-Expr e) ≡ Some v → (k : List (Frame H)) →
-        Goes rules (at (Argument e) k (state_of t old scope this)) (at (Back v) k (state_of t mid scope this))
-    unfolding after
-    begins_literal e v is k = next (rw (is, lt-ltb _ _ room, charged) here)
-
     -- a charged form does what its opened form does
     pub opens : (new : State S H) (r : Result (Dynamic H) (EvalAltResult H)) (e : Expr) (o : ExprLayer) →
         Runs rules (OpenExpr o) (state_of t mid scope this) r new → out-Expr e ≡ o → Runs rules (Eval e) (state_of t old scope this) r new
@@ -117,24 +110,6 @@ module _ {S H : Type 0} (rules : Rules S H) where
         Runs rules (Exec e restoring) (state_of t old scope this) r (state_of t new scope this)
     unfolding after Steps
     refuses_stmt e restoring place k = next (rw (le-ltb _ _ full, is, refused, same, place) here)
-
-    pub refuses_literal : (e : Expr) (v : Dynamic H) → literal_of (out-Expr e) ≡ Some v → pos ≡ start_of e →
-        Runs rules (Argument e) (state_of t old scope this) r (state_of t new scope this)
-    unfolding after Steps
-    refuses_literal e v literal place k = next (rw (literal, le-ltb _ _ full, is, refused, same, place) here)
-
-  -- a literal argument, charged or refused
-  module _ (t : S) (old new : GlobalRuntimeState H) (scope : Scope H) (this : Option (Dynamic H)) (v : Dynamic H) (pos : Position) where
-    pub literal_runs : (r : Result (Dynamic H) (EvalAltResult H)) → OnOk r (old.num_operations < limit_under rules) →
-        OnOk r (new ≡ record old { num_operations = old.num_operations + 1 }) →
-        IfOk r (λ x. x ≡ v) → IfErr r (λ _. limit_under rules ≤ old.num_operations) →
-        IfErr r (λ x. x ≡ error.ErrorTooManyOperations pos) → IfErr r (λ _. new ≡ old) →
-        (e : Expr) → literal_of (out-Expr e) ≡ Some v → pos ≡ start_of e →
-        Runs rules (Argument e) (state_of t old scope this) r (state_of t new scope this)
-    unfolding after Steps
-    literal_runs (Ok x) room charged value full refused same e literal place k = next (rw (literal, lt-ltb _ _ room, charged, value) here)
-    literal_runs (Err x) room charged value full refused same e literal place k =
-        next (rw (literal, le-ltb _ _ full, refused, same, place) here)
 
   -- an operator call begins with its first operand
   pub opens_unary : (call : FnCallExpr) (token : Token) (operand : Expr) (pos : Position) (k : List (Frame H)) (l : State S H) →

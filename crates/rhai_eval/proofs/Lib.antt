@@ -1,6 +1,7 @@
 mod Chain
 mod ChoiceSteps
 mod Conditions
+mod DataSteps
 mod LoopSteps
 mod NameLemmas
 mod Public

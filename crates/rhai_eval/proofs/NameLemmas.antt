@@ -4,11 +4,15 @@ use Rattle.std.proofs.Common.{take, map, refl, sym, ap, ◌∙◌}
 use Rattle.std.proofs.lemmas.List.{take-append-drop, take-map, length-map}
 use Rattle.std.proofs.Math.Seq.{take-append_seam}
 use Rattle.rhai_check.specs.Names.{Name, Begins}
-use Rattle.rhai_tree.specs.declared.expr.Expr.{Expr}
+use Rattle.rhai_tree.specs.declared.expr.Expr.{Expr, out-Expr}
+use Rattle.rhai_tree.specs.declared.expr.Expr.TheFolds.{fold_out-MapEntry}
+use Rattle.rhai_tree.specs.declared.expr.MapEntry.{MapEntry}
+use Rattle.rhai_tree.specs.declared.literal.Literal.{Literal}
 use Rattle.rhai_check.specs.Frame.{tests_of, resolves_expr}
 use Rattle.rhai_check.specs.Reading as walk
 use Rattle.rhai_check.specs.Reading.{sound}
-use Rattle.rhai_check.specs.Frame.{all_resolve_exprs, all_resolve}
+use Rattle.rhai_check.specs.Frame.{all_resolve_exprs, all_resolve, entries_resolve, tests_of_entry}
+use Rattle.rhai_check.specs.Keys.{are_keys}
 use Rattle.rhai_state.specs.declared.scope.ScopeEntry.{ScopeEntry}
 use Rattle.rhai_state.specs.Scope.{name_of}
 use Rattle.rhai_check.specs.Declares.{any_of}
@@ -18,7 +22,7 @@ use Rattle.rhai_tree.specs.declared.flags.ASTFlags.{ASTFlags}
 use Rattle.rhai_tree.specs.declared.position.Position.{Position}
 use Rattle.rhai_check.specs.Forms.{is_exported, is_throw}
 use Rattle.rhai_check.specs.Frame.{resolves_stmt}
-use Rattle.rhai_check.proofs.Walk.{resolves-stmt}
+use Rattle.rhai_check.proofs.Walk.{resolves-expr, resolves-stmt}
 use Rattle.std.proofs.Common.{Option, None}
 use Rattle.rhai_tree.specs.declared.expr.Ident.{Ident}
 use Rattle.rhai_operands.proofs.Names.{both, fails_then}
@@ -49,6 +53,38 @@ part_resolves parts i part names lt is h =
     subst (λ (items : List Expr). IsTrue (all_resolve_exprs (map tests_of items) names)) (drop_item parts i part lt is)
     (later_resolve (take i parts) (drop i parts) names split) in
     (both (resolves_expr part names) (all_resolve_exprs (map tests_of (drop (i + 1) parts)) names) later).0
+
+-- so does the value of each entry of a map
+entry_resolves : (entry : MapEntry) (names : List Name) → IsTrue ((tests_of_entry entry).value names) →
+    IsTrue (resolves_expr entry.value names)
+entry_resolves entry names h = subst (λ (s : walk.SeenEntry sound). IsTrue (s.value names)) (fold_out-MapEntry (walk.Seen sound)
+    (walk.SeenStmt sound) (Unit {0}) (walk.SeenCall sound) (walk.SeenEntry sound) (walk.Seen sound) (walk.expr_step sound)
+    (walk.stmt_step sound) (λ conditional. tt) (walk.call_step sound) (walk.entry_step sound) (walk.block_step sound) entry) h
+
+later_entries : (before after : List MapEntry) (names : List Name) → IsTrue (entries_resolve (map tests_of_entry (before ++ after)) names) →
+    IsTrue (entries_resolve (map tests_of_entry after) names)
+later_entries [] after names h = h
+later_entries (entry ∷ before) after names h = later_entries before after names
+    (both ((tests_of_entry entry).value names) (entries_resolve (map tests_of_entry (before ++ after)) names) h).1
+
+pub value_resolves : (entries : List MapEntry) (i : ℕ) (entry : MapEntry) (names : List Name) → i < length entries →
+    entry ≡ get_or entries i entry → IsTrue (entries_resolve (map tests_of_entry entries) names) → IsTrue (resolves_expr entry.value names)
+value_resolves entries i entry names lt is h =
+    let split : IsTrue (entries_resolve (map tests_of_entry (take i entries ++ drop i entries)) names) =
+    subst (λ (items : List MapEntry). IsTrue (entries_resolve (map tests_of_entry items) names)) (sym (take-append-drop i entries)) h in
+    let later : IsTrue (entries_resolve (map tests_of_entry (entry ∷ drop (i + 1) entries)) names) =
+    subst (λ (items : List MapEntry). IsTrue (entries_resolve (map tests_of_entry items) names)) (drop_item entries i entry lt is)
+    (later_entries (take i entries) (drop i entries) names split) in
+    entry_resolves entry names
+    (both ((tests_of_entry entry).value names) (entries_resolve (map tests_of_entry (drop (i + 1) entries)) names) later).0
+
+pub map_resolves : (e : Expr) (entries : List MapEntry) (template : List Name × List Literal) (pos : Position) (names : List Name) →
+    out-Expr e ≡ layer.Map entries template pos → IsTrue (resolves_expr e names) →
+    IsTrue (entries_resolve (map tests_of_entry entries) names)
+map_resolves e entries template pos names is h =
+    (both (walk.found_in_keys sound (are_keys (map (walk.key_in sound) (map tests_of_entry entries)) template.0) pos names)
+    (entries_resolve (map tests_of_entry entries) names)
+    (subst (λ (t : walk.Seen sound). IsTrue (t.value names)) (resolves-expr e (layer.Map entries template pos) is) h)).1
 
 -- the rest of a list resolves above the names after its first statement
 rest_of_list : (first : Bool) (rest whole : Bool × List Name) → (first && rest.0, rest.1) ≡ whole → IsTrue whole.0 → rest ≡ whole

@@ -1,6 +1,7 @@
 //! Expressions and statements.
 
 pub mod choices;
+mod data;
 pub mod expr;
 pub mod indexing;
 pub mod loops;

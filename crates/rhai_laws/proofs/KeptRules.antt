@@ -1,8 +1,8 @@
 -- What each rule keeps.
 use Rattle.std.proofs.Common.{refl, ap}
 use Rattle.std.proofs.lemmas.List.{length-map, map-append}
-use Rattle.std.specs.Prelude.{◌≡◌, nat_le, length, not, ◌&&◌, Bool, true, false, List, [], ◌∷◌, ◌++◌, Option, Some, None, Result, Ok, Err}
-use Rattle.std.specs.Prelude.{is_some}
+use Rattle.std.specs.Prelude.{◌≡◌, ℕ, nat_le, length, not, ◌&&◌, Bool, true, false, List, [], ◌∷◌, ◌++◌, map, Option, Some, None, Result}
+use Rattle.std.specs.Prelude.{Ok, Err, is_some}
 use Rattle.rhai_tree.specs.declared.position.Position.{Position}
 use Rattle.rhai_tree.specs.declared.token.Token.{Token}
 use Rattle.rhai_tree.specs.declared.flags.ASTFlags.{ASTFlags}
@@ -11,16 +11,19 @@ use Rattle.rhai_tree.specs.declared.expr.Expr.{Expr, out-Expr}
 use Rattle.rhai_tree.specs.declared.expr.Stmt.{Stmt}
 use Rattle.rhai_tree.specs.declared.expr.FnCallExpr.{FnCallExpr}
 use Rattle.rhai_tree.specs.declared.expr.StmtBlock.{StmtBlock}
+use Rattle.rhai_tree.specs.declared.expr.MapEntry.{MapEntry}
 use Rattle.rhai_tree.specs.declared.expr.Expr.TheOpen as layer
 use Rattle.rhai_tree.specs.Layers.{ExprLayer, StmtLayer}
 use Rattle.rhai_tree.specs.Positions.{position_of}
 use Rattle.rhai_values.specs.declared.base.value.AccessMode.{AccessMode}
 use Rattle.rhai_check.specs.Forms.{is_unqualified, is_exported}
+use Rattle.rhai_check.specs.Keys.{key_of}
 use Rattle.rhai_values.specs.declared.base.value.Dynamic.{Dynamic}
 use Rattle.rhai_values.specs.declared.base.value.Union.{Union}
 use Rattle.rhai_values.specs.declared.base.value.Union.TheVariants as value
 use Rattle.rhai_state.specs.declared.error.EvalAltResult.{EvalAltResult}
 use Rattle.rhai_state.specs.declared.error.EvalAltResult.TheVariants as error
+use Rattle.rhai_state.specs.Errors.{is_system}
 use Rattle.rhai_state.specs.Scope.{name_of, index_of, new_entry}
 use Rattle.rhai_machine.specs.language.Setting.{Setting}
 use Rattle.rhai_machine.specs.language.State.{Local}
@@ -32,6 +35,9 @@ use Rattle.rhai_machine.specs.language.Frames.{Question, Fire, QuestionUpdate, F
 use Rattle.rhai_machine.specs.language.Frames.{DoTurn, Back, Fail, StatementValue, DefineValue, IfCondition, RestOfList, RestoreList, Top}
 use Rattle.rhai_machine.specs.language.Frames.{UnaryOperand, LeftOperand, RightOperand, AndPart, OrPart, CoalescePart, AssignValue}
 use Rattle.rhai_machine.specs.language.Frames.{WhileCondition, WhileBody, DoCondition, DoBody, BreakValue, ReturnValue}
+use Rattle.rhai_machine.specs.language.Frames.{ArrayItem, EntryValue, TextPart, PrintedPart}
+use Rattle.rhai_machine.specs.language.Data.{with_item, with_value, with_part, items_core, entries_core, parts_core, part_core}
+use Rattle.rhai_machine.specs.language.Data.{joined_core, printed, unprinted_core}
 use Rattle.rhai_machine.specs.language.Places.{is_barred, target_of}
 use Rattle.rhai_machine.specs.language.Loops.{is_endless, goes_on, while_move, while_core, if_goes_on, do_control, caught}
 use Rattle.rhai_machine.specs.language.Expressions.{literal_of, argument_move, operands_move, expr_move, and_core, and_next, or_core}
@@ -113,16 +119,37 @@ module _ {H : Type 0} (a : Asked) where
   coalesce_next_keeps (Ok seen) v parts k l = coalesce_seen_keeps seen.value v parts k l
   coalesce_next_keeps (Err e) v parts k l = quiet a tt refl (λ t. t)
 
+  items_keep : (made : List (Dynamic H)) (items : List Expr) (k : List (Frame H)) (l : Local H) →
+      Keeps a (calm k l) (items_core made items k l)
+  items_keep made [] k l = quiet a tt refl (λ t. t)
+  items_keep made (item ∷ items) k l = quiet a tt refl (λ t. t)
+
+  entries_keep : (keys : List (List ℕ)) (made : List (Dynamic H)) (entries : List MapEntry) (k : List (Frame H)) (l : Local H) →
+      Keeps a (calm k l) (entries_core keys made entries k l)
+  entries_keep keys made [] k l = quiet a tt refl (λ t. t)
+  entries_keep keys made (entry ∷ entries) k l = quiet a tt refl (λ t. t)
+
+  parts_keep : (text : List ℕ) (parts : List Expr) (k : List (Frame H)) (l : Local H) → Keeps a (calm k l) (parts_core text parts k l)
+  parts_keep text [] k l = quiet a tt refl (λ t. t)
+  parts_keep text (part ∷ parts) k l = quiet a tt refl (λ t. t)
+
   expr_keeps : (fast : Bool) (form : ExprLayer) (k : List (Frame H)) (l : Local H) →
       Moves (Keeps a) (core (OpenExpr form) k l) (expr_move fast form k l)
+  expr_keeps fast (layer.DynamicConstant literal pos) k l = quiet a tt refl (λ t. t)
   expr_keeps fast (layer.BoolConstant b pos) k l = quiet a tt refl (λ t. t)
   expr_keeps fast (layer.IntegerConstant n pos) k l = quiet a tt refl (λ t. t)
+  expr_keeps fast (layer.CharConstant letter pos) k l = quiet a tt refl (λ t. t)
+  expr_keeps fast (layer.StringConstant text pos) k l = quiet a tt refl (λ t. t)
   expr_keeps fast (layer.Unit pos) k l = quiet a tt refl (λ t. t)
   expr_keeps fast (layer.Variable offset name namespace pos) k l =
       there_keeps a (is_unqualified namespace.path) (core (OpenExpr (layer.Variable offset name namespace pos)) k l) _
       (after a (calm k l) refl (λ t. t) (ended_keeps a (read l.around.cells name pos l.scope) k l))
   expr_keeps fast (layer.Expr::FnCall call pos) k l = operands_keeps fast call.op_token call call.args pos (layer.Expr::FnCall call pos) k l
   expr_keeps fast (layer.Stmt block) k l = quiet a tt refl (λ t. t)
+  expr_keeps fast (layer.InterpolatedString parts pos) k l = after a (calm k l) refl (λ t. t) (parts_keep [] parts k l)
+  expr_keeps fast (layer.Array items pos) k l = after a (calm k l) refl (λ t. t) (items_keep [] items k l)
+  expr_keeps fast (layer.Map entries template pos) k l =
+      after a (calm k l) refl (λ t. t) (entries_keep (map key_of entries) [] entries k l)
   expr_keeps fast (layer.And parts pos) k l = after a (calm k l) refl (λ t. t) (and_keeps parts k l)
   expr_keeps fast (layer.Or parts pos) k l = after a (calm k l) refl (λ t. t) (or_keeps parts k l)
   expr_keeps fast (layer.Coalesce parts pos) k l = after a (calm k l) refl (λ t. t) (coalesce_keeps unit_value parts k l)
@@ -215,6 +242,22 @@ module _ {H : Type 0} (a : Asked) where
         Keeps a (calm k l) (operated s operation args k l)
     operated_keeps operation args k l = operator_keeps (builtin_of operation.token args) (call_of s operation args) k l
 
+    -- arrays and texts
+    part_keeps : (text part : List ℕ) (at : Position) (rest : List Expr) (k : List (Frame H)) (l : Local H) →
+        Keeps a (calm k l) (part_core s text part at rest k l)
+    part_keeps text part at rest k l = on_keeps (with_part s.limits text part at) _ k l (λ more. parts_keep more rest k l)
+
+    joined_keeps : (u : Union H) (v : Dynamic H) (text : List ℕ) (at : Position) (rest : List Expr) (k : List (Frame H)) (l : Local H) →
+        Keeps a (calm k l) (joined_core s u v text at rest k l)
+    joined_keeps (value.Str part) v text at rest k l = part_keeps text part at rest k l
+    joined_keeps _ v text at rest k l = quiet a tt refl (λ t. t)
+
+    unprinted_keeps : (passes : Bool) (e : EvalAltResult H) (text type : List ℕ) (at : Position) (rest : List Expr) (k : List (Frame H))
+        (l : Local H) →
+        Keeps a (calm k l) (unprinted_core s passes e text type at rest k l)
+    unprinted_keeps true e text type at rest k l = quiet a tt refl (λ t. t)
+    unprinted_keeps false e text type at rest k l = part_keeps text type at rest k l
+
     -- a value comes up, an error comes down
     up_keeps : (frame : Frame H) (v : Dynamic H) (k : List (Frame H)) (l : Local H) →
         Keeps a (core (Back v) (frame ∷ k) l) (up_core s frame v k l)
@@ -242,6 +285,17 @@ module _ {H : Type 0} (a : Asked) where
         (λ holds. or_next_keeps holds rest k l))
     up_keeps (CoalescePart part_at rest) v k l =
         after a (calm k l) refl (λ t. t) (coalesce_next_keeps (seen_through l.around.cells v part_at) v rest k l)
+    up_keeps (ArrayItem made item_at rest) v k l =
+        after a (calm k l) refl (λ t. t) (on_keeps (with_item s.limits made (flat l.around.cells v item_at) item_at) _ k l
+        (λ items. items_keep items rest k l))
+    up_keeps (EntryValue keys made value_at rest) v k l =
+        after a (calm k l) refl (λ t. t) (on_keeps (with_value s.limits made (flat l.around.cells v value_at) value_at) _ k l
+        (λ values. entries_keep keys values rest k l))
+    up_keeps (TextPart text part_at rest) v k l =
+        after a (calm k l) refl (λ t. t) (on_keeps (flat l.around.cells v part_at) _ k l
+        (λ x. joined_keeps x.value x text part_at rest k l))
+    up_keeps (PrintedPart text type part_at rest) v k l =
+        after a (calm k l) refl (λ t. t) (part_keeps text (printed v.value type) part_at rest k l)
     up_keeps (AssignValue assignment value_at) v k l =
         after a (calm k l) refl (λ t. t) (on_keeps (flat l.around.cells v value_at) _ k l (λ x. quiet a tt refl (λ t. t)))
     up_keeps (WhileCondition test body) v k l =
@@ -264,6 +318,8 @@ module _ {H : Type 0} (a : Asked) where
         after a (calm k l) refl (λ t. t) (caught_keeps (WhileTurn test body) e k l (quiet a tt refl (λ t. t)))
     down_keeps (DoBody test body options) e k l =
         after a (calm k l) refl (λ t. t) (caught_keeps (DoTurn test body options) e k l (quiet a tt refl (λ t. t)))
+    down_keeps (PrintedPart text type part_at rest) e k l =
+        after a (calm k l) refl (λ t. t) (unprinted_keeps (is_system e) e text type part_at rest k l)
     down_keeps (RestOfList rest restoring) e k l = quiet a tt refl (held a k l)
     down_keeps (DefineValue ident options value_at) e k l = quiet a tt refl (λ t. held a k l (t.0, t.1.1))
     down_keeps (RestoreList saved) e k l = quiet a tt refl (left_names a saved k l)

@@ -1,7 +1,7 @@
 -- Each move of the language without a charge makes a core smaller.
 use Rattle.std.proofs.Common.{arith}
-use Rattle.std.specs.Prelude.{◌<◌, ◌≤◌, ℕ, ◌+◌, nat_le, length, not, ◌&&◌, Bool, true, false, List, [], ◌∷◌, Option, Some, None, Result}
-use Rattle.std.specs.Prelude.{Ok, Err, is_some}
+use Rattle.std.specs.Prelude.{◌<◌, ◌≤◌, ℕ, ◌+◌, nat_le, length, map, not, ◌&&◌, Bool, true, false, List, [], ◌∷◌, Option, Some, None}
+use Rattle.std.specs.Prelude.{Result, Ok, Err, is_some}
 use Rattle.rhai_tree.specs.declared.position.Position.{Position}
 use Rattle.rhai_tree.specs.declared.token.Token.{Token}
 use Rattle.rhai_tree.specs.declared.flags.ASTFlags.{ASTFlags}
@@ -10,15 +10,18 @@ use Rattle.rhai_tree.specs.declared.expr.Expr.{Expr, out-Expr}
 use Rattle.rhai_tree.specs.declared.expr.Stmt.{Stmt}
 use Rattle.rhai_tree.specs.declared.expr.FnCallExpr.{FnCallExpr}
 use Rattle.rhai_tree.specs.declared.expr.StmtBlock.{StmtBlock}
+use Rattle.rhai_tree.specs.declared.expr.MapEntry.{MapEntry}
 use Rattle.rhai_tree.specs.declared.expr.OpAssignment.{OpAssignment}
 use Rattle.rhai_tree.specs.declared.expr.Expr.TheOpen as layer
 use Rattle.rhai_tree.specs.Layers.{ExprLayer, StmtLayer}
 use Rattle.rhai_check.specs.Forms.{is_unqualified, is_exported}
+use Rattle.rhai_check.specs.Keys.{key_of}
 use Rattle.rhai_values.specs.declared.base.value.Dynamic.{Dynamic}
 use Rattle.rhai_values.specs.declared.base.value.Union.{Union}
 use Rattle.rhai_values.specs.declared.base.value.Union.TheVariants as value
 use Rattle.rhai_state.specs.declared.error.EvalAltResult.{EvalAltResult}
 use Rattle.rhai_state.specs.declared.error.EvalAltResult.TheVariants as error
+use Rattle.rhai_state.specs.Errors.{is_system}
 use Rattle.rhai_state.specs.Native.{Reply, Missing, Gives, Faults}
 use Rattle.rhai_operators.specs.Answers.{Answer, op_assign_of}
 use Rattle.rhai_machine.specs.machine.Settling.{Falls}
@@ -31,7 +34,10 @@ use Rattle.rhai_machine.specs.language.Frames.{AskUpdate, Argument, Question, Fi
 use Rattle.rhai_machine.specs.language.Frames.{FireUpdate, OpenExpr, OpenStmt, Enter, Run, Store, WhileTurn, DoTurn, Back, Fail}
 use Rattle.rhai_machine.specs.language.Frames.{StatementValue, DefineValue, IfCondition, RestOfList, RestoreList, Top, UnaryOperand}
 use Rattle.rhai_machine.specs.language.Frames.{LeftOperand, RightOperand, AndPart, OrPart, CoalescePart, AssignValue, WhileCondition}
-use Rattle.rhai_machine.specs.language.Frames.{WhileBody, DoCondition, DoBody, BreakValue, ReturnValue}
+use Rattle.rhai_machine.specs.language.Frames.{WhileBody, DoCondition, DoBody, BreakValue, ReturnValue, ArrayItem, EntryValue, TextPart}
+use Rattle.rhai_machine.specs.language.Frames.{PrintedPart}
+use Rattle.rhai_machine.specs.language.Data.{with_item, with_value, with_part, items_core, entries_core, parts_core, part_core}
+use Rattle.rhai_machine.specs.language.Data.{joined_core, printed, unprinted_core}
 use Rattle.rhai_machine.specs.language.Places.{Place, Target, is_barred, target_of, put}
 use Rattle.rhai_machine.specs.language.Assignment.{native_of, assignment_move, written_core, done, if_fast, says_missing}
 use Rattle.rhai_machine.specs.language.Assignment.{operation_of, left_in, update_core, assign_core, store_core, changed_core, fault_core}
@@ -89,6 +95,10 @@ module _ {H : Type 0} where
   frame_size (AndPart part_at rest) = 4
   frame_size (OrPart part_at rest) = 4
   frame_size (CoalescePart part_at rest) = 4
+  frame_size (ArrayItem made item_at rest) = 4
+  frame_size (EntryValue keys made value_at rest) = 4
+  frame_size (TextPart text part_at rest) = 4
+  frame_size (PrintedPart text type part_at rest) = 4
   frame_size (AssignValue assignment value_at) = 4
   frame_size (WhileCondition test body) = 4
   frame_size (WhileBody test body) = 1
@@ -155,14 +165,32 @@ module _ {H : Type 0} where
     coalesce_falls last [] k l = omega arith
     coalesce_falls last (part ∷ parts) k l = omega arith
 
+    items_fall : (made : List (Dynamic H)) (items : List Expr) (k : List (Frame H)) (l : Local H) →
+        size (items_core made items k l) < 8 + stack_size k
+    items_fall made [] k l = omega arith
+    items_fall made (item ∷ items) k l = omega arith
+
+    entries_fall : (keys : List (List ℕ)) (made : List (Dynamic H)) (entries : List MapEntry) (k : List (Frame H)) (l : Local H) →
+        size (entries_core keys made entries k l) < 8 + stack_size k
+    entries_fall keys made [] k l = omega arith
+    entries_fall keys made (entry ∷ entries) k l = omega arith
+
+    parts_fall : (text : List ℕ) (parts : List Expr) (k : List (Frame H)) (l : Local H) →
+        size (parts_core text parts k l) < 8 + stack_size k
+    parts_fall text [] k l = omega arith
+    parts_fall text (part ∷ parts) k l = omega arith
+
     there_falls : (there : Bool) (c d : Core H) → size d < size c → Falls size c (where_there there d)
     there_falls true c d lt = lt
     there_falls false c d lt = tt
 
     expr_falls : (fast : Bool) (form : ExprLayer) (k : List (Frame H)) (l : Local H) →
         Falls size (core (OpenExpr form) k l) (expr_move fast form k l)
+    expr_falls fast (layer.DynamicConstant literal pos) k l = omega arith
     expr_falls fast (layer.BoolConstant b pos) k l = omega arith
     expr_falls fast (layer.IntegerConstant n pos) k l = omega arith
+    expr_falls fast (layer.CharConstant letter pos) k l = omega arith
+    expr_falls fast (layer.StringConstant text pos) k l = omega arith
     expr_falls fast (layer.Unit pos) k l = omega arith
     expr_falls fast (layer.Variable offset name namespace pos) k l =
         there_falls (is_unqualified namespace.path) (core (OpenExpr (layer.Variable offset name namespace pos)) k l)
@@ -171,6 +199,9 @@ module _ {H : Type 0} where
     expr_falls fast (layer.Expr::FnCall call pos) k l = operands_fall fast call.op_token call call.args pos (layer.Expr::FnCall call pos)
         k l
     expr_falls fast (layer.Stmt block) k l = omega (arith, enter_size block.statements true k)
+    expr_falls fast (layer.InterpolatedString parts pos) k l = grind (arith, parts_fall [] parts k l)
+    expr_falls fast (layer.Array items pos) k l = grind (arith, items_fall [] items k l)
+    expr_falls fast (layer.Map entries template pos) k l = grind (arith, entries_fall (map key_of entries) [] entries k l)
     expr_falls fast (layer.And parts pos) k l = grind (arith, and_falls parts k l)
     expr_falls fast (layer.Or parts pos) k l = grind (arith, or_falls parts k l)
     expr_falls fast (layer.Coalesce parts pos) k l = grind (arith, coalesce_falls unit_value parts k l)
@@ -247,6 +278,22 @@ module _ {H : Type 0} where
         ((x : A) → size (go x) < 11 + stack_size k) → size (on_value r go k l) < 11 + stack_size k
     on_falls (Ok x) go k l h = h x
     on_falls (Err e) go k l h = omega arith
+
+    part_falls : (text part : List ℕ) (at : Position) (rest : List Expr) (k : List (Frame H)) (l : Local H) →
+        size (part_core s text part at rest k l) < 11 + stack_size k
+    part_falls text part at rest k l = on_falls (with_part s.limits text part at) (λ more. parts_core more rest k l) k l
+        (λ more. grind (arith, parts_fall more rest k l))
+
+    joined_falls : (u : Union H) (v : Dynamic H) (text : List ℕ) (at : Position) (rest : List Expr) (k : List (Frame H)) (l : Local H) →
+        size (joined_core s u v text at rest k l) < 11 + stack_size k
+    joined_falls (value.Str part) v text at rest k l = part_falls text part at rest k l
+    joined_falls _ v text at rest k l = omega arith
+
+    unprinted_falls : (passes : Bool) (e : EvalAltResult H) (text type : List ℕ) (at : Position) (rest : List Expr) (k : List (Frame H))
+        (l : Local H) →
+        size (unprinted_core s passes e text type at rest k l) < 11 + stack_size k
+    unprinted_falls true e text type at rest k l = omega arith
+    unprinted_falls false e text type at rest k l = part_falls text type at rest k l
 
     chosen_falls : (holds : Bool) (body branch : StmtBlock) (k : List (Frame H)) (l : Local H) →
         size (chosen_core holds body branch k l) < 11 + stack_size k
@@ -404,6 +451,22 @@ module _ {H : Type 0} where
           (λ holds. or_next_falls holds rest k l),
     )
     up_falls (CoalescePart part_at rest) v k l = grind (arith, coalesce_next_falls (through l.around.cells v part_at) v rest k l)
+    up_falls (ArrayItem made item_at rest) v k l = grind (
+      arith,
+      on_falls (with_item s.limits made (flat l.around.cells v item_at) item_at) (λ items. items_core items rest k l) k l
+          (λ items. grind (arith, items_fall items rest k l)),
+    )
+    up_falls (EntryValue keys made value_at rest) v k l = grind (
+      arith,
+      on_falls (with_value s.limits made (flat l.around.cells v value_at) value_at) (λ values. entries_core keys values rest k l) k l
+          (λ values. grind (arith, entries_fall keys values rest k l)),
+    )
+    up_falls (TextPart text part_at rest) v k l = grind (
+      arith,
+      on_falls (flat l.around.cells v part_at) (λ x. joined_core s x.value x text part_at rest k l) k l
+          (λ x. joined_falls x.value x text part_at rest k l),
+    )
+    up_falls (PrintedPart text type part_at rest) v k l = grind (arith, part_falls text (printed v.value type) part_at rest k l)
     up_falls (AssignValue assignment value_at) v k l = grind
         (arith, on_falls (flat l.around.cells v value_at) (λ x. core (Assign assignment x) k l) k l (λ x. omega arith))
     up_falls (WhileCondition test body) v k l = grind (
@@ -437,6 +500,10 @@ module _ {H : Type 0} where
     down_falls (AndPart part_at rest) e k l = omega arith
     down_falls (OrPart part_at rest) e k l = omega arith
     down_falls (CoalescePart part_at rest) e k l = omega arith
+    down_falls (ArrayItem made item_at rest) e k l = omega arith
+    down_falls (EntryValue keys made value_at rest) e k l = omega arith
+    down_falls (TextPart text part_at rest) e k l = omega arith
+    down_falls (PrintedPart text type part_at rest) e k l = grind (arith, unprinted_falls (is_system e) e text type part_at rest k l)
     down_falls (AssignValue assignment value_at) e k l = omega arith
     down_falls (WhileCondition test body) e k l = omega arith
     down_falls (WhileBody test body) e k l = omega (arith, caught_size (WhileTurn test body) (omega arith) e)

@@ -9,3 +9,4 @@ pub mod ThisLaws
 pub mod SampleRuns
 mod LoopRuns
 mod AssignmentRuns
+mod DataRuns

@@ -1,7 +1,8 @@
 -- No form that is there reads or writes `this`, so a run with another `this` takes the same steps.
 use Rattle.std.proofs.Common.{◌≡◌, refl, sym, ap, subst, ◌∙◌}
 use mathlib.Core.Path.{fun_ext}
-use Rattle.std.specs.Prelude.{ℕ, nat_le, length, not, ◌&&◌, Bool, true, false, List, [], ◌∷◌, Option, Some, None, Result, Ok, Err, is_some}
+use Rattle.std.specs.Prelude.{ℕ, nat_le, length, not, ◌&&◌, Bool, true, false, List, [], ◌∷◌, map, Option, Some, None, Result, Ok, Err}
+use Rattle.std.specs.Prelude.{is_some}
 use Rattle.rhai_tree.specs.declared.position.Position.{Position}
 use Rattle.rhai_tree.specs.declared.token.Token.{Token}
 use Rattle.rhai_tree.specs.declared.flags.ASTFlags.{ASTFlags}
@@ -10,15 +11,18 @@ use Rattle.rhai_tree.specs.declared.expr.Expr.{Expr, out-Expr}
 use Rattle.rhai_tree.specs.declared.expr.Stmt.{Stmt}
 use Rattle.rhai_tree.specs.declared.expr.FnCallExpr.{FnCallExpr}
 use Rattle.rhai_tree.specs.declared.expr.StmtBlock.{StmtBlock}
+use Rattle.rhai_tree.specs.declared.expr.MapEntry.{MapEntry}
 use Rattle.rhai_tree.specs.declared.expr.Expr.TheOpen as layer
 use Rattle.rhai_tree.specs.Layers.{ExprLayer, StmtLayer}
 use Rattle.rhai_tree.specs.Positions.{position_of}
 use Rattle.rhai_check.specs.Forms.{is_unqualified, is_exported}
+use Rattle.rhai_check.specs.Keys.{key_of}
 use Rattle.rhai_values.specs.declared.base.value.Dynamic.{Dynamic}
 use Rattle.rhai_values.specs.declared.base.value.Union.{Union}
 use Rattle.rhai_values.specs.declared.base.value.Union.TheVariants as value
 use Rattle.rhai_values.specs.TypeNames.{type_name_of}
 use Rattle.rhai_state.specs.declared.error.EvalAltResult.{EvalAltResult}
+use Rattle.rhai_state.specs.Errors.{is_system}
 use Rattle.rhai_state.specs.Scope.{index_of}
 use Rattle.rhai_machine.specs.machine.Machine.{Move, Halt, Go, Charge, Native, AskPure}
 use Rattle.rhai_machine.specs.machine.Point.{Point, after, moved, paid}
@@ -37,7 +41,10 @@ use Rattle.rhai_machine.specs.language.Frames.{Argument, Question, Fire, Questio
 use Rattle.rhai_machine.specs.language.Frames.{OpenExpr, OpenStmt, Enter, Run, Store, WhileTurn, DoTurn, Back, Fail, StatementValue}
 use Rattle.rhai_machine.specs.language.Frames.{DefineValue, IfCondition, RestOfList, RestoreList, Top, UnaryOperand, LeftOperand}
 use Rattle.rhai_machine.specs.language.Frames.{RightOperand, AndPart, OrPart, CoalescePart, AssignValue, WhileCondition, WhileBody}
-use Rattle.rhai_machine.specs.language.Frames.{DoCondition, DoBody, BreakValue, ReturnValue}
+use Rattle.rhai_machine.specs.language.Frames.{DoCondition, DoBody, BreakValue, ReturnValue, ArrayItem, EntryValue, TextPart}
+use Rattle.rhai_machine.specs.language.Frames.{PrintedPart}
+use Rattle.rhai_machine.specs.language.Data.{with_item, with_value, with_part, items_core, entries_core, parts_core, part_core}
+use Rattle.rhai_machine.specs.language.Data.{joined_core, printed, unprinted_core}
 use Rattle.rhai_machine.specs.language.Places.{Place, InEntry, InCell, Target, is_barred, put, target_of, while_lent}
 use Rattle.rhai_machine.specs.language.Assignment.{assignment_move, written_core, done, if_fast, left_in, update_core}
 use Rattle.rhai_machine.specs.language.Assignment.{assign_core, store_core, changed_core, fault_core, value_core, answered_core}
@@ -129,6 +136,37 @@ module _ {H : Type 0} (t : Option (Dynamic H)) where
         (l : Local H) → coalesce_next r v parts k (with_local l) ≡ in_core (coalesce_next r v parts k l)
     coalesce_next_same (Ok seen) v parts k l = coalesce_seen_same seen.value v parts k l
     coalesce_next_same (Err e) v parts k l = refl
+
+    -- arrays and texts
+    items_same : (made : List (Dynamic H)) (items : List Expr) (k : List (Frame H)) (l : Local H) →
+        items_core made items k (with_local l) ≡ in_core (items_core made items k l)
+    items_same made [] k l = refl
+    items_same made (item ∷ items) k l = refl
+
+    entries_same : (keys : List (List ℕ)) (made : List (Dynamic H)) (entries : List MapEntry) (k : List (Frame H)) (l : Local H) →
+        entries_core keys made entries k (with_local l) ≡ in_core (entries_core keys made entries k l)
+    entries_same keys made [] k l = refl
+    entries_same keys made (entry ∷ entries) k l = refl
+
+    parts_same : (text : List ℕ) (parts : List Expr) (k : List (Frame H)) (l : Local H) →
+        parts_core text parts k (with_local l) ≡ in_core (parts_core text parts k l)
+    parts_same text [] k l = refl
+    parts_same text (part ∷ parts) k l = refl
+
+    part_same : (text part : List ℕ) (pos : Position) (rest : List Expr) (k : List (Frame H)) (l : Local H) →
+        part_core s text part pos rest k (with_local l) ≡ in_core (part_core s text part pos rest k l)
+    part_same text part pos rest k l = on_same (with_part s.limits text part pos) _ _ k l (λ more. parts_same more rest k l)
+
+    joined_same : (u : Union H) (v : Dynamic H) (text : List ℕ) (pos : Position) (rest : List Expr) (k : List (Frame H)) (l : Local H) →
+        joined_core s u v text pos rest k (with_local l) ≡ in_core (joined_core s u v text pos rest k l)
+    joined_same (value.Str part) v text pos rest k l = part_same text part pos rest k l
+    joined_same _ v text pos rest k l = refl
+
+    unprinted_same : (passes : Bool) (e : EvalAltResult H) (text type : List ℕ) (pos : Position) (rest : List Expr) (k : List (Frame H))
+        (l : Local H) →
+        unprinted_core s passes e text type pos rest k (with_local l) ≡ in_core (unprinted_core s passes e text type pos rest k l)
+    unprinted_same true e text type pos rest k l = refl
+    unprinted_same false e text type pos rest k l = part_same text type pos rest k l
 
     -- assignments
     put_same : (place : Place) (v : Dynamic H) (l : Local H) → put place v (with_local l) ≡ with_local (put place v l)
@@ -254,6 +292,9 @@ module _ {H : Type 0} (t : Option (Dynamic H)) where
     expr_same fast (layer.Variable offset name namespace pos) k l = there_same (is_unqualified namespace.path) _ _ refl
     expr_same fast (layer.Expr::FnCall call pos) k l = operands_same fast call.op_token call call.args pos k l
     expr_same fast (layer.Stmt block) k l = refl
+    expr_same fast (layer.InterpolatedString parts pos) k l = ap Go (parts_same [] parts k l)
+    expr_same fast (layer.Array items pos) k l = ap Go (items_same [] items k l)
+    expr_same fast (layer.Map entries template pos) k l = ap Go (entries_same (map key_of entries) [] entries k l)
     expr_same fast (layer.And parts pos) k l = ap Go (and_same parts k l)
     expr_same fast (layer.Or parts pos) k l = ap Go (or_same parts k l)
     expr_same fast (layer.Coalesce parts pos) k l = ap Go (coalesce_same unit_value parts k l)
@@ -327,6 +368,13 @@ module _ {H : Type 0} (t : Option (Dynamic H)) where
     up_same (OrPart part_at rest) v k l =
         on_same (truth s.host_type l.around.cells v part_at) _ _ k l (λ holds. or_next_same holds rest k l)
     up_same (CoalescePart part_at rest) v k l = coalesce_next_same (through l.around.cells v part_at) v rest k l
+    up_same (ArrayItem made item_at rest) v k l =
+        on_same (with_item s.limits made (flat l.around.cells v item_at) item_at) _ _ k l (λ items. items_same items rest k l)
+    up_same (EntryValue keys made value_at rest) v k l =
+        on_same (with_value s.limits made (flat l.around.cells v value_at) value_at) _ _ k l (λ values. entries_same keys values rest k l)
+    up_same (TextPart text part_at rest) v k l =
+        on_same (flat l.around.cells v part_at) _ _ k l (λ x. joined_same x.value x text part_at rest k l)
+    up_same (PrintedPart text type part_at rest) v k l = part_same text (printed v.value type) part_at rest k l
     up_same (AssignValue assignment value_at) v k l = on_same (flat l.around.cells v value_at) _ _ k l (λ x. refl)
     up_same (WhileCondition test body) v k l =
         on_same (truth s.host_type l.around.cells v (position_of test)) _ _ k l (λ holds. while_core_same holds test body k l)
@@ -340,6 +388,7 @@ module _ {H : Type 0} (t : Option (Dynamic H)) where
         down_core s frame e k (with_local l) ≡ in_core (down_core s frame e k l)
     down_same (Top map_exit) e k l = refl
     down_same (RestoreList saved) e k l = refl
+    down_same (PrintedPart text type part_at rest) e k l = unprinted_same (is_system e) e text type part_at rest k l
     down_same (WhileBody test body) e k l = refl
     down_same (DoBody test body options) e k l = refl
     down_same _ e k l = refl

@@ -8,3 +8,4 @@ pub mod Handles
 pub mod Loops
 pub mod Choices
 pub mod Assignments
+pub mod Data

@@ -16,6 +16,7 @@ ghost use Rattle.rhai_machine.specs.samples.Handles.{Handles};
 ghost use Rattle.rhai_machine.specs.samples.Loops.{Loops, WaysOut};
 ghost use Rattle.rhai_machine.specs.samples.Choices.{Choices};
 ghost use Rattle.rhai_machine.specs.samples.Assignments.{Assignments, Updates};
+ghost use Rattle.rhai_machine.specs.samples.Data.{Arrays, Maps, Texts};
 
 use crate::laws::{Language, always_ends};
 use rhai_state::table::NativeTable;
@@ -101,4 +102,19 @@ pub fn sample_assignments<H, S>(of: PhantomData<(H, S)>)
 /// Assignments by an operator that is a native's, over tables that reply in each way.
 pub fn sample_updates<H, S>(of: PhantomData<(H, S)>)
     ensures { (table : Table S H) (host : H → List ℕ) → Updates table host }
+{}
+
+/// Arrays of literals, and of a name that is unknown.
+pub fn sample_arrays<H, S>(of: PhantomData<(H, S)>)
+    ensures { (table : Table S H) (host : H → List ℕ) → Arrays table host }
+{}
+
+/// A map whose keys are written in another order than they stand in.
+pub fn sample_maps<H, S>(of: PhantomData<(H, S)>)
+    ensures { (table : Table S H) (host : H → List ℕ) → Maps table host }
+{}
+
+/// Texts that are joined, and printed by tables that reply in each way.
+pub fn sample_texts<H, S>(of: PhantomData<(H, S)>)
+    ensures { (table : Table S H) (host : H → List ℕ) → Texts table host }
 {}

@@ -1,3 +1,4 @@
+pub mod Literals
 pub mod Conditions
 pub mod InPlace
 pub mod Names

@@ -37,9 +37,9 @@ two_resolve left right names h =
 operands_of_call : (call : FnCallExpr) (pos : Position) (names : List Name) → IsTrue (resolves_call call pos names) →
     IsTrue (all_resolve_exprs (map tests_of call.args) names)
 operands_of_call call pos names h =
-    let opened = fold_out-FnCallExpr (walk.Seen sound) (walk.SeenStmt sound) (Unit {0}) (walk.SeenCall sound) (Unit {0}) (walk.Seen sound)
-    (walk.expr_step sound) (walk.stmt_step sound) (λ conditional. tt) (walk.call_step sound) (λ entry. tt) (walk.block_step sound)
-    call in
+    let opened = fold_out-FnCallExpr (walk.Seen sound) (walk.SeenStmt sound) (Unit {0}) (walk.SeenCall sound)
+    (walk.SeenEntry sound) (walk.Seen sound) (walk.expr_step sound) (walk.stmt_step sound) (λ conditional. tt) (walk.call_step sound)
+    (walk.entry_step sound) (walk.block_step sound) call in
     (holds_then _ _ (fails_then _ _ (subst (λ (s : walk.SeenCall sound). IsTrue (s.value pos names)) opened h)).1).1
 
 -- the operands of a call that resolves do

@@ -62,15 +62,19 @@ pub standing_plain : {H : Type 0} (form : ExprLayer) (entries : List (ScopeEntry
     is_handle v.value ≡ false
 standing_plain (layer.BoolConstant b pos) entries v is = let same : bool_value b ≡ v = cc in rw (← same) refl
 standing_plain (layer.IntegerConstant n pos) entries v is = let same : plain (value.Int n) ≡ v = cc in rw (← same) refl
+standing_plain (layer.CharConstant c pos) entries v is = let same : plain (value.Char c) ≡ v = cc in rw (← same) refl
 standing_plain (layer.Unit pos) entries v is = let same : unit_value ≡ v = cc in rw (← same) refl
 standing_plain (layer.Variable offset name namespace pos) entries v is = found_plain (found name entries) v is
 standing_plain _ entries v is = cc
 
 -- a literal's text starts where it stands
-literal_starts : {H : Type 0} (e : Expr) (form : ExprLayer) (w : Dynamic H) → out-Expr e ≡ form → literal_of form ≡ Some w →
+pub literal_starts : {H : Type 0} (e : Expr) (form : ExprLayer) (w : Dynamic H) → out-Expr e ≡ form → literal_of form ≡ Some w →
     start_of e ≡ position_of e
 literal_starts e (layer.BoolConstant b pos) w is literal = rw (fold_out-Expr, is) refl
 literal_starts e (layer.IntegerConstant n pos) w is literal = rw (fold_out-Expr, is) refl
+literal_starts e (layer.DynamicConstant constant pos) w is literal = rw (fold_out-Expr, is) refl
+literal_starts e (layer.CharConstant c pos) w is literal = rw (fold_out-Expr, is) refl
+literal_starts e (layer.StringConstant text pos) w is literal = rw (fold_out-Expr, is) refl
 literal_starts e (layer.Unit pos) w is literal = rw (fold_out-Expr, is) refl
 literal_starts e _ w is literal = cc
 
@@ -85,6 +89,8 @@ module _ {S H : Type 0} (rules : Rules S H) where
       (next here)
   opens_standing e (layer.IntegerConstant n pos) v k t g scope this is resolves stands =
       let same : plain (value.Int n) ≡ v = cc in rw (← same) (next here)
+  opens_standing e (layer.CharConstant c pos) v k t g scope this is resolves stands =
+      let same : plain (value.Char c) ≡ v = cc in rw (← same) (next here)
   opens_standing e (layer.Unit pos) v k t g scope this is resolves stands = let same : unit_value ≡ v = cc in rw (← same) (next here)
   opens_standing e (layer.Variable offset name namespace pos) v k t g scope this is resolves stands =
       step_by rules _ _ (Go (core (Back (copy_of v)) k (state_of t g scope this).local))
@@ -110,6 +116,8 @@ module _ {S H : Type 0} (rules : Rules S H) where
           (charged rules t old new scope this (Argument e) (Back (bool_value b)) (start_of e) (λ k. rw form refl) room is k)
       argument_by (layer.IntegerConstant n pos) form stand k = let same : plain (value.Int n) ≡ v = cc in rw (← same)
           (charged rules t old new scope this (Argument e) (Back (plain (value.Int n))) (start_of e) (λ k. rw form refl) room is k)
+      argument_by (layer.CharConstant c pos) form stand k = let same : plain (value.Char c) ≡ v = cc in rw (← same)
+          (charged rules t old new scope this (Argument e) (Back (plain (value.Char c))) (start_of e) (λ k. rw form refl) room is k)
       argument_by (layer.Unit pos) form stand k = let same : unit_value ≡ v = cc in rw (← same)
           (charged rules t old new scope this (Argument e) (Back unit_value) (start_of e) (λ k. rw form refl) room is k)
       argument_by (layer.Variable offset name namespace pos) form stand k =
@@ -137,6 +145,9 @@ module _ {S H : Type 0} (rules : Rules S H) where
           (start_of e) (λ k. rw form refl) x full (rw (literal_starts {H = H} e (layer.IntegerConstant n pos) (plain (value.Int n))
           form refl) is)
           same k
+      refused_by (layer.CharConstant c pos) form stand k = refused rules t old new scope this (Argument e) (Back (plain (value.Char c)))
+          (start_of e) (λ k. rw form refl) x full (rw (literal_starts {H = H} e (layer.CharConstant c pos) (plain (value.Char c))
+          form refl) is) same k
       refused_by (layer.Unit pos) form stand k = refused rules t old new scope this (Argument e) (Back unit_value) (start_of e)
           (λ k. rw form refl) x full (rw (literal_starts {H = H} e (layer.Unit pos) unit_value form refl) is) same k
       refused_by (layer.Variable offset name namespace pos) form stand k =

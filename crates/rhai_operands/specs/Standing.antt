@@ -31,8 +31,10 @@ module _ {H : Type 0} where
   unless_handle (Some v) = if is_handle v.value then None else Some v
   unless_handle None = None
 
-  -- the value of a literal, or that of a variable, unless it is a handle
+  -- the value of a literal that takes no memory, or that of a variable, unless it is a handle
   abbrev pub standing : ExprLayer → List (ScopeEntry H) → Option (Dynamic H)
+  standing (layer.DynamicConstant literal pos) entries = None
+  standing (layer.StringConstant text pos) entries = None
   standing (layer.Variable offset name namespace pos) entries = unless_handle (found name entries)
   standing form entries = literal_of form
 

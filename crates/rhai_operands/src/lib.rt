@@ -3,5 +3,6 @@
 //! nothing is changed, and the evaluator does it. The contracts cite the machine's runs.
 #![tactic(auto)]
 
+pub mod arguments;
 pub mod operands;
 pub mod operators;

@@ -10,7 +10,7 @@ ghost use Rattle.rhai_operands.specs.Standing.{integer_of, standing, two_in, val
 
 use rhai_state::scope::Scope;
 use rhai_state::state::GlobalRuntimeState;
-use rhai_steps::values::{bool_value, int_value, is_bare_handle, unit_value};
+use rhai_steps::values::{bool_value, char_value, int_value, is_bare_handle, unit_value};
 use rhai_steps::variables::place_of_variable;
 use rhai_tree::expr::{Expr, FnCallExpr};
 use rhai_values::base::value::{Dynamic, Host, Union};
@@ -36,8 +36,8 @@ impl<'a, H> Operand<'a, H> {
     }
 }
 
-/// An operand as it stands: a literal, or a variable that is no handle, and None for any other
-/// expression. Asked: the expression resolves to the variables of the scope.
+/// An operand as it stands: a literal that takes no memory, or a variable that is no handle, and None
+/// for any other expression. Asked: the expression resolves to the variables of the scope.
 pub fn operand_in_place<'a, H: Host>(
     global: &GlobalRuntimeState<H>,
     scope: &'a Scope<H>,
@@ -49,6 +49,7 @@ pub fn operand_in_place<'a, H: Host>(
     match expr {
         Expr::BoolConstant(value, _) => Some(Operand::Literal(bool_value(*value))),
         Expr::IntegerConstant(value, _) => Some(Operand::Literal(int_value(value))),
+        Expr::CharConstant(letter, _) => Some(Operand::Literal(char_value(*letter))),
         Expr::Unit(_) => Some(Operand::Literal(unit_value())),
         Expr::Variable { offset, name, .. } => {
             let index = place_of_variable(global, scope, *offset, name)?;

@@ -1,15 +1,14 @@
 //! Charges of operations. Ports upstream's `track_operation`.
 
-ghost use Rattle.std.specs.Prelude.{◌≡◌, ◌<◌, ◌≤◌, ◌+◌, OnOk, IfErr, IfOk, true, false};
+ghost use Rattle.std.specs.Prelude.{◌≡◌, ◌<◌, ◌≤◌, ◌+◌, OnOk, IfErr, true, false};
 ghost use Rattle.rhai_state.specs.Limits.{limit_of};
 ghost use Rattle.rhai_state.specs.declared.error.EvalAltResult.TheVariants as error;
 
-use crate::values::let_go;
 use rhai_state::error::EvalAltResult;
 use rhai_state::limits::Limits;
 use rhai_state::state::GlobalRuntimeState;
 use rhai_tree::position::Position;
-use rhai_values::base::value::{Dynamic, Host};
+use rhai_values::base::value::Host;
 
 /// How many operations a run may charge.
 fn limit(limits: &Limits) -> u64
@@ -64,28 +63,4 @@ pub fn charge_all<H: Host>(limits: &Limits, global: &mut GlobalRuntimeState<H>, 
     }
     global.num_operations += count;
     true
-}
-
-/// Charges a literal argument at its start, and hands it on.
-pub fn literal_arg<H: Host>(
-    limits: &Limits,
-    global: &mut GlobalRuntimeState<H>,
-    value: Dynamic<H>,
-    pos: Position,
-) -> Result<Dynamic<H>, EvalAltResult<H>>
-    ensures room { OnOk result (global.old.num_operations < limit_of limits.now.max_operations) }
-    ensures charged { OnOk result (global.new ≡ record global.old
-        { num_operations = global.old.num_operations + 1 }) }
-    ensures value { IfOk result (λ v. v ≡ value) }
-    ensures full { IfErr result (λ _. limit_of limits.now.max_operations ≤ global.old.num_operations) }
-    ensures refused { IfErr result (λ e. e ≡ error.ErrorTooManyOperations pos) }
-    ensures same { IfErr result (λ _. global.new ≡ global.old) }
-{
-    match track_operation(limits, global, pos) {
-        Ok(()) => Ok(value),
-        Err(error) => {
-            let_go(value);
-            Err(error)
-        }
-    }
 }

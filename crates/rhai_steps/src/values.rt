@@ -1,22 +1,22 @@
 //! Values as the evaluator makes them and looks at them.
 
 ghost use Rattle.std.specs.Prelude.{◌≡◌, ◌∷◌, [], Ok, true, false, IfErr, IfOk};
-ghost use Rattle.rhai_tree.specs.declared.expr.Expr.{out-Expr};
 ghost use Rattle.rhai_values.specs.Cells.{cells_of, value_of_cell};
 ghost use Rattle.rhai_values.specs.Copy.{copy_of, plain};
+ghost use Rattle.rhai_values.specs.Literals.{value_of_literal};
 ghost use Rattle.rhai_values.specs.declared.base.value.Union.TheVariants as kind;
 ghost use Rattle.rhai_machine.specs.language.State.{Answers};
 ghost use Rattle.rhai_machine.specs.language.Values.{bool_value as truth_of, copied, flat, is_handle};
 ghost use Rattle.rhai_machine.specs.language.Values.{is_truth, through, truth, truth_union};
 ghost use Rattle.rhai_machine.specs.language.Values.{unit_value as unit, used};
-ghost use Rattle.rhai_machine.specs.language.Expressions.{literal_of};
 ghost use Rattle.rhai_steps.specs.Values.{unit_seen};
 
 use crate::errors::{data_race, mismatch};
-use rhai_items::Items;
+use rhai_items::{Items, Shared, Text};
 use rhai_state::error::EvalAltResult;
-use rhai_tree::expr::Expr;
+use rhai_tree::literal::Literal;
 use rhai_tree::position::Position;
+use rhai_values::base::literal::literal_value;
 use rhai_values::base::value::{CellId, Dynamic, Host, Union};
 use rhai_values::cells::CellStore;
 use std::alloc::Global;
@@ -42,15 +42,34 @@ pub fn int_value<H>(value: &i64) -> Dynamic<H>
     Dynamic::new(Union::Int(*value))
 }
 
-/// The value of a literal, None for any other expression.
-pub fn literal_value<H>(expr: &Expr) -> Option<Dynamic<H>>
-    ensures { result ≡ literal_of (out-Expr expr.now) }
+/// A character.
+pub fn char_value<H>(letter: char) -> Dynamic<H>
+    ensures { result ≡ plain (kind.Char letter) }
 {
-    match expr {
-        Expr::BoolConstant(value, _) => Some(bool_value(*value)),
-        Expr::IntegerConstant(value, _) => Some(int_value(value)),
-        Expr::Unit(_) => Some(unit_value()),
-        _ => None,
+    Dynamic::new(Union::Char(letter))
+}
+
+/// A text of the tree, which the value shares with it.
+pub fn text_value<H>(text: &Shared<Text>, pos: Position) -> Result<Dynamic<H>, EvalAltResult<H>>
+    ensures { Answers result (Ok (plain (kind.Str text.now))) }
+{
+    match text.share() {
+        Ok(text) => Ok(Dynamic::new(Union::Str(text))),
+        Err(_) => Err(EvalAltResult::ErrorOutOfMemory(pos)),
+    }
+}
+
+/// The value of a constant of the tree.
+pub fn constant_value<H: Host>(
+    alloc: Global,
+    literal: &Literal,
+    pos: Position,
+) -> Result<Dynamic<H>, EvalAltResult<H>>
+    ensures { Answers result (Ok (value_of_literal literal.now)) }
+{
+    match literal_value(alloc, literal) {
+        Ok(value) => Ok(value),
+        Err(_) => Err(EvalAltResult::ErrorOutOfMemory(pos)),
     }
 }
 

@@ -1,24 +1,26 @@
 //! The checker's walk over expressions.
 
-ghost use Rattle.std.specs.Prelude.{◌≡◌, ◌++◌, [], ◌∷◌, IsTrue, IfErr, OnOk, map, length, List, option_map};
+ghost use Rattle.std.specs.Prelude.{◌≡◌, ◌++◌, [], IsTrue, IfErr, OnOk, map, length, List, option_map, true};
 ghost use Rattle.rhai_check.specs.Context.{around};
 ghost use Rattle.rhai_check.specs.Declares.{any_of, in_option, declares_expr, declares_call};
-ghost use Rattle.rhai_check.specs.Forms.{is_unqualified, is_eval_call, is_operator_call};
+ghost use Rattle.rhai_check.specs.Forms.{is_eval_call, is_operator_call};
 ghost use Rattle.rhai_check.specs.Frame.{tests_of, resolves_expr, resolves_call, target_resolves};
-ghost use Rattle.rhai_check.specs.Frame.{option_resolves, all_resolve_exprs};
+ghost use Rattle.rhai_check.specs.Frame.{option_resolves, all_resolve_exprs, entries_resolve, map_resolves};
+ghost use Rattle.rhai_check.specs.Frame.{tests_of_entry};
 ghost use Rattle.rhai_check.specs.Names.{Name, is_good};
 ghost use Rattle.rhai_check.specs.Refusals.{Refuses};
 ghost use Rattle.rhai_check.specs.WellFormed.{seen_expr, seen_call, target_faults, faults_in_option};
-ghost use Rattle.rhai_check.specs.WellFormed.{faults_in_all};
+ghost use Rattle.rhai_check.specs.WellFormed.{faults_in_all, faults_in_entries, faults_in_map, seen_entry};
 
 use crate::check::CheckFault;
+use crate::check::keys::has_keys;
 use crate::check::names::is_good;
 use crate::check::place::Place;
 use crate::check::stmt::check_block;
-use rhai_items::{Items, Shared, Text};
-use rhai_tree::expr::{Expr, FnCallExpr};
+use rhai_items::{Items, Shared, Table, Text};
+use rhai_tree::expr::{Expr, FnCallExpr, MapEntry};
+use rhai_tree::literal::Literal;
 use rhai_tree::position::Position;
-use std::num::NonZeroUsize;
 
 /// Whether a call is written as an operator with one or two operands, without a path, and leaves
 /// the caller's scope alone.
@@ -48,9 +50,14 @@ pub(crate) fn check_expr(
         (declares_expr expr.now) fault) }
 {
     match expr {
+        Expr::DynamicConstant(_, _) => Ok(()),
         Expr::BoolConstant(_, _) => Ok(()),
         Expr::IntegerConstant(_, _) => Ok(()),
+        Expr::CharConstant(_, _) => Ok(()),
+        Expr::StringConstant(_, _) => Ok(()),
         Expr::Unit(_) => Ok(()),
+        Expr::InterpolatedString(parts, _) => check_exprs(names, place, parts.as_slice()),
+        Expr::Array(items, _) => check_exprs(names, place, items.as_slice()),
         Expr::Variable {
             offset,
             name,
@@ -65,18 +72,15 @@ pub(crate) fn check_expr(
                 Err(CheckFault::BadOffset(*pos))
             }
         }
+        Expr::Map(entries, template, pos) => {
+            check_map(names, place, entries.as_slice(), template, *pos)
+        }
         Expr::FnCall(call, pos) => check_call(names, place, call, *pos),
         Expr::Stmt(block) => check_block(names, place, block),
         Expr::And(parts, _) => check_exprs(names, place, parts.as_slice()),
         Expr::Or(parts, _) => check_exprs(names, place, parts.as_slice()),
         Expr::Coalesce(parts, _) => check_exprs(names, place, parts.as_slice()),
-        Expr::DynamicConstant(_, pos)
-        | Expr::CharConstant(_, pos)
-        | Expr::StringConstant(_, pos)
-        | Expr::InterpolatedString(_, pos)
-        | Expr::Array(_, pos)
-        | Expr::Map(_, _, pos)
-        | Expr::ThisPtr(pos)
+        Expr::ThisPtr(pos)
         | Expr::Property(_, pos)
         | Expr::MethodCall(_, pos)
         | Expr::Dot(_, _, _, pos)
@@ -100,6 +104,51 @@ pub(crate) fn check_exprs(
 {
     'each: for expr in exprs {
         check_expr(names, place, expr)?;
+    }
+    Ok(())
+}
+
+/// Passes a map, or answers one of its faults.
+#[cycle(check)]
+fn check_map(
+    names: &mut Items<Shared<Text>>,
+    place: Place,
+    entries: &[MapEntry],
+    template: &Table<Literal>,
+    pos: Position,
+) -> Result<(), CheckFault>
+    ensures same { OnOk result (names.new ≡ names.old) }
+    ensures exact { OnOk result (faults_in_map (map seen_entry entries.now) template.now.0 pos
+        (around names.old place) ≡ []) }
+    ensures resolved { OnOk result ((base : List Name) → IsTrue
+        (map_resolves (map tests_of_entry entries.now) template.now.0 pos (base ++ names.old))) }
+    ensures refused { IfErr result (λ fault. Refuses (faults_in_map (map seen_entry entries.now)
+        template.now.0 pos (around names.old place)) true fault) }
+{
+    match has_keys(names.allocator(), entries, template) {
+        Err(_) => Err(CheckFault::NoMemory),
+        Ok(false) => Err(CheckFault::BadMapKey(pos)),
+        Ok(true) => check_entries(names, place, entries),
+    }
+}
+
+/// Passes the values of a map's entries, or answers one of their faults.
+#[cycle(check)]
+fn check_entries(
+    names: &mut Items<Shared<Text>>,
+    place: Place,
+    entries: &[MapEntry],
+) -> Result<(), CheckFault>
+    ensures same { OnOk result (names.new ≡ names.old) }
+    ensures exact { OnOk result (faults_in_entries (map seen_entry entries.now)
+        (around names.old place) ≡ []) }
+    ensures resolved { OnOk result ((base : List Name) → IsTrue
+        (entries_resolve (map tests_of_entry entries.now) (base ++ names.old))) }
+    ensures refused { IfErr result (λ fault. Refuses (faults_in_entries (map seen_entry entries.now)
+        (around names.old place)) true fault) }
+{
+    'each: for entry in entries {
+        check_expr(names, place, &entry.value)?;
     }
     Ok(())
 }

@@ -32,7 +32,9 @@ use rhai_state::scope::Scope;
 use rhai_state::state::GlobalRuntimeState;
 use rhai_state::table::NativeTable;
 use rhai_steps::charges::track_operation;
-use rhai_steps::values::{bool_value, int_value, truth_value, unit_value};
+use rhai_steps::values::{
+    bool_value, char_value, constant_value, int_value, text_value, truth_value, unit_value,
+};
 use rhai_steps::variables::{read_variable, scope_index};
 use rhai_tree::expr::Expr;
 use rhai_values::base::value::{Dynamic, Host};
@@ -150,8 +152,11 @@ impl<H: Host> Engine<H> {
     {
         track_operation(&self.limits, &mut run.global, expr.position())?;
         match expr {
+            Expr::DynamicConstant(literal, pos) => constant_value(alloc, literal, *pos),
             Expr::BoolConstant(value, _) => Ok(bool_value(*value)),
             Expr::IntegerConstant(value, _) => Ok(int_value(value)),
+            Expr::CharConstant(letter, _) => Ok(char_value(*letter)),
+            Expr::StringConstant(text, pos) => text_value(text, *pos),
             Expr::Unit(_) => Ok(unit_value()),
             Expr::Variable {
                 offset,
@@ -166,6 +171,13 @@ impl<H: Host> Engine<H> {
             Expr::And(parts, _) => self.run_and(alloc, run, table, parts.as_slice()),
             Expr::Or(parts, _) => self.run_or(alloc, run, table, parts.as_slice()),
             Expr::Coalesce(parts, _) => self.run_coalesce(alloc, run, table, parts.as_slice()),
+            Expr::Array(items, pos) => self.run_array(alloc, run, table, items.as_slice(), *pos),
+            Expr::Map(entries, _, pos) => {
+                self.run_map(alloc, run, table, entries.as_slice(), *pos)
+            }
+            Expr::InterpolatedString(parts, pos) => {
+                self.run_interpolated(alloc, run, table, parts.as_slice(), *pos)
+            }
             _ => unreachable!(),
         }
     }

@@ -11,11 +11,11 @@ ghost use Rattle.rhai_eval.specs.States.{names, state_in, under};
 use crate::engine::Engine;
 use rhai_calls::native::{operate_one, operate_two};
 use rhai_context::Context;
+use rhai_operands::arguments::literal_arg;
 use rhai_operands::operators::operate_in_place;
 use rhai_state::error::EvalAltResult;
 use rhai_state::table::NativeTable;
-use rhai_steps::charges::literal_arg;
-use rhai_steps::values::{flatten, let_go, literal_value};
+use rhai_steps::values::{flatten, let_go};
 use rhai_tree::expr::{Expr, FnCallExpr};
 use rhai_tree::position::Position;
 use rhai_tree::token::Token;
@@ -204,8 +204,8 @@ impl<H: Host> Engine<H> {
         ensures runs { Runs (under H.name_of self.now T.natives) (Argument arg.now)
             (state_in (T.state table.old) run.old) result (state_in (T.state table.new) run.new) }
     {
-        match literal_value(arg) {
-            Some(value) => literal_arg(&self.limits, &mut run.global, value, arg.start_position()),
+        match literal_arg(&self.limits, alloc, &mut run.global, &*table, arg) {
+            Some(result) => result,
             None => self.run_expr(alloc, run, table, arg),
         }
     }

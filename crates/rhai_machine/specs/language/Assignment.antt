@@ -21,7 +21,7 @@ use Rattle.rhai_machine.specs.language.Values.{unit_value}
 use Rattle.rhai_machine.specs.language.Places.{Place, Target, is_barred, put, while_lent}
 use Rattle.rhai_machine.specs.language.Frames.{Operation, Attempt, InPlace, AsValue, Assignment, Update}
 use Rattle.rhai_machine.specs.language.Frames.{Frame, Control, Core, core, on_value, where_there}
-use Rattle.rhai_machine.specs.language.Frames.{Eval, Assign, AskUpdate, FireUpdate, Back, Fail, AssignValue}
+use Rattle.rhai_machine.specs.language.Frames.{Eval, AskUpdate, FireUpdate, Back, Fail, AssignValue}
 use Rattle.rhai_machine.specs.language.Calls.{operation_at, placed_if_none, sized, applied, replied}
 
 -- the native of an attempt: in `x += y` first the one named `+=`, and then the one named `+`

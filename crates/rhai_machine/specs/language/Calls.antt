@@ -2,7 +2,7 @@
 use Rattle.std.specs.Prelude.{ℕ, Bool, true, false, ◌||◌, List, [], ◌∷◌, ◌++◌, Option, Some, None, Result, Ok, Err, length, drop}
 use Rattle.std.specs.Prelude.{codes, nat_eq, if◌then◌else◌}
 use Rattle.std.specs.List.{starts_with}
-use Rattle.std.specs.Option.{option_or}
+use Rattle.std.specs.Option.{option_map, option_or}
 use Rattle.std.specs.Str.{bytes_eq}
 use Rattle.rhai_machine.specs.Types.{Dynamic, EvalAltResult, Limits, Position, Token, Union}
 use Rattle.rhai_values.specs.declared.base.value.Union.TheVariants as value
@@ -10,7 +10,8 @@ use Rattle.rhai_state.specs.declared.error.EvalAltResult.TheVariants as error
 use Rattle.rhai_state.specs.Native.{Reply, Missing, Gives, Faults, Named, OfName, request}
 use Rattle.rhai_state.specs.Errors.{indexing_text, position_of, at_position}
 use Rattle.rhai_values.specs.TypeNames.{type_name_of}
-use Rattle.rhai_values.specs.DataSize.{too_large}
+use Rattle.rhai_values.specs.declared.base.size.DataSizes.{DataSizes}
+use Rattle.rhai_values.specs.DataSize.{data_sizes, exceeded, fault_text}
 use Rattle.rhai_operators.specs.Answers.{unary_of, binary_of}
 use Rattle.rhai_machine.specs.machine.Machine.{Move, Go, Native, AskPure}
 use Rattle.rhai_machine.specs.language.Setting.{Setting}
@@ -89,13 +90,22 @@ module _ {H : Type 0} where
   call_at name token at args = record { operation = operation_at name token at; args = args }
 
   module _ (limits : Limits) where
-    abbrev pub sized_by : Option (List ℕ) → Dynamic H → Position → Result (Dynamic H) (EvalAltResult H)
-    sized_by None v at = Ok v
-    sized_by (Some text) v at = Err (error.ErrorDataTooLarge text at)
+    abbrev pub sized_by : {A : Type 0} → Option (List ℕ) → A → Position → Result A (EvalAltResult H)
+    sized_by None x at = Ok x
+    sized_by (Some text) x at = Err (error.ErrorDataTooLarge text at)
+
+    -- what holds so much data, unless that is too much
+    abbrev pub within_sizes : {A : Type 0} → DataSizes → A → Position → Result A (EvalAltResult H)
+    within_sizes a x at =
+        sized_by (option_map fault_text (exceeded limits.max_string_size limits.max_array_size limits.max_map_size a)) x at
+
+    -- what is there with a value, unless the value's data is too large
+    abbrev pub within : {A : Type 0} → Dynamic H → A → Position → Result A (EvalAltResult H)
+    within v x at = within_sizes (data_sizes v) x at
 
     -- a value whose data is too large is refused
     abbrev pub sized : Dynamic H → Position → Result (Dynamic H) (EvalAltResult H)
-    sized v at = sized_by (too_large limits.max_string_size limits.max_array_size limits.max_map_size v) v at
+    sized v at = within v v at
 
     -- what a built-in operator gave, at the operator
     abbrev pub applied : Result (Dynamic H) (EvalAltResult H) → Position → Result (Dynamic H) (EvalAltResult H)

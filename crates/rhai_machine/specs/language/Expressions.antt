@@ -1,25 +1,31 @@
 -- The rules of expressions.
-use Rattle.std.specs.Prelude.{Bool, true, false, List, [], ◌∷◌, Option, Some, None, Result, Ok, Err}
+use Rattle.std.specs.Prelude.{Bool, true, false, List, [], ◌∷◌, map, Option, Some, None, Result}
 use Rattle.rhai_machine.specs.Types.{Dynamic, EvalAltResult, Expr, Position, Token, Union}
 use Rattle.rhai_tree.specs.declared.expr.FnCallExpr.{FnCallExpr}
 use Rattle.rhai_tree.specs.declared.expr.Expr.TheOpen as layer
 use Rattle.rhai_tree.specs.Layers.{ExprLayer}
 use Rattle.rhai_tree.specs.Positions.{position_of, start_of}
 use Rattle.rhai_check.specs.Forms.{is_unqualified}
+use Rattle.rhai_check.specs.Keys.{key_of}
 use Rattle.rhai_values.specs.declared.base.value.Union.TheVariants as value
 use Rattle.rhai_values.specs.Copy.{plain}
+use Rattle.rhai_values.specs.Literals.{value_of_literal}
 use Rattle.rhai_machine.specs.machine.Machine.{Move, Halt, Go, Charge}
 use Rattle.rhai_machine.specs.language.State.{Local}
 use Rattle.rhai_machine.specs.language.Values.{unit_value, bool_value}
 use Rattle.rhai_machine.specs.language.Names.{read}
 use Rattle.rhai_machine.specs.language.Frames.{Frame, Core, core, on_value, where_there, ended, Eval, Argument, Enter, Back}
 use Rattle.rhai_machine.specs.language.Frames.{UnaryOperand, LeftOperand, AndPart, OrPart, CoalescePart}
+use Rattle.rhai_machine.specs.language.Data.{entries_core, items_core, parts_core}
 
 module _ {H : Type 0} where
   -- the value of a literal, read-write
   abbrev pub literal_of : ExprLayer → Option (Dynamic H)
+  literal_of (layer.DynamicConstant literal pos) = Some (value_of_literal literal)
   literal_of (layer.BoolConstant b pos) = Some (bool_value b)
   literal_of (layer.IntegerConstant n pos) = Some (plain (value.Int n))
+  literal_of (layer.CharConstant letter pos) = Some (plain (value.Char letter))
+  literal_of (layer.StringConstant text pos) = Some (plain (value.Str text))
   literal_of (layer.Unit pos) = Some unit_value
   literal_of _ = None
 
@@ -68,9 +74,15 @@ module _ {H : Type 0} where
 
   -- an expression, after its charge; a form that is not there has no step
   abbrev pub expr_move : (fast_operators : Bool) → ExprLayer → List (Frame H) → Local H → Move H (Core H)
+  expr_move fast (layer.DynamicConstant literal pos) k l = Go (core (Back (value_of_literal literal)) k l)
   expr_move fast (layer.BoolConstant b pos) k l = Go (core (Back (bool_value b)) k l)
   expr_move fast (layer.IntegerConstant n pos) k l = Go (core (Back (plain (value.Int n))) k l)
+  expr_move fast (layer.CharConstant letter pos) k l = Go (core (Back (plain (value.Char letter))) k l)
+  expr_move fast (layer.StringConstant text pos) k l = Go (core (Back (plain (value.Str text))) k l)
   expr_move fast (layer.Unit pos) k l = Go (core (Back unit_value) k l)
+  expr_move fast (layer.InterpolatedString parts pos) k l = Go (parts_core [] parts k l)
+  expr_move fast (layer.Array items pos) k l = Go (items_core [] items k l)
+  expr_move fast (layer.Map entries template pos) k l = Go (entries_core (map key_of entries) [] entries k l)
   expr_move fast (layer.Variable offset name namespace pos) k l =
       where_there (is_unqualified namespace.path) (core (ended (read l.around.cells name pos l.scope)) k l)
   expr_move fast (layer.Expr::FnCall call pos) k l = operands_move fast call.op_token call call.args pos k l

@@ -1,6 +1,7 @@
 -- The machine's controls and frames: what it does next, and what waits for the value or the error that comes of it.
 use Rattle.std.specs.Prelude.{ℕ, Bool, true, false, List, Option, Result, Ok, Err}
 use Rattle.rhai_machine.specs.Types.{ASTFlags, Dynamic, EvalAltResult, Expr, Ident, OpAssignment, Position, Stmt, StmtBlock, Token}
+use Rattle.rhai_tree.specs.declared.expr.MapEntry.{MapEntry}
 use Rattle.rhai_tree.specs.Layers.{ExprLayer, StmtLayer}
 use Rattle.rhai_machine.specs.machine.Machine.{Move, Halt, Go}
 use Rattle.rhai_machine.specs.language.State.{Local}
@@ -96,6 +97,13 @@ pub data Frame (H : Type 0) : Type 0 where
   AndPart : (part_at : Position) → (rest : List Expr) → Frame H
   OrPart : (part_at : Position) → (rest : List Expr) → Frame H
   CoalescePart : (part_at : Position) → (rest : List Expr) → Frame H
+  -- an item of an array, after the ones that are there and before the others
+  ArrayItem : (made : List (Dynamic H)) → (item_at : Position) → (rest : List Expr) → Frame H
+  -- the value of a map's entry likewise, with the keys of all entries
+  EntryValue : (keys : List (List ℕ)) → (made : List (Dynamic H)) → (value_at : Position) → (rest : List MapEntry) → Frame H
+  -- a part of a text, after the text that is there; and one that a native prints, of which only the type is written if it does not
+  TextPart : (text : List ℕ) → (part_at : Position) → (rest : List Expr) → Frame H
+  PrintedPart : (text type : List ℕ) → (part_at : Position) → (rest : List Expr) → Frame H
   -- the value of an assignment
   AssignValue : (assignment : Assignment) → (value_at : Position) → Frame H
   -- the condition and the body of a `while`, and of a `do`

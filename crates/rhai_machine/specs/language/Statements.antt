@@ -1,7 +1,7 @@
 -- The rules of statements and of their lists.
-use Rattle.std.specs.Prelude.{ℕ, ◌+◌, ◌^◌, ◌-◌, Bool, true, false, not, ◌&&◌, List, [], ◌∷◌, ◌++◌, Option, Some, None, Result, Ok, Err}
+use Rattle.std.specs.Prelude.{ℕ, ◌+◌, ◌^◌, ◌-◌, Bool, true, false, not, ◌&&◌, List, [], ◌∷◌, ◌++◌, Option, Some, None}
 use Rattle.std.specs.Prelude.{length, is_some, min, nat_le, nat_eq, if◌then◌else◌, bit_and, take}
-use Rattle.rhai_machine.specs.Types.{ASTFlags, AccessMode, Dynamic, EvalAltResult, out-Expr, Expr, Ident, Position, Stmt, StmtBlock}
+use Rattle.rhai_machine.specs.Types.{ASTFlags, AccessMode, Dynamic, out-Expr, Expr, Ident, Position, Stmt, StmtBlock}
 use Rattle.rhai_tree.specs.declared.expr.Expr.TheOpen as layer
 use Rattle.rhai_tree.specs.Layers.{StmtLayer}
 use Rattle.rhai_tree.specs.Positions.{position_of}

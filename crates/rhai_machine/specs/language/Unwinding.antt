@@ -1,8 +1,9 @@
 -- What a frame does with a value that comes up, and with an error that comes down.
 use Rattle.std.specs.Prelude.{Bool, true, List, [], ◌∷◌, Result, Ok, Err}
-use Rattle.rhai_machine.specs.Types.{Dynamic, EvalAltResult, Expr}
+use Rattle.rhai_machine.specs.Types.{Dynamic, EvalAltResult}
 use Rattle.rhai_tree.specs.Positions.{position_of}
 use Rattle.rhai_state.specs.declared.error.EvalAltResult.TheVariants as error
+use Rattle.rhai_state.specs.Errors.{is_system}
 use Rattle.rhai_machine.specs.language.Setting.{Setting}
 use Rattle.rhai_machine.specs.language.State.{Local}
 use Rattle.rhai_machine.specs.language.Values.{flat, through, truth}
@@ -10,7 +11,10 @@ use Rattle.rhai_machine.specs.language.Frames.{Operation, Call, Frame, Core, cor
 use Rattle.rhai_machine.specs.language.Frames.{WhileTurn, DoTurn, Back}
 use Rattle.rhai_machine.specs.language.Frames.{Fail, StatementValue, DefineValue, IfCondition, RestOfList, RestoreList, Top, UnaryOperand}
 use Rattle.rhai_machine.specs.language.Frames.{LeftOperand, RightOperand, AndPart, OrPart, CoalescePart, AssignValue, WhileCondition}
-use Rattle.rhai_machine.specs.language.Frames.{WhileBody, DoCondition, DoBody, BreakValue, ReturnValue}
+use Rattle.rhai_machine.specs.language.Frames.{WhileBody, DoCondition, DoBody, BreakValue, ReturnValue, ArrayItem, EntryValue}
+use Rattle.rhai_machine.specs.language.Frames.{TextPart, PrintedPart}
+use Rattle.rhai_machine.specs.language.Data.{with_item, with_value, items_core, entries_core, joined_core, part_core, printed}
+use Rattle.rhai_machine.specs.language.Data.{unprinted_core}
 use Rattle.rhai_machine.specs.language.Expressions.{and_next, or_next, coalesce_next}
 use Rattle.rhai_machine.specs.language.Calls.{builtin_of, operator_core}
 use Rattle.rhai_machine.specs.language.Statements.{has_option, chosen_core, defined_core, restored_by}
@@ -48,6 +52,13 @@ module _ {H : Type 0} (s : Setting H) where
   up_core (AndPart part_at rest) v k l = on_value (truth s.host_type l.around.cells v part_at) (λ holds. and_next holds rest k l) k l
   up_core (OrPart part_at rest) v k l = on_value (truth s.host_type l.around.cells v part_at) (λ holds. or_next holds rest k l) k l
   up_core (CoalescePart part_at rest) v k l = coalesce_next (through l.around.cells v part_at) v rest k l
+  up_core (ArrayItem made item_at rest) v k l =
+      on_value (with_item s.limits made (flat l.around.cells v item_at) item_at) (λ items. items_core items rest k l) k l
+  up_core (EntryValue keys made value_at rest) v k l =
+      on_value (with_value s.limits made (flat l.around.cells v value_at) value_at) (λ values. entries_core keys values rest k l) k l
+  up_core (TextPart text part_at rest) v k l =
+      on_value (flat l.around.cells v part_at) (λ x. joined_core s x.value x text part_at rest k l) k l
+  up_core (PrintedPart text type part_at rest) v k l = part_core s text (printed v.value type) part_at rest k l
   up_core (AssignValue assignment value_at) v k l = on_value (flat l.around.cells v value_at) (λ x. core (Assign assignment x) k l) k l
   up_core (WhileCondition test body) v k l =
       on_value (truth s.host_type l.around.cells v (position_of test)) (λ holds. while_core holds test body k l) k l
@@ -63,9 +74,11 @@ module _ {H : Type 0} (s : Setting H) where
   restored (RestoreList saved) l = restored_by saved l
   restored _ l = l
 
-  -- an error comes down to a frame: but for a script's end and a loop's body each takes back what it has to, and passes it on
+  -- an error comes down to a frame: but for a script's end, a loop's body and what a native prints each takes back what it has to, and
+  -- passes it on
   abbrev pub down_core : Frame H → EvalAltResult H → List (Frame H) → Local H → Core H
   down_core (Top map_exit) e k l = core (ended (topped map_exit e)) k l
   down_core (WhileBody test body) e k l = core (caught (WhileTurn test body) e) k l
   down_core (DoBody test body options) e k l = core (caught (DoTurn test body options) e) k l
+  down_core (PrintedPart text type part_at rest) e k l = unprinted_core s (is_system e) e text type part_at rest k l
   down_core frame e k l = core (Fail e) k (restored frame l)

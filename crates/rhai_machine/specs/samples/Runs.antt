@@ -1,5 +1,5 @@
 -- What a sample says: how a script that starts with nothing ends, cut at the setting's limit.
-use Rattle.std.specs.Prelude.{◌≡◌, ℕ, Bool, true, false, List, [], ◌∷◌, Some, None, Result, Ok, Err, pos}
+use Rattle.std.specs.Prelude.{◌≡◌, ℕ, Bool, true, false, List, [], Some, None, Result, Ok, Err, pos}
 use Rattle.rhai_machine.specs.Types.{Dynamic, EvalAltResult, Limits, ScopeEntry, Stmt}
 use Rattle.rhai_values.specs.declared.base.value.AccessMode.TheVariants.{ReadWrite, ReadOnly}
 use Rattle.rhai_values.specs.declared.base.value.Union.TheVariants as value

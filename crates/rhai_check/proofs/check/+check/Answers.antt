@@ -12,6 +12,7 @@ use Rattle.rhai_check.proofs.Outcome.{given_ok, err_then, exact_expr_at, exact_s
 use Rattle.rhai_check.proofs.Outcome.{target_refused, exported_refused, var_passes, var_runs, control_passes, control_refused, loop_passes}
 use Rattle.rhai_check.proofs.Refused.{refused, refuses_expr, refuses_stmt, refuses_first, refuses_later}
 use Rattle.rhai_check.proofs.Walk.{refuses_stmt_at, resolves-expr, resolves-stmt}
+use Rattle.rhai_check.proofs.MapKeys.{map_passes, map_runs, map_refused, keys_refused}
 use Rattle.rhai_check.proofs.check.+check.Goals as goal
 
 pub expr::check_exprs-returns-in_err-check_expr-clause-refused : goal.expr::check_exprs-returns-in_err-check_expr-clause-refused
@@ -137,3 +138,24 @@ pub expr::check_expr-returns-in-Or-clause-refused : goal.expr::check_expr-return
 expr::check_expr-returns-in-Or-clause-refused t c =
     refused_expr_at _ c.args.expr.now (layer.Or c.in-Or.parts c.in-Or.field-1) _ (rw (c.in-Or.is, outs-Or) refl)
     (rw c.as_slice-in-Or.ensures at c.check_exprs-in-Or.ensures.refused)
+
+pub expr::check_map-returns-in-Ok-true-clause-exact : goal.expr::check_map-returns-in-Ok-true-clause-exact
+expr::check_map-returns-in-Ok-true-clause-exact t c =
+    map_passes c.check_entries.result c.args.entries.now c.args.template.now.0 c.args.pos
+    (sym c.in-Ok-true.field-0-test ∙ c.in-Ok-true.ensures) (around c.args.names.now c.args.place) c.check_entries.ensures.exact
+
+pub expr::check_map-returns-in-Ok-true-clause-resolved : goal.expr::check_map-returns-in-Ok-true-clause-resolved
+expr::check_map-returns-in-Ok-true-clause-resolved t c =
+    map_runs c.check_entries.result c.args.entries.now c.args.template.now.0 c.args.pos
+    (sym c.in-Ok-true.field-0-test ∙ c.in-Ok-true.ensures) c.args.names.now
+    c.check_entries.ensures.resolved
+
+pub expr::check_map-returns-in-Ok-true-clause-refused : goal.expr::check_map-returns-in-Ok-true-clause-refused
+expr::check_map-returns-in-Ok-true-clause-refused t c =
+    map_refused c.check_entries.result c.args.entries.now c.args.template.now.0 c.args.pos
+    (sym c.in-Ok-true.field-0-test ∙ c.in-Ok-true.ensures) (around c.args.names.now c.args.place) c.check_entries.ensures.refused
+
+pub expr::check_map-returns-in-Ok-false-clause-refused : goal.expr::check_map-returns-in-Ok-false-clause-refused
+expr::check_map-returns-in-Ok-false-clause-refused t c =
+    keys_refused c.args.entries.now c.args.template.now.0 c.args.pos (around c.args.names.now c.args.place)
+    (sym c.in-Ok-false.field-0-test ∙ c.in-Ok-false.ensures)

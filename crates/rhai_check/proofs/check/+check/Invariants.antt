@@ -1,9 +1,9 @@
 use Rattle.std.specs.Prelude.{◌≡◌, ◌++◌, map, drop, List, IsTrue}
 use Rattle.rhai_check.specs.Context.{around}
 use Rattle.rhai_check.specs.Declares.{any_of, declares_expr, declares_stmt}
-use Rattle.rhai_check.specs.Frame.{tests_of, resolves_stmt, all_resolve_exprs, all_resolve}
+use Rattle.rhai_check.specs.Frame.{tests_of, resolves_stmt, all_resolve_exprs, all_resolve, entries_resolve, tests_of_entry}
 use Rattle.rhai_check.specs.Names.{Name, Begins}
-use Rattle.rhai_check.specs.WellFormed.{seen_expr, seen_stmt, faults_in_all, faults_in_list}
+use Rattle.rhai_check.specs.WellFormed.{seen_expr, seen_stmt, seen_entry, faults_in_all, faults_in_entries, faults_in_list}
 use Rattle.rhai_check.proofs.check.+check.Given as goal
 
 abbrev pub invariant-expr::check_exprs-each : goal.invariant-expr::check_exprs-each
@@ -24,4 +24,13 @@ invariant-stmt::check_statements-each l = record {
   resolved : (base : List Name) → all_resolve (map resolves_stmt l.statements) (base ++ l.fn.names) ≡ all_resolve
       (map resolves_stmt (drop l.statement-index l.statements)) (base ++ l.names);
   declares : IsTrue (any_of (map declares_stmt (drop l.statement-index l.statements))) → IsTrue (any_of (map declares_stmt l.statements));
+}
+
+abbrev pub invariant-expr::check_entries-each : goal.invariant-expr::check_entries-each
+invariant-expr::check_entries-each l = record {
+  same : l.names ≡ l.fn.names;
+  faults : faults_in_entries (map seen_entry l.entries) (around l.fn.names l.place) ≡ faults_in_entries
+      (map seen_entry (drop l.entry-index l.entries)) (around l.fn.names l.place);
+  resolved : (base : List Name) → entries_resolve (map tests_of_entry l.entries) (base ++ l.fn.names) ≡ entries_resolve
+      (map tests_of_entry (drop l.entry-index l.entries)) (base ++ l.fn.names);
 }

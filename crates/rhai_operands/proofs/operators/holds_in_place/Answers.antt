@@ -12,12 +12,14 @@ use Rattle.rhai_operands.proofs.operators.holds_in_place.Goals as goal
 
 pub compare_in_place-requires-clause-resolves_left : goal.compare_in_place-requires-clause-resolves_left
 compare_in_place-requires-clause-resolves_left g c = (call_resolves c.args.test.now c.in-FnCall.call c.in-FnCall.pos c.in_ok-left.left.now
-    c.in_ok-left.right.now (names_in c.args.scope.now) (rw (c.in-FnCall.is, exprs.outs-FnCall) refl) (two_args _ _ _ c.in_ok-left.ensures) c.requires).0
+    c.in_ok-left.right.now (names_in c.args.scope.now) (rw (c.in-FnCall.is, exprs.outs-FnCall) refl)
+    (two_args _ _ _ c.in_ok-left.ensures) c.requires).0
 
 pub compare_in_place-requires-clause-resolves_right : goal.compare_in_place-requires-clause-resolves_right
 compare_in_place-requires-clause-resolves_right g c = (call_resolves c.args.test.now c.in-FnCall.call c.in-FnCall.pos
     c.in_ok-left.left.now
-    c.in_ok-left.right.now (names_in c.args.scope.now) (rw (c.in-FnCall.is, exprs.outs-FnCall) refl) (two_args _ _ _ c.in_ok-left.ensures) c.requires).1
+    c.in_ok-left.right.now (names_in c.args.scope.now) (rw (c.in-FnCall.is, exprs.outs-FnCall) refl)
+    (two_args _ _ _ c.in_ok-left.ensures) c.requires).1
 
 pub returns-in-Err-clause-runs : goal.returns-in-Err-clause-runs
 returns-in-Err-clause-runs g c offer this fast =
@@ -32,7 +34,8 @@ returns-in-Err-clause-runs g c offer this fast =
     c.charge_all.new.global c.track_operation.new.global _ (c.charge_all.ensures.same c.if-charge_all.false) (
     test_refused rules (g.T.NativeTable.state c.args._table.now) c.args.scope.now this c.args.test.now c.in-FnCall.call
     c.in_ok-token.token
-    c.in_ok-left.left.now c.in_ok-left.right.now c.in-FnCall.pos seen.0 seen.1 fast form c.in_ok-token.was (two_args _ _ _ c.in_ok-left.ensures) both.0
+    c.in_ok-left.left.now c.in_ok-left.right.now c.in-FnCall.pos seen.0 seen.1 fast form c.in_ok-token.was
+    (two_args _ _ _ c.in_ok-left.ensures) both.0
     both.1 seen.2 seen.3 c.charge_all.new.global c.track_operation.new.global c.in-Err.error c.in-Err.ensures.full
     c.in-Err.ensures.refused c.in-Err.ensures.same)
 

@@ -1,5 +1,6 @@
 mod Calls
 mod Choices
+mod Data
 mod Expressions
 mod Leaving
 mod Loops
@@ -9,6 +10,7 @@ use Rattle.rhai_eval.proofs.engine.Engine.+eval.Answers.Expressions as expressio
 use Rattle.rhai_eval.proofs.engine.Engine.+eval.Answers.Calls as calls
 use Rattle.rhai_eval.proofs.engine.Engine.+eval.Answers.Statements as statements
 use Rattle.rhai_eval.proofs.engine.Engine.+eval.Answers.Choices as choices
+use Rattle.rhai_eval.proofs.engine.Engine.+eval.Answers.Data as making
 use Rattle.rhai_eval.proofs.engine.Engine.+eval.Answers.Loops as loops
 use Rattle.rhai_eval.proofs.engine.Engine.+eval.Answers.Leaving as leaving
 
@@ -23,6 +25,21 @@ run_expr-returns-in-BoolConstant-clause-runs = expressions.run_expr-returns-in-B
 
 pub run_expr-returns-in-IntegerConstant-clause-runs : goal.run_expr-returns-in-IntegerConstant-clause-runs
 run_expr-returns-in-IntegerConstant-clause-runs = expressions.run_expr-returns-in-IntegerConstant-clause-runs
+
+pub run_expr-returns-in-CharConstant-clause-runs : goal.run_expr-returns-in-CharConstant-clause-runs
+run_expr-returns-in-CharConstant-clause-runs = expressions.run_expr-returns-in-CharConstant-clause-runs
+
+pub run_expr-returns-in-StringConstant-clause-runs : goal.run_expr-returns-in-StringConstant-clause-runs
+run_expr-returns-in-StringConstant-clause-runs = expressions.run_expr-returns-in-StringConstant-clause-runs
+
+pub run_expr-returns-in-DynamicConstant-clause-runs : goal.run_expr-returns-in-DynamicConstant-clause-runs
+run_expr-returns-in-DynamicConstant-clause-runs = expressions.run_expr-returns-in-DynamicConstant-clause-runs
+
+pub run_expr-returns-in-Array-clause-runs : goal.run_expr-returns-in-Array-clause-runs
+run_expr-returns-in-Array-clause-runs = expressions.run_expr-returns-in-Array-clause-runs
+
+pub run_expr-returns-in-InterpolatedString-clause-runs : goal.run_expr-returns-in-InterpolatedString-clause-runs
+run_expr-returns-in-InterpolatedString-clause-runs = expressions.run_expr-returns-in-InterpolatedString-clause-runs
 
 pub run_expr-returns-in-Unit-clause-runs : goal.run_expr-returns-in-Unit-clause-runs
 run_expr-returns-in-Unit-clause-runs = expressions.run_expr-returns-in-Unit-clause-runs
@@ -382,3 +399,60 @@ run_test-returns-in_err-value-clause-runs = expressions.run_test-returns-in_err-
 
 pub run_test-returns-clause-runs : goal.run_test-returns-clause-runs
 run_test-returns-clause-runs = expressions.run_test-returns-clause-runs
+
+pub run_array-run_expr-requires : goal.run_array-run_expr-requires
+run_array-run_expr-requires = making.run_array-run_expr-requires
+
+pub run_array-each_item-init : goal.run_array-each_item-init
+run_array-each_item-init = making.run_array-each_item-init
+
+pub run_array-each_item-preserved : goal.run_array-each_item-preserved
+run_array-each_item-preserved = making.run_array-each_item-preserved
+
+pub run_array-returns-clause-runs : goal.run_array-returns-clause-runs
+run_array-returns-clause-runs = making.run_array-returns-clause-runs
+
+pub run_interpolated-run_expr-requires : goal.run_interpolated-run_expr-requires
+run_interpolated-run_expr-requires = making.run_interpolated-run_expr-requires
+
+pub run_interpolated-each_part-init : goal.run_interpolated-each_part-init
+run_interpolated-each_part-init = making.run_interpolated-each_part-init
+
+pub run_interpolated-each_part-preserved : goal.run_interpolated-each_part-preserved
+run_interpolated-each_part-preserved = making.run_interpolated-each_part-preserved
+
+pub run_interpolated-returns-in_err-value-clause-runs : goal.run_interpolated-returns-in_err-value-clause-runs
+run_interpolated-returns-in_err-value-clause-runs = making.run_interpolated-returns-in_err-value-clause-runs
+
+pub run_interpolated-returns-in_err-join-clause-runs : goal.run_interpolated-returns-in_err-join-clause-runs
+run_interpolated-returns-in_err-join-clause-runs = making.run_interpolated-returns-in_err-join-clause-runs
+
+pub run_interpolated-returns-clause-runs : goal.run_interpolated-returns-clause-runs
+run_interpolated-returns-clause-runs = making.run_interpolated-returns-clause-runs
+
+pub run_array-returns-in-Err-added-clause-runs : goal.run_array-returns-in-Err-added-clause-runs
+run_array-returns-in-Err-added-clause-runs = making.run_array-returns-in-Err-added-clause-runs
+
+pub run_array-returns-in-Err-clause-runs : goal.run_array-returns-in-Err-clause-runs
+run_array-returns-in-Err-clause-runs = making.run_array-returns-in-Err-clause-runs
+
+pub run_map-run_expr-requires : goal.run_map-run_expr-requires
+run_map-run_expr-requires = making.run_map-run_expr-requires
+
+pub run_map-each_entry-init : goal.run_map-each_entry-init
+run_map-each_entry-init = making.run_map-each_entry-init
+
+pub run_map-each_entry-preserved : goal.run_map-each_entry-preserved
+run_map-each_entry-preserved = making.run_map-each_entry-preserved
+
+pub run_map-returns-in-Err-added-clause-runs : goal.run_map-returns-in-Err-added-clause-runs
+run_map-returns-in-Err-added-clause-runs = making.run_map-returns-in-Err-added-clause-runs
+
+pub run_map-returns-in-Err-clause-runs : goal.run_map-returns-in-Err-clause-runs
+run_map-returns-in-Err-clause-runs = making.run_map-returns-in-Err-clause-runs
+
+pub run_map-returns-clause-runs : goal.run_map-returns-clause-runs
+run_map-returns-clause-runs = making.run_map-returns-clause-runs
+
+pub run_expr-returns-in-Map-clause-runs : goal.run_expr-returns-in-Map-clause-runs
+run_expr-returns-in-Map-clause-runs = expressions.run_expr-returns-in-Map-clause-runs

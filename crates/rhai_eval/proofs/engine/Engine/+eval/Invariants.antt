@@ -1,10 +1,15 @@
-use Rattle.std.specs.Prelude.{◌≡◌, ◌≤◌, ◌+◌, ◌*◌, ◌-◌, ℕ, List, drop, map}
+use Rattle.std.specs.Prelude.{◌≡◌, ◌≤◌, ◌+◌, ◌*◌, ◌-◌, ℕ, List, [], drop, map}
+use Rattle.std.specs.String.{string_bytes}
 use Rattle.rhai_check.specs.Frame.{resolves_stmt, all_resolve}
+use Rattle.rhai_check.specs.Keys.{key_of}
 use Rattle.rhai_state.specs.Limits.{limit_of}
 use Rattle.rhai_machine.specs.language.Values.{unit_value}
 use Rattle.rhai_machine.specs.language.Frames.{Frame, Run, WhileTurn, DoTurn}
 use Rattle.rhai_machine.specs.language.Runs.{with_core, Goes, Steps}
+use Rattle.rhai_machine.specs.language.Data.{entries_core, items_core, parts_core}
 use Rattle.rhai_machine.specs.language.Expressions.{and_core, or_core, coalesce_core}
+use Rattle.rhai_data.specs.Arrays.{IsMeasured}
+use Rattle.rhai_data.specs.Maps.{IsCounted}
 use Rattle.rhai_context.specs.declared.Context.{Context}
 use Rattle.rhai_eval.specs.declared.engine.Engine.{Engine}
 use Rattle.rhai_eval.specs.States.{names, state_in, under}
@@ -98,6 +103,15 @@ decreases-run_or g l = 8 * left l.self.now l.run.now + 3
 abbrev pub decreases-run_coalesce : goal.decreases-run_coalesce
 decreases-run_coalesce g l = 8 * left l.self.now l.run.now + 1
 
+abbrev pub decreases-run_array : goal.decreases-run_array
+decreases-run_array g l = 8 * left l.self.now l.run.now + 1
+
+abbrev pub decreases-run_map : goal.decreases-run_map
+decreases-run_map g l = 8 * left l.self.now l.run.now + 1
+
+abbrev pub decreases-run_interpolated : goal.decreases-run_interpolated
+decreases-run_interpolated g l = 8 * left l.self.now l.run.now + 1
+
 abbrev pub decreases-break_with : goal.decreases-break_with
 decreases-break_with g l = 8 * left l.self.now l.run.now + 2
 
@@ -144,6 +158,42 @@ invariant-run_coalesce-each_part g l = record {
       (with_core (coalesce_core unit_value l.parts k (state_in (g.T.NativeTable.state l.fn.table) l.fn.run).local)
       (state_in (g.T.NativeTable.state l.fn.table) l.fn.run))
       (with_core (coalesce_core l.last (drop l.part-index l.parts) k (state_in (g.T.NativeTable.state l.table) l.run).local)
+      (state_in (g.T.NativeTable.state l.table) l.run));
+}
+
+abbrev pub invariant-run_array-each_item : goal.invariant-run_array-each_item
+invariant-run_array-each_item g l = record {
+  counts : l.fn.run.global.num_operations ≤ l.run.global.num_operations;
+  names : names l.run ≡ names l.fn.run;
+  measured : IsMeasured l.made;
+  steps : (k : List (Frame g.row.H.Denot)) → Goes (under g.H.Host.name_of l.self g.T.NativeTable.natives)
+      (with_core (items_core [] l.items k (state_in (g.T.NativeTable.state l.fn.table) l.fn.run).local)
+      (state_in (g.T.NativeTable.state l.fn.table) l.fn.run))
+      (with_core (items_core l.made.items (drop l.item-index l.items) k (state_in (g.T.NativeTable.state l.table) l.run).local)
+      (state_in (g.T.NativeTable.state l.table) l.run));
+}
+
+abbrev pub invariant-run_map-each_entry : goal.invariant-run_map-each_entry
+invariant-run_map-each_entry g l = record {
+  counts : l.fn.run.global.num_operations ≤ l.run.global.num_operations;
+  names : names l.run ≡ names l.fn.run;
+  counted : IsCounted l.made;
+  steps : (k : List (Frame g.row.H.Denot)) → Goes (under g.H.Host.name_of l.self g.T.NativeTable.natives)
+      (with_core (entries_core (map key_of l.entries) [] l.entries k (state_in (g.T.NativeTable.state l.fn.table) l.fn.run).local)
+      (state_in (g.T.NativeTable.state l.fn.table) l.fn.run))
+      (with_core (entries_core (map key_of l.entries) l.made.values (drop l.entry-index l.entries) k
+      (state_in (g.T.NativeTable.state l.table) l.run).local)
+      (state_in (g.T.NativeTable.state l.table) l.run));
+}
+
+abbrev pub invariant-run_interpolated-each_part : goal.invariant-run_interpolated-each_part
+invariant-run_interpolated-each_part g l = record {
+  counts : l.fn.run.global.num_operations ≤ l.run.global.num_operations;
+  names : names l.run ≡ names l.fn.run;
+  steps : (k : List (Frame g.row.H.Denot)) → Goes (under g.H.Host.name_of l.self g.T.NativeTable.natives)
+      (with_core (parts_core [] l.parts k (state_in (g.T.NativeTable.state l.fn.table) l.fn.run).local)
+      (state_in (g.T.NativeTable.state l.fn.table) l.fn.run))
+      (with_core (parts_core (string_bytes l.text) (drop l.part-index l.parts) k (state_in (g.T.NativeTable.state l.table) l.run).local)
       (state_in (g.T.NativeTable.state l.table) l.run));
 }
 

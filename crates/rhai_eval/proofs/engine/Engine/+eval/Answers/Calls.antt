@@ -1,13 +1,14 @@
-use Rattle.std.proofs.Common.{◌∷◌, refl, sym, ◌∙◌, arith}
+use Rattle.std.proofs.Common.{◌∷◌, refl, sym, ap, ◌∙◌, arith, is_some}
+use Rattle.rhai_machine.specs.machine.Machine.{Go}
 use Rattle.rhai_machine.specs.machine.Point.{after}
 use Rattle.rhai_machine.specs.machine.Memory.{here, next, ◌⨾◌}
-use Rattle.rhai_machine.specs.language.Frames.{UnaryOperand, LeftOperand, RightOperand}
+use Rattle.rhai_machine.specs.language.Frames.{core, Eval, UnaryOperand, LeftOperand, RightOperand}
 use Rattle.rhai_machine.specs.language.Runs.{Steps}
-use Rattle.rhai_steps.proofs.Pieces.{exits}
-use Rattle.rhai_eval.specs.States.{names, offer_of, under}
+use Rattle.rhai_steps.proofs.Pieces.{exits, step_by}
+use Rattle.rhai_eval.specs.States.{names, offer_of, state_in, under}
 use Rattle.rhai_operands.proofs.Names.{operands_resolve}
 use Rattle.rhai_operands.proofs.InPlace.{opens_binary}
-use Rattle.rhai_eval.proofs.Chain.{flat_fails, literal_runs, opens_unary}
+use Rattle.rhai_eval.proofs.Chain.{flat_fails, opens_unary, still_none}
 use Rattle.rhai_eval.proofs.engine.Engine.+eval.Goals as goal
 
 pub run_fn_call_expr-run_operator-requires : goal.run_fn_call_expr-run_operator-requires
@@ -26,17 +27,17 @@ run_operator-returns-in-None-clause-runs g t c =
     rw (c.operate_in_place.ensures.left_alone c.in-None.is) at c.run_binary.ensures.runs
 
 pub run_arg-returns-in-Some-clause-runs : goal.run_arg-returns-in-Some-clause-runs
-unfolding after Steps
-run_arg-returns-in-Some-clause-runs g t c k =
-    let rules = under g.H.Host.name_of c.args.self.now g.T.NativeTable.natives in
-    literal_runs rules _ _ _ _ _ _ _ _ c.literal_arg.ensures.room c.literal_arg.ensures.charged c.literal_arg.ensures.value
-    c.literal_arg.ensures.full c.literal_arg.ensures.refused c.literal_arg.ensures.same _ (sym c.literal_value.ensures ∙ c.in-Some.is)
-    c.start_position.ensures k
+run_arg-returns-in-Some-clause-runs g t c =
+    c.in-Some.ensures.runs (offer_of c.args.self.now) c.args.run.now.scope c.args.run.now.this
 
 pub run_arg-returns-in-None-clause-runs : goal.run_arg-returns-in-None-clause-runs
-unfolding after Steps
+unfolding Steps
 run_arg-returns-in-None-clause-runs g t c k =
-    next (rw (sym c.literal_value.ensures ∙ c.in-None.is) (c.run_expr.ensures.runs k))
+    let rules = under g.H.Host.name_of c.args.self.now g.T.NativeTable.natives in
+    let none = still_none _ (sym c.literal_arg.ensures.found ∙ ap is_some c.in-None.is) in
+    let runs = rw (c.literal_arg.ensures.left_alone c.in-None.is) at c.run_expr.ensures.runs in
+    step_by rules _ _ (Go (core (Eval c.args.arg.now) k (state_in (g.T.NativeTable.state c.args.table.now) c.args.run.now).local))
+    (rw none refl) (runs k)
 
 pub run_unary-returns-in_err-value-clause-runs : goal.run_unary-returns-in_err-value-clause-runs
 unfolding after Steps

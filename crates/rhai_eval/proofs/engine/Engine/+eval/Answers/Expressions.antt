@@ -36,6 +36,57 @@ run_expr-returns-in-IntegerConstant-clause-runs g t c k =
     (c.in-IntegerConstant.is, exprs.outs-IntegerConstant) refl) k
     ⨾ next (rw c.int_value.ensures here)
 
+pub run_expr-returns-in-CharConstant-clause-runs : goal.run_expr-returns-in-CharConstant-clause-runs
+unfolding after Steps
+run_expr-returns-in-CharConstant-clause-runs g t c k =
+    let rules = under g.H.Host.name_of c.args.self.now g.T.NativeTable.natives in
+    begins rules _ c.args.run.now.global c.track_operation.new.global _ _ c.in_ok-track_operation.ensures.room
+    c.in_ok-track_operation.ensures.charged _ (layer.CharConstant c.in-CharConstant.letter c.in-CharConstant.field-1) (rw
+    (c.in-CharConstant.is, exprs.outs-CharConstant) refl) k
+    ⨾ next (rw c.char_value.ensures here)
+
+pub run_expr-returns-in-StringConstant-clause-runs : goal.run_expr-returns-in-StringConstant-clause-runs
+unfolding after Steps
+run_expr-returns-in-StringConstant-clause-runs g t c k =
+    let rules = under g.H.Host.name_of c.args.self.now g.T.NativeTable.natives in
+    begins rules _ c.args.run.now.global c.track_operation.new.global _ _ c.in_ok-track_operation.ensures.room
+    c.in_ok-track_operation.ensures.charged _ (layer.StringConstant c.in-StringConstant.text c.in-StringConstant.pos) (rw
+    (c.in-StringConstant.is, exprs.outs-StringConstant) refl) k
+    ⨾ next (told rules _ _ c.text_value.ensures k _)
+
+pub run_expr-returns-in-DynamicConstant-clause-runs : goal.run_expr-returns-in-DynamicConstant-clause-runs
+unfolding after Steps
+run_expr-returns-in-DynamicConstant-clause-runs g t c k =
+    let rules = under g.H.Host.name_of c.args.self.now g.T.NativeTable.natives in
+    begins rules _ c.args.run.now.global c.track_operation.new.global _ _ c.in_ok-track_operation.ensures.room
+    c.in_ok-track_operation.ensures.charged _ (layer.DynamicConstant c.in-DynamicConstant.literal c.in-DynamicConstant.pos) (rw
+    (c.in-DynamicConstant.is, exprs.outs-DynamicConstant) refl) k
+    ⨾ next (told rules _ _ c.constant_value.ensures k _)
+
+pub run_expr-returns-in-Array-clause-runs : goal.run_expr-returns-in-Array-clause-runs
+run_expr-returns-in-Array-clause-runs g t c =
+    let rules = under g.H.Host.name_of c.args.self.now g.T.NativeTable.natives in
+    opens rules _ c.args.run.now.global c.track_operation.new.global _ _ c.in_ok-track_operation.ensures.room
+    c.in_ok-track_operation.ensures.charged _ _ _ (layer.Array c.in-Array.items c.in-Array.pos)
+    (rw c.as_slice-in-Array.ensures at c.run_array.ensures.runs) (rw (c.in-Array.is, exprs.outs-Array) refl)
+
+pub run_expr-returns-in-Map-clause-runs : goal.run_expr-returns-in-Map-clause-runs
+run_expr-returns-in-Map-clause-runs g t c =
+    let rules = under g.H.Host.name_of c.args.self.now g.T.NativeTable.natives in
+    opens rules _ c.args.run.now.global c.track_operation.new.global _ _ c.in_ok-track_operation.ensures.room
+    c.in_ok-track_operation.ensures.charged _ _ _ (layer.Map c.in-Map.entries c.in-Map.field-1 c.in-Map.pos)
+    (rw c.as_slice-in-Map.ensures at c.run_map.ensures.runs c.in-Map.field-1) (rw (c.in-Map.is, exprs.outs-Map) refl)
+
+pub run_expr-returns-in-InterpolatedString-clause-runs : goal.run_expr-returns-in-InterpolatedString-clause-runs
+run_expr-returns-in-InterpolatedString-clause-runs g t c =
+    let rules = under g.H.Host.name_of c.args.self.now g.T.NativeTable.natives in
+    opens rules _ c.args.run.now.global c.track_operation.new.global _ _ c.in_ok-track_operation.ensures.room
+    c.in_ok-track_operation.ensures.charged _ _ _ (layer.InterpolatedString c.in-InterpolatedString.parts c.in-InterpolatedString.pos)
+    (rw c.as_slice-in-InterpolatedString.ensures at c.run_interpolated.ensures.runs) (rw (
+      c.in-InterpolatedString.is,
+      exprs.outs-InterpolatedString,
+    ) refl)
+
 pub run_expr-returns-in-Unit-clause-runs : goal.run_expr-returns-in-Unit-clause-runs
 unfolding after Steps
 run_expr-returns-in-Unit-clause-runs g t c k =

@@ -1,0 +1,42 @@
+//! The work of the programs that time a script: the argument that says how long it is, and what they
+//! print.
+
+ghost use Rattle.std.specs.Prelude.{◌≡◌, ◌*◌, ◌/◌, ◌↔◌, IsNone, IfSome};
+ghost use Rattle.std.specs.Duration.{as_nanos};
+
+use crate::outcome::Outcome;
+use crate::print::write_line;
+use std::io::Write;
+use std::rt::Env;
+use std::time::Duration;
+use std::{env, io};
+
+/// The number of the first argument, the usual one without an argument, None for what is no number.
+pub fn first_number<R: Env + AllocGlobal>(rt: &R, usual: u32) -> io::Result<Option<u32>> {
+    match env::args(rt)?.nth(1) {
+        Some(word) => Ok(word.parse::<u32>().ok()),
+        None => Ok(Some(usual)),
+    }
+}
+
+/// Writes how a script ended, and how many operations it charged.
+pub fn write_outcome<W: Write>(out: &mut W, outcome: &Outcome) -> io::Result<()> {
+    write_line(out, &outcome.ending)?;
+    writeln!(out, "{} charges", outcome.num_operations)
+}
+
+/// Prints on standard error how many charges a second had, and nothing where no time has passed.
+pub fn print_speed<R: Eprint>(rt: &R, what: &str, count: u64, elapsed: Duration) -> io::Result<()> {
+    match per_second(count, elapsed) {
+        Some(speed) => eprintln!(rt; "{what}: {speed} charges a second"),
+        None => Ok(()),
+    }
+}
+
+/// How many of so many charges a second had, None where no time has passed.
+pub fn per_second(count: u64, elapsed: Duration) -> Option<u128>
+    ensures none { IsNone result ↔ (as_nanos elapsed ≡ 0) }
+    ensures some { IfSome result (λ n. n ≡ count * 1000000000 / as_nanos elapsed) }
+{
+    (u128::from(count) * 1_000_000_000).checked_div(elapsed.as_nanos())
+}

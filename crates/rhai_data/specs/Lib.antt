@@ -1,0 +1,3 @@
+pub mod Arrays
+pub mod Maps
+pub mod Texts

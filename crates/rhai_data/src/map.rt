@@ -1,0 +1,151 @@
+//! A map while it is made, one entry after the other. Ports the map literal of upstream's
+//! `eval/expr.rs`.
+
+ghost use Rattle.std.specs.Prelude.{◌≡◌, List, [], ◌∷◌, ◌++◌, IfErr, IfOk, OnOk, Ok, Err, false, map};
+ghost use Rattle.rhai_check.specs.Keys.{key_of};
+ghost use Rattle.rhai_values.specs.Cells.{cells_of};
+ghost use Rattle.rhai_values.specs.declared.base.value.Dynamic.{Dynamic};
+ghost use Rattle.rhai_state.specs.Errors.{is_out_of_memory};
+ghost use Rattle.rhai_machine.specs.language.Data.{entry_sizes, filled, map_of, with_value as value_added};
+ghost use Rattle.rhai_machine.specs.language.State.{Answers};
+ghost use Rattle.rhai_machine.specs.language.Values.{flat};
+ghost use Rattle.rhai_data.specs.Maps.{IsCounted};
+
+use rhai_items::{Boxed, Items, Table};
+use rhai_state::error::EvalAltResult;
+use rhai_state::limits::Limits;
+use rhai_steps::errors::data_too_large;
+use rhai_steps::values::flatten;
+use rhai_tree::expr::MapEntry;
+use rhai_tree::position::Position;
+use rhai_values::base::size::DataSizes;
+use rhai_values::base::value::{Dynamic, Host, Union};
+use rhai_values::cells::CellStore;
+use std::alloc::{AllocError, Global};
+
+/// The values of a map's entries, in the order of the entries, and how much data the map holds.
+pub struct EntryValues<H> {
+    pub values: Items<Dynamic<H>>,
+    pub sizes: DataSizes,
+}
+
+// Written by hand, as that of a value is.
+impl<H: Drop> Drop for EntryValues<H> {
+    fn drop(self) {
+        let EntryValues {
+            values: _,
+            sizes: _,
+        } = self;
+    }
+}
+
+/// How much data a map holds with one entry more.
+fn with_value<H: Host>(sizes: DataSizes, value: &Dynamic<H>) -> DataSizes
+    ensures { (values : List (Dynamic H)) → sizes ≡ entry_sizes values →
+        result ≡ entry_sizes (values ++ value.now ∷ []) }
+{
+    sizes
+        .joined(value.data_sizes())
+        .joined(DataSizes::of_maps(1))
+}
+
+/// The map of some entries' keys with their values.
+fn filled<H: Host>(
+    alloc: Global,
+    entries: &[MapEntry],
+    values: Items<Dynamic<H>>,
+) -> Result<Table<Dynamic<H>>, AllocError>
+    ensures { IfOk result (λ table. table ≡ filled (map key_of entries.now) values ([], [])) }
+{
+    let mut table = Table::new(alloc);
+    let mut rest = values.into_vec().into_iter();
+    'each: for entry in entries {
+        let Some(value) = rest.next() else {
+            return Ok(table);
+        };
+        table.insert(entry.key.share()?, value)?;
+    }
+    Ok(table)
+}
+
+impl<H: Host> EntryValues<H> {
+    /// No values yet. It takes no memory.
+    pub fn new(alloc: Global) -> EntryValues<H>
+        ensures values { result.values ≡ [] }
+        ensures counted { IsCounted result }
+    {
+        EntryValues {
+            values: Items::new(alloc),
+            sizes: DataSizes::none(),
+        }
+    }
+
+    /// The value of the next entry, flattened. Its data is added to what was counted before, so that no
+    /// value is counted twice.
+    ///
+    /// # Errors
+    /// Both at the value: `ErrorDataRace` for a handle whose cell is held, `ErrorDataTooLarge` where the
+    /// map is above a limit with it. The values stay then.
+    pub fn add(
+        &mut self,
+        alloc: Global,
+        limits: &Limits,
+        cells: &CellStore<H>,
+        value: Dynamic<H>,
+        pos: Position,
+    ) -> Result<(), EvalAltResult<H>>
+        requires counted { IsCounted self.old }
+        ensures counted { IsCounted self.new }
+        ensures added { OnOk result (value_added limits.now self.old.values
+            (flat (cells_of cells.now) value pos) pos ≡ Ok self.new.values) }
+        ensures refused { IfErr result (λ error. is_out_of_memory error ≡ false →
+            value_added limits.now self.old.values (flat (cells_of cells.now) value pos) pos ≡ Err error) }
+        ensures same { IfErr result (λ _. self.new ≡ self.old) }
+    {
+        let value = flatten(alloc, cells, value, pos)?;
+        let sizes = with_value(self.sizes, &value);
+        if let Some(fault) = sizes.exceeds(
+            limits.max_string_size,
+            limits.max_array_size,
+            limits.max_map_size,
+        ) {
+            drop(value);
+            return Err(data_too_large(alloc, fault, pos));
+        }
+        match self.values.push(value) {
+            Ok(()) => {
+                self.sizes = sizes;
+                Ok(())
+            }
+            Err(_) => Err(EvalAltResult::ErrorOutOfMemory(pos)),
+        }
+    }
+
+    /// The map of the entries' keys with the values.
+    pub fn finish(
+        self,
+        alloc: Global,
+        entries: &[MapEntry],
+        pos: Position,
+    ) -> Result<Dynamic<H>, EvalAltResult<H>>
+        ensures { Answers result (Ok (map_of (map key_of entries.now) self.values)) }
+    {
+        let EntryValues { values, sizes: _ } = self;
+        match made(alloc, entries, values) {
+            Ok(value) => Ok(value),
+            Err(AllocError) => Err(EvalAltResult::ErrorOutOfMemory(pos)),
+        }
+    }
+}
+
+/// The value of the map of some entries.
+fn made<H: Host>(
+    alloc: Global,
+    entries: &[MapEntry],
+    values: Items<Dynamic<H>>,
+) -> Result<Dynamic<H>, AllocError>
+    ensures { IfOk result (λ value. value ≡ map_of (map key_of entries.now) values) }
+{
+    let table = filled(alloc, entries, values)?;
+    Ok(Dynamic::new(Union::Map(Boxed::new(alloc, table)?)))
+}

@@ -1,0 +1,230 @@
+//! A text while it is joined of the values of its parts. Ports the interpolated text of upstream's
+//! `eval/expr.rs`.
+
+ghost use Rattle.std.specs.Prelude.{◌≡◌, ◌≤◌, IfErr, IfSome, OnOk, Ok, Err, false, true, is_some};
+ghost use Rattle.std.specs.Option.{option_copied};
+ghost use Rattle.std.specs.String.{string_bytes};
+ghost use Rattle.rhai_state.specs.Errors.{is_out_of_memory};
+ghost use Rattle.rhai_state.specs.Native.{reply_of};
+ghost use Rattle.rhai_machine.specs.language.Data.{text_of, with_part};
+ghost use Rattle.rhai_machine.specs.language.Setting.{rules_of};
+ghost use Rattle.rhai_machine.specs.language.State.{Answers, HasMemory};
+ghost use Rattle.rhai_steps.specs.States.{state_of};
+ghost use Rattle.rhai_data.specs.Texts.{text_in as text_of_value, print_of, Prints, PrintsAndJoins};
+ghost use Rattle.rhai_data.specs.Texts.{Joins, JoinsFlat};
+
+use rhai_items::{Items, Shared, Text};
+use rhai_state::error::EvalAltResult;
+use rhai_state::limits::Limits;
+use rhai_state::state::GlobalRuntimeState;
+use rhai_state::table::{Answer, NativeTable};
+use rhai_steps::charges::track_operation;
+use rhai_steps::errors::data_too_large;
+use rhai_steps::replies::{placed, sized};
+use rhai_steps::values::{copy, flatten, is_bare_handle};
+use rhai_tree::position::Position;
+use rhai_values::base::size::DataSizes;
+use rhai_values::base::value::{Dynamic, Host, Union};
+use std::alloc::Global;
+
+/// Joins a part to a text.
+///
+/// # Errors
+/// `ErrorDataTooLarge` at the part where the text is above the limit with it. The text stays then.
+fn join_text<H>(
+    alloc: Global,
+    limits: &Limits,
+    text: &mut String,
+    part: &str,
+    pos: Position,
+) -> Result<(), EvalAltResult<H>>
+    ensures joined { OnOk result (with_part {H = H} limits.now (string_bytes text.old) part.now pos
+        ≡ Ok (string_bytes text.new)) }
+    ensures refused { IfErr result (λ error. is_out_of_memory error ≡ false →
+        with_part limits.now (string_bytes text.old) part.now pos ≡ Err error) }
+{
+    let sizes = DataSizes::of_strings(text.len().saturating_add(part.len()));
+    if let Some(fault) = sizes.exceeds(
+        limits.max_string_size,
+        limits.max_array_size,
+        limits.max_map_size,
+    ) {
+        return Err(data_too_large(alloc, fault, pos));
+    }
+    match text.push_str(part) {
+        Ok(()) => Ok(()),
+        Err(_) => Err(EvalAltResult::ErrorOutOfMemory(pos)),
+    }
+}
+
+/// The text that a native answered, None where it answered another value.
+fn text_in<H: Host>(
+    value: Dynamic<H>,
+    pos: Position,
+) -> Result<Option<Shared<Text>>, EvalAltResult<H>>
+    ensures { Answers result (Ok (text_of_value value.value)) }
+{
+    let text = match &value.value {
+        Union::Str(text) => Some(text.share()),
+        _ => None,
+    };
+    drop(value);
+    match text {
+        Some(Ok(text)) => Ok(Some(text)),
+        Some(Err(_)) => Err(EvalAltResult::ErrorOutOfMemory(pos)),
+        None => Ok(None),
+    }
+}
+
+/// What a native's answer comes to: the text that it printed, None where it printed none.
+fn printed<H: Host>(
+    alloc: Global,
+    limits: &Limits,
+    answer: Answer<H>,
+    pos: Position,
+) -> Result<Option<Shared<Text>>, EvalAltResult<H>>
+    ensures told { IfSome (reply_of answer) (λ reply. Answers result (print_of limits.now reply pos)) }
+    ensures memory { HasMemory result → is_some (reply_of answer) ≡ true }
+{
+    match answer {
+        Answer::Missing => Ok(None),
+        Answer::Value(value) => text_in(sized(alloc, limits, value, pos)?, pos),
+        Answer::Fault(error) => {
+            if error.is_system_exception() {
+                return Err(placed(error, pos));
+            }
+            drop(error);
+            Ok(None)
+        }
+        Answer::NoMemory => Err(EvalAltResult::ErrorOutOfMemory(pos)),
+    }
+}
+
+/// What the native `to_string` prints of a value, of which it gets a copy. None where it prints no
+/// text.
+///
+/// # Errors
+/// Those of the system alone: `ErrorTooManyOperations` at the value where the count has reached the
+/// limit, `ErrorDataTooLarge` there for an answer above a limit.
+fn print<H: Host, T: NativeTable<H>>(
+    limits: &Limits,
+    alloc: Global,
+    global: &mut GlobalRuntimeState<H>,
+    table: &mut T,
+    value: &Dynamic<H>,
+    pos: Position,
+) -> Result<Option<Shared<Text>>, EvalAltResult<H>>
+    ensures counts { global.old.num_operations ≤ global.new.num_operations }
+    ensures cells { global.new.cells ≡ global.old.cells }
+    ensures runs { (offer : _) (scope : _) (this : _) → Prints (rules_of limits.now H.name_of offer T.natives)
+        value.now pos (state_of (T.state table.old) global.old scope this)
+        result (state_of (T.state table.new) global.new scope this) }
+{
+    track_operation(limits, global, pos)?;
+    let mut first = copy(alloc, value, pos)?;
+    if is_bare_handle(&first) {
+        drop(first);
+        return Ok(None);
+    }
+    let rest = Items::new(alloc);
+    let answer = table.call(
+        &global.cells,
+        "to_string",
+        Some(&mut first),
+        rest.as_slice(),
+        pos,
+    );
+    drop(first);
+    printed(alloc, limits, answer, pos)
+}
+
+/// Joins a value that is no text: what the native `to_string` prints of it, or else its type's name.
+fn join_printed<H: Host, T: NativeTable<H>>(
+    limits: &Limits,
+    alloc: Global,
+    global: &mut GlobalRuntimeState<H>,
+    table: &mut T,
+    text: &mut String,
+    value: &Dynamic<H>,
+    pos: Position,
+) -> Result<(), EvalAltResult<H>>
+    ensures counts { global.old.num_operations ≤ global.new.num_operations }
+    ensures runs { (offer : _) (scope : _) (this : _) →
+        PrintsAndJoins (rules_of limits.now H.name_of offer T.natives) (string_bytes text.old) value.now pos
+        (state_of (T.state table.old) global.old scope this) result (string_bytes text.new)
+        (state_of (T.state table.new) global.new scope this) }
+{
+    match print(limits, alloc, global, table, value, pos)? {
+        Some(part) => join_text(alloc, limits, text, part.get().as_str(), pos),
+        None => join_text(alloc, limits, text, value.type_name(&global.cells), pos),
+    }
+}
+
+/// The text that a value is.
+fn text_at<H>(value: &Dynamic<H>) -> Option<&str>
+    ensures { option_copied result ≡ text_of_value value.now.value }
+{
+    match &value.value {
+        Union::Str(text) => Some(text.get().as_str()),
+        _ => None,
+    }
+}
+
+/// Joins a value that is no handle: a text as it is, any other as it is printed.
+fn join_flat<H: Host, T: NativeTable<H>>(
+    limits: &Limits,
+    alloc: Global,
+    global: &mut GlobalRuntimeState<H>,
+    table: &mut T,
+    text: &mut String,
+    value: &Dynamic<H>,
+    pos: Position,
+) -> Result<(), EvalAltResult<H>>
+    ensures counts { global.old.num_operations ≤ global.new.num_operations }
+    ensures runs { (offer : _) (scope : _) (this : _) →
+        JoinsFlat (rules_of limits.now H.name_of offer T.natives) (string_bytes text.old) value.now pos
+        (state_of (T.state table.old) global.old scope this) result (string_bytes text.new)
+        (state_of (T.state table.new) global.new scope this) }
+{
+    match text_at(value) {
+        Some(part) => join_text(alloc, limits, text, part, pos),
+        None => join_printed(limits, alloc, global, table, text, value, pos),
+    }
+}
+
+/// Joins the value of a part: a text as it is, any other as the native `to_string` prints it, or as its
+/// type's name where that answers no text.
+///
+/// # Errors
+/// All at the part: `ErrorDataRace` for a handle whose cell is held, the errors of the system that the
+/// native's call meets, and `ErrorDataTooLarge` where the text is above the limit.
+pub fn join<H: Host, T: NativeTable<H>>(
+    limits: &Limits,
+    alloc: Global,
+    global: &mut GlobalRuntimeState<H>,
+    table: &mut T,
+    text: &mut String,
+    value: Dynamic<H>,
+    pos: Position,
+) -> Result<(), EvalAltResult<H>>
+    ensures counts { global.old.num_operations ≤ global.new.num_operations }
+    ensures runs { (offer : _) (scope : _) (this : _) →
+        Joins (rules_of limits.now H.name_of offer T.natives) (string_bytes text.old) value pos
+        (state_of (T.state table.old) global.old scope this) result (string_bytes text.new)
+        (state_of (T.state table.new) global.new scope this) }
+{
+    let value = flatten(alloc, &global.cells, value, pos)?;
+    let joined = join_flat(limits, alloc, global, table, text, &value, pos);
+    drop(value);
+    joined
+}
+
+/// A joined text.
+pub fn finish<H>(alloc: Global, text: String, pos: Position) -> Result<Dynamic<H>, EvalAltResult<H>>
+    ensures { Answers result (Ok (text_of (string_bytes text))) }
+{
+    match Shared::new(alloc, Text::from_string(text)) {
+        Ok(text) => Ok(Dynamic::new(Union::Str(text))),
+        Err(_) => Err(EvalAltResult::ErrorOutOfMemory(pos)),
+    }
+}

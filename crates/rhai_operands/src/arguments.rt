@@ -1,0 +1,87 @@
+//! Arguments that are literals. Ports the first part of upstream's `get_arg_value`.
+
+ghost use Rattle.std.specs.Prelude.{◌≡◌, ◌<◌, IfSome, OnOk, Some, None, Ok, is_some};
+ghost use Rattle.rhai_tree.specs.declared.expr.Expr.{out-Expr};
+ghost use Rattle.rhai_machine.specs.language.Expressions.{literal_of};
+ghost use Rattle.rhai_machine.specs.language.Frames.{Argument};
+ghost use Rattle.rhai_machine.specs.language.Runs.{Runs};
+ghost use Rattle.rhai_machine.specs.language.Setting.{rules_of};
+ghost use Rattle.rhai_machine.specs.language.State.{Answers};
+ghost use Rattle.rhai_steps.specs.States.{state_of};
+
+use rhai_state::error::EvalAltResult;
+use rhai_state::limits::Limits;
+use rhai_state::state::GlobalRuntimeState;
+use rhai_state::table::NativeTable;
+use rhai_steps::charges::track_operation;
+use rhai_steps::values::{
+    bool_value, char_value, constant_value, int_value, text_value, unit_value,
+};
+use rhai_tree::expr::Expr;
+use rhai_values::base::value::{Dynamic, Host};
+use std::alloc::Global;
+
+/// Whether an expression is a literal.
+fn is_literal<H: Host>(expr: &Expr) -> bool
+    ensures { result ≡ is_some (literal_of {H = H} (out-Expr expr.now)) }
+{
+    matches!(
+        expr,
+        Expr::DynamicConstant(..)
+            | Expr::BoolConstant(..)
+            | Expr::IntegerConstant(..)
+            | Expr::CharConstant(..)
+            | Expr::StringConstant(..)
+            | Expr::Unit(_)
+    )
+}
+
+/// The value of a literal, None for any other expression.
+fn literal_value<H: Host>(
+    alloc: Global,
+    expr: &Expr,
+) -> Option<Result<Dynamic<H>, EvalAltResult<H>>>
+    ensures found { is_some result ≡ is_some (literal_of {H = H} (out-Expr expr.now)) }
+    ensures exact { IfSome result (λ r. (v : _) →
+        literal_of (out-Expr expr.now) ≡ Some v → Answers r (Ok v)) }
+{
+    match expr {
+        Expr::DynamicConstant(literal, pos) => Some(constant_value(alloc, literal, *pos)),
+        Expr::BoolConstant(value, _) => Some(Ok(bool_value(*value))),
+        Expr::IntegerConstant(value, _) => Some(Ok(int_value(value))),
+        Expr::CharConstant(letter, _) => Some(Ok(char_value(*letter))),
+        Expr::StringConstant(text, pos) => Some(text_value(text, *pos)),
+        Expr::Unit(_) => Some(Ok(unit_value())),
+        _ => None,
+    }
+}
+
+/// An argument that is a literal: charged at its start, and then its value. None for any other
+/// expression: then nothing is charged. The table is not called.
+///
+/// # Errors
+/// `ErrorTooManyOperations` at the literal where the count has reached the limit.
+pub fn literal_arg<H: Host, T: NativeTable<H>>(
+    limits: &Limits,
+    alloc: Global,
+    global: &mut GlobalRuntimeState<H>,
+    _table: &T,
+    arg: &Expr,
+) -> Option<Result<Dynamic<H>, EvalAltResult<H>>>
+    ensures found { is_some result ≡ is_some (literal_of {H = H} (out-Expr arg.now)) }
+    ensures left_alone { result ≡ None → global.new ≡ global.old }
+    ensures charges { IfSome result (λ result. OnOk result
+        (global.old.num_operations < global.new.num_operations)) }
+    ensures runs { (offer : _) (scope : _) (this : _) →
+        IfSome result (λ result. Runs (rules_of limits.now H.name_of offer T.natives) (Argument arg.now)
+        (state_of (T.state _table.now) global.old scope this)
+        result (state_of (T.state _table.now) global.new scope this)) }
+{
+    if !is_literal::<H>(arg) {
+        return None;
+    }
+    if let Err(error) = track_operation(limits, global, arg.start_position()) {
+        return Some(Err(error));
+    }
+    literal_value(alloc, arg)
+}
