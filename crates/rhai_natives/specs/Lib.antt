@@ -1,0 +1,6 @@
+pub mod Responses
+pub mod Listed
+pub mod Found
+pub mod Table
+pub mod Held
+pub mod Law

@@ -1,0 +1,90 @@
+//! What a listed native answers: only values that hold no cell, script function or constant.
+
+ghost use Rattle.std.specs.Prelude.{◌≡◌, IfOk};
+ghost use Rattle.rhai_natives.specs.Responses.{IsAnswered, union_of};
+ghost use Rattle.rhai_natives.specs.declared.response.Datum.TheVariants as datum;
+ghost use Rattle.rhai_natives.specs.declared.response.Fault.TheVariants as fault;
+ghost use Rattle.rhai_natives.specs.declared.response.Response.TheVariants as response;
+
+use rhai_items::{Shared, Text};
+use rhai_values::base::value::Union;
+use std::alloc::{AllocError, Global};
+
+/// A value that holds nothing but itself.
+#[derive(Drop)]
+pub enum Datum<H> {
+    Unit,
+    Bool(bool),
+    Int(i64),
+    Char(char),
+    Text(Shared<Text>),
+    Host(H),
+}
+
+impl<H> Datum<H> {
+    /// The value.
+    pub fn into_union(self) -> Union<H>
+        ensures { result ≡ union_of self }
+    {
+        match self {
+            Datum::Unit => Union::Unit,
+            Datum::Bool(truth) => Union::Bool(truth),
+            Datum::Int(number) => Union::Int(number),
+            Datum::Char(letter) => Union::Char(letter),
+            Datum::Text(text) => Union::Str(text),
+            Datum::Host(value) => Union::Host(value),
+        }
+    }
+}
+
+/// A fault that a listed native may answer. It stands nowhere, so that the evaluator gives it the place
+/// of the call.
+#[derive(Drop)]
+pub enum Fault<H> {
+    Arithmetic(Shared<Text>),
+    IndexingType(Shared<Text>),
+    PropertyNotFound(Shared<Text>),
+    Runtime(Datum<H>),
+}
+
+/// What a listed native answers.
+#[derive(Drop)]
+pub enum Response<H> {
+    /// There is no such native for these arguments.
+    Missing,
+    /// A value. The first argument stays.
+    Gives(Datum<H>),
+    /// A value, and the first argument as it is from now on. That of a native which is listed as pure
+    /// stays all the same.
+    Changes { value: Datum<H>, first: Datum<H> },
+    Faults(Fault<H>),
+    NoMemory,
+}
+
+impl<H> Response<H> {
+    /// A text.
+    pub fn text(alloc: Global, text: &str) -> Response<H>
+        ensures { IsAnswered result (response.Gives (datum.Text text.now)) }
+    {
+        match shared(alloc, text) {
+            Ok(text) => Response::Gives(Datum::Text(text)),
+            Err(_) => Response::NoMemory,
+        }
+    }
+
+    /// An `ErrorArithmetic` with a text.
+    pub fn arithmetic(alloc: Global, text: &str) -> Response<H>
+        ensures { IsAnswered result (response.Faults (fault.Arithmetic text.now)) }
+    {
+        match shared(alloc, text) {
+            Ok(text) => Response::Faults(Fault::Arithmetic(text)),
+            Err(_) => Response::NoMemory,
+        }
+    }
+}
+
+fn shared(alloc: Global, text: &str) -> Result<Shared<Text>, AllocError>
+    ensures { IfOk result (λ t. t ≡ text.now) }
+{
+    Shared::new(alloc, Text::from_str(alloc, text)?)
+}
