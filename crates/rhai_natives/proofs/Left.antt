@@ -20,7 +20,7 @@ module _ {H : Type 0} {first after : Option (Dynamic H)} {was now : Dynamic H} (
   pub no_handle_left : (p : Bool) → IsLeft p was now → HasNoHandle first → HasNoHandle after
   no_handle_left p left h = subst HasNoHandle (sym (left_of p left)) (left_no_handle _ left.0 first h)
 
-module _ {S H K : Type 0} (list : List (Entry K)) (does : S → K → List (Union H) → Done S H) (s : S) (q : Request H)
+module _ {S H K : Type 0} (list : List (Entry K)) (does : S → K → List (Union H) → Option (Done S H)) (s : S) (q : Request H)
     (call : Option (Found K)) (is_found : call ≡ found list q.key) (after : Option (Dynamic H)) {was now : Dynamic H}
     (first_was : q.first ≡ Some was) (first_is : after ≡ Some now) (state : S) where
   pub leaves_left : (host : H → List ℕ) → IsLeft (is_pure call) was now → Leaves host (natives_in list does) nothing s q after state

@@ -44,7 +44,6 @@ module _ {H : Type 0} where
   held-fault (fault.Runtime d) = held-runtime own _ _ ∙ held-datum d
 
   pub held-response : (r : Response H) → held_by_reply own (reply_for r) ≡ []
-  held-response response.Missing = refl
   held-response (response.Gives d) = held-datum d
   held-response (response.Changes d first) = held-datum d
   held-response (response.Faults f) = held-fault f

@@ -6,16 +6,16 @@ use Rattle.rhai_values.specs.declared.base.value.Union.{Union}
 use Rattle.rhai_values.specs.Cells.{IsNoHandle}
 use Rattle.rhai_state.specs.Native.{Request, Key, Named, Numbered, HasNoHandle, IsAllowed, KeepsFirst, Leaves, Lawful, AreReached}
 use Rattle.rhai_state.specs.Native.{ByFirst, held_by_reply, purity_of}
-use Rattle.rhai_natives.specs.declared.listed.Found.{Found}
 use Rattle.rhai_natives.specs.declared.response.Datum.{Datum}
 use Rattle.rhai_natives.specs.declared.response.Datum.TheVariants as datum
 use Rattle.rhai_natives.specs.declared.response.Fault.TheVariants as fault
 use Rattle.rhai_natives.specs.declared.response.Response.{Response}
 use Rattle.rhai_natives.specs.declared.response.Response.TheVariants as response
+use Rattle.rhai_natives.specs.Arguments.{values_in}
 use Rattle.rhai_natives.specs.Found.{found, is_pure, key_in}
-use Rattle.rhai_natives.specs.Listed.{Entry, values_in}
+use Rattle.rhai_natives.specs.Listed.{Entry}
 use Rattle.rhai_natives.specs.Responses.{Done, union_of}
-use Rattle.rhai_natives.specs.Table.{change_in, changed, effect_of, natives_in, nothing, reply_for}
+use Rattle.rhai_natives.specs.Table.{change_in, changed, done_by, effect_for, natives_in, nothing, reply_for}
 use Rattle.rhai_natives.specs.Held.{held-response, held-changed, nothing_in}
 
 module _ {H : Type 0} where
@@ -28,7 +28,6 @@ module _ {H : Type 0} where
   datum_no_handle (datum.Host h) = tt
 
   allowed : (r : Response H) → IsAllowed (reply_for r)
-  allowed response.Missing = tt
   allowed (response.Gives d) = datum_no_handle d
   allowed (response.Changes d first) = datum_no_handle d
   allowed (response.Faults (fault.Arithmetic text)) = tt
@@ -49,7 +48,6 @@ module _ {H : Type 0} where
 
   missing_stays : (p : Bool) (r : Response H) (first : Option (Dynamic H)) →
       KeepsFirst (reply_for r) first (option_map (changed p (change_in r)) first)
-  missing_stays p response.Missing first = unchanged p first
   missing_stays p (response.Gives d) first = tt
   missing_stays p (response.Changes d changes) first = tt
   missing_stays p (response.Faults f) first = tt
@@ -62,7 +60,27 @@ module _ {H : Type 0} where
   left_no_handle false None (Some v) h = h
   left_no_handle false (Some d) (Some v) h = datum_no_handle d
 
-module _ {S H K : Type 0} (list : List (Entry K)) (does : S → K → List (Union H) → Done S H) (host : H → List ℕ) where
+-- the parts of the law that speak of the effect alone
+module _ {S H : Type 0} (p : Bool) (s : S) (q : Request H) where
+  effect_allowed : (done : Option (Done S H)) → IsAllowed (effect_for p s done q.first).reply
+  effect_allowed None = tt
+  effect_allowed (Some d) = allowed d.response
+
+  effect_no_handle : (done : Option (Done S H)) → HasNoHandle q.first → HasNoHandle (effect_for p s done q.first).first
+  effect_no_handle None h = h
+  effect_no_handle (Some d) h = left_no_handle p _ q.first h
+
+  effect_keeps : (done : Option (Done S H)) →
+      KeepsFirst (effect_for p s done q.first).reply q.first (effect_for p s done q.first).first
+  effect_keeps None = refl
+  effect_keeps (Some d) = missing_stays p d.response q.first
+
+  effect_reached : (done : Option (Done S H)) →
+      AreReached nothing s q (held_by_reply (λ h. []) (effect_for p s done q.first).reply)
+  effect_reached None = nothing_in
+  effect_reached (Some d) = subst (AreReached nothing s q) (sym (held-response d.response)) nothing_in
+
+module _ {S H K : Type 0} (list : List (Entry K)) (does : S → K → List (Union H) → Option (Done S H)) (host : H → List ℕ) where
   -- the purity that is asked for a call is that of the native which it finds
   asked : (key : Key) (first_type : List ℕ) (count : ℕ) →
       is_pure (found list (key_in (purity_of key first_type count))) ≡ is_pure (found list key)
@@ -80,43 +98,21 @@ module _ {S H K : Type 0} (list : List (Entry K)) (does : S → K → List (Unio
     state_reached = nothing_in;
   }
 
-  effect_leaves : (s : S) (q : Request H) (call : Option (Found K)) → found list q.key ≡ call →
-      let e = effect_of does s call q.first q.rest in Leaves host (natives_in list does) nothing s q e.first e.state
-  effect_leaves s q None is =
-      subst (λ first. Leaves host (natives_in list does) nothing s q first s) (pure_stays None q.first)
-      (subst (λ call. Leaves host (natives_in list does) nothing s q (option_map (changed (is_pure call) None) q.first) s) is
-      (list_leaves s q None s))
-  effect_leaves s q (Some call) is =
-      let d = does s call.native (values_in q.first q.rest) in
-      subst (λ found. Leaves host (natives_in list does) nothing s q
-      (option_map (changed (is_pure found) (change_in d.response)) q.first) d.state) is (list_leaves s q _ _)
-
-  -- the parts of the law that speak of the effect alone
-  effect_allowed : (s : S) (call : Option (Found K)) (q : Request H) → IsAllowed (effect_of does s call q.first q.rest).reply
-  effect_allowed s None q = tt
-  effect_allowed s (Some call) q = allowed _
-
-  effect_no_handle : (s : S) (call : Option (Found K)) (q : Request H) → HasNoHandle q.first →
-      HasNoHandle (effect_of does s call q.first q.rest).first
-  effect_no_handle s None q h = h
-  effect_no_handle s (Some call) q h = left_no_handle _ _ q.first h
-
-  effect_keeps : (s : S) (call : Option (Found K)) (q : Request H) →
-      KeepsFirst (effect_of does s call q.first q.rest).reply q.first (effect_of does s call q.first q.rest).first
-  effect_keeps s None q = refl
-  effect_keeps s (Some call) q = missing_stays _ _ q.first
-
-  effect_reached : (s : S) (call : Option (Found K)) (q : Request H) →
-      AreReached nothing s q (held_by_reply (λ h. []) (effect_of does s call q.first q.rest).reply)
-  effect_reached s None q = nothing_in
-  effect_reached s (Some call) q = subst (AreReached nothing s q) (sym (held-response _)) nothing_in
+  effect_leaves : (s : S) (q : Request H) (done : Option (Done S H)) →
+      let e = effect_for (is_pure (found list q.key)) s done q.first in
+      Leaves host (natives_in list does) nothing s q e.first e.state
+  effect_leaves s q None =
+      subst (λ first. Leaves host (natives_in list does) nothing s q first s) (unchanged _ q.first) (list_leaves s q None s)
+  effect_leaves s q (Some d) = list_leaves s q (change_in d.response) d.state
 
   pub lawful_list : Lawful host (natives_in list does) nothing
-  lawful_list s q h = record {
-    allowed = effect_allowed s (found list q.key) q;
-    first_no_handle = effect_no_handle s (found list q.key) q h;
-    missing_keeps = effect_keeps s (found list q.key) q;
-    leaves = effect_leaves s q (found list q.key) refl;
-    answer_reached = effect_reached s (found list q.key) q;
-    reads_reached = λ cells agrees. refl;
-  }
+  lawful_list s q h =
+      let done = done_by does s (found list q.key) (values_in q.first q.rest) in
+      record {
+        allowed = effect_allowed _ s q done;
+        first_no_handle = effect_no_handle _ s q done h;
+        missing_keeps = effect_keeps _ s q done;
+        leaves = effect_leaves s q done;
+        answer_reached = effect_reached _ s q done;
+        reads_reached = λ cells agrees. refl;
+      }

@@ -1,3 +1,4 @@
+pub mod Arguments
 pub mod Responses
 pub mod Listed
 pub mod Found

@@ -1,5 +1,5 @@
 -- What listed natives answer.
-use Rattle.std.specs.Prelude.{◌≡◌, ⊤}
+use Rattle.std.specs.Prelude.{◌≡◌, ⊤, Option, Some, None}
 use Rattle.rhai_tree.specs.Position.{none}
 use Rattle.rhai_values.specs.declared.base.value.Union.{Union}
 use Rattle.rhai_values.specs.declared.base.value.Union.TheVariants as value
@@ -20,6 +20,14 @@ pub record Done (S H : Type 0) : Type 0 where
 
 abbrev pub done : {S H : Type 0} → Response H → S → Done S H
 done r s = record { response = r; state = s }
+
+abbrev pub response_of : {S H : Type 0} → Done S H → Response H
+response_of d = d.response
+
+-- the state after it, which stays where there is no such native
+abbrev pub state_after : {S H : Type 0} → S → Option (Done S H) → S
+state_after s None = s
+state_after s (Some d) = d.state
 
 module _ {H : Type 0} where
   -- a datum as a value
@@ -47,3 +55,13 @@ module _ {H : Type 0} where
   abbrev pub IsAnswered : (got wanted : Response H) → Type 0
   IsAnswered response.NoMemory wanted = ⊤
   IsAnswered got wanted = got ≡ wanted
+
+  -- the same of responses that may be missing
+  abbrev pub HadMemory : Option (Response H) → Type 0
+  HadMemory None = ⊤
+  HadMemory (Some got) = HasMemory got
+
+  abbrev pub AreAnswered : (got wanted : Option (Response H)) → Type 0
+  AreAnswered None None = ⊤
+  AreAnswered (Some got) (Some wanted) = IsAnswered got wanted
+  AreAnswered _ _ = ⊥

@@ -10,8 +10,9 @@ use Rattle.rhai_natives.specs.declared.listed.Found.{Found}
 use Rattle.rhai_natives.specs.declared.response.Datum.{Datum}
 use Rattle.rhai_natives.specs.declared.response.Response.{Response}
 use Rattle.rhai_natives.specs.declared.response.Response.TheVariants as response
+use Rattle.rhai_natives.specs.Arguments.{values_in}
 use Rattle.rhai_natives.specs.Found.{found, is_pure, key_in}
-use Rattle.rhai_natives.specs.Listed.{Entry, values_in}
+use Rattle.rhai_natives.specs.Listed.{Entry}
 use Rattle.rhai_natives.specs.Responses.{Done, fault_of, union_of}
 
 -- neither the natives' state nor a value of the host's own holds anything
@@ -21,7 +22,6 @@ nothing = record { of_state = λ s. []; of_host = λ h. [] }
 module _ {H : Type 0} where
   -- a response as a table's reply
   abbrev pub reply_for : Response H → Reply H
-  reply_for response.Missing = Missing
   reply_for (response.Gives d) = Gives (plain (union_of d))
   reply_for (response.Changes d first) = Gives (plain (union_of d))
   reply_for (response.Faults f) = Faults (fault_of f)
@@ -49,17 +49,21 @@ module _ {H : Type 0} where
   IsLeft p before after = (change : Option (Datum H)) × (after ≡ changed p change before)
 
 module _ {S H : Type 0} where
-  -- the effect of what was done
-  abbrev pub effect_of_done : Bool → Done S H → Option (Dynamic H) → Effect S H
-  effect_of_done p d first = effect (reply_for d.response) (option_map (changed p (change_in d.response)) first) d.state
+  -- the effect of what was done, if there is such a native
+  abbrev pub effect_for : (is_pure : Bool) → S → Option (Done S H) → Option (Dynamic H) → Effect S H
+  effect_for p s None first = effect Missing first s
+  effect_for p s (Some d) first = effect (reply_for d.response) (option_map (changed p (change_in d.response)) first) d.state
 
-  -- that of a native that was found, if one was
-  abbrev pub effect_of : {K : Type 0} → (S → K → List (Union H) → Done S H) → S → Option (Found K) → Option (Dynamic H) →
-      List (Dynamic H) → Effect S H
-  effect_of does s None first rest = effect Missing first s
-  effect_of does s (Some call) first rest = effect_of_done call.is_pure (does s call.native (values_in first rest)) first
+  module _ {K : Type 0} (does : S → K → List (Union H) → Option (Done S H)) where
+    -- what a native that was found does, if one was
+    abbrev pub done_by : S → Option (Found K) → List (Union H) → Option (Done S H)
+    done_by s None arguments = None
+    done_by s (Some call) arguments = does s call.native arguments
+
+    abbrev pub effect_of : S → Option (Found K) → Option (Dynamic H) → List (Dynamic H) → Effect S H
+    effect_of s call first rest = effect_for (is_pure call) s (done_by s call (values_in first rest)) first
 
   -- the table of a list of natives
-  abbrev pub natives_in : {K : Type 0} → List (Entry K) → (S → K → List (Union H) → Done S H) → Natives S H
+  abbrev pub natives_in : {K : Type 0} → List (Entry K) → (S → K → List (Union H) → Option (Done S H)) → Natives S H
   natives_in list does =
       record { gives = λ s q. effect_of does s (found list q.key) q.first q.rest; pure = λ s p. is_pure (found list (key_in p)) }

@@ -2,6 +2,7 @@
 //! values, and the law of tables holds of whatever it lists.
 #![tactic(auto)]
 
+pub mod arguments;
 pub mod listed;
 pub mod response;
 pub mod table;

@@ -4,12 +4,14 @@ ghost use Rattle.std.specs.Prelude.{◌≡◌, ◌==◌, ◌-◌, None, find, if
 ghost use Rattle.std.specs.Option.{option_map};
 ghost use Rattle.std.specs.Str.{bytes_eq};
 ghost use Rattle.rhai_state.specs.Native.{Named, Numbered};
-ghost use Rattle.rhai_natives.specs.Listed.{entry_of, now_of, values_in, values_of};
+ghost use Rattle.rhai_natives.specs.Arguments.{values_of};
+ghost use Rattle.rhai_natives.specs.Listed.{entry_of};
 ghost use Rattle.rhai_natives.specs.Found.{found, found_at};
 
+use crate::arguments::Arguments;
 use crate::response::Response;
 use rhai_tree::literal::NativeId;
-use rhai_values::base::value::{Dynamic, Host, Union};
+use rhai_values::base::value::Host;
 use std::alloc::Global;
 
 /// A native under its name.
@@ -20,38 +22,12 @@ pub struct Listed<K> {
     pub native: K,
 }
 
-/// The arguments of a call.
-#[derive(Drop)]
-pub enum Arguments<'a, H> {
-    Zero,
-    One(&'a Union<H>),
-    Two(&'a Union<H>, &'a Union<H>),
-    More(&'a Union<H>, &'a [Dynamic<H>]),
-}
-
-impl<'a, H> Arguments<'a, H> {
-    /// Those of a call.
-    pub fn new(first: Option<&'a Dynamic<H>>, rest: &'a [Dynamic<H>]) -> Arguments<'a, H>
-        ensures { values_of result ≡ values_in (option_map now_of first.entry) rest.now }
-    {
-        match (first, rest) {
-            (None, []) => Arguments::Zero,
-            (None, [one]) => Arguments::One(&one.value),
-            (None, [one, two]) => Arguments::Two(&one.value, &two.value),
-            (None, [one, more @ ..]) => Arguments::More(&one.value, more),
-            (Some(one), []) => Arguments::One(&one.value),
-            (Some(one), [two]) => Arguments::Two(&one.value, &two.value),
-            (Some(one), more) => Arguments::More(&one.value, more),
-        }
-    }
-}
-
 /// Natives that neither read nor answer cells, script functions or constants. Their author lists them
 /// and says what each does as a function of the state and of the arguments.
 pub trait ListedNatives<H: Host> {
-    ghost use Rattle.std.specs.Prelude.{List};
+    ghost use Rattle.std.specs.Prelude.{List, Option};
     ghost use Rattle.rhai_values.specs.declared.base.value.Union.{Union};
-    ghost use Rattle.rhai_natives.specs.Responses.{Done, IsAnswered, HasMemory};
+    ghost use Rattle.rhai_natives.specs.Responses.{AreAnswered, Done, HadMemory, response_of, state_after};
     ghost use Rattle.rhai_natives.specs.Listed.{Entry};
 
     /// What the list names.
@@ -65,22 +41,24 @@ pub trait ListedNatives<H: Host> {
     /// The list. The first has the number 1.
     ghost list: { List (Entry Self.Native) };
 
-    /// What a native does.
-    ghost does: { State → Self.Native → List (Union H) → Done State H };
+    /// What a native does with its arguments, None where there is no such native for them.
+    ghost does: { State → Self.Native → List (Union H) → Option (Done State H) };
 
     fn listed(&self) -> &[Listed<Self::Native>]
         ensures { map entry_of result.now ≡ list };
 
+    /// Calls a native. None says that there is no such native for these arguments.
     fn call(
         &mut self,
         alloc: Global,
         native: Self::Native,
         arguments: &Arguments<'_, H>,
-    ) -> Response<H>
-        ensures response { IsAnswered result
-            (does (state self.old) native (values_of arguments.now)).response }
-        ensures state { HasMemory result →
-            state self.new ≡ (does (state self.old) native (values_of arguments.now)).state };
+    ) -> Option<Response<H>>
+        ensures response { AreAnswered result
+            (option_map response_of (does (state self.old) native (values_of arguments.now))) }
+        ensures state { HadMemory result →
+            state self.new ≡ state_after (state self.old)
+            (does (state self.old) native (values_of arguments.now)) };
 }
 
 /// A native that a list has, and whether it is pure.

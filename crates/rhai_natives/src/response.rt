@@ -50,8 +50,6 @@ pub enum Fault<H> {
 /// What a listed native answers.
 #[derive(Drop)]
 pub enum Response<H> {
-    /// There is no such native for these arguments.
-    Missing,
     /// A value. The first argument stays.
     Gives(Datum<H>),
     /// A value, and the first argument as it is from now on. That of a native which is listed as pure

@@ -6,7 +6,8 @@ ghost use Rattle.rhai_natives.specs.declared.response.Response.TheVariants as re
 ghost use Rattle.rhai_natives.specs.Table.{IsLeft, IsReplied, change_in, changed, effect_of};
 ghost use Rattle.rhai_natives.specs.Found.{is_pure as purity_of};
 
-use crate::listed::{Arguments, Found, ListedNatives, find_named, find_numbered};
+use crate::arguments::Arguments;
+use crate::listed::{Found, ListedNatives, find_named, find_numbered};
 use crate::response::{Datum, Fault, Response};
 use rhai_items::Boxed;
 use rhai_state::error::EvalAltResult;
@@ -111,7 +112,10 @@ fn call_with<H: Host, N: ListedNatives<H>>(
     let Some(found) = found else {
         return Answer::Missing;
     };
-    let response = natives.call(alloc, found.native, &Arguments::new(Some(first), rest));
+    let arguments = Arguments::new(Some(first), rest);
+    let Some(response) = natives.call(alloc, found.native, &arguments) else {
+        return Answer::Missing;
+    };
     let (answer, change) = answered(alloc, response);
     apply(found.is_pure, change, first);
     answer
@@ -130,7 +134,10 @@ fn call_without<H: Host, N: ListedNatives<H>>(
     let Some(found) = found else {
         return Answer::Missing;
     };
-    let response = natives.call(alloc, found.native, &Arguments::new(None, rest));
+    let arguments = Arguments::new(None, rest);
+    let Some(response) = natives.call(alloc, found.native, &arguments) else {
+        return Answer::Missing;
+    };
     let (answer, _) = answered(alloc, response);
     answer
 }
@@ -141,7 +148,6 @@ fn answered<H: Drop>(alloc: Global, response: Response<H>) -> (Answer<H>, Option
     ensures change { result.1 ≡ change_in response }
 {
     match response {
-        Response::Missing => (Answer::Missing, None),
         Response::Gives(value) => (Answer::Value(Dynamic::new(value.into_union())), None),
         Response::Changes { value, first } => (
             Answer::Value(Dynamic::new(value.into_union())),

@@ -1,0 +1,59 @@
+-- The arguments of a call, as a listed native is given them.
+use Rattle.std.specs.Prelude.{ℤ, List, [], ◌∷◌, Option, Some, None, map}
+use Rattle.std.specs.Borrow.{Bor}
+use Rattle.rhai_values.specs.declared.base.value.Dynamic.{Dynamic}
+use Rattle.rhai_values.specs.declared.base.value.Union.{Union}
+use Rattle.rhai_values.specs.declared.base.value.Union.TheVariants as value
+use Rattle.rhai_natives.specs.declared.arguments.Arguments.{Arguments}
+use Rattle.rhai_natives.specs.declared.arguments.Arguments.TheVariants as arguments
+
+-- two that are there
+abbrev pub both : {A B : Type 0} → Option A → Option B → Option (A × B)
+both (Some a) (Some b) = Some (a, b)
+both _ _ = None
+
+module _ {H : Type 0} where
+  abbrev pub now_of : Bor (Dynamic H) → Dynamic H
+  now_of place = place.now
+
+  -- what the arguments of a call are
+  abbrev pub values_in : Option (Dynamic H) → List (Dynamic H) → List (Union H)
+  values_in None rest = map (λ v. v.value) rest
+  values_in (Some first) rest = first.value ∷ map (λ v. v.value) rest
+
+  -- the same, as the code has them
+  abbrev pub values_of : Arguments H → List (Union H)
+  values_of arguments.Zero = []
+  values_of (arguments.One a) = a.now ∷ []
+  values_of (arguments.Two a b) = a.now ∷ b.now ∷ []
+  values_of (arguments.More a b c rest) = a.now ∷ b.now ∷ c.now ∷ map (λ v. v.value) rest.now
+
+  -- a value as one of a type, None where it is of another
+  abbrev pub int_of : Union H → Option ℤ
+  int_of (value.Int number) = Some number
+  int_of _ = None
+
+  abbrev pub host_of : Union H → Option H
+  host_of (value.Host own) = Some own
+  host_of _ = None
+
+  -- arguments of a number and of types, None where they are others
+  abbrev pub none_in : List (Union H) → Option (Unit {0})
+  none_in [] = Some tt
+  none_in _ = None
+
+  abbrev pub int_in : List (Union H) → Option ℤ
+  int_in (a ∷ []) = int_of a
+  int_in _ = None
+
+  abbrev pub ints_in : List (Union H) → Option (ℤ × ℤ)
+  ints_in (a ∷ b ∷ []) = both (int_of a) (int_of b)
+  ints_in _ = None
+
+  abbrev pub host_in : List (Union H) → Option H
+  host_in (a ∷ []) = host_of a
+  host_in _ = None
+
+  abbrev pub hosts_in : List (Union H) → Option (H × H)
+  hosts_in (a ∷ b ∷ []) = both (host_of a) (host_of b)
+  hosts_in _ = None
