@@ -6,7 +6,7 @@ use Rattle.std.specs.Str.{bytes_eq}
 use Rattle.rhai_state.specs.Native.{Key, Named, Numbered, Purity, OfName, OfNumber}
 use Rattle.rhai_natives.specs.declared.listed.Found.{Found}
 use Rattle.rhai_natives.specs.declared.listed.Listed.{Listed}
-use Rattle.rhai_natives.specs.Listed.{Entry}
+use Rattle.rhai_natives.specs.Listed.{Entry, entry_of}
 
 -- the name or number of which purity is asked
 abbrev pub key_in : Purity → Key
@@ -19,7 +19,7 @@ module _ {K : Type 0} where
 
   -- the same, of an entry where it stands
   abbrev pub found_at : Bor (Listed K) → Found K
-  found_at place = record { native = place.now.native; is_pure = place.now.is_pure }
+  found_at place = found_as (entry_of place.now)
 
   -- the native of a name or a number: the first of that name, and from 1 the one at that place
   abbrev pub found : List (Entry K) → Key → Option (Found K)

@@ -1,6 +1,7 @@
 -- Listed natives.
-use Rattle.std.specs.Prelude.{ℕ, Bool, List}
+use Rattle.std.specs.Prelude.{ℕ, Bool, true, false, List}
 use Rattle.rhai_natives.specs.declared.listed.Listed.{Listed}
+use Rattle.rhai_natives.specs.declared.listed.Listed.TheVariants.{Pure, Impure}
 
 -- a native under its name, and whether it leaves its first argument
 pub record Entry (K : Type 0) : Type 0 where
@@ -8,9 +9,13 @@ pub record Entry (K : Type 0) : Type 0 where
   pub is_pure : Bool
   pub native : K
 
-abbrev pub entry : {K : Type 0} → List ℕ → Bool → K → Entry K
-entry name is_pure native = record { name = name; is_pure = is_pure; native = native }
+abbrev pub pure : {K : Type 0} → List ℕ → K → Entry K
+pure name native = record { name = name; is_pure = true; native = native }
+
+abbrev pub impure : {K : Type 0} → List ℕ → K → Entry K
+impure name native = record { name = name; is_pure = false; native = native }
 
 -- what the code lists
 abbrev pub entry_of : {K : Type 0} → Listed K → Entry K
-entry_of listed = entry listed.name.now listed.is_pure listed.native
+entry_of (Pure name native) = pure name.now native
+entry_of (Impure name native) = impure name.now native

@@ -2,7 +2,12 @@
 //! values, and the law of tables holds of whatever it lists.
 #![tactic(auto)]
 
-pub mod arguments;
-pub mod listed;
-pub mod response;
-pub mod table;
+mod arguments;
+mod listed;
+mod response;
+mod table;
+
+pub use arguments::Arguments;
+pub use listed::{Listed, ListedNatives};
+pub use response::{Datum, Fault, Response};
+pub use table::Natives;

@@ -15,11 +15,22 @@ use rhai_values::base::value::Host;
 use std::alloc::Global;
 
 /// A native under its name.
-pub struct Listed<K> {
-    pub name: &'static str,
-    /// Whether it leaves its first argument.
-    pub is_pure: bool,
-    pub native: K,
+pub enum Listed<K> {
+    /// It leaves its first argument.
+    Pure(&'static str, K),
+    /// It may change it, so that a constant is not given to it.
+    Impure(&'static str, K),
+}
+
+impl<K> Listed<K> {
+    fn name(&self) -> &'static str
+        ensures { result.now ≡ (entry_of self.now).name }
+    {
+        match self {
+            Listed::Pure(name, _) => *name,
+            Listed::Impure(name, _) => *name,
+        }
+    }
 }
 
 /// Natives that neither read nor answer cells, script functions or constants. Their author lists them
@@ -84,9 +95,9 @@ pub(crate) fn find_numbered<K: Copy>(listed: &[Listed<K>], id: NativeId) -> Opti
 
 fn named<'a, K>(listed: &'a [Listed<K>], name: &str) -> Option<&'a Listed<K>>
     ensures { option_map (λ e. e.now) result
-        ≡ find (λ e. bytes_eq e.name.now name.now) listed.now }
+        ≡ find (λ e. bytes_eq (entry_of e).name name.now) listed.now }
 {
-    listed.iter().find(|entry| entry.name == name)
+    listed.iter().find(|entry| entry.name() == name)
 }
 
 fn numbered<K>(listed: &[Listed<K>], id: NativeId) -> Option<&Listed<K>>
@@ -100,9 +111,14 @@ fn numbered<K>(listed: &[Listed<K>], id: NativeId) -> Option<&Listed<K>>
 fn found_at<K: Copy>(listed: Option<&Listed<K>>) -> Option<Found<K>>
     ensures { result ≡ option_map found_at listed.entry }
 {
-    let listed = listed?;
-    Some(Found {
-        native: listed.native,
-        is_pure: listed.is_pure,
-    })
+    match listed? {
+        Listed::Pure(_, native) => Some(Found {
+            native: *native,
+            is_pure: true,
+        }),
+        Listed::Impure(_, native) => Some(Found {
+            native: *native,
+            is_pure: false,
+        }),
+    }
 }
