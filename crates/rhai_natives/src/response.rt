@@ -60,6 +60,16 @@ pub enum Response<H> {
 }
 
 impl<H> Response<H> {
+    /// `()`, and the first argument as it is from now on.
+    pub fn changing(first: Datum<H>) -> Response<H>
+        ensures { result ≡ response.Changes datum.Unit first }
+    {
+        Response::Changes {
+            value: Datum::Unit,
+            first,
+        }
+    }
+
     /// A text.
     pub fn text(alloc: Global, text: &str) -> Response<H>
         ensures { IsAnswered result (response.Gives (datum.Text text.now)) }
