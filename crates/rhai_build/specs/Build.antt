@@ -43,6 +43,13 @@ operator_at token name column args =
     (record { namespace = unqualified; name = name; args = args; op_token = Some token; capture_parent_scope = false })
     (at 1 column)
 
+-- a call by name
+abbrev pub call_at : List ℕ → ℕ → List Expr → Expr
+call_at name column args =
+    expr.FnCall
+    (record { namespace = unqualified; name = name; args = args; op_token = None; capture_parent_scope = false })
+    (at 1 column)
+
 -- an entry of a map
 abbrev pub entry_at : List ℕ → Expr → MapEntry
 entry_at key value = record { key = key; value = value }

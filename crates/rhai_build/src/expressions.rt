@@ -5,7 +5,7 @@ ghost use Rattle.rhai_items.specs.Lookup.{with_entry};
 ghost use Rattle.rhai_tree.specs.Position.{at as place};
 ghost use Rattle.rhai_tree.specs.declared.expr.Expr.TheVariants as expr;
 ghost use Rattle.rhai_tree.specs.declared.literal.Literal.TheVariants as Literal;
-ghost use Rattle.rhai_build.specs.Build.{IsVariable, Made, entry_at, operator_at};
+ghost use Rattle.rhai_build.specs.Build.{IsVariable, Made, call_at, entry_at, operator_at};
 
 use crate::{Builder, at, no_namespace};
 use rhai_items::{Items, Table};
@@ -157,6 +157,27 @@ impl Builder {
                     name,
                     args,
                     op_token: Some(token),
+                    capture_parent_scope: false,
+                };
+                Expr::FnCall(call, at(column))
+            }
+            None => unit(column),
+        }
+    }
+
+    /// A call of a function by its name.
+    pub fn call<const N: usize>(&mut self, name: &str, column: u16, args: [Expr; N]) -> Expr
+        requires { column ≢ 0 }
+        ensures { Made self.old self.new (result ≡ call_at name.now column args.entry) }
+    {
+        let args = self.list(args);
+        match self.name(name) {
+            Some(name) => {
+                let call = FnCallExpr {
+                    namespace: no_namespace(self.alloc),
+                    name,
+                    args,
+                    op_token: None,
                     capture_parent_scope: false,
                 };
                 Expr::FnCall(call, at(column))

@@ -28,6 +28,7 @@ expr_step _ = false
 
 abbrev pub stmt_step : layer.Stmt-F Bool Bool (Unit {0}) Bool (Unit {0}) Bool → Bool
 stmt_step (layer.Expr expr) = expr
+stmt_step (layer.Stmt::FnCall call pos) = call
 stmt_step (layer.Block block) = block
 stmt_step (layer.Assignment op lhs rhs) = lhs || rhs
 stmt_step (layer.Var ident expr index options pos) = true

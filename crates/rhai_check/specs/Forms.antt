@@ -1,21 +1,15 @@
 -- Which forms of the tree are there.
-use Rattle.std.specs.Prelude.{ℕ, Bool, true, false, ◌&&◌, ◌||◌, not, ◌==◌, is_some, List, [], ◌∷◌, Option, codes}
+use Rattle.std.specs.Prelude.{ℕ, Bool, true, false, ◌&&◌, ◌==◌, List, [], ◌∷◌, codes}
 use Rattle.std.specs.Int.RustNames.{bit_and}
 use Rattle.std.specs.Str.{bytes_eq}
 use Rattle.rhai_tree.specs.declared.expr.Namespace.{Namespace}
 use Rattle.rhai_check.specs.Types.{ASTFlags}
-use Rattle.rhai_tree.specs.declared.token.Token.{Token}
 use Rattle.rhai_check.specs.Names.{Name}
 
 -- a name without a path
 abbrev pub is_unqualified : List Name → Bool
 is_unqualified [] = true
 is_unqualified (root ∷ path) = false
-
--- a call written as an operator with one or two operands, without a path, that leaves the caller's scope alone
-abbrev pub is_operator_call : Namespace → Option Token → Bool → ℕ → Bool
-is_operator_call namespace op capture count =
-    is_unqualified namespace.path && is_some op && not capture && (count == 1 || count == 2)
 
 -- a call of `eval` by its name, with one argument, operator or not
 abbrev pub is_eval_call : Namespace → Name → ℕ → Bool

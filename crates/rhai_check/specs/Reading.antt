@@ -7,7 +7,7 @@ use Rattle.rhai_check.specs.declared.check.CheckFault.TheVariants.{LoopControlOu
 use Rattle.rhai_tree.specs.declared.expr.Expr.TheOpen as layer
 use Rattle.rhai_tree.specs.declared.expr.Expr.TheFolds.{fold-Expr, fold-FnCallExpr, fold-MapEntry, fold-StmtBlock, fold-Stmt}
 use Rattle.rhai_check.specs.Context.{Context, inside, looping, declaring}
-use Rattle.rhai_check.specs.Forms.{is_unqualified, is_eval_call, is_operator_call, is_exported, is_throw}
+use Rattle.rhai_check.specs.Forms.{is_unqualified, is_eval_call, is_exported, is_throw}
 use Rattle.rhai_check.specs.Keys.{are_keys}
 use Rattle.rhai_check.specs.Names.{Name, is_good}
 use Rattle.rhai_tree.specs.Positions.{first_or, start_of_name, start_of_operands, start_of_call, first_shared}
@@ -175,8 +175,7 @@ module _ (r : Reading) where
     operand = start_of_operands call.op_token (map start_in call.args);
     value = λ pos c.
         if is_eval_call call.namespace call.name (length call.args) then r.fault (EvalCall pos)
-        else if is_operator_call call.namespace call.op_token call.capture_parent_scope (length call.args)
-        then found_in_all call.args c
+        else if is_unqualified call.namespace.path then found_in_all call.args c
         else r.fault (NotYet pos);
   }
 
@@ -194,7 +193,7 @@ module _ (r : Reading) where
   abbrev pub stmt_step : layer.Stmt-F Seen SeenStmt (Unit {0}) SeenCall SeenEntry Seen → SeenStmt
   stmt_step (layer.Noop pos) c = (r.none, c)
   stmt_step (layer.Expr expr) c = (expr.value c, c)
-  stmt_step (layer.Stmt::FnCall call pos) c = (r.fault (NotYet pos), c)
+  stmt_step (layer.Stmt::FnCall call pos) c = (call.value pos c, c)
   stmt_step (layer.Block block) c = (block.value c, c)
   stmt_step (layer.Assignment op lhs rhs) c = (r.both (found_in_target lhs c) (rhs.value c), c)
   stmt_step (layer.Var ident expr None options pos) c = (found_in_var expr options pos c, r.declaring ident.name c)

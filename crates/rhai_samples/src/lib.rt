@@ -1,6 +1,7 @@
 //! Trees of the worked examples, each of the text that stands above it.
 #![tactic(auto)]
 
+pub mod calls;
 pub mod data;
 pub mod loops;
 pub mod operators;

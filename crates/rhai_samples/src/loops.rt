@@ -95,3 +95,17 @@ pub fn decrements(alloc: Global, turns: i64) -> Result<Items<Stmt>, AllocError> 
     let body = tree.block([counted], 30, 40);
     tree.finish([start, while_stmt(left, body, 18)])
 }
+
+/// `let n = 1000000; while n > 0 { double(n); n -= 1; }`, with as many turns in the place of the million.
+pub fn doublings(alloc: Global, turns: i64) -> Result<Items<Stmt>, AllocError> {
+    let mut tree = Builder::new(alloc);
+    let start = tree.let_stmt("n", 5, int(turns, 9), 1);
+    let left = [tree.variable("n", 1, 24), int(0, 28)];
+    let left = tree.operator(Token::GreaterThan, ">", 26, left);
+    let arg = tree.variable("n", 1, 39);
+    let doubled = Stmt::Expr(tree.call("double", 32, [arg]));
+    let n = tree.variable("n", 1, 43);
+    let counted = assign(Some(Token::Minus), 45, n, int(1, 48));
+    let body = tree.block([doubled, counted], 30, 51);
+    tree.finish([start, while_stmt(left, body, 18)])
+}

@@ -3,7 +3,7 @@
 ghost use Rattle.std.specs.Prelude.{◌≡◌, ◌++◌, [], IsTrue, IfErr, OnOk, map, length, List, option_map, true};
 ghost use Rattle.rhai_check.specs.Context.{around};
 ghost use Rattle.rhai_check.specs.Declares.{any_of, in_option, declares_expr, declares_call};
-ghost use Rattle.rhai_check.specs.Forms.{is_eval_call, is_operator_call};
+ghost use Rattle.rhai_check.specs.Forms.{is_eval_call, is_unqualified};
 ghost use Rattle.rhai_check.specs.Frame.{tests_of, resolves_expr, resolves_call, target_resolves};
 ghost use Rattle.rhai_check.specs.Frame.{option_resolves, all_resolve_exprs, entries_resolve, map_resolves};
 ghost use Rattle.rhai_check.specs.Frame.{tests_of_entry};
@@ -21,19 +21,6 @@ use rhai_items::{Items, Shared, Table, Text};
 use rhai_tree::expr::{Expr, FnCallExpr, MapEntry};
 use rhai_tree::literal::Literal;
 use rhai_tree::position::Position;
-
-/// Whether a call is written as an operator with one or two operands, without a path, and leaves
-/// the caller's scope alone.
-fn is_operator_call(call: &FnCallExpr) -> bool
-    ensures { result ≡ is_operator_call call.now.namespace call.now.op_token call.now.capture_parent_scope
-        (length call.now.args) }
-{
-    let count = call.args.len();
-    call.namespace.path.len() == 0
-        && call.op_token.is_some()
-        && !call.capture_parent_scope
-        && (count == 1 || count == 2)
-}
 
 /// Passes an expression, or answers one of its faults.
 #[cycle(check)]
@@ -213,9 +200,16 @@ fn is_eval_call(call: &FnCallExpr) -> bool
     call.namespace.path.len() == 0 && call.name.get().as_str() == "eval" && call.args.len() == 1
 }
 
+/// Whether a call's name stands without a path.
+fn is_unqualified(call: &FnCallExpr) -> bool
+    ensures { result ≡ is_unqualified call.now.namespace.path }
+{
+    call.namespace.path.len() == 0
+}
+
 /// Passes a call whose name or operator stands at a position, or answers one of its faults.
 #[cycle(check)]
-fn check_call(
+pub(crate) fn check_call(
     names: &mut Items<Shared<Text>>,
     place: Place,
     call: &FnCallExpr,
@@ -230,7 +224,7 @@ fn check_call(
 {
     if is_eval_call(call) {
         Err(CheckFault::EvalCall(pos))
-    } else if is_operator_call(call) {
+    } else if is_unqualified(call) {
         check_exprs(names, place, call.args.as_slice())
     } else {
         Err(CheckFault::NotYet(pos))

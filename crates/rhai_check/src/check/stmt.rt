@@ -12,7 +12,7 @@ ghost use Rattle.rhai_check.specs.WellFormed.{seen_expr, seen_stmt, seen_block, 
 ghost use Rattle.rhai_check.specs.WellFormed.{faults_in_option, control_faults, var_faults};
 
 use crate::check::CheckFault;
-use crate::check::expr::{check_expr, check_option, check_target};
+use crate::check::expr::{check_call, check_expr, check_option, check_target};
 use crate::check::names::declare;
 use crate::check::place::Place;
 use bitflags::Flags;
@@ -122,6 +122,7 @@ fn check_stmt(names: &mut Items<Shared<Text>>, place: Place, stmt: &Stmt) -> Res
     match stmt {
         Stmt::Noop(_) => Ok(()),
         Stmt::Expr(expr) => check_expr(names, place, expr),
+        Stmt::FnCall(call, pos) => check_call(names, place, call, *pos),
         Stmt::Block(block) => check_block(names, place, block),
         Stmt::Var(ident, expr, None, options, pos) => {
             check_var(names, place, &ident.name, expr, *options, *pos)
@@ -150,8 +151,7 @@ fn check_stmt(names: &mut Items<Shared<Text>>, place: Place, stmt: &Stmt) -> Res
             }
             check_option(names, place, expr)
         }
-        Stmt::FnCall(_, pos)
-        | Stmt::Var(_, _, Some(_), _, pos)
+        Stmt::Var(_, _, Some(_), _, pos)
         | Stmt::Switch { pos, .. }
         | Stmt::For { pos, .. }
         | Stmt::TryCatch(_, _, _, pos)
