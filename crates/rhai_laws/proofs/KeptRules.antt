@@ -4,12 +4,10 @@ use Rattle.std.proofs.lemmas.List.{length-map, map-append}
 use Rattle.std.specs.Prelude.{◌≡◌, ℕ, nat_le, length, not, ◌&&◌, Bool, true, false, List, [], ◌∷◌, ◌++◌, map, Option, Some, None, Result}
 use Rattle.std.specs.Prelude.{Ok, Err, is_some}
 use Rattle.rhai_tree.specs.declared.position.Position.{Position}
-use Rattle.rhai_tree.specs.declared.token.Token.{Token}
 use Rattle.rhai_tree.specs.declared.flags.ASTFlags.{ASTFlags}
 use Rattle.rhai_tree.specs.declared.expr.Ident.{Ident}
 use Rattle.rhai_tree.specs.declared.expr.Expr.{Expr, out-Expr}
 use Rattle.rhai_tree.specs.declared.expr.Stmt.{Stmt}
-use Rattle.rhai_tree.specs.declared.expr.FnCallExpr.{FnCallExpr}
 use Rattle.rhai_tree.specs.declared.expr.StmtBlock.{StmtBlock}
 use Rattle.rhai_tree.specs.declared.expr.MapEntry.{MapEntry}
 use Rattle.rhai_tree.specs.declared.expr.Expr.TheOpen as layer
@@ -30,22 +28,23 @@ use Rattle.rhai_machine.specs.language.State.{Local}
 use Rattle.rhai_machine.specs.language.Values.{flat, through as seen_through, truth, unit_value}
 use Rattle.rhai_machine.specs.language.Names.{read}
 use Rattle.rhai_machine.specs.language.Frames.{on_value}
-use Rattle.rhai_machine.specs.language.Frames.{Operation, Call, Control, Frame, Core, core, Eval, Exec, Ask, Assign, AskUpdate, Argument}
+use Rattle.rhai_machine.specs.language.Frames.{Operation, Control, Frame, Core, core, Eval, Exec, Ask, Assign, AskUpdate, Argument}
 use Rattle.rhai_machine.specs.language.Frames.{Question, Fire, QuestionUpdate, FireUpdate, OpenExpr, OpenStmt, Enter, Run, Store, WhileTurn}
 use Rattle.rhai_machine.specs.language.Frames.{DoTurn, Back, Fail, StatementValue, DefineValue, IfCondition, RestOfList, RestoreList, Top}
 use Rattle.rhai_machine.specs.language.Frames.{UnaryOperand, LeftOperand, RightOperand, AndPart, OrPart, CoalescePart, AssignValue}
 use Rattle.rhai_machine.specs.language.Frames.{WhileCondition, WhileBody, DoCondition, DoBody, BreakValue, ReturnValue}
-use Rattle.rhai_machine.specs.language.Frames.{ArrayItem, EntryValue, TextPart, PrintedPart}
+use Rattle.rhai_machine.specs.language.Frames.{ArrayItem, EntryValue, TextPart, PrintedPart, CallNamed, CallArgument, KeywordArgument}
 use Rattle.rhai_machine.specs.language.Data.{with_item, with_value, with_part, items_core, entries_core, parts_core, part_core}
 use Rattle.rhai_machine.specs.language.Data.{joined_core, printed, unprinted_core}
 use Rattle.rhai_machine.specs.language.Places.{is_barred, target_of}
 use Rattle.rhai_machine.specs.language.Loops.{is_endless, goes_on, while_move, while_core, if_goes_on, do_control, caught}
-use Rattle.rhai_machine.specs.language.Expressions.{literal_of, argument_move, operands_move, expr_move, and_core, and_next, or_core}
+use Rattle.rhai_machine.specs.language.Expressions.{literal_of, argument_move, expr_move, and_core, and_next, or_core}
 use Rattle.rhai_machine.specs.language.Expressions.{or_next, coalesce_core, coalesce_seen, coalesce_next}
-use Rattle.rhai_machine.specs.language.Calls.{operator_core, builtin_of, fire_first, fire_move, replied, applied}
+use Rattle.rhai_machine.specs.language.Calls.{builtin_of, call_of}
+use Rattle.rhai_machine.specs.language.Arguments.{flattens, taken}
 use Rattle.rhai_machine.specs.language.Statements.{has_option, mode_of, enter_core, run_core, chosen_core, defined_core, define_core}
 use Rattle.rhai_machine.specs.language.Statements.{stmt_move, break_core, return_move}
-use Rattle.rhai_machine.specs.language.Unwinding.{up_core, down_core, topped, operated, call_of}
+use Rattle.rhai_machine.specs.language.Unwinding.{up_core, down_core, topped, operated}
 use Rattle.rhai_machine.specs.language.Language.{move_at}
 use Rattle.rhai_laws.specs.Kept.{Sound, names_of}
 use Rattle.rhai_laws.specs.Steady.{Moves}
@@ -53,6 +52,8 @@ use Rattle.rhai_laws.proofs.Keeping.{Asked, Grows, Free, Held, begins_through, u
 use Rattle.rhai_laws.proofs.Keeping.{ended_keeps}
 use Rattle.rhai_laws.proofs.Keeping.{entered_around, entered_names, left_names}
 use Rattle.rhai_laws.proofs.KeptAssignments.{there_keeps, assignment_keeps, store_keeps, barred_keeps, fire_update_keeps}
+use Rattle.rhai_laws.proofs.KeptCalls.{on_keeps, call_keeps, fire_keeps, question_keeps, operator_keeps, arguments_keep, named_keeps}
+use Rattle.rhai_laws.proofs.KeptCalls.{keyword_keeps}
 
 module _ {H : Type 0} (a : Asked) where
   -- lists
@@ -75,22 +76,9 @@ module _ {H : Type 0} (a : Asked) where
   argument_keeps (Some v) e k l = quiet a tt refl (λ t. t)
   argument_keeps None e k l = quiet a tt refl (λ t. t)
 
-  operands_keeps : (fast : Bool) (token : Option Token) (call : FnCallExpr) (args : List Expr) (pos : Position) (form : ExprLayer)
-      (k : List (Frame H)) (l : Local H) →
-      Moves (Keeps a) (core (OpenExpr form) k l) (operands_move fast token call args pos k l)
-  operands_keeps true (Some token) call (operand ∷ []) pos form k l = quiet a tt refl (λ t. t)
-  operands_keeps true (Some token) call (left ∷ right ∷ []) pos form k l = quiet a tt refl (λ t. t)
-  operands_keeps _ _ call args pos form k l = tt
-
   and_keeps : (parts : List Expr) (k : List (Frame H)) (l : Local H) → Keeps a (calm k l) (and_core parts k l)
   and_keeps [] k l = quiet a tt refl (λ t. t)
   and_keeps (part ∷ parts) k l = quiet a tt refl (λ t. t)
-
-  -- what a value leads to keeps it, and so does an error
-  on_keeps : {A : Type 0} (r : Result A (EvalAltResult H)) (go : A → Core H) (k : List (Frame H)) (l : Local H) →
-      ((x : A) → Keeps a (calm k l) (go x)) → Keeps a (calm k l) (on_value r go k l)
-  on_keeps (Ok x) go k l h = h x
-  on_keeps (Err e) go k l h = quiet a tt refl (λ t. t)
 
   and_next_keeps : (holds : Bool) (parts : List Expr) (k : List (Frame H)) (l : Local H) → Keeps a (calm k l) (and_next holds parts k l)
   and_next_keeps true parts k l = and_keeps parts k l
@@ -144,7 +132,7 @@ module _ {H : Type 0} (a : Asked) where
   expr_keeps fast (layer.Variable offset name namespace pos) k l =
       there_keeps a (is_unqualified namespace.path) (core (OpenExpr (layer.Variable offset name namespace pos)) k l) _
       (after a (calm k l) refl (λ t. t) (ended_keeps a (read l.around.cells name pos l.scope) k l))
-  expr_keeps fast (layer.Expr::FnCall call pos) k l = operands_keeps fast call.op_token call call.args pos (layer.Expr::FnCall call pos) k l
+  expr_keeps fast (layer.Expr::FnCall call pos) k l = call_keeps a fast call.op_token call call.args pos (layer.Expr::FnCall call pos) k l
   expr_keeps fast (layer.Stmt block) k l = quiet a tt refl (λ t. t)
   expr_keeps fast (layer.InterpolatedString parts pos) k l = after a (calm k l) refl (λ t. t) (parts_keep [] parts k l)
   expr_keeps fast (layer.Array items pos) k l = after a (calm k l) refl (λ t. t) (items_keep [] items k l)
@@ -218,34 +206,15 @@ module _ {H : Type 0} (a : Asked) where
   defined_keeps (Err e) ident options value_at v k l = quiet a tt refl (λ t. held a k l (t.0, t.1.1))
 
   module _ (s : Setting H) where
-    -- calls
-    fire_first_keeps : (u : Union H) (x : Dynamic H) (call : Call H) (rest : List (Dynamic H)) (k : List (Frame H)) (l : Local H) →
-        Moves (Keeps a) (core (Fire call) k l) (fire_first s u x call rest k l)
-    fire_first_keeps (value.Cell id) x call rest k l = quiet a tt refl (λ t. t)
-    fire_first_keeps _ x call rest k l =
-        λ reply left. after a (calm k l) refl (λ t. t) (ended_keeps a
-        (replied s.limits s.host_type reply left rest call.operation l.around.cells) k l)
-
-    fire_keeps : (call : Call H) (args : List (Dynamic H)) (k : List (Frame H)) (l : Local H) →
-        Moves (Keeps a) (core (Fire call) k l) (fire_move s call args k l)
-    fire_keeps call [] k l =
-        λ reply left. after a (calm k l) refl (λ t. t) (ended_keeps a
-        (replied s.limits s.host_type reply left [] call.operation l.around.cells) k l)
-    fire_keeps call (x ∷ rest) k l = fire_first_keeps x.value x call rest k l
-
-    operator_keeps : (builtin : Option (Result (Dynamic H) (EvalAltResult H))) (call : Call H) (k : List (Frame H)) (l : Local H) →
-        Keeps a (calm k l) (operator_core s builtin call k l)
-    operator_keeps (Some r) call k l = ended_keeps a (applied s.limits r call.operation.at) k l
-    operator_keeps None call k l = quiet a tt refl (λ t. t)
-
+    -- the operands of an operator
     operated_keeps : (operation : Operation) (args : List (Dynamic H)) (k : List (Frame H)) (l : Local H) →
         Keeps a (calm k l) (operated s operation args k l)
-    operated_keeps operation args k l = operator_keeps (builtin_of operation.token args) (call_of s operation args) k l
+    operated_keeps operation args k l = operator_keeps a s (builtin_of operation.token args) (call_of operation args) k l
 
     -- arrays and texts
     part_keeps : (text part : List ℕ) (at : Position) (rest : List Expr) (k : List (Frame H)) (l : Local H) →
         Keeps a (calm k l) (part_core s text part at rest k l)
-    part_keeps text part at rest k l = on_keeps (with_part s.limits text part at) _ k l (λ more. parts_keep more rest k l)
+    part_keeps text part at rest k l = on_keeps a (with_part s.limits text part at) _ k l (λ more. parts_keep more rest k l)
 
     joined_keeps : (u : Union H) (v : Dynamic H) (text : List ℕ) (at : Position) (rest : List Expr) (k : List (Frame H)) (l : Local H) →
         Keeps a (calm k l) (joined_core s u v text at rest k l)
@@ -264,42 +233,47 @@ module _ {H : Type 0} (a : Asked) where
     up_keeps (StatementValue pos) v k l = after a (calm k l) refl (λ t. t) (ended_keeps a (flat l.around.cells v pos) k l)
     up_keeps (DefineValue ident options value_at) v k l = defined_keeps (flat l.around.cells v value_at) ident options value_at v k l
     up_keeps (IfCondition test_at body branch) v k l =
-        after a (calm k l) refl (λ t. t) (on_keeps (truth s.host_type l.around.cells v test_at) _ k l
+        after a (calm k l) refl (λ t. t) (on_keeps a (truth s.host_type l.around.cells v test_at) _ k l
         (λ holds. chosen_keeps holds body branch k l))
     up_keeps (RestOfList rest restoring) v k l = quiet a tt refl (λ t. t)
     up_keeps (RestoreList saved) v k l = quiet a tt refl (left_names a saved k l)
     up_keeps (Top map_exit) v k l = quiet a tt refl (λ t. t)
     up_keeps (UnaryOperand operation operand_at) v k l =
-        after a (calm k l) refl (λ t. t) (on_keeps (flat l.around.cells v operand_at) _ k l
+        after a (calm k l) refl (λ t. t) (on_keeps a (flat l.around.cells v operand_at) _ k l
         (λ x. operated_keeps operation (x ∷ []) k l))
     up_keeps (LeftOperand operation left_at right) v k l =
-        after a (calm k l) refl (λ t. t) (on_keeps (flat l.around.cells v left_at) _ k l (λ x. quiet a tt refl (λ t. t)))
+        after a (calm k l) refl (λ t. t) (on_keeps a (flat l.around.cells v left_at) _ k l (λ x. quiet a tt refl (λ t. t)))
     up_keeps (RightOperand operation left right_at) v k l =
-        after a (calm k l) refl (λ t. t) (on_keeps (flat l.around.cells v right_at) _ k l
+        after a (calm k l) refl (λ t. t) (on_keeps a (flat l.around.cells v right_at) _ k l
         (λ y. operated_keeps operation (left ∷ y ∷ []) k l))
+    up_keeps (CallArgument purpose made argument_at rest) v k l =
+        after a (calm k l) refl (λ t. t) (on_keeps a (taken (flattens purpose) l.around.cells v argument_at) _ k l
+        (λ x. arguments_keep a s purpose (made ++ x ∷ []) rest k l))
+    up_keeps (KeywordArgument keyword call_at start rest captures) v k l =
+        after a (calm k l) refl (λ t. t) (keyword_keeps a s keyword call_at start rest captures v k l)
     up_keeps (AndPart part_at rest) v k l =
-        after a (calm k l) refl (λ t. t) (on_keeps (truth s.host_type l.around.cells v part_at) _ k l
+        after a (calm k l) refl (λ t. t) (on_keeps a (truth s.host_type l.around.cells v part_at) _ k l
         (λ holds. and_next_keeps holds rest k l))
     up_keeps (OrPart part_at rest) v k l =
-        after a (calm k l) refl (λ t. t) (on_keeps (truth s.host_type l.around.cells v part_at) _ k l
+        after a (calm k l) refl (λ t. t) (on_keeps a (truth s.host_type l.around.cells v part_at) _ k l
         (λ holds. or_next_keeps holds rest k l))
     up_keeps (CoalescePart part_at rest) v k l =
         after a (calm k l) refl (λ t. t) (coalesce_next_keeps (seen_through l.around.cells v part_at) v rest k l)
     up_keeps (ArrayItem made item_at rest) v k l =
-        after a (calm k l) refl (λ t. t) (on_keeps (with_item s.limits made (flat l.around.cells v item_at) item_at) _ k l
+        after a (calm k l) refl (λ t. t) (on_keeps a (with_item s.limits made (flat l.around.cells v item_at) item_at) _ k l
         (λ items. items_keep items rest k l))
     up_keeps (EntryValue keys made value_at rest) v k l =
-        after a (calm k l) refl (λ t. t) (on_keeps (with_value s.limits made (flat l.around.cells v value_at) value_at) _ k l
+        after a (calm k l) refl (λ t. t) (on_keeps a (with_value s.limits made (flat l.around.cells v value_at) value_at) _ k l
         (λ values. entries_keep keys values rest k l))
     up_keeps (TextPart text part_at rest) v k l =
-        after a (calm k l) refl (λ t. t) (on_keeps (flat l.around.cells v part_at) _ k l
+        after a (calm k l) refl (λ t. t) (on_keeps a (flat l.around.cells v part_at) _ k l
         (λ x. joined_keeps x.value x text part_at rest k l))
     up_keeps (PrintedPart text type part_at rest) v k l =
         after a (calm k l) refl (λ t. t) (part_keeps text (printed v.value type) part_at rest k l)
     up_keeps (AssignValue assignment value_at) v k l =
-        after a (calm k l) refl (λ t. t) (on_keeps (flat l.around.cells v value_at) _ k l (λ x. quiet a tt refl (λ t. t)))
+        after a (calm k l) refl (λ t. t) (on_keeps a (flat l.around.cells v value_at) _ k l (λ x. quiet a tt refl (λ t. t)))
     up_keeps (WhileCondition test body) v k l =
-        after a (calm k l) refl (λ t. t) (on_keeps (truth s.host_type l.around.cells v (position_of test)) _ k l
+        after a (calm k l) refl (λ t. t) (on_keeps a (truth s.host_type l.around.cells v (position_of test)) _ k l
         (λ holds. while_core_keeps holds test body k l))
     up_keeps (WhileBody test body) v k l = quiet a tt refl (λ t. t)
     up_keeps (DoCondition test body options) v k l =
@@ -309,7 +283,7 @@ module _ {H : Type 0} (a : Asked) where
     up_keeps (DoBody test body options) v k l = quiet a tt refl (λ t. t)
     up_keeps (BreakValue is_break pos) v k l = quiet a tt refl (λ t. t)
     up_keeps (ReturnValue value_at pos) v k l =
-        after a (calm k l) refl (λ t. t) (on_keeps (flat l.around.cells v value_at) _ k l (λ x. quiet a tt refl (λ t. t)))
+        after a (calm k l) refl (λ t. t) (on_keeps a (flat l.around.cells v value_at) _ k l (λ x. quiet a tt refl (λ t. t)))
 
     down_keeps : (frame : Frame H) (e : EvalAltResult H) (k : List (Frame H)) (l : Local H) →
         Keeps a (core (Fail e) (frame ∷ k) l) (down_core s frame e k l)
@@ -340,6 +314,7 @@ module _ {H : Type 0} (a : Asked) where
           Moves (Keeps a) (core (OpenStmt form restoring) k l) (stmt_move s form restoring k l)
       stmt_keeps (layer.Noop pos) restoring k l = quiet a tt refl (held a k l)
       stmt_keeps (layer.Expr value) restoring k l = quiet a tt refl (held a k l)
+      stmt_keeps (layer.Stmt::FnCall call pos) restoring k l = quiet a tt refl (held a k l)
       stmt_keeps (layer.Block block) restoring k l = quiet a tt refl (held a k l)
       stmt_keeps (layer.Assignment op lhs rhs) restoring k l =
           assignment_keeps a (out-Expr lhs) op rhs (core (OpenStmt (layer.Assignment op lhs rhs) restoring) k l) k l
@@ -367,8 +342,10 @@ module _ {H : Type 0} (a : Asked) where
       move_keeps (Assign assignment v) k l h = quiet a tt refl (λ t. t)
       move_keeps (AskUpdate u) k l h = quiet a h refl (λ t. t)
       move_keeps (Argument e) k l h = argument_keeps (literal_of (out-Expr e)) e k l
-      move_keeps (Question call) k l h = λ pure. quiet a tt refl (λ t. t)
-      move_keeps (Fire call) k l h = fire_keeps call call.args k l
+      move_keeps (CallNamed operation curried args captures) k l h =
+          named_keeps a s operation curried args captures k l
+      move_keeps (Question call) k l h = question_keeps a s call call.args k l
+      move_keeps (Fire call) k l h = fire_keeps a s call call.args k l
       move_keeps (QuestionUpdate u) k l h = λ pure. barred_keeps a s (is_barred pure u.target) u k l h
       move_keeps (FireUpdate u) k l h = fire_update_keeps a s u.target.value u k l h
       move_keeps (OpenExpr form) k l h = expr_keeps s.offer.fast_operators form k l

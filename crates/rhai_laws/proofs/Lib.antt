@@ -2,5 +2,6 @@ pub mod MemoryLaws
 pub mod WantLaws
 pub mod Keeping
 pub mod KeptAssignments
+pub mod KeptCalls
 pub mod KeptRules
 pub mod KeptLaws

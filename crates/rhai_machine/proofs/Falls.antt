@@ -1,7 +1,8 @@
 -- Each move of the language without a charge makes a core smaller.
 use Rattle.std.proofs.Common.{arith}
-use Rattle.std.specs.Prelude.{◌<◌, ◌≤◌, ℕ, ◌+◌, nat_le, length, map, not, ◌&&◌, Bool, true, false, List, [], ◌∷◌, Option, Some, None}
-use Rattle.std.specs.Prelude.{Result, Ok, Err, is_some}
+use Rattle.std.specs.Prelude.{◌<◌, ◌≤◌, ℕ, ◌+◌, nat_eq, nat_le, length, map, not, ◌&&◌, Bool, true, false, List, [], ◌∷◌, ◌++◌, Option}
+use Rattle.std.specs.Prelude.{Some, None, Result, Ok, Err, codes, is_some, if◌then◌else◌}
+use Rattle.std.specs.Str.{bytes_eq}
 use Rattle.rhai_tree.specs.declared.position.Position.{Position}
 use Rattle.rhai_tree.specs.declared.token.Token.{Token}
 use Rattle.rhai_tree.specs.declared.flags.ASTFlags.{ASTFlags}
@@ -18,6 +19,9 @@ use Rattle.rhai_check.specs.Forms.{is_unqualified, is_exported}
 use Rattle.rhai_check.specs.Keys.{key_of}
 use Rattle.rhai_values.specs.declared.base.value.Dynamic.{Dynamic}
 use Rattle.rhai_values.specs.declared.base.value.Union.{Union}
+use Rattle.rhai_values.specs.declared.base.value.FnPtr.{FnPtr, out-FnPtr}
+use Rattle.rhai_values.specs.declared.base.value.FnPtrKind.{FnPtrKind}
+use Rattle.rhai_values.specs.declared.base.value.FnPtrKind.TheVariants as kind
 use Rattle.rhai_values.specs.declared.base.value.Union.TheVariants as value
 use Rattle.rhai_state.specs.declared.error.EvalAltResult.{EvalAltResult}
 use Rattle.rhai_state.specs.declared.error.EvalAltResult.TheVariants as error
@@ -30,12 +34,13 @@ use Rattle.rhai_machine.specs.language.State.{Local}
 use Rattle.rhai_machine.specs.language.Values.{unit_value, flat, through, truth}
 use Rattle.rhai_machine.specs.language.Frames.{Operation, Attempt, InPlace, AsValue, Assignment, Update, Call, Control, Frame, Core, core}
 use Rattle.rhai_machine.specs.language.Frames.{where_there, on_value, ended, Eval, Exec, Ask, Assign}
-use Rattle.rhai_machine.specs.language.Frames.{AskUpdate, Argument, Question, Fire, QuestionUpdate}
+use Rattle.rhai_machine.specs.language.Frames.{AskUpdate, Argument, CallNamed, Question, Fire, QuestionUpdate}
 use Rattle.rhai_machine.specs.language.Frames.{FireUpdate, OpenExpr, OpenStmt, Enter, Run, Store, WhileTurn, DoTurn, Back, Fail}
 use Rattle.rhai_machine.specs.language.Frames.{StatementValue, DefineValue, IfCondition, RestOfList, RestoreList, Top, UnaryOperand}
 use Rattle.rhai_machine.specs.language.Frames.{LeftOperand, RightOperand, AndPart, OrPart, CoalescePart, AssignValue, WhileCondition}
 use Rattle.rhai_machine.specs.language.Frames.{WhileBody, DoCondition, DoBody, BreakValue, ReturnValue, ArrayItem, EntryValue, TextPart}
-use Rattle.rhai_machine.specs.language.Frames.{PrintedPart}
+use Rattle.rhai_machine.specs.language.Frames.{PrintedPart, CallArgument, KeywordArgument, Purpose, ToCall, ToCallOn, ToCallNumber, ToCurry}
+use Rattle.rhai_machine.specs.language.Frames.{Keyword, CallPointer, MakePointer, Curry, IsShared, IsDefinedVariable}
 use Rattle.rhai_machine.specs.language.Data.{with_item, with_value, with_part, items_core, entries_core, parts_core, part_core}
 use Rattle.rhai_machine.specs.language.Data.{joined_core, printed, unprinted_core}
 use Rattle.rhai_machine.specs.language.Places.{Place, Target, is_barred, target_of, put}
@@ -46,13 +51,17 @@ use Rattle.rhai_machine.specs.language.Loops.{is_endless, while_move, while_core
 use Rattle.rhai_machine.specs.language.Names.{read}
 use Rattle.rhai_tree.specs.Positions.{position_of}
 use Rattle.rhai_state.specs.Scope.{index_of}
-use Rattle.rhai_machine.specs.language.Expressions.{literal_of, argument_move, operands_move, and_core, and_next, or_core, or_next}
+use Rattle.rhai_machine.specs.language.Expressions.{literal_of, argument_move, call_move, and_core, and_next, or_core, or_next}
 use Rattle.rhai_machine.specs.language.Expressions.{coalesce_core, coalesce_seen, coalesce_next, expr_move}
-use Rattle.rhai_machine.specs.language.Calls.{operator_core, builtin_of, fire_first, fire_move, call_native, replied, applied, sized}
-use Rattle.rhai_machine.specs.language.Calls.{placed_if_none}
+use Rattle.rhai_machine.specs.language.Calls.{operator_core, builtin_of, call_of, races, named_core, dispatch_core, fire_first, fire_move}
+use Rattle.rhai_machine.specs.language.Calls.{First, first_of, while_from, barred_call, question_first, question_move, call_native}
+use Rattle.rhai_machine.specs.language.Calls.{asks_function, replied, applied, sized, placed_if_none}
+use Rattle.rhai_machine.specs.language.Arguments.{call_on, flattens, taken, numbered_core, arguments_there, arguments_core, on_variable}
+use Rattle.rhai_machine.specs.language.Arguments.{captured_move, named_move, operation_named, pointer_of, pointer_wanted, text_wanted}
+use Rattle.rhai_machine.specs.language.Arguments.{pointer_core, keyword_core, keyword_of, function_core, function_of, variable_in}
 use Rattle.rhai_machine.specs.language.Statements.{enter_core, run_core, chosen_core, defined_core, define_core, break_core, return_move}
 use Rattle.rhai_machine.specs.language.Statements.{has_option, stmt_move}
-use Rattle.rhai_machine.specs.language.Unwinding.{up_core, down_core, topped, operated, call_of}
+use Rattle.rhai_machine.specs.language.Unwinding.{up_core, down_core, topped, operated}
 use Rattle.rhai_machine.specs.language.Language.{move_at, move}
 use Rattle.rhai_machine.specs.language.Runs.{at}
 
@@ -66,12 +75,13 @@ module _ {H : Type 0} where
   control_size (Assign assignment v) = 0
   control_size (AskUpdate u) = 0
   control_size (Argument e) = 1
+  control_size (CallNamed operation curried args captures) = 14
   control_size (Question call) = 12
   control_size (Fire call) = 11
   control_size (QuestionUpdate u) = 12
   control_size (FireUpdate u) = 11
   control_size (OpenExpr form) = 20
-  control_size (OpenStmt form restoring) = 20
+  control_size (OpenStmt form restoring) = 21
   control_size (Enter [] restoring) = 8
   control_size (Enter (stmt ∷ stmts) restoring) = 5
   control_size (Run [] restoring last) = 8
@@ -92,6 +102,8 @@ module _ {H : Type 0} where
   frame_size (UnaryOperand operation operand_at) = 4
   frame_size (LeftOperand operation left_at right) = 4
   frame_size (RightOperand operation left right_at) = 4
+  frame_size (CallArgument purpose made argument_at rest) = 8
+  frame_size (KeywordArgument keyword call_at start rest captures) = 12
   frame_size (AndPart part_at rest) = 4
   frame_size (OrPart part_at rest) = 4
   frame_size (CoalescePart part_at rest) = 4
@@ -145,13 +157,6 @@ module _ {H : Type 0} where
     argument_falls (Some v) e k l = tt
     argument_falls None e k l = omega arith
 
-    operands_fall : (fast : Bool) (token : Option Token) (call : FnCallExpr) (args : List Expr) (pos : Position) (form : ExprLayer)
-        (k : List (Frame H)) (l : Local H) →
-        Falls size (core (OpenExpr form) k l) (operands_move fast token call args pos k l)
-    operands_fall true (Some token) call (operand ∷ []) pos form k l = omega arith
-    operands_fall true (Some token) call (left ∷ right ∷ []) pos form k l = omega arith
-    operands_fall _ _ call args pos form k l = tt
-
     and_falls : (parts : List Expr) (k : List (Frame H)) (l : Local H) → size (and_core parts k l) < 8 + stack_size k
     and_falls [] k l = omega arith
     and_falls (part ∷ parts) k l = omega arith
@@ -184,6 +189,26 @@ module _ {H : Type 0} where
     there_falls true c d lt = lt
     there_falls false c d lt = tt
 
+    -- a call that was not written as an operator
+    function_falls : (keyword : Option Keyword) (operation : Operation) (args : List Expr) (captures : Bool) (k : List (Frame H))
+        (l : Local H) →
+        size (function_core keyword operation args captures k l) < 20 + stack_size k
+    function_falls (Some keyword) operation (arg ∷ args) captures k l = omega arith
+    function_falls _ operation args captures k l = omega arith
+
+    function_of_falls : (call : FnCallExpr) (pos : Position) (k : List (Frame H)) (l : Local H) →
+        size (function_of call pos k l) < 20 + stack_size k
+    function_of_falls call pos k l = function_falls (keyword_of call.op_token call.name (length call.args))
+        (record { name = call.name; token = call.op_token; at = pos }) call.args call.capture_parent_scope k l
+
+    call_falls : (fast : Bool) (token : Option Token) (call : FnCallExpr) (args : List Expr) (pos : Position) (form : ExprLayer)
+        (k : List (Frame H)) (l : Local H) →
+        Falls size (core (OpenExpr form) k l) (call_move fast token call args pos k l)
+    call_falls true (Some token) call (operand ∷ []) pos form k l = omega arith
+    call_falls true (Some token) call (left ∷ right ∷ []) pos form k l = omega arith
+    call_falls _ _ call args pos form k l = there_falls (is_unqualified call.namespace.path) (core (OpenExpr form) k l)
+        (function_of call pos k l) (function_of_falls call pos k l)
+
     expr_falls : (fast : Bool) (form : ExprLayer) (k : List (Frame H)) (l : Local H) →
         Falls size (core (OpenExpr form) k l) (expr_move fast form k l)
     expr_falls fast (layer.DynamicConstant literal pos) k l = omega arith
@@ -196,8 +221,7 @@ module _ {H : Type 0} where
         there_falls (is_unqualified namespace.path) (core (OpenExpr (layer.Variable offset name namespace pos)) k l)
         (core (ended (read l.around.cells name pos l.scope)) k l)
         (result_falls (read l.around.cells name pos l.scope) (20 + stack_size k) (stack_size k) (omega arith))
-    expr_falls fast (layer.Expr::FnCall call pos) k l = operands_fall fast call.op_token call call.args pos (layer.Expr::FnCall call pos)
-        k l
+    expr_falls fast (layer.Expr::FnCall call pos) k l = call_falls fast call.op_token call call.args pos (layer.Expr::FnCall call pos) k l
     expr_falls fast (layer.Stmt block) k l = omega (arith, enter_size block.statements true k)
     expr_falls fast (layer.InterpolatedString parts pos) k l = grind (arith, parts_fall [] parts k l)
     expr_falls fast (layer.Array items pos) k l = grind (arith, items_fall [] items k l)
@@ -209,7 +233,7 @@ module _ {H : Type 0} where
 
     define_falls : (shadows full : Bool) (ident : Ident) (value : Expr) (options : ASTFlags) (pos : Position) (k : List (Frame H))
         (l : Local H) →
-        size (define_core s shadows full ident value options pos k l) < 20 + stack_size k
+        size (define_core s shadows full ident value options pos k l) < 21 + stack_size k
     define_falls true full ident value options pos k l = omega arith
     define_falls false true ident value options pos k l = omega arith
     define_falls false false ident value options pos k l = omega arith
@@ -222,7 +246,7 @@ module _ {H : Type 0} where
     assignment_falls _ op rhs form restoring k l = tt
 
     break_falls : (value : Option Expr) (is_break : Bool) (pos : Position) (k : List (Frame H)) (l : Local H) →
-        size (break_core value is_break pos k l) < 20 + stack_size k
+        size (break_core value is_break pos k l) < 21 + stack_size k
     break_falls None is_break pos k l = omega arith
     break_falls (Some value) is_break pos k l = omega arith
 
@@ -237,6 +261,7 @@ module _ {H : Type 0} where
         Falls size (core (OpenStmt form restoring) k l) (stmt_move s form restoring k l)
     stmt_falls (layer.Noop pos) restoring k l = omega arith
     stmt_falls (layer.Expr value) restoring k l = omega arith
+    stmt_falls (layer.Stmt::FnCall call pos) restoring k l = omega arith
     stmt_falls (layer.Block block) restoring k l = omega (arith, enter_size block.statements true k)
     stmt_falls (layer.Assignment op lhs rhs) restoring k l =
         assignment_falls (out-Expr lhs) op rhs (layer.Assignment op lhs rhs) restoring k l
@@ -252,32 +277,152 @@ module _ {H : Type 0} where
         return_falls (has_option 2 options) value pos (layer.Return value options pos) restoring k l
     stmt_falls _ restoring k l = tt
 
-    -- a native's reply comes back
-    native_falls : (call : Call H) (first : Option (Dynamic H)) (rest : List (Dynamic H)) (k : List (Frame H)) (l : Local H) →
-        Falls size (core (Fire call) k l) (call_native s call first rest k l)
-    native_falls call first rest k l reply left = result_falls
-        (replied s.limits s.host_type reply left rest call.operation l.around.cells) (11 + stack_size k) (stack_size k) (omega arith)
-
-    fire_first_falls : (u : Union H) (x : Dynamic H) (call : Call H) (rest : List (Dynamic H)) (k : List (Frame H)) (l : Local H) →
-        Falls size (core (Fire call) k l) (fire_first s u x call rest k l)
-    fire_first_falls (value.Cell id) x call rest k l = omega arith
-    fire_first_falls _ x call rest k l = native_falls call (Some x) rest k l
-
-    fire_falls : (call : Call H) (args : List (Dynamic H)) (k : List (Frame H)) (l : Local H) →
-        Falls size (core (Fire call) k l) (fire_move s call args k l)
-    fire_falls call [] k l = native_falls call None [] k l
-    fire_falls call (x ∷ rest) k l = fire_first_falls x.value x call rest k l
-
-    operator_falls : (builtin : Option (Result (Dynamic H) (EvalAltResult H))) (call : Call H) (k : List (Frame H)) (l : Local H) →
-        size (operator_core s builtin call k l) < 11 + stack_size k
-    operator_falls (Some r) call k l = result_falls (applied s.limits r call.operation.at) (11 + stack_size k) (stack_size k) (omega arith)
-    operator_falls None call k l = omega arith
-
     -- a value leads to a smaller core, and so does an error
     on_falls : {A : Type 0} (r : Result A (EvalAltResult H)) (go : A → Core H) (k : List (Frame H)) (l : Local H) →
         ((x : A) → size (go x) < 11 + stack_size k) → size (on_value r go k l) < 11 + stack_size k
     on_falls (Ok x) go k l h = h x
     on_falls (Err e) go k l h = omega arith
+
+    -- a native's reply comes back
+    native_falls : (call : Call H) (from : Option Place) (first : Option (Dynamic H)) (rest : List (Dynamic H)) (k : List (Frame H))
+        (l : Local H) →
+        Falls size (core (Fire call) k l) (call_native s call from first rest k l)
+    native_falls call from first rest k l reply left = result_falls
+        (replied s.limits s.host_type reply left rest call.operation (while_from from l.around.cells)) (11 + stack_size k)
+        (stack_size k) (omega arith)
+
+    fire_first_falls : (call : Call H) (rest : List (Dynamic H)) (r : Result (First H) (EvalAltResult H)) (k : List (Frame H))
+        (l : Local H) →
+        Falls size (core (Fire call) k l) (fire_first s call rest r k l)
+    fire_first_falls call rest (Ok first) k l = native_falls call first.from (Some first.value) rest k l
+    fire_first_falls call rest (Err e) k l = omega arith
+
+    fire_falls : (call : Call H) (args : List (Dynamic H)) (k : List (Frame H)) (l : Local H) →
+        Falls size (core (Fire call) k l) (fire_move s call args k l)
+    fire_falls call [] k l = native_falls call None None [] k l
+    fire_falls call (x ∷ rest) k l = fire_first_falls call rest (first_of l.around.cells call x) k l
+
+    barred_call_falls : (barred : Bool) (call : Call H) (k : List (Frame H)) (l : Local H) →
+        size (barred_call s barred call k l) < 12 + stack_size k
+    barred_call_falls true call k l = omega arith
+    barred_call_falls false call k l = omega arith
+
+    question_first_falls : (call : Call H) (rest : List (Dynamic H)) (r : Result (First H) (EvalAltResult H)) (k : List (Frame H))
+        (l : Local H) →
+        Falls size (core (Question call) k l) (question_first s call rest r k l)
+    question_first_falls call rest (Ok first) k l =
+        λ pure. barred_call_falls (is_some call.entry && is_barred pure first.value) call k l
+    question_first_falls call rest (Err e) k l = omega arith
+
+    question_falls : (call : Call H) (args : List (Dynamic H)) (k : List (Frame H)) (l : Local H) →
+        Falls size (core (Question call) k l) (question_move s call args k l)
+    question_falls call [] k l = λ pure. omega arith
+    question_falls call (x ∷ rest) k l = question_first_falls call rest (first_of l.around.cells call x) k l
+
+    -- a call whose arguments are there
+    if_falls : (b : Bool) (c d : Core H) (n : ℕ) → size c < n → size d < n → size (if b then c else d) < n
+    if_falls true c d n small other = small
+    if_falls false c d n small other = other
+
+    one_falls : (b c : Bool) (v : Dynamic H) (e : EvalAltResult H) (call : Call H) (k : List (Frame H)) (l : Local H) →
+        size (if b then core (Back v) k l else if c then core (Fail e) k l else core (Ask call) k l) < 11 + stack_size k
+    one_falls true c v e call k l = omega arith
+    one_falls false true v e call k l = omega arith
+    one_falls false false v e call k l = omega arith
+
+    two_fall : (b : Bool) (v : Dynamic H) (call : Call H) (k : List (Frame H)) (l : Local H) →
+        size (if b then core (Back v) k l else core (Ask call) k l) < 11 + stack_size k
+    two_fall true v call k l = omega arith
+    two_fall false v call k l = omega arith
+
+    named_falls : (args : List (Dynamic H)) (call : Call H) (k : List (Frame H)) (l : Local H) →
+        size (named_core s args call k l) < 11 + stack_size k
+    named_falls [] call k l = omega arith
+    named_falls (v ∷ []) call k l =
+        one_falls (bytes_eq call.operation.name (codes "type_of")) (bytes_eq call.operation.name (codes "eval")) _ _ call k l
+    named_falls (v ∷ w ∷ []) call k l = two_fall (bytes_eq call.operation.name (codes "is_def_fn")
+        && asks_function (through l.around.cells v call.operation.at) (through l.around.cells w call.operation.at)) _ call k l
+    named_falls (v ∷ w ∷ x ∷ args) call k l = omega arith
+
+    dispatch_falls : (call : Call H) (k : List (Frame H)) (l : Local H) → size (dispatch_core s call k l) < 11 + stack_size k
+    dispatch_falls call k l =
+        if_falls (races l.around.cells call.args) _ _ (11 + stack_size k) (omega arith) (named_falls call.args call k l)
+
+    operator_falls : (builtin : Option (Result (Dynamic H) (EvalAltResult H))) (call : Call H) (k : List (Frame H)) (l : Local H) →
+        size (operator_core s builtin call k l) < 11 + stack_size k
+    operator_falls (Some r) call k l = result_falls (applied s.limits r call.operation.at) (11 + stack_size k) (stack_size k) (omega arith)
+    operator_falls None call k l = dispatch_falls call k l
+
+    -- the arguments of a call, and what is done once they are there
+    numbered_falls : (call : Call H) (k : List (Frame H)) (l : Local H) → size (numbered_core call k l) < 13 + stack_size k
+    numbered_falls call k l = if_falls (races l.around.cells call.args) _ _ (13 + stack_size k) (omega arith) (omega arith)
+
+    there_size : (purpose : Purpose H) (args : List (Dynamic H)) (k : List (Frame H)) (l : Local H) →
+        size (arguments_there s purpose args k l) < 13 + stack_size k
+    there_size (ToCall operation curried) args k l = omega (arith, dispatch_falls (call_of operation (curried ++ args)) k l)
+    there_size (ToCallOn operation variable variable_at) args k l = omega (
+      arith,
+      on_falls (call_on l.around.cells l.scope operation variable variable_at args) (λ call. dispatch_core s call k l) k l
+          (λ call. dispatch_falls call k l),
+    )
+    there_size (ToCallNumber number operation curried) args k l =
+        numbered_falls (record (call_of operation (curried ++ args)) { number = Some number }) k l
+    there_size (ToCurry pointer) args k l = omega arith
+
+    arguments_fall : (purpose : Purpose H) (made : List (Dynamic H)) (args : List Expr) (k : List (Frame H)) (l : Local H) →
+        size (arguments_core s purpose made args k l) < 13 + stack_size k
+    arguments_fall purpose made [] k l = there_size purpose made k l
+    arguments_fall purpose made (arg ∷ args) k l = omega arith
+
+    variable_falls : (variable : Option (List ℕ × Position)) (operation : Operation) (arg : Expr) (args : List Expr)
+        (curried : List (Dynamic H)) (captures : Bool) (k : List (Frame H)) (l : Local H) →
+        Falls size (core (CallNamed operation curried (arg ∷ args) captures) k l) (on_variable s variable operation arg args k l)
+    variable_falls (Some (variable, at)) operation arg args curried captures k l = tt
+    variable_falls None operation arg args curried captures k l = omega (arith, arguments_fall (ToCall operation []) [] (arg ∷ args) k l)
+
+    captured_falls : (captured : Bool) (operation : Operation) (arg : Expr) (args : List Expr) (curried : List (Dynamic H))
+        (captures : Bool) (k : List (Frame H)) (l : Local H) →
+        Falls size (core (CallNamed operation curried (arg ∷ args) captures) k l) (captured_move s captured operation arg args k l)
+    captured_falls true operation arg args curried captures k l = omega (arith, arguments_fall (ToCall operation []) [] (arg ∷ args) k l)
+    captured_falls false operation arg args curried captures k l =
+        variable_falls (variable_in (out-Expr arg)) operation arg args curried captures k l
+
+    named_call_falls : (operation : Operation) (curried : List (Dynamic H)) (args : List Expr) (captures : Bool) (k : List (Frame H))
+        (l : Local H) →
+        Falls size (core (CallNamed operation curried args captures) k l) (named_move s operation curried args captures k l)
+    named_call_falls operation [] (arg ∷ args) captures k l =
+        captured_falls (captures && not (nat_eq (length l.scope) 0)) operation arg args [] captures k l
+    named_call_falls operation [] [] captures k l = omega (arith, arguments_fall (ToCall operation []) [] [] k l)
+    named_call_falls operation (v ∷ curried) args captures k l =
+        omega (arith, arguments_fall (ToCall operation (v ∷ curried)) [] args k l)
+
+    -- the first argument of a keyword
+    pointer_falls : (of : FnPtrKind H) (pointer : FnPtr H) (at : Position) (args : List Expr) (captures : Bool) (k : List (Frame H))
+        (l : Local H) →
+        size (pointer_core s of pointer at args captures k l) < 15 + stack_size k
+    pointer_falls (kind.Native id) pointer at args captures k l = omega (
+      arith,
+      arguments_fall (ToCallNumber id.number (operation_named (codes "call") at) (out-FnPtr H pointer).curry) [] args k l,
+    )
+    pointer_falls _ pointer at args captures k l = omega arith
+
+    wider_falls : {A : Type 0} (r : Result A (EvalAltResult H)) (go : A → Core H) (k : List (Frame H)) (l : Local H) →
+        ((x : A) → size (go x) < 15 + stack_size k) → size (on_value r go k l) < 15 + stack_size k
+    wider_falls (Ok x) go k l h = h x
+    wider_falls (Err e) go k l h = omega arith
+
+    keyword_falls : (keyword : Keyword) (at start : Position) (args : List Expr) (captures : Bool) (v : Dynamic H) (k : List (Frame H))
+        (l : Local H) →
+        size (keyword_core s keyword at start args captures v k l) < 15 + stack_size k
+    keyword_falls CallPointer at start args captures v k l = wider_falls (pointer_wanted s.host_type l.around.cells v start) _ k l
+        (λ pointer. pointer_falls (out-FnPtr H pointer).kind pointer at args captures k l)
+    keyword_falls MakePointer at start args captures v k l = wider_falls (text_wanted s.host_type l.around.cells v start) _ k l
+        (λ name. result_falls (pointer_of name start) (15 + stack_size k) (stack_size k) (omega arith))
+    keyword_falls Curry at start args captures v k l = wider_falls (pointer_wanted s.host_type l.around.cells v start) _ k l
+        (λ pointer. omega (arith, arguments_fall (ToCurry pointer) [] args k l))
+    keyword_falls IsShared at start args captures v k l = omega arith
+    keyword_falls IsDefinedVariable at start args captures v k l =
+        wider_falls (text_wanted s.host_type l.around.cells v start) _ k l (λ name. omega arith)
 
     part_falls : (text part : List ℕ) (at : Position) (rest : List Expr) (k : List (Frame H)) (l : Local H) →
         size (part_core s text part at rest k l) < 11 + stack_size k
@@ -302,7 +447,7 @@ module _ {H : Type 0} where
 
     operated_falls : (operation : Operation) (args : List (Dynamic H)) (k : List (Frame H)) (l : Local H) →
         size (operated s operation args k l) < 11 + stack_size k
-    operated_falls operation args k l = operator_falls (builtin_of operation.token args) (call_of s operation args) k l
+    operated_falls operation args k l = operator_falls (builtin_of operation.token args) (call_of operation args) k l
 
     and_next_falls : (holds : Bool) (parts : List Expr) (k : List (Frame H)) (l : Local H) →
         size (and_next holds parts k l) < 11 + stack_size k
@@ -440,6 +585,13 @@ module _ {H : Type 0} where
       on_falls (flat l.around.cells v right_at) (λ y. operated s operation (left ∷ y ∷ []) k l) k l
           (λ y. operated_falls operation (left ∷ y ∷ []) k l),
     )
+    up_falls (CallArgument purpose made argument_at rest) v k l = omega (
+      arith,
+      wider_falls (taken (flattens purpose) l.around.cells v argument_at) (λ x. arguments_core s purpose (made ++ x ∷ []) rest k l) k l
+          (λ x. omega (arith, arguments_fall purpose (made ++ x ∷ []) rest k l)),
+    )
+    up_falls (KeywordArgument keyword call_at start rest captures) v k l =
+        omega (arith, keyword_falls keyword call_at start rest captures v k l)
     up_falls (AndPart part_at rest) v k l = grind (
       arith,
       on_falls (truth s.host_type l.around.cells v part_at) (λ holds. and_next holds rest k l) k l
@@ -497,6 +649,8 @@ module _ {H : Type 0} where
     down_falls (UnaryOperand operation operand_at) e k l = omega arith
     down_falls (LeftOperand operation left_at right) e k l = omega arith
     down_falls (RightOperand operation left right_at) e k l = omega arith
+    down_falls (CallArgument purpose made argument_at rest) e k l = omega arith
+    down_falls (KeywordArgument keyword call_at start rest captures) e k l = omega arith
     down_falls (AndPart part_at rest) e k l = omega arith
     down_falls (OrPart part_at rest) e k l = omega arith
     down_falls (CoalescePart part_at rest) e k l = omega arith
@@ -519,7 +673,8 @@ module _ {H : Type 0} where
     control_falls (Assign assignment v) k l = tt
     control_falls (AskUpdate u) k l = tt
     control_falls (Argument e) k l = argument_falls (literal_of (out-Expr e)) e k l
-    control_falls (Question call) k l = λ pure. omega arith
+    control_falls (CallNamed operation curried args captures) k l = named_call_falls operation curried args captures k l
+    control_falls (Question call) k l = question_falls call call.args k l
     control_falls (Fire call) k l = fire_falls call call.args k l
     control_falls (QuestionUpdate u) k l = λ pure. barred_falls (is_barred pure u.target) u k l
     control_falls (FireUpdate u) k l = fire_update_falls u.target.value u k l

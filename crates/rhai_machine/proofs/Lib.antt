@@ -10,3 +10,4 @@ pub mod SampleRuns
 mod LoopRuns
 mod AssignmentRuns
 mod DataRuns
+mod CallRuns

@@ -10,6 +10,7 @@ use Rattle.rhai_tree.specs.declared.expr.Stmt.{Stmt}
 use Rattle.rhai_tree.specs.declared.token.Token.TheVariants.{Plus}
 use Rattle.rhai_machine.specs.language.Frames.{Control, Frame, Core, core, Fire, StatementValue, Enter, RestOfList, Run as RunList}
 use Rattle.rhai_machine.specs.language.Frames.{Top}
+use Rattle.rhai_machine.specs.language.Calls.{call_at}
 use Rattle.rhai_machine.specs.samples.Trees.{column, int, var, op, value}
 use Rattle.rhai_machine.specs.samples.Runs.{Table, nothing_but, entry, integer, truth, unit}
 use Rattle.rhai_machine.specs.samples.Operators.{Sums, Operands}
@@ -153,7 +154,7 @@ module _ {S H : Type 0} (table : Table S H) (host : H → List ℕ) where
   -- the native of `mixed_sum` is about to be called, under a name
   abbrev sum_fires : List ℕ → (map_exit : Bool) → Config S H (Core H)
   sum_fires name map_exit = standing table
-      (Fire (record { operation = record { name = name; token = Some Plus; at = column 3 }; args = integer 1 ∷ truth true ∷ [] }))
+      (Fire (call_at name Plus (column 3) (integer 1 ∷ truth true ∷ [])))
       (StatementValue (column 3) ∷ RestOfList [] false ∷ Top map_exit ∷ []) [] 5
 
   abbrev mixed_fires : (map_exit : Bool) → Config S H (Core H)

@@ -1,8 +1,9 @@
 -- No form that is there reads or writes `this`, so a run with another `this` takes the same steps.
 use Rattle.std.proofs.Common.{◌≡◌, refl, sym, ap, subst, ◌∙◌}
 use mathlib.Core.Path.{fun_ext}
-use Rattle.std.specs.Prelude.{ℕ, nat_le, length, not, ◌&&◌, Bool, true, false, List, [], ◌∷◌, map, Option, Some, None, Result, Ok, Err}
-use Rattle.std.specs.Prelude.{is_some}
+use Rattle.std.specs.Prelude.{ℕ, ◌+◌, nat_eq, nat_le, length, not, ◌&&◌, Bool, true, false, List, [], ◌∷◌, ◌++◌, map, Option, Some, None}
+use Rattle.std.specs.Prelude.{Result, Ok, Err, codes, is_some, if◌then◌else◌}
+use Rattle.std.specs.Str.{bytes_eq}
 use Rattle.rhai_tree.specs.declared.position.Position.{Position}
 use Rattle.rhai_tree.specs.declared.token.Token.{Token}
 use Rattle.rhai_tree.specs.declared.flags.ASTFlags.{ASTFlags}
@@ -19,6 +20,9 @@ use Rattle.rhai_check.specs.Forms.{is_unqualified, is_exported}
 use Rattle.rhai_check.specs.Keys.{key_of}
 use Rattle.rhai_values.specs.declared.base.value.Dynamic.{Dynamic}
 use Rattle.rhai_values.specs.declared.base.value.Union.{Union}
+use Rattle.rhai_values.specs.declared.base.value.FnPtr.{FnPtr, out-FnPtr}
+use Rattle.rhai_values.specs.declared.base.value.FnPtrKind.{FnPtrKind}
+use Rattle.rhai_values.specs.declared.base.value.FnPtrKind.TheVariants as kind
 use Rattle.rhai_values.specs.declared.base.value.Union.TheVariants as value
 use Rattle.rhai_values.specs.TypeNames.{type_name_of}
 use Rattle.rhai_state.specs.declared.error.EvalAltResult.{EvalAltResult}
@@ -34,15 +38,16 @@ use Rattle.rhai_operators.specs.Answers.{Answer, op_assign_of}
 use Rattle.rhai_tree.specs.declared.expr.OpAssignment.{OpAssignment}
 use Rattle.rhai_values.specs.declared.base.value.AccessMode.TheVariants.{ReadWrite}
 use Rattle.rhai_values.specs.Modes.{with_mode}
-use Rattle.rhai_state.specs.Native.{Reply, Missing, Gives, Faults, Named, OfName, request}
+use Rattle.rhai_state.specs.Native.{Reply, Missing, Gives, Faults, Named, OfName, purity_of, request}
 use Rattle.rhai_machine.specs.language.Frames.{Operation, Call, Attempt, InPlace, AsValue, Assignment, Update, Control, Frame, Core, core}
-use Rattle.rhai_machine.specs.language.Frames.{where_there, on_value, Eval, Exec, Ask, Assign, AskUpdate}
-use Rattle.rhai_machine.specs.language.Frames.{Argument, Question, Fire, QuestionUpdate, FireUpdate}
+use Rattle.rhai_machine.specs.language.Frames.{where_there, on_value, ended, Eval, Exec, Ask, Assign, AskUpdate}
+use Rattle.rhai_machine.specs.language.Frames.{Argument, CallNamed, Question, Fire, QuestionUpdate, FireUpdate}
 use Rattle.rhai_machine.specs.language.Frames.{OpenExpr, OpenStmt, Enter, Run, Store, WhileTurn, DoTurn, Back, Fail, StatementValue}
 use Rattle.rhai_machine.specs.language.Frames.{DefineValue, IfCondition, RestOfList, RestoreList, Top, UnaryOperand, LeftOperand}
 use Rattle.rhai_machine.specs.language.Frames.{RightOperand, AndPart, OrPart, CoalescePart, AssignValue, WhileCondition, WhileBody}
 use Rattle.rhai_machine.specs.language.Frames.{DoCondition, DoBody, BreakValue, ReturnValue, ArrayItem, EntryValue, TextPart}
-use Rattle.rhai_machine.specs.language.Frames.{PrintedPart}
+use Rattle.rhai_machine.specs.language.Frames.{PrintedPart, CallArgument, KeywordArgument, Purpose, ToCall, ToCallOn, ToCallNumber, ToCurry}
+use Rattle.rhai_machine.specs.language.Frames.{Keyword, CallPointer, MakePointer, Curry, IsShared, IsDefinedVariable}
 use Rattle.rhai_machine.specs.language.Data.{with_item, with_value, with_part, items_core, entries_core, parts_core, part_core}
 use Rattle.rhai_machine.specs.language.Data.{joined_core, printed, unprinted_core}
 use Rattle.rhai_machine.specs.language.Places.{Place, InEntry, InCell, Target, is_barred, put, target_of, while_lent}
@@ -51,12 +56,17 @@ use Rattle.rhai_machine.specs.language.Assignment.{assign_core, store_core, chan
 use Rattle.rhai_machine.specs.language.Assignment.{barred_core, question_update, lent_core, call_update, fire_update}
 use Rattle.rhai_machine.specs.language.Assignment.{native_of, operation_of, says_missing}
 use Rattle.rhai_machine.specs.language.Loops.{is_endless, while_move, while_core}
-use Rattle.rhai_machine.specs.language.Expressions.{literal_of, argument_move, operands_move, expr_move, and_core, and_next, or_core}
+use Rattle.rhai_machine.specs.language.Expressions.{literal_of, argument_move, call_move, expr_move, and_core, and_next, or_core}
 use Rattle.rhai_machine.specs.language.Expressions.{or_next, coalesce_core, coalesce_seen, coalesce_next}
-use Rattle.rhai_machine.specs.language.Calls.{operator_core, builtin_of, fire_first, fire_move, replied, applied, sized, placed_if_none}
+use Rattle.rhai_machine.specs.language.Calls.{operator_core, builtin_of, call_of, races, named_core, dispatch_core, fire_first, fire_move}
+use Rattle.rhai_machine.specs.language.Calls.{First, first_of, while_from, put_left, key_of as native_key, barred_call, question_first}
+use Rattle.rhai_machine.specs.language.Calls.{question_move, call_native, asks_function, replied, applied, sized, placed_if_none}
+use Rattle.rhai_machine.specs.language.Arguments.{call_on, flattens, taken, numbered_core, arguments_there, arguments_core, on_variable}
+use Rattle.rhai_machine.specs.language.Arguments.{captured_move, named_move, operation_named, pointer_wanted, text_wanted}
+use Rattle.rhai_machine.specs.language.Arguments.{pointer_core, keyword_core, keyword_of, function_core, variable_in}
 use Rattle.rhai_machine.specs.language.Statements.{has_option, enter_core, run_core, chosen_core, define_core, stmt_move}
 use Rattle.rhai_machine.specs.language.Statements.{break_core, return_move}
-use Rattle.rhai_machine.specs.language.Unwinding.{up_core, down_core, operated, call_of}
+use Rattle.rhai_machine.specs.language.Unwinding.{up_core, down_core, operated}
 use Rattle.rhai_machine.specs.language.Language.{move_at, move, machine}
 use Rattle.rhai_machine.specs.language.Runs.{at, Steps}
 
@@ -90,13 +100,6 @@ module _ {H : Type 0} (t : Option (Dynamic H)) where
         argument_move literal e k (with_local l) ≡ in_move (argument_move literal e k l)
     argument_same (Some v) e k l = refl
     argument_same None e k l = refl
-
-    operands_same : (fast : Bool) (token : Option Token) (call : FnCallExpr) (args : List Expr) (pos : Position) (k : List (Frame H))
-        (l : Local H) →
-        operands_move fast token call args pos k (with_local l) ≡ in_move (operands_move fast token call args pos k l)
-    operands_same true (Some token) call (operand ∷ []) pos k l = refl
-    operands_same true (Some token) call (left ∷ right ∷ []) pos k l = refl
-    operands_same _ _ call args pos k l = refl
 
     and_same : (parts : List Expr) (k : List (Frame H)) (l : Local H) → and_core parts k (with_local l) ≡ in_core (and_core parts k l)
     and_same [] k l = refl
@@ -176,6 +179,25 @@ module _ {H : Type 0} (t : Option (Dynamic H)) where
     there_same : (there : Bool) (c d : Core H) → c ≡ in_core d → where_there there c ≡ in_move (where_there there d)
     there_same true c d is = ap Go is
     there_same false c d is = refl
+
+    -- a call that was not written as an operator
+    function_same : (keyword : Option Keyword) (operation : Operation) (args : List Expr) (captures : Bool) (k : List (Frame H))
+        (l : Local H) →
+        function_core keyword operation args captures k (with_local l) ≡ in_core (function_core keyword operation args captures k l)
+    function_same (Some keyword) operation (arg ∷ args) captures k l = refl
+    function_same _ operation args captures k l = refl
+
+    call_same : (fast : Bool) (token : Option Token) (call : FnCallExpr) (args : List Expr) (pos : Position) (k : List (Frame H))
+        (l : Local H) →
+        call_move fast token call args pos k (with_local l) ≡ in_move (call_move fast token call args pos k l)
+    call_same true (Some token) call (operand ∷ []) pos k l = refl
+    call_same true (Some token) call (left ∷ right ∷ []) pos k l = refl
+    call_same _ _ call args pos k l = there_same (is_unqualified call.namespace.path) _ _
+        (function_same (keyword_of call.op_token call.name (length call.args)) (record {
+          name = call.name;
+          token = call.op_token;
+          at = pos;
+        }) call.args call.capture_parent_scope k l)
 
     assignment_same : (form : ExprLayer) (op : OpAssignment) (rhs : Expr) (k : List (Frame H)) (l : Local H) →
         assignment_move form op rhs k (with_local l) ≡ in_move (assignment_move form op rhs k l)
@@ -290,7 +312,7 @@ module _ {H : Type 0} (t : Option (Dynamic H)) where
     expr_same fast (layer.IntegerConstant n pos) k l = refl
     expr_same fast (layer.Unit pos) k l = refl
     expr_same fast (layer.Variable offset name namespace pos) k l = there_same (is_unqualified namespace.path) _ _ refl
-    expr_same fast (layer.Expr::FnCall call pos) k l = operands_same fast call.op_token call call.args pos k l
+    expr_same fast (layer.Expr::FnCall call pos) k l = call_same fast call.op_token call call.args pos k l
     expr_same fast (layer.Stmt block) k l = refl
     expr_same fast (layer.InterpolatedString parts pos) k l = ap Go (parts_same [] parts k l)
     expr_same fast (layer.Array items pos) k l = ap Go (items_same [] items k l)
@@ -325,24 +347,137 @@ module _ {H : Type 0} (t : Option (Dynamic H)) where
     stmt_same (layer.Return value options pos) restoring k l = return_same (has_option 2 options) value pos k l
     stmt_same _ restoring k l = refl
 
-    fire_first_same : (u : Union H) (x : Dynamic H) (call : Call H) (rest : List (Dynamic H)) (k : List (Frame H)) (l : Local H) →
-        fire_first s u x call rest k (with_local l) ≡ in_move (fire_first s u x call rest k l)
-    fire_first_same (value.Cell id) x call rest k l = refl
-    fire_first_same _ x call rest k l = refl
+    -- what a native leaves of its first argument goes back
+    put_left_same : (from : Option Place) (left : Option (Dynamic H)) (l : Local H) →
+        put_left from left (with_local l) ≡ with_local (put_left from left l)
+    put_left_same (Some place) (Some v) l = put_same place v l
+    put_left_same (Some place) None l = refl
+    put_left_same None left l = refl
+
+    native_same : (call : Call H) (from : Option Place) (first : Option (Dynamic H)) (rest : List (Dynamic H)) (k : List (Frame H))
+        (l : Local H) →
+        call_native s call from first rest k (with_local l) ≡ in_move (call_native s call from first rest k l)
+    native_same call from first rest k l = ap
+        (Native (request (while_from from l.around.cells) (native_key call) first rest call.operation.at))
+        (fun_ext (λ reply. fun_ext (λ left. ap (core
+        (ended (replied s.limits s.host_type reply left rest call.operation (while_from from l.around.cells))) k)
+        (put_left_same from left l))))
+
+    fire_first_same : (call : Call H) (rest : List (Dynamic H)) (r : Result (First H) (EvalAltResult H)) (k : List (Frame H))
+        (l : Local H) →
+        fire_first s call rest r k (with_local l) ≡ in_move (fire_first s call rest r k l)
+    fire_first_same call rest (Ok first) k l = native_same call first.from (Some first.value) rest k l
+    fire_first_same call rest (Err e) k l = refl
 
     fire_same : (call : Call H) (args : List (Dynamic H)) (k : List (Frame H)) (l : Local H) →
         fire_move s call args k (with_local l) ≡ in_move (fire_move s call args k l)
-    fire_same call [] k l = refl
-    fire_same call (x ∷ rest) k l = fire_first_same x.value x call rest k l
+    fire_same call [] k l = native_same call None None [] k l
+    fire_same call (x ∷ rest) k l = fire_first_same call rest (first_of l.around.cells call x) k l
+
+    barred_call_same : (barred : Bool) (call : Call H) (k : List (Frame H)) (l : Local H) →
+        barred_call s barred call k (with_local l) ≡ in_core (barred_call s barred call k l)
+    barred_call_same true call k l = refl
+    barred_call_same false call k l = refl
+
+    question_first_same : (call : Call H) (rest : List (Dynamic H)) (r : Result (First H) (EvalAltResult H)) (k : List (Frame H))
+        (l : Local H) →
+        question_first s call rest r k (with_local l) ≡ in_move (question_first s call rest r k l)
+    question_first_same call rest (Ok first) k l = ap
+        (AskPure (purity_of (native_key call) (type_name_of s.host_type l.around.cells first.value) (1 + length rest)))
+        (fun_ext (λ pure. barred_call_same (is_some call.entry && is_barred pure first.value) call k l))
+    question_first_same call rest (Err e) k l = refl
+
+    question_call_same : (call : Call H) (args : List (Dynamic H)) (k : List (Frame H)) (l : Local H) →
+        question_move s call args k (with_local l) ≡ in_move (question_move s call args k l)
+    question_call_same call [] k l = refl
+    question_call_same call (x ∷ rest) k l = question_first_same call rest (first_of l.around.cells call x) k l
+
+    -- a call whose arguments are there
+    if_same : (b : Bool) (c d x y : Core H) → c ≡ in_core x → d ≡ in_core y → (if b then c else d) ≡ in_core (if b then x else y)
+    if_same true c d x y is other = is
+    if_same false c d x y is other = other
+
+    named_core_same : (args : List (Dynamic H)) (call : Call H) (k : List (Frame H)) (l : Local H) →
+        named_core s args call k (with_local l) ≡ in_core (named_core s args call k l)
+    named_core_same [] call k l = refl
+    named_core_same (v ∷ []) call k l = if_same (bytes_eq call.operation.name (codes "type_of")) _ _ _ _ refl
+        (if_same (bytes_eq call.operation.name (codes "eval")) _ _ _ _ refl refl)
+    named_core_same (v ∷ w ∷ []) call k l = if_same (bytes_eq call.operation.name (codes "is_def_fn")
+        && asks_function (through l.around.cells v call.operation.at) (through l.around.cells w call.operation.at)) _ _ _ _ refl refl
+    named_core_same (v ∷ w ∷ x ∷ args) call k l = refl
+
+    dispatch_same : (call : Call H) (k : List (Frame H)) (l : Local H) →
+        dispatch_core s call k (with_local l) ≡ in_core (dispatch_core s call k l)
+    dispatch_same call k l = if_same (races l.around.cells call.args) _ _ _ _ refl (named_core_same call.args call k l)
 
     operator_same : (builtin : Option (Result (Dynamic H) (EvalAltResult H))) (call : Call H) (k : List (Frame H)) (l : Local H) →
         operator_core s builtin call k (with_local l) ≡ in_core (operator_core s builtin call k l)
     operator_same (Some r) call k l = refl
-    operator_same None call k l = refl
+    operator_same None call k l = dispatch_same call k l
+
+    -- the arguments of a call, and what is done once they are there
+    numbered_same : (call : Call H) (k : List (Frame H)) (l : Local H) →
+        numbered_core call k (with_local l) ≡ in_core (numbered_core call k l)
+    numbered_same call k l = if_same (races l.around.cells call.args) _ _ _ _ refl refl
+
+    arguments_there_same : (purpose : Purpose H) (args : List (Dynamic H)) (k : List (Frame H)) (l : Local H) →
+        arguments_there s purpose args k (with_local l) ≡ in_core (arguments_there s purpose args k l)
+    arguments_there_same (ToCall operation curried) args k l = dispatch_same (call_of operation (curried ++ args)) k l
+    arguments_there_same (ToCallOn operation variable variable_at) args k l =
+        on_same (call_on l.around.cells l.scope operation variable variable_at args) _ _ k l (λ call. dispatch_same call k l)
+    arguments_there_same (ToCallNumber number operation curried) args k l =
+        numbered_same (record (call_of operation (curried ++ args)) { number = Some number }) k l
+    arguments_there_same (ToCurry pointer) args k l = refl
+
+    arguments_same : (purpose : Purpose H) (made : List (Dynamic H)) (args : List Expr) (k : List (Frame H)) (l : Local H) →
+        arguments_core s purpose made args k (with_local l) ≡ in_core (arguments_core s purpose made args k l)
+    arguments_same purpose made [] k l = arguments_there_same purpose made k l
+    arguments_same purpose made (arg ∷ args) k l = refl
+
+    on_variable_same : (variable : Option (List ℕ × Position)) (operation : Operation) (arg : Expr) (args : List Expr)
+        (k : List (Frame H)) (l : Local H) →
+        on_variable s variable operation arg args k (with_local l) ≡ in_move (on_variable s variable operation arg args k l)
+    on_variable_same (Some (variable, variable_at)) operation arg args k l =
+        ap (Charge variable_at) (arguments_same (ToCallOn operation variable variable_at) [] args k l)
+    on_variable_same None operation arg args k l = refl
+
+    captured_same : (captured : Bool) (operation : Operation) (arg : Expr) (args : List Expr) (k : List (Frame H)) (l : Local H) →
+        captured_move s captured operation arg args k (with_local l) ≡ in_move (captured_move s captured operation arg args k l)
+    captured_same true operation arg args k l = refl
+    captured_same false operation arg args k l = on_variable_same (variable_in (out-Expr arg)) operation arg args k l
+
+    named_same : (operation : Operation) (curried : List (Dynamic H)) (args : List Expr) (captures : Bool) (k : List (Frame H))
+        (l : Local H) →
+        named_move s operation curried args captures k (with_local l) ≡ in_move (named_move s operation curried args captures k l)
+    named_same operation [] (arg ∷ args) captures k l =
+        captured_same (captures && not (nat_eq (length l.scope) 0)) operation arg args k l
+    named_same operation [] [] captures k l = ap Go (arguments_same (ToCall operation []) [] [] k l)
+    named_same operation (v ∷ curried) args captures k l = ap Go (arguments_same (ToCall operation (v ∷ curried)) [] args k l)
+
+    -- the first argument of a keyword
+    pointer_same : (of : FnPtrKind H) (pointer : FnPtr H) (pos : Position) (args : List Expr) (captures : Bool) (k : List (Frame H))
+        (l : Local H) →
+        pointer_core s of pointer pos args captures k (with_local l) ≡ in_core (pointer_core s of pointer pos args captures k l)
+    pointer_same (kind.Native id) pointer pos args captures k l =
+        arguments_same (ToCallNumber id.number (operation_named (codes "call") pos) (out-FnPtr H pointer).curry) [] args k l
+    pointer_same _ pointer pos args captures k l = refl
+
+    keyword_same : (keyword : Keyword) (pos start : Position) (args : List Expr) (captures : Bool) (v : Dynamic H) (k : List (Frame H))
+        (l : Local H) →
+        keyword_core s keyword pos start args captures v k (with_local l) ≡ in_core (keyword_core s keyword pos start args captures v k l)
+    keyword_same CallPointer pos start args captures v k l = on_same (pointer_wanted s.host_type l.around.cells v start) _ _ k l
+        (λ pointer. pointer_same (out-FnPtr H pointer).kind pointer pos args captures k l)
+    keyword_same MakePointer pos start args captures v k l =
+        on_same (text_wanted s.host_type l.around.cells v start) _ _ k l (λ name. refl)
+    keyword_same Curry pos start args captures v k l = on_same (pointer_wanted s.host_type l.around.cells v start) _ _ k l
+        (λ pointer. arguments_same (ToCurry pointer) [] args k l)
+    keyword_same IsShared pos start args captures v k l = refl
+    keyword_same IsDefinedVariable pos start args captures v k l =
+        on_same (text_wanted s.host_type l.around.cells v start) _ _ k l (λ name. refl)
 
     operated_same : (operation : Operation) (args : List (Dynamic H)) (k : List (Frame H)) (l : Local H) →
         operated s operation args k (with_local l) ≡ in_core (operated s operation args k l)
-    operated_same operation args k l = operator_same (builtin_of operation.token args) (call_of s operation args) k l
+    operated_same operation args k l = operator_same (builtin_of operation.token args) (call_of operation args) k l
 
     chosen_same : (holds : Bool) (body branch : StmtBlock) (k : List (Frame H)) (l : Local H) →
         chosen_core holds body branch k (with_local l) ≡ in_core (chosen_core holds body branch k l)
@@ -363,6 +498,10 @@ module _ {H : Type 0} (t : Option (Dynamic H)) where
     up_same (LeftOperand operation left_at right) v k l = on_same (flat l.around.cells v left_at) _ _ k l (λ x. refl)
     up_same (RightOperand operation left right_at) v k l =
         on_same (flat l.around.cells v right_at) _ _ k l (λ y. operated_same operation (left ∷ y ∷ []) k l)
+    up_same (CallArgument purpose made argument_at rest) v k l =
+        on_same (taken (flattens purpose) l.around.cells v argument_at) _ _ k l
+        (λ x. arguments_same purpose (made ++ x ∷ []) rest k l)
+    up_same (KeywordArgument keyword call_at start rest captures) v k l = keyword_same keyword call_at start rest captures v k l
     up_same (AndPart part_at rest) v k l =
         on_same (truth s.host_type l.around.cells v part_at) _ _ k l (λ holds. and_next_same holds rest k l)
     up_same (OrPart part_at rest) v k l =
@@ -400,7 +539,8 @@ module _ {H : Type 0} (t : Option (Dynamic H)) where
     move_same (Assign assignment v) k l = refl
     move_same (AskUpdate u) k l = refl
     move_same (Argument e) k l = argument_same (literal_of (out-Expr e)) e k l
-    move_same (Question call) k l = refl
+    move_same (CallNamed operation curried args captures) k l = named_same operation curried args captures k l
+    move_same (Question call) k l = question_call_same call call.args k l
     move_same (Fire call) k l = fire_same call call.args k l
     move_same (QuestionUpdate u) k l = question_same u k l
     move_same (FireUpdate u) k l = fire_update_same u.target.value u k l

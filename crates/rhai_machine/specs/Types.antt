@@ -12,5 +12,6 @@ pub use Rattle.rhai_tree.specs.declared.position.Position.{Position}
 pub use Rattle.rhai_tree.specs.declared.token.Token.{Token}
 pub use Rattle.rhai_values.specs.declared.base.value.AccessMode.{AccessMode}
 pub use Rattle.rhai_values.specs.declared.base.value.Dynamic.{Dynamic}
+pub use Rattle.rhai_values.specs.declared.base.value.FnPtr.{FnPtr}
 pub use Rattle.rhai_values.specs.declared.base.value.Module.{Module}
 pub use Rattle.rhai_values.specs.declared.base.value.Union.{Union}

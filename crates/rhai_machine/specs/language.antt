@@ -6,6 +6,7 @@ pub mod Places
 pub mod Frames
 pub mod Expressions
 pub mod Calls
+pub mod Arguments
 pub mod Data
 pub mod Assignment
 pub mod Loops

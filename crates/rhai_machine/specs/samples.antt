@@ -9,3 +9,4 @@ pub mod Loops
 pub mod Choices
 pub mod Assignments
 pub mod Data
+pub mod Calls

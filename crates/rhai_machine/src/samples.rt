@@ -17,6 +17,7 @@ ghost use Rattle.rhai_machine.specs.samples.Loops.{Loops, WaysOut};
 ghost use Rattle.rhai_machine.specs.samples.Choices.{Choices};
 ghost use Rattle.rhai_machine.specs.samples.Assignments.{Assignments, Updates};
 ghost use Rattle.rhai_machine.specs.samples.Data.{Arrays, Maps, Texts};
+ghost use Rattle.rhai_machine.specs.samples.Calls.{Calls, Keywords, Pointers};
 
 use crate::laws::{Language, always_ends};
 use rhai_state::table::NativeTable;
@@ -117,4 +118,19 @@ pub fn sample_maps<H, S>(of: PhantomData<(H, S)>)
 /// Texts that are joined, and printed by tables that reply in each way.
 pub fn sample_texts<H, S>(of: PhantomData<(H, S)>)
     ensures { (table : Table S H) (host : H → List ℕ) → Texts table host }
+{}
+
+/// Calls by name: a variable that is lent and what a native leaves of it, and errors of a call.
+pub fn sample_calls<H, S>(of: PhantomData<(H, S)>)
+    ensures { (table : Table S H) (host : H → List ℕ) → Calls table host }
+{}
+
+/// Names that are no function's.
+pub fn sample_keywords<H, S>(of: PhantomData<(H, S)>)
+    ensures { (table : Table S H) (host : H → List ℕ) → Keywords table host }
+{}
+
+/// Pointers that are made and called.
+pub fn sample_pointers<H, S>(of: PhantomData<(H, S)>)
+    ensures { (table : Table S H) (host : H → List ℕ) → Pointers table host }
 {}

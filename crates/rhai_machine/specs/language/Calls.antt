@@ -1,14 +1,16 @@
 -- The rules of calls: built-in operators, and natives.
-use Rattle.std.specs.Prelude.{ℕ, Bool, true, false, ◌||◌, List, [], ◌∷◌, ◌++◌, Option, Some, None, Result, Ok, Err, length, drop}
-use Rattle.std.specs.Prelude.{codes, nat_eq, if◌then◌else◌}
+use Rattle.std.specs.Prelude.{ℕ, ◌+◌, Bool, true, false, not, ◌&&◌, ◌||◌, List, [], ◌∷◌, ◌++◌, Option, Some, None, Result, Ok, Err}
+use Rattle.std.specs.Prelude.{codes, drop, is_some, length, nat_eq, if◌then◌else◌}
 use Rattle.std.specs.List.{starts_with}
 use Rattle.std.specs.Option.{option_map, option_or}
 use Rattle.std.specs.Str.{bytes_eq}
 use Rattle.rhai_machine.specs.Types.{Dynamic, EvalAltResult, Limits, Position, Token, Union}
 use Rattle.rhai_values.specs.declared.base.value.Union.TheVariants as value
 use Rattle.rhai_state.specs.declared.error.EvalAltResult.TheVariants as error
-use Rattle.rhai_state.specs.Native.{Reply, Missing, Gives, Faults, Named, OfName, request}
+use Rattle.rhai_state.specs.Native.{Key, Named, Numbered, Reply, Missing, Gives, Faults, purity_of, request}
 use Rattle.rhai_state.specs.Errors.{indexing_text, position_of, at_position}
+use Rattle.rhai_values.specs.Cells.{value_of_cell}
+use Rattle.rhai_values.specs.Copy.{plain}
 use Rattle.rhai_values.specs.TypeNames.{type_name_of}
 use Rattle.rhai_values.specs.declared.base.size.DataSizes.{DataSizes}
 use Rattle.rhai_values.specs.DataSize.{data_sizes, exceeded, fault_text}
@@ -16,8 +18,9 @@ use Rattle.rhai_operators.specs.Answers.{unary_of, binary_of}
 use Rattle.rhai_machine.specs.machine.Machine.{Move, Go, Native, AskPure}
 use Rattle.rhai_machine.specs.language.Setting.{Setting}
 use Rattle.rhai_machine.specs.language.State.{Local}
-use Rattle.rhai_machine.specs.language.Values.{Cells}
-use Rattle.rhai_machine.specs.language.Frames.{Operation, Call, Frame, Core, core, ended, Ask, Fire, Fail}
+use Rattle.rhai_machine.specs.language.Values.{Cells, bool_value, through}
+use Rattle.rhai_machine.specs.language.Places.{Place, InEntry, InCell, is_barred, put, while_lent}
+use Rattle.rhai_machine.specs.language.Frames.{Operation, Call, Frame, Core, core, ended, Ask, Fire, Back, Fail}
 
 -- further texts of a row, each after a comma
 abbrev pub more : List (List ℕ) → List ℕ
@@ -49,6 +52,16 @@ names_indexer name = bytes_eq name (codes "index$get$") || bytes_eq name (codes 
 abbrev pub second : List (List ℕ) → List ℕ
 second (x ∷ y ∷ types) = y
 second _ = []
+
+-- a native by its number, or else by its name
+abbrev pub key_by : List ℕ → Option ℕ → Key
+key_by name None = Named name
+key_by name (Some number) = Numbered number
+
+-- a first argument as it is lent to a native, with the place that it goes back to, if it has one
+pub record First (H : Type 0) : Type 0 where
+  pub from : Option Place
+  pub value : Dynamic H
 
 -- an operator's name, and where it stands
 abbrev pub operation_at : List ℕ → Token → Position → Operation
@@ -85,9 +98,44 @@ module _ {H : Type 0} where
   builtin_of (Some token) (x ∷ y ∷ []) = binary_of token x y
   builtin_of _ _ = None
 
+  -- a call by name, of values
+  abbrev pub call_of : Operation → List (Dynamic H) → Call H
+  call_of operation args = record { operation = operation; number = None; args = args; entry = None }
+
   -- a call of an operator's name at a position
   abbrev pub call_at : List ℕ → Token → Position → List (Dynamic H) → Call H
-  call_at name token at args = record { operation = operation_at name token at; args = args }
+  call_at name token at args = call_of (operation_at name token at) args
+
+  -- the native of a call
+  abbrev pub key_of : Call H → Key
+  key_of call = key_by call.operation.name call.number
+
+  -- A first argument as it is lent to a native: a handle stands for the value of its cell, which is held so long. What is a handle
+  -- still is nobody's to lend.
+  abbrev pub lendable : Operation → (from : Option Place) → Union H → Dynamic H → Result (First H) (EvalAltResult H)
+  lendable operation from (value.Cell id) v = Err (error.ErrorDataRace operation.name operation.at)
+  lendable operation from _ v = Ok (record { from = from; value = v })
+
+  abbrev pub in_cell : Operation → (number : ℕ) → Option (Dynamic H) → Result (First H) (EvalAltResult H)
+  in_cell operation number (Some v) = lendable operation (Some (InCell number)) v.value v
+  in_cell operation number None = Err (error.ErrorDataRace operation.name operation.at)
+
+  abbrev pub first_in : Cells H → Operation → (entry : Option ℕ) → Union H → Dynamic H → Result (First H) (EvalAltResult H)
+  first_in cells operation entry (value.Cell id) v = in_cell operation id.number (value_of_cell cells id.number)
+  first_in cells operation entry _ v = Ok (record { from = option_map InEntry entry; value = v })
+
+  abbrev pub first_of : Cells H → Call H → Dynamic H → Result (First H) (EvalAltResult H)
+  first_of cells call x = first_in cells call.operation call.entry x.value x
+
+  -- the cells while a first argument is lent
+  abbrev pub while_from : Option Place → Cells H → Cells H
+  while_from None cells = cells
+  while_from (Some place) cells = while_lent place cells
+
+  -- what a native leaves of its first argument goes back to its place
+  abbrev pub put_left : Option Place → Option (Dynamic H) → Local H → Local H
+  put_left (Some place) (Some v) l = put place v l
+  put_left _ _ l = l
 
   module _ (limits : Limits) where
     abbrev pub sized_by : {A : Type 0} → Option (List ℕ) → A → Position → Result A (EvalAltResult H)
@@ -131,28 +179,88 @@ module _ {H : Type 0} where
       replied (Gives v) first rest operation cells = sized v operation.at
       replied (Faults e) first rest operation cells = Err (placed_if_none operation.at e)
 
+  -- a handle of a cell that is held
+  abbrev pub is_held : Cells H → Union H → Bool
+  is_held cells (value.Cell id) = not (is_some (value_of_cell cells id.number))
+  is_held cells _ = false
+
+  -- an argument is a handle of a cell that is held
+  abbrev pub races : Cells H → List (Dynamic H) → Bool
+  races cells [] = false
+  races cells (v ∷ args) = is_held cells v.value || races cells args
+
+  -- a function's name and the number of its parameters
+  abbrev pub names_function : Union H → Union H → Bool
+  names_function (value.Str name) (value.Int count) = true
+  names_function _ _ = false
+
+  abbrev pub asks_function : Result (Dynamic H) (EvalAltResult H) → Result (Dynamic H) (EvalAltResult H) → Bool
+  asks_function (Ok name) (Ok count) = names_function name.value count.value
+  asks_function _ _ = false
+
   module _ (s : Setting H) where
+    -- ---- dispatch
+
+    -- the names that mean no function with one argument or two: a value's type; a compiler, which is not there; and whether a name is a
+    -- script function's, which none is yet
+    abbrev pub named_core : List (Dynamic H) → Call H → List (Frame H) → Local H → Core H
+    named_core (v ∷ []) call k l =
+        if bytes_eq call.operation.name (codes "type_of")
+        then core (Back (plain (value.Str (type_name_of s.host_type l.around.cells v)))) k l
+        else if bytes_eq call.operation.name (codes "eval")
+        then core (Fail (error.ErrorFunctionNotFound (signature call.operation.name (types_of s.host_type l.around.cells (v ∷ [])))
+        call.operation.at)) k l
+        else core (Ask call) k l
+    named_core (v ∷ w ∷ []) call k l =
+        if bytes_eq call.operation.name (codes "is_def_fn")
+        && asks_function (through l.around.cells v call.operation.at) (through l.around.cells w call.operation.at)
+        then core (Back (bool_value false)) k l
+        else core (Ask call) k l
+    named_core args call k l = core (Ask call) k l
+
+    -- a call by name whose arguments are there: no argument's cell may be held
+    abbrev pub dispatch_core : Call H → List (Frame H) → Local H → Core H
+    dispatch_core call k l =
+        if races l.around.cells call.args then core (Fail (error.ErrorDataRace call.operation.name call.operation.at)) k l
+        else named_core call.args call k l
+
     -- a built-in operator, or else the native of its name
     abbrev pub operator_core : Option (Result (Dynamic H) (EvalAltResult H)) → Call H → List (Frame H) → Local H → Core H
     operator_core (Some r) call k l = core (ended (applied s.limits r call.operation.at)) k l
-    operator_core None call k l = core (Ask call) k l
+    operator_core None call k l = dispatch_core call k l
 
-    -- the native of a call is asked whether it is pure, which an operator has no use for, and then called
-    abbrev pub question_move : Call H → List (Frame H) → Local H → Move H (Core H)
-    question_move call k l =
-        AskPure (OfName call.operation.name (first_type s.host_type l.around.cells call.args) (length call.args))
-        (λ pure. core (Fire call) k l)
+    -- ---- natives
 
-    abbrev pub call_native : Call H → Option (Dynamic H) → List (Dynamic H) → List (Frame H) → Local H → Move H (Core H)
-    call_native call first rest k l =
-        Native (request l.around.cells (Named call.operation.name) first rest call.operation.at)
-        (λ reply left. core (ended (replied s.limits s.host_type reply left rest call.operation l.around.cells)) k l)
+    -- a call that is barred from its first argument fails, and else is made
+    abbrev pub barred_call : (barred : Bool) → Call H → List (Frame H) → Local H → Core H
+    barred_call true call k l = core (Fail (error.ErrorNonPureMethodCallOnConstant call.operation.name call.operation.at)) k l
+    barred_call false call k l = core (Fire call) k l
 
-    -- an operand that is still a bare handle is nobody's to hand in
-    abbrev pub fire_first : Union H → Dynamic H → Call H → List (Dynamic H) → List (Frame H) → Local H → Move H (Core H)
-    fire_first (value.Cell id) x call rest k l = Go (core (Fail (error.ErrorDataRace call.operation.name call.operation.at)) k l)
-    fire_first _ x call rest k l = call_native call (Some x) rest k l
+    -- the native of a call is asked whether it is pure: a constant that is lent is kept from one that is not
+    abbrev pub question_first : Call H → (rest : List (Dynamic H)) → Result (First H) (EvalAltResult H) → List (Frame H) → Local H →
+        Move H (Core H)
+    question_first call rest (Ok first) k l =
+        AskPure (purity_of (key_of call) (type_name_of s.host_type l.around.cells first.value) (1 + length rest))
+        (λ pure. barred_call (is_some call.entry && is_barred pure first.value) call k l)
+    question_first call rest (Err e) k l = Go (core (Fail e) k l)
+
+    abbrev pub question_move : Call H → List (Dynamic H) → List (Frame H) → Local H → Move H (Core H)
+    question_move call [] k l = AskPure (purity_of (key_of call) [] 0) (λ pure. core (Fire call) k l)
+    question_move call (x ∷ rest) k l = question_first call rest (first_of l.around.cells call x) k l
+
+    -- it is called, and what it leaves of its first argument goes back to where that was lent from, whatever the answer
+    abbrev pub call_native : Call H → (from : Option Place) → Option (Dynamic H) → List (Dynamic H) → List (Frame H) → Local H →
+        Move H (Core H)
+    call_native call from first rest k l =
+        Native (request (while_from from l.around.cells) (key_of call) first rest call.operation.at)
+        (λ reply left. core
+        (ended (replied s.limits s.host_type reply left rest call.operation (while_from from l.around.cells))) k (put_left from left l))
+
+    abbrev pub fire_first : Call H → (rest : List (Dynamic H)) → Result (First H) (EvalAltResult H) → List (Frame H) → Local H →
+        Move H (Core H)
+    fire_first call rest (Ok first) k l = call_native call first.from (Some first.value) rest k l
+    fire_first call rest (Err e) k l = Go (core (Fail e) k l)
 
     abbrev pub fire_move : Call H → List (Dynamic H) → List (Frame H) → Local H → Move H (Core H)
-    fire_move call [] k l = call_native call None [] k l
-    fire_move call (x ∷ rest) k l = fire_first x.value x call rest k l
+    fire_move call [] k l = call_native call None None [] k l
+    fire_move call (x ∷ rest) k l = fire_first call rest (first_of l.around.cells call x) k l

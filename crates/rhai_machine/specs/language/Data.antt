@@ -13,7 +13,7 @@ use Rattle.rhai_machine.specs.language.Setting.{Setting}
 use Rattle.rhai_machine.specs.language.State.{Local}
 use Rattle.rhai_machine.specs.language.Frames.{Call, Frame, Core, core, on_value, Ask, Eval, Back, Fail, ArrayItem, EntryValue, TextPart}
 use Rattle.rhai_machine.specs.language.Frames.{PrintedPart}
-use Rattle.rhai_machine.specs.language.Calls.{within, within_sizes}
+use Rattle.rhai_machine.specs.language.Calls.{call_of, within, within_sizes}
 
 -- the name of the native that prints a value
 abbrev pub printer : List ℕ
@@ -73,7 +73,7 @@ module _ {H : Type 0} where
 
   -- a value is printed as a copy, by a call at its position
   abbrev pub printing : Dynamic H → Position → Call H
-  printing v at = record { operation = record { name = printer; token = None; at = at }; args = copy_of v ∷ [] }
+  printing v at = call_of (record { name = printer; token = None; at = at }) (copy_of v ∷ [])
 
   -- what a native printed, or the type where it answered no text
   abbrev pub printed : Union H → (type : List ℕ) → List ℕ

@@ -16,6 +16,7 @@ use Rattle.rhai_machine.specs.language.Values.{unit_value, bool_value}
 use Rattle.rhai_machine.specs.language.Names.{read}
 use Rattle.rhai_machine.specs.language.Frames.{Frame, Core, core, on_value, where_there, ended, Eval, Argument, Enter, Back}
 use Rattle.rhai_machine.specs.language.Frames.{UnaryOperand, LeftOperand, AndPart, OrPart, CoalescePart}
+use Rattle.rhai_machine.specs.language.Arguments.{function_of}
 use Rattle.rhai_machine.specs.language.Data.{entries_core, items_core, parts_core}
 
 module _ {H : Type 0} where
@@ -34,13 +35,14 @@ module _ {H : Type 0} where
   argument_move (Some v) e k l = Charge (start_of e) (core (Back v) k l)
   argument_move None e k l = Go (core (Eval e) k l)
 
-  -- a call that was written as an operator, under fast operators: its operands from left to right
-  abbrev pub operands_move : Bool → Option Token → FnCallExpr → List Expr → Position → List (Frame H) → Local H → Move H (Core H)
-  operands_move true (Some token) call (operand ∷ []) pos k l =
+  -- a call: under fast operators the operands of one that was written as an operator on one or two come from left to right; a call
+  -- in a namespace has no step
+  abbrev pub call_move : Bool → Option Token → FnCallExpr → List Expr → Position → List (Frame H) → Local H → Move H (Core H)
+  call_move true (Some token) call (operand ∷ []) pos k l =
       Go (core (Argument operand) (UnaryOperand (record { name = call.name; token = Some token; at = pos }) (position_of operand) ∷ k) l)
-  operands_move true (Some token) call (left ∷ right ∷ []) pos k l =
+  call_move true (Some token) call (left ∷ right ∷ []) pos k l =
       Go (core (Argument left) (LeftOperand (record { name = call.name; token = Some token; at = pos }) (position_of left) right ∷ k) l)
-  operands_move _ _ call args pos k l = Halt
+  call_move _ _ call args pos k l = where_there (is_unqualified call.namespace.path) (function_of call pos k l)
 
   -- the parts of an `&&` from left to right, up to the first that is false
   abbrev pub and_core : List Expr → List (Frame H) → Local H → Core H
@@ -85,7 +87,7 @@ module _ {H : Type 0} where
   expr_move fast (layer.Map entries template pos) k l = Go (entries_core (map key_of entries) [] entries k l)
   expr_move fast (layer.Variable offset name namespace pos) k l =
       where_there (is_unqualified namespace.path) (core (ended (read l.around.cells name pos l.scope)) k l)
-  expr_move fast (layer.Expr::FnCall call pos) k l = operands_move fast call.op_token call call.args pos k l
+  expr_move fast (layer.Expr::FnCall call pos) k l = call_move fast call.op_token call call.args pos k l
   expr_move fast (layer.Stmt block) k l = Go (core (Enter block.statements true) k l)
   expr_move fast (layer.And parts pos) k l = Go (and_core parts k l)
   expr_move fast (layer.Or parts pos) k l = Go (or_core parts k l)

@@ -1,22 +1,44 @@
 -- The machine's controls and frames: what it does next, and what waits for the value or the error that comes of it.
 use Rattle.std.specs.Prelude.{ℕ, Bool, true, false, List, Option, Result, Ok, Err}
-use Rattle.rhai_machine.specs.Types.{ASTFlags, Dynamic, EvalAltResult, Expr, Ident, OpAssignment, Position, Stmt, StmtBlock, Token}
+use Rattle.rhai_machine.specs.Types.{ASTFlags, Dynamic, EvalAltResult, Expr, FnPtr, Ident, OpAssignment, Position, Stmt, StmtBlock, Token}
 use Rattle.rhai_tree.specs.declared.expr.MapEntry.{MapEntry}
 use Rattle.rhai_tree.specs.Layers.{ExprLayer, StmtLayer}
 use Rattle.rhai_machine.specs.machine.Machine.{Move, Halt, Go}
 use Rattle.rhai_machine.specs.language.State.{Local}
 use Rattle.rhai_machine.specs.language.Places.{Place}
 
--- a call that was written as an operator: its name, its operator, and where it stands
+-- what a call is of: its name, its operator where it was written as one, and where it stands
 pub record Operation : Type 0 where
   pub name : List ℕ
   pub token : Option Token
   pub at : Position
 
--- a call with its arguments
+-- A call with its arguments: of a native by its name, or by a number. The first argument may be a variable's value, lent from the
+-- entry of the scope that it stands in.
 pub record Call (H : Type 0) : Type 0 where
   pub operation : Operation
+  pub number : Option ℕ
   pub args : List (Dynamic H)
+  pub entry : Option ℕ
+
+-- the words by which a call is no function's, where it was not written as an operator
+pub data Keyword : Type 0 where
+  CallPointer : Keyword
+  MakePointer : Keyword
+  Curry : Keyword
+  IsShared : Keyword
+  IsDefinedVariable : Keyword
+
+-- what the arguments of a call are for, once all of them are there
+pub data Purpose (H : Type 0) : Type 0 where
+  -- a call by name, with the values that a pointer has already
+  ToCall : Operation → (curried : List (Dynamic H)) → Purpose H
+  -- a call by name, with a variable before the arguments that is read last
+  ToCallOn : Operation → (variable : List ℕ) → (variable_at : Position) → Purpose H
+  -- a call of a native by its number
+  ToCallNumber : (number : ℕ) → Operation → (curried : List (Dynamic H)) → Purpose H
+  -- a pointer that gets them
+  ToCurry : FnPtr H → Purpose H
 
 -- an assignment to a variable: its name, where it stands, and how the value is assigned
 pub record Assignment : Type 0 where
@@ -52,6 +74,8 @@ pub data Control (H : Type 0) : Type 0 where
   Eval : Expr → Control H
   Exec : Stmt → (restoring : Bool) → Control H
   Ask : Call H → Control H
+  -- a call by name goes on with its arguments; one that has a variable first is charged there
+  CallNamed : Operation → (curried : List (Dynamic H)) → (args : List Expr) → (captures : Bool) → Control H
   -- these charge too: the variable of an assignment whose value is there, the native of an update
   Assign : Assignment → Dynamic H → Control H
   AskUpdate : Update H → Control H
@@ -93,6 +117,10 @@ pub data Frame (H : Type 0) : Type 0 where
   UnaryOperand : (operation : Operation) → (operand_at : Position) → Frame H
   LeftOperand : (operation : Operation) → (left_at : Position) → (right : Expr) → Frame H
   RightOperand : (operation : Operation) → (left : Dynamic H) → (right_at : Position) → Frame H
+  -- an argument of a call, after the ones that are there and before the others
+  CallArgument : Purpose H → (made : List (Dynamic H)) → (argument_at : Position) → (rest : List Expr) → Frame H
+  -- the first argument of a keyword, before the others
+  KeywordArgument : Keyword → (at start : Position) → (rest : List Expr) → (captures : Bool) → Frame H
   -- a part of an `&&`, an `||` or a `??`, before the other parts
   AndPart : (part_at : Position) → (rest : List Expr) → Frame H
   OrPart : (part_at : Position) → (rest : List Expr) → Frame H

@@ -9,9 +9,10 @@ use Rattle.rhai_machine.specs.language.Setting.{Setting, Rules}
 use Rattle.rhai_machine.specs.language.State.{Local}
 use Rattle.rhai_machine.specs.language.Frames.{Control, Frame, Core, core, Eval, Exec, Ask, Assign, AskUpdate, Argument, Question, Fire}
 use Rattle.rhai_machine.specs.language.Frames.{QuestionUpdate, FireUpdate, OpenExpr, OpenStmt, Enter, Run, Store, WhileTurn, DoTurn, Back}
-use Rattle.rhai_machine.specs.language.Frames.{Fail, DoBody}
+use Rattle.rhai_machine.specs.language.Frames.{Fail, DoBody, CallNamed}
 use Rattle.rhai_machine.specs.language.Expressions.{literal_of, argument_move, expr_move}
 use Rattle.rhai_machine.specs.language.Calls.{question_move, fire_move}
+use Rattle.rhai_machine.specs.language.Arguments.{named_move}
 use Rattle.rhai_machine.specs.language.Places.{target_of}
 use Rattle.rhai_machine.specs.language.Assignment.{store_core, question_update, fire_update}
 use Rattle.rhai_machine.specs.language.Loops.{is_endless, while_move}
@@ -27,7 +28,8 @@ module _ {H : Type 0} (s : Setting H) where
   move_at (Assign assignment v) k l = Charge assignment.at (core (Store assignment v) k l)
   move_at (AskUpdate u) k l = Charge u.at (core (QuestionUpdate u) k l)
   move_at (Argument e) k l = argument_move (literal_of (out-Expr e)) e k l
-  move_at (Question call) k l = question_move s call k l
+  move_at (CallNamed operation curried args captures) k l = named_move s operation curried args captures k l
+  move_at (Question call) k l = question_move s call call.args k l
   move_at (Fire call) k l = fire_move s call call.args k l
   move_at (QuestionUpdate u) k l = question_update s u k l
   move_at (FireUpdate u) k l = fire_update s u.target.value u k l

@@ -13,8 +13,9 @@ use Rattle.rhai_machine.specs.machine.Machine.{Move, Halt, Go}
 use Rattle.rhai_machine.specs.language.Setting.{Setting}
 use Rattle.rhai_machine.specs.language.State.{Local}
 use Rattle.rhai_machine.specs.language.Values.{unit_value}
-use Rattle.rhai_machine.specs.language.Frames.{Saved, Frame, Core, core, where_there, Eval, Exec, Enter, Run, WhileTurn, DoTurn, Back, Fail}
-use Rattle.rhai_machine.specs.language.Frames.{StatementValue, DefineValue, IfCondition, RestOfList, RestoreList, BreakValue, ReturnValue}
+use Rattle.rhai_machine.specs.language.Frames.{Saved, Frame, Core, core, where_there, Eval, Exec, OpenExpr, Enter, Run, WhileTurn}
+use Rattle.rhai_machine.specs.language.Frames.{DoTurn, Back, Fail, StatementValue, DefineValue, IfCondition, RestOfList, RestoreList}
+use Rattle.rhai_machine.specs.language.Frames.{BreakValue, ReturnValue}
 use Rattle.rhai_machine.specs.language.Assignment.{assignment_move}
 
 -- an option is among the options
@@ -85,6 +86,7 @@ module _ {H : Type 0} where
     abbrev pub stmt_move : StmtLayer → Bool → List (Frame H) → Local H → Move H (Core H)
     stmt_move (layer.Noop pos) restoring k l = Go (core (Back unit_value) k l)
     stmt_move (layer.Expr value) restoring k l = Go (core (Eval value) (StatementValue (position_of value) ∷ k) l)
+    stmt_move (layer.Stmt::FnCall call pos) restoring k l = Go (core (OpenExpr (layer.Expr::FnCall call pos)) k l)
     stmt_move (layer.Block block) restoring k l = Go (core (Enter block.statements true) k l)
     stmt_move (layer.Assignment op lhs rhs) restoring k l = assignment_move (out-Expr lhs) op rhs k l
     stmt_move (layer.Var ident value None options pos) restoring k l =

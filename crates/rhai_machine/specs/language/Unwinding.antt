@@ -1,5 +1,5 @@
 -- What a frame does with a value that comes up, and with an error that comes down.
-use Rattle.std.specs.Prelude.{Bool, true, List, [], ◌∷◌, Result, Ok, Err}
+use Rattle.std.specs.Prelude.{Bool, true, List, [], ◌∷◌, ◌++◌, Result, Ok, Err}
 use Rattle.rhai_machine.specs.Types.{Dynamic, EvalAltResult}
 use Rattle.rhai_tree.specs.Positions.{position_of}
 use Rattle.rhai_state.specs.declared.error.EvalAltResult.TheVariants as error
@@ -7,16 +7,17 @@ use Rattle.rhai_state.specs.Errors.{is_system}
 use Rattle.rhai_machine.specs.language.Setting.{Setting}
 use Rattle.rhai_machine.specs.language.State.{Local}
 use Rattle.rhai_machine.specs.language.Values.{flat, through, truth}
-use Rattle.rhai_machine.specs.language.Frames.{Operation, Call, Frame, Core, core, on_value, ended, Assign, Eval, Argument, Run}
+use Rattle.rhai_machine.specs.language.Frames.{Operation, Frame, Core, core, on_value, ended, Assign, Eval, Argument, Run}
 use Rattle.rhai_machine.specs.language.Frames.{WhileTurn, DoTurn, Back}
 use Rattle.rhai_machine.specs.language.Frames.{Fail, StatementValue, DefineValue, IfCondition, RestOfList, RestoreList, Top, UnaryOperand}
 use Rattle.rhai_machine.specs.language.Frames.{LeftOperand, RightOperand, AndPart, OrPart, CoalescePart, AssignValue, WhileCondition}
 use Rattle.rhai_machine.specs.language.Frames.{WhileBody, DoCondition, DoBody, BreakValue, ReturnValue, ArrayItem, EntryValue}
-use Rattle.rhai_machine.specs.language.Frames.{TextPart, PrintedPart}
+use Rattle.rhai_machine.specs.language.Frames.{TextPart, PrintedPart, CallArgument, KeywordArgument}
 use Rattle.rhai_machine.specs.language.Data.{with_item, with_value, items_core, entries_core, joined_core, part_core, printed}
 use Rattle.rhai_machine.specs.language.Data.{unprinted_core}
 use Rattle.rhai_machine.specs.language.Expressions.{and_next, or_next, coalesce_next}
-use Rattle.rhai_machine.specs.language.Calls.{builtin_of, operator_core}
+use Rattle.rhai_machine.specs.language.Calls.{builtin_of, call_of, operator_core}
+use Rattle.rhai_machine.specs.language.Arguments.{arguments_core, flattens, keyword_core, taken}
 use Rattle.rhai_machine.specs.language.Statements.{has_option, chosen_core, defined_core, restored_by}
 use Rattle.rhai_machine.specs.language.Loops.{while_core, do_control, caught}
 
@@ -28,9 +29,6 @@ module _ {H : Type 0} where
   topped map_exit e = Err e
 
 module _ {H : Type 0} (s : Setting H) where
-  abbrev pub call_of : Operation → List (Dynamic H) → Call H
-  call_of operation args = record { operation = operation; args = args }
-
   -- the operands of an operator are there
   abbrev pub operated : Operation → List (Dynamic H) → List (Frame H) → Local H → Core H
   operated operation args k l = operator_core s (builtin_of operation.token args) (call_of operation args) k l
@@ -49,6 +47,9 @@ module _ {H : Type 0} (s : Setting H) where
       (λ x. core (Argument right) (RightOperand operation x (position_of right) ∷ k) l) k l
   up_core (RightOperand operation left right_at) v k l =
       on_value (flat l.around.cells v right_at) (λ y. operated operation (left ∷ y ∷ []) k l) k l
+  up_core (CallArgument purpose made argument_at rest) v k l =
+      on_value (taken (flattens purpose) l.around.cells v argument_at) (λ x. arguments_core s purpose (made ++ x ∷ []) rest k l) k l
+  up_core (KeywordArgument keyword call_at start rest captures) v k l = keyword_core s keyword call_at start rest captures v k l
   up_core (AndPart part_at rest) v k l = on_value (truth s.host_type l.around.cells v part_at) (λ holds. and_next holds rest k l) k l
   up_core (OrPart part_at rest) v k l = on_value (truth s.host_type l.around.cells v part_at) (λ holds. or_next holds rest k l) k l
   up_core (CoalescePart part_at rest) v k l = coalesce_next (through l.around.cells v part_at) v rest k l
