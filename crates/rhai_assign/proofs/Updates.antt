@@ -23,7 +23,7 @@ use Rattle.rhai_machine.specs.language.Places.{Target, target_of, put}
 use Rattle.rhai_machine.specs.language.Calls.{applied, operation_at, placed_if_none, replied, sized}
 use Rattle.rhai_machine.specs.language.Frames.{Control, Assignment, AsValue, Update, Frame, Core, core, ended, Assign, Store, AskUpdate}
 use Rattle.rhai_machine.specs.language.Frames.{Fail}
-use Rattle.rhai_machine.specs.language.Assignment.{changed_core, fault_core, native_of, store_core, update_core, value_core, written_core}
+use Rattle.rhai_machine.specs.language.Assignment.{changed_core, fault_core, if_fast, native_of, store_core, update_core, value_core, written_core}
 use Rattle.rhai_machine.specs.language.Runs.{at, with_core, Goes, Runs, Steps}
 use Rattle.rhai_steps.specs.States.{local_of, state_of}
 use Rattle.rhai_steps.proofs.Pieces.{charged, or_wants, refused, told}
@@ -44,6 +44,11 @@ pub built_for : {H : Type 0} (answer : Answer H) (update : code.Update) (scope :
     operators.HasMemory answer → answer ≡ op_assign_of update.token (standing_at update.place scope cells) w
 built_for answer update scope cells x y w value stands same m =
     rw (standing_is (place_in update.place) x (entries_of scope) (cells_of cells) stands, ← same) (value m)
+
+-- without fast operators no built-in is tried
+pub not_fast : {H : Type 0} (fast : Bool) (answer : Answer H) → fast ≡ false → if_fast fast answer ≡ None
+not_fast true answer is = cc
+not_fast false answer is = refl
 
 module _ {S H : Type 0} (rules : Rules S H) where
   -- two points with the same parts

@@ -35,8 +35,8 @@ use std::alloc::Global;
 use std::num::NonZeroUsize;
 
 /// Assigns a value to a variable, charged first at the variable. By an operator the built-in is tried
-/// first, then the native `op=`, which may change the target, and where that is missing the native
-/// `op`, which gives its new value. The variable is found by its offset where that is given and
+/// first under fast operators, then the native `op=`, which may change the target, or its built-in, and
+/// where both are missing the native `op`, which gives its new value. The variable is found by its offset where that is given and
 /// variables are not searched for, and else by its name. Asked: the offset leads to the newest
 /// variable of the name.
 ///
@@ -56,11 +56,12 @@ pub fn assign_variable<H: Host, T: NativeTable<H>>(
     pos: Position,
     op: OpAssignment,
     value: Dynamic<H>,
+    fast: bool,
 ) -> Result<Dynamic<H>, EvalAltResult<H>>
     requires { IsTrue (is_good offset name.now (names_in scope.old)) }
     ensures counts { global.old.num_operations ≤ global.new.num_operations }
     ensures names { names_in scope.new ≡ names_in scope.old }
-    ensures runs { (offer : _) (this : _) → offer.fast_operators ≡ true →
+    ensures runs { (offer : _) (this : _) → offer.fast_operators ≡ fast →
         Runs (rules_of limits.now H.name_of offer T.natives)
         (Assign (record { name = name.now; at = pos; op = op }) value)
         (state_of (T.state table.old) global.old scope.old this)
@@ -71,7 +72,9 @@ pub fn assign_variable<H: Host, T: NativeTable<H>>(
         return Err(error);
     }
     match find_target(global, scope, offset, name, pos) {
-        Ok(place) => store(limits, alloc, global, table, scope, place, pos, op, value),
+        Ok(place) => store(
+            limits, alloc, global, table, scope, place, pos, op, value, fast,
+        ),
         Err(error) => {
             let_go(value);
             Err(error)

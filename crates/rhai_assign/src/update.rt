@@ -57,8 +57,8 @@ fn update_by_value<H: Host, T: NativeTable<H>>(
         limits,
         &global.cells,
         answer,
-        &name,
-        update.token,
+        name.get().as_str(),
+        Some(update.token),
         target,
         rest,
         update.at,
@@ -130,6 +130,35 @@ fn update_in_place<H: Host, T: NativeTable<H>>(
     }
 }
 
+/// An update by its natives.
+fn update_by_natives<H: Host, T: NativeTable<H>>(
+    limits: &Limits,
+    alloc: Global,
+    global: &mut GlobalRuntimeState<H>,
+    table: &mut T,
+    scope: &mut Scope<H>,
+    update: Update,
+    operand: Dynamic<H>,
+) -> Result<Dynamic<H>, EvalAltResult<H>>
+    requires { stands_at update.place scope.old global.old.cells ≡ true }
+    ensures keeps { Keeps global.old global.new scope.old scope.new }
+    ensures runs { (offer : _) (this : _) → Runs (rules_of limits.now H.name_of offer T.natives)
+        (AskUpdate (updating update InPlace scope.old global.old operand))
+        (state_of (T.state table.old) global.old scope.old this)
+        result (state_of (T.state table.new) global.new scope.new this) }
+{
+    match list_of(alloc, operand) {
+        Ok(rest) => {
+            let rest = rest.as_slice();
+            update_in_place(limits, alloc, global, table, scope, update, rest)
+        }
+        Err(operand) => {
+            let_go(operand);
+            Err(EvalAltResult::ErrorOutOfMemory(update.at))
+        }
+    }
+}
+
 /// An update: the built-in, or else the natives.
 fn update<H: Host, T: NativeTable<H>>(
     limits: &Limits,
@@ -154,20 +183,12 @@ fn update<H: Host, T: NativeTable<H>>(
             let_go(operand);
             write_outcome(limits, alloc, global, scope, update, outcome)
         }
-        None => match list_of(alloc, operand) {
-            Ok(rest) => {
-                let rest = rest.as_slice();
-                update_in_place(limits, alloc, global, table, scope, update, rest)
-            }
-            Err(operand) => {
-                let_go(operand);
-                Err(EvalAltResult::ErrorOutOfMemory(update.at))
-            }
-        },
+        None => update_by_natives(limits, alloc, global, table, scope, update, operand),
     }
 }
 
-/// Assigns a value to a place that was found, as it is or by an operator.
+/// Assigns a value to a place that was found, as it is or by an operator. The built-in is tried first
+/// under fast operators alone.
 pub(crate) fn store<H: Host, T: NativeTable<H>>(
     limits: &Limits,
     alloc: Global,
@@ -178,10 +199,11 @@ pub(crate) fn store<H: Host, T: NativeTable<H>>(
     pos: Position,
     op: OpAssignment,
     value: Dynamic<H>,
+    fast: bool,
 ) -> Result<Dynamic<H>, EvalAltResult<H>>
     requires { stands_at place scope.old global.old.cells ≡ true }
     ensures keeps { Keeps global.old global.new scope.old scope.new }
-    ensures runs { (offer : _) (this : _) (name : _) → offer.fast_operators ≡ true →
+    ensures runs { (offer : _) (this : _) (name : _) → offer.fast_operators ≡ fast →
         FollowsAssign (rules_of limits.now H.name_of offer T.natives)
         (record { name = name; at = pos; op = op })
         (target (place_in place) (standing_at place scope.old global.old.cells)) value
@@ -196,7 +218,11 @@ pub(crate) fn store<H: Host, T: NativeTable<H>>(
                 place,
                 target_at: pos,
             };
-            update(limits, alloc, global, table, scope, by, value)
+            if fast {
+                update(limits, alloc, global, table, scope, by, value)
+            } else {
+                update_by_natives(limits, alloc, global, table, scope, by, value)
+            }
         }
         None => {
             let mut value = value;

@@ -1,1 +1,4 @@
+pub mod Dispatching
+pub mod Lent
 pub mod NativeCalls
+pub mod Operating

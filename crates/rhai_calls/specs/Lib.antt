@@ -1,1 +1,4 @@
+pub mod Dispatch
+pub mod Lending
+pub mod Natives
 pub mod Operates

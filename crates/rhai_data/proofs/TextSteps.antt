@@ -28,40 +28,10 @@ use Rattle.rhai_machine.specs.language.Calls.{sized_by}
 use Rattle.rhai_machine.specs.language.Calls.{args_left, types_of, unknown}
 use Rattle.rhai_machine.specs.language.Data.{joined_core, part_core, parts_core, printed, printer, printing, unprinted_core, with_part}
 use Rattle.rhai_machine.specs.language.Frames.{Frame, Control, core, ended, on_value, Ask, Back, Fail, Fire, PrintedPart, TextPart}
-use Rattle.rhai_machine.specs.language.Runs.{at, with_core, Goes}
+use Rattle.rhai_machine.specs.language.Runs.{at, with_core, Goes, Runs, Steps}
 use Rattle.rhai_steps.specs.States.{state_of}
 use Rattle.rhai_steps.proofs.Pieces.{step_by, or_wants}
-use Rattle.rhai_calls.proofs.NativeCalls.{asks, refuses_call, fires_handle, fires_told}
-use Rattle.rhai_data.specs.Texts.{after_part, text_in, text_given, unprinted, print_of, print_core, Prints}
-
--- which errors are the system's does not hang on where they stand
-position_system : {H : Type 0} (pos : Position) (e : EvalAltResult H) → is_system (at_position pos e) ≡ is_system e
-position_system pos (error.ErrorTooManyOperations at) = refl
-position_system pos (error.ErrorTooManyVariables at) = refl
-position_system pos (error.ErrorTooManyModules at) = refl
-position_system pos (error.ErrorStackOverflow at) = refl
-position_system pos (error.ErrorDataTooLarge text at) = refl
-position_system pos (error.ErrorOutOfMemory at) = refl
-position_system pos _ = refl
-
-chosen_system : {H : Type 0} (b : Bool) (pos : Position) (e : EvalAltResult H) →
-    is_system (if b then at_position pos e else e) ≡ is_system e
-chosen_system true pos e = position_system pos e
-chosen_system false pos e = refl
-
-placed_system : {H : Type 0} (pos : Position) (e : EvalAltResult H) → is_system (placed_if_none pos e) ≡ is_system e
-placed_system pos e = chosen_system (nat_eq (position_of e).line 0) pos e
-
-unknown_system : (H : Type 0) (property : Option (List ℕ)) (indexes : Bool) (name first : List ℕ) (types : List (List ℕ)) (pos : Position) →
-    is_system {H = H} (unknown property indexes name first types pos) ≡ false
-unknown_system H (Some text) indexes name first types pos = refl
-unknown_system H None true name first types pos = refl
-unknown_system H None false name first types pos = refl
-
-missing_system : {H : Type 0} (host : H → List ℕ) (cells : Cells H) (name : List ℕ) (args : List (Dynamic H)) (pos : Position) →
-    is_system (not_found host cells name args pos) ≡ false
-missing_system {H} host cells name args pos =
-    unknown_system H (property_named name) (names_indexer name) name (first_type host cells args) (types_of host cells args) pos
+use Rattle.rhai_data.specs.Texts.{after_part, text_in, unprinted, print_of, print_core, Prints, PrintsAndJoins}
 
 memory_system : {H : Type 0} (e : EvalAltResult H) → is_out_of_memory e ≡ true → is_system e ≡ true
 memory_system (error.ErrorOutOfMemory at) is = refl
@@ -91,25 +61,16 @@ module _ {S H : Type 0} (rules : Rules S H) (text type : List ℕ) (pos : Positi
       Goes rules (at (Back v) waits s) (with_core (print_core rules.setting (Ok (text_in v.value)) text type pos rest k s.local) s)
   gives v s = step_by rules _ _ _ (ap Go (text_leads v.value s.local)) here
 
-  sized_leads : (fault : Option (List ℕ)) (v : Dynamic H) (s : State S H) →
-      Goes rules (at (ended (sized_by rules.setting.limits fault v pos)) waits s)
-      (with_core (print_core rules.setting (text_given (sized_by rules.setting.limits fault v pos)) text type pos rest k s.local) s)
-  sized_leads None v s = gives v s
-  sized_leads (Some what) v s = passes (error.ErrorDataTooLarge what pos) refl s
-
   fault_leads : (b : Bool) (e : EvalAltResult H) (s : State S H) → is_system e ≡ b →
       Goes rules (at (Fail e) waits s) (with_core (print_core rules.setting (unprinted b e) text type pos rest k s.local) s)
   fault_leads true e s is = passes e is s
   fault_leads false e s is = leaves_type e is s
 
-  -- a native's reply
-  reply_leads : (r : Reply H) (v : Dynamic H) (left : Option (Dynamic H)) (cells : Cells H) (s : State S H) →
-      Goes rules (at (ended (replied rules.setting.limits rules.setting.host_type r left [] (printing v pos).operation cells)) waits s)
-      (with_core (print_core rules.setting (print_of rules.setting.limits r pos) text type pos rest k s.local) s)
-  reply_leads Missing v left cells s = leaves_type _ (missing_system rules.setting.host_type cells printer
-      (args_left rules.setting.limits rules.setting.host_type left []) pos) s
-  reply_leads (Gives x) v left cells s = sized_leads _ x s
-  reply_leads (Faults e) v left cells s = fault_leads (is_system e) (placed_if_none pos e) s (placed_system pos e)
+  -- what comes of the call
+  outcome_leads : (outcome : Result (Dynamic H) (EvalAltResult H)) (s : State S H) →
+      Goes rules (at (ended outcome) waits s) (with_core (print_core rules.setting (print_of outcome) text type pos rest k s.local) s)
+  outcome_leads (Ok v) s = gives v s
+  outcome_leads (Err e) s = fault_leads (is_system e) e s refl
 
   -- what came of it, where memory may have run out in its place
   pub print_told : (c : Control H) (s : State S H) (wanted result : Result (Option (List ℕ)) (EvalAltResult H)) →
@@ -123,83 +84,28 @@ module _ {S H : Type 0} (rules : Rules S H) (text type : List ℕ) (pos : Positi
       subst (λ r. Goes rules (at c waits s) (with_core (print_core rules.setting r text type pos rest k s.local) s))
       (sym (answers refl)) goes
 
-  starved_leads : (v : Dynamic H) (left : Option (Dynamic H)) (t : S) (s : State S H) →
-      is_handle (copy_of v).value ≡ false → (result : Result (Option (List ℕ)) (EvalAltResult H)) → (HasMemory result → false ≡ true) →
-      Goes rules (at (Fire (printing v pos)) waits s)
-      (with_core (print_core rules.setting result text type pos rest k s.local) (record s { table = t }))
-  starved_leads v left t s plain (Ok x) memory = absurd (false≢true (memory tt))
-  starved_leads v left t s plain (Err (error.ErrorOutOfMemory place)) memory =
-      fires_told rules (printing v pos).operation (copy_of v) [] waits s plain None left t (Err (error.ErrorOutOfMemory place)) tt tt memory
-      ⨾ passes (error.ErrorOutOfMemory place) refl (record s { table = t })
-  starved_leads v left t s plain (Err e) memory = absurd (false≢true (memory refl))
-
-  -- what a native's answer comes to
-  pub prints_told : (v : Dynamic H) (s : State S H) → is_handle (copy_of v).value ≡ false → (answer : Option (Reply H))
-      (left : Option (Dynamic H)) (t : S) (result : Result (Option (List ℕ)) (EvalAltResult H)) →
-      Obeys (rules.natives.gives s.table (request s.local.around.cells (Named printer) (Some (copy_of v)) [] pos)) answer left t →
-      IfSome answer (λ r. Answers result (print_of rules.setting.limits r pos)) → (HasMemory result → is_some answer ≡ true) →
-      Goes rules (at (Fire (printing v pos)) waits s)
-      (with_core (print_core rules.setting result text type pos rest k s.local) (record s { table = t }))
-  prints_told v s plain None left t result obeys answers memory = starved_leads v left t s plain result memory
-  prints_told v s plain (Some r) left t result obeys answers memory =
-      fires_told rules (printing v pos).operation (copy_of v) [] waits s plain (Some r) left t
-      (replied rules.setting.limits rules.setting.host_type r left [] (printing v pos).operation s.local.around.cells) obeys (λ m. refl)
-      (λ m. refl)
-      ⨾ print_told _ (record s { table = t }) (print_of rules.setting.limits r pos) result
-      (reply_leads r v left s.local.around.cells (record s { table = t })) answers
-
-  -- a copy that is a handle is nobody's to hand in
-  pub handle_leads : (v : Dynamic H) (s : State S H) → is_handle (copy_of v).value ≡ true →
-      Goes rules (at (Fire (printing v pos)) waits s) (with_core (print_core rules.setting (Ok None) text type pos rest k s.local) s)
-  handle_leads v s handle =
-      fires_handle rules (printing v pos).operation (copy_of v) [] waits s handle (error.ErrorDataRace printer pos) (λ m. refl)
-      ⨾ leaves_type (error.ErrorDataRace printer pos) refl s
-
 -- an answer that is none for want of memory
 pub failed_wants : {A H : Type 0} (x : A) (e : EvalAltResult H) → Answers (Err e) (Ok x) → is_out_of_memory e ≡ true
 failed_wants x (error.ErrorOutOfMemory pos) a = refl
 failed_wants x e a = let no = a refl in cc
 
-module _ {S H : Type 0} (rules : Rules S H) (v : Dynamic H) (pos : Position) (t : S) (old mid : GlobalRuntimeState H) (scope : Scope H)
-    (this : Option (Dynamic H)) where
-  -- the call is refused
-  pub print_refused : (x : EvalAltResult H) → limit_under rules ≤ old.num_operations → x ≡ error.ErrorTooManyOperations pos → mid ≡ old →
-      Prints rules v pos (state_of t old scope this) (Err x) (state_of t mid scope this)
+module _ {S H : Type 0} (rules : Rules S H) (v : Dynamic H) (pos : Position) where
+  -- there is no memory for the copy
+  pub print_wants : (s : State S H) (e : EvalAltResult H) → is_out_of_memory e ≡ true → Prints rules v pos s (Err e) s
   unfolding Prints
-  print_refused x full is same text type rest k =
-      refuses_call rules t old mid scope this (printing v pos) x full is same (waits rules text type pos rest k)
-      ⨾ passes rules text type pos rest k x (rw is refl) _
+  print_wants s e is text type rest k =
+      or_wants rules (Ask (printing v pos)) (waits rules text type pos rest k) s e (λ no. absurd (false≢true (sym no ∙ is)))
+      ⨾ passes rules text type pos rest k e (memory_system e is) s
 
-  module _ (room : old.num_operations < limit_under rules) (charged : mid ≡ record old { num_operations = old.num_operations + 1 }) where
-    begins : (text type : List ℕ) (rest : List Expr) (k : List (Frame H)) →
-        Goes rules (at (Ask (printing v pos)) (waits rules text type pos rest k) (state_of t old scope this))
-        (at (Fire (printing v pos)) (waits rules text type pos rest k) (state_of t mid scope this))
-    begins text type rest k = asks rules t old mid scope this (printing v pos) room charged (waits rules text type pos rest k)
-
-    -- there is no memory for the copy
-    pub print_wants : (e : EvalAltResult H) → is_out_of_memory e ≡ true →
-        Prints rules v pos (state_of t old scope this) (Err e) (state_of t mid scope this)
-    unfolding Prints
-    print_wants e is text type rest k =
-        begins text type rest k
-        ⨾ or_wants rules _ (waits rules text type pos rest k) _ e (λ no. absurd (false≢true (sym no ∙ is)))
-        ⨾ passes rules text type pos rest k e (memory_system e is) _
-
-    -- the copy is a handle
-    pub print_handle : is_handle (copy_of v).value ≡ true →
-        Prints rules v pos (state_of t old scope this) (Ok None) (state_of t mid scope this)
-    unfolding Prints
-    print_handle handle text type rest k = begins text type rest k ⨾ handle_leads rules text type pos rest k v _ handle
-
-    -- the native is called
-    pub print_called : is_handle (copy_of v).value ≡ false → (answer : Option (Reply H)) (left : Option (Dynamic H)) (t' : S)
-        (result : Result (Option (List ℕ)) (EvalAltResult H)) →
-        Obeys (rules.natives.gives t (request (cells_of mid.cells) (Named printer) (Some (copy_of v)) [] pos)) answer left t' →
-        IfSome answer (λ r. Answers result (print_of rules.setting.limits r pos)) → (HasMemory result → is_some answer ≡ true) →
-        Prints rules v pos (state_of t old scope this) result (state_of t' mid scope this)
-    unfolding Prints
-    print_called plain answer left t' result obeys answers memory text type rest k =
-        begins text type rest k ⨾ prints_told rules text type pos rest k v _ plain answer left t' result obeys answers memory
+  -- the native is called
+  pub print_called : (old new : State S H) (outcome : Result (Dynamic H) (EvalAltResult H))
+      (result : Result (Option (List ℕ)) (EvalAltResult H)) → Runs rules (Ask (printing v pos)) old outcome new →
+      Answers result (print_of outcome) → Prints rules v pos old result new
+  unfolding Prints Steps
+  print_called old new outcome result runs answers text type rest k =
+      runs (waits rules text type pos rest k)
+      ⨾ print_told rules text type pos rest k (ended outcome) new (print_of outcome) result
+      (outcome_leads rules text type pos rest k outcome new) answers
 
 module _ {S H : Type 0} (rules : Rules S H) where
   part_wants : (r : Result (List ℕ) (EvalAltResult H)) (rest : List Expr) (k : List (Frame H)) (s : State S H) (pos : Position) →
@@ -220,6 +126,15 @@ module _ {S H : Type 0} (rules : Rules S H) where
   joined_leads text part pos rest k s (Err (error.ErrorOutOfMemory place)) joined ok err =
       part_wants (with_part rules.setting.limits text part pos) rest k s place
   joined_leads text part pos rest k s (Err e) joined ok err = rw (err refl) here
+
+module _ {S H : Type 0} (rules : Rules S H) where
+  -- memory runs out before a value is printed
+  pub joins_wants : (A : Type 0) (text : List ℕ) (v : Dynamic H) (pos place : Position) (s : State S H) (joined : List ℕ) →
+      PrintsAndJoins rules {A = A} text v pos s (Err (error.ErrorOutOfMemory place)) joined s
+  unfolding PrintsAndJoins
+  joins_wants A text v pos place s joined rest k =
+      wanting {at = place} (passes rules text (type_name_of rules.setting.host_type s.local.around.cells v) pos rest k
+      (error.ErrorOutOfMemory place) refl s)
 
 -- a text is joined as it is
 pub text_core : {H : Type 0} (s : Setting H) (u : Union H) (v : Dynamic H) (text part : List ℕ) (pos : Position) (rest : List Expr)

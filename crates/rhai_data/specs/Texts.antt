@@ -7,10 +7,7 @@ use Rattle.rhai_values.specs.declared.base.value.Union.{Union}
 use Rattle.rhai_values.specs.declared.base.value.Union.TheVariants as value
 use Rattle.rhai_values.specs.TypeNames.{type_name_of}
 use Rattle.rhai_state.specs.declared.error.EvalAltResult.{EvalAltResult}
-use Rattle.rhai_state.specs.declared.limits.Limits.{Limits}
 use Rattle.rhai_state.specs.Errors.{is_system}
-use Rattle.rhai_state.specs.Native.{Reply, Missing, Gives, Faults}
-use Rattle.rhai_machine.specs.language.Calls.{placed_if_none, sized}
 use Rattle.rhai_machine.specs.language.Data.{joined_core, part_core, parts_core, printing}
 use Rattle.rhai_machine.specs.language.Frames.{Frame, Core, core, Ask, Back, Fail, PrintedPart, TextPart}
 use Rattle.rhai_machine.specs.language.Runs.{at, with_core, Goes}
@@ -23,20 +20,15 @@ module _ {H : Type 0} where
   text_in (value.Str text) = Some text
   text_in _ = None
 
-  abbrev pub text_given : Result (Dynamic H) (EvalAltResult H) → Result (Option (List ℕ)) (EvalAltResult H)
-  text_given (Ok v) = Ok (text_in v.value)
-  text_given (Err e) = Err e
-
   -- an error of the system passes, and after any other nothing is printed
   abbrev pub unprinted : (passes : Bool) → EvalAltResult H → Result (Option (List ℕ)) (EvalAltResult H)
   unprinted true e = Err e
   unprinted false e = Ok None
 
   -- the text that a native printed, None where it printed none
-  abbrev pub print_of : Limits → Reply H → Position → Result (Option (List ℕ)) (EvalAltResult H)
-  print_of limits Missing pos = Ok None
-  print_of limits (Gives v) pos = text_given (sized limits v pos)
-  print_of limits (Faults e) pos = unprinted (is_system e) (placed_if_none pos e)
+  abbrev pub print_of : Result (Dynamic H) (EvalAltResult H) → Result (Option (List ℕ)) (EvalAltResult H)
+  print_of (Ok v) = Ok (text_in v.value)
+  print_of (Err e) = unprinted (is_system e) e
 
   -- what was printed is joined, or else the type
   abbrev pub print_core : Setting H → Result (Option (List ℕ)) (EvalAltResult H) → (text type : List ℕ) → Position → List Expr →

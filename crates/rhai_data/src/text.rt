@@ -1,26 +1,26 @@
 //! A text while it is joined of the values of its parts. Ports the interpolated text of upstream's
 //! `eval/expr.rs`.
 
-ghost use Rattle.std.specs.Prelude.{◌≡◌, ◌≤◌, IfErr, IfSome, OnOk, Ok, Err, false, true, is_some};
+ghost use Rattle.std.specs.Prelude.{◌≡◌, ◌≤◌, IfErr, OnOk, Ok, Err, false};
 ghost use Rattle.std.specs.Option.{option_copied};
 ghost use Rattle.std.specs.String.{string_bytes};
+ghost use Rattle.rhai_values.specs.Cells.{cells_of};
+ghost use Rattle.rhai_values.specs.TypeNames.{type_name_of};
 ghost use Rattle.rhai_state.specs.Errors.{is_out_of_memory};
-ghost use Rattle.rhai_state.specs.Native.{reply_of};
 ghost use Rattle.rhai_machine.specs.language.Data.{text_of, with_part};
 ghost use Rattle.rhai_machine.specs.language.Setting.{rules_of};
-ghost use Rattle.rhai_machine.specs.language.State.{Answers, HasMemory};
+ghost use Rattle.rhai_machine.specs.language.State.{Answers};
 ghost use Rattle.rhai_steps.specs.States.{state_of};
 ghost use Rattle.rhai_data.specs.Texts.{text_in as text_of_value, print_of, Prints, PrintsAndJoins};
 ghost use Rattle.rhai_data.specs.Texts.{Joins, JoinsFlat};
 
+use rhai_calls::native::call_native;
 use rhai_items::{Items, Shared, Text};
 use rhai_state::error::EvalAltResult;
 use rhai_state::limits::Limits;
 use rhai_state::state::GlobalRuntimeState;
-use rhai_state::table::{Answer, NativeTable};
-use rhai_steps::charges::track_operation;
-use rhai_steps::errors::data_too_large;
-use rhai_steps::replies::{placed, sized};
+use rhai_state::table::NativeTable;
+use rhai_steps::errors::{data_too_large, shared_text};
 use rhai_steps::values::{copy, flatten, is_bare_handle};
 use rhai_tree::position::Position;
 use rhai_values::base::size::DataSizes;
@@ -76,27 +76,22 @@ fn text_in<H: Host>(
     }
 }
 
-/// What a native's answer comes to: the text that it printed, None where it printed none.
+/// What a call of the native `to_string` comes to: the text that it printed, None where it printed none.
 fn printed<H: Host>(
-    alloc: Global,
-    limits: &Limits,
-    answer: Answer<H>,
+    outcome: Result<Dynamic<H>, EvalAltResult<H>>,
     pos: Position,
 ) -> Result<Option<Shared<Text>>, EvalAltResult<H>>
-    ensures told { IfSome (reply_of answer) (λ reply. Answers result (print_of limits.now reply pos)) }
-    ensures memory { HasMemory result → is_some (reply_of answer) ≡ true }
+    ensures { Answers result (print_of outcome) }
 {
-    match answer {
-        Answer::Missing => Ok(None),
-        Answer::Value(value) => text_in(sized(alloc, limits, value, pos)?, pos),
-        Answer::Fault(error) => {
+    match outcome {
+        Ok(value) => text_in(value, pos),
+        Err(error) => {
             if error.is_system_exception() {
-                return Err(placed(error, pos));
+                return Err(error);
             }
             drop(error);
             Ok(None)
         }
-        Answer::NoMemory => Err(EvalAltResult::ErrorOutOfMemory(pos)),
     }
 }
 
@@ -115,30 +110,79 @@ fn print<H: Host, T: NativeTable<H>>(
     pos: Position,
 ) -> Result<Option<Shared<Text>>, EvalAltResult<H>>
     ensures counts { global.old.num_operations ≤ global.new.num_operations }
-    ensures cells { global.new.cells ≡ global.old.cells }
     ensures runs { (offer : _) (scope : _) (this : _) → Prints (rules_of limits.now H.name_of offer T.natives)
         value.now pos (state_of (T.state table.old) global.old scope this)
         result (state_of (T.state table.new) global.new scope this) }
 {
-    track_operation(limits, global, pos)?;
     let mut first = copy(alloc, value, pos)?;
-    if is_bare_handle(&first) {
-        drop(first);
-        return Ok(None);
-    }
     let rest = Items::new(alloc);
-    let answer = table.call(
-        &global.cells,
+    let rest = rest.as_slice();
+    let outcome = call_native(
+        limits,
+        alloc,
+        global,
+        table,
         "to_string",
-        Some(&mut first),
-        rest.as_slice(),
+        None,
+        &mut first,
+        rest,
+        false,
         pos,
     );
     drop(first);
-    printed(alloc, limits, answer, pos)
+    printed(outcome, pos)
 }
 
 /// Joins a value that is no text: what the native `to_string` prints of it, or else its type's name.
+fn join_typed<H: Host, T: NativeTable<H>>(
+    limits: &Limits,
+    alloc: Global,
+    global: &mut GlobalRuntimeState<H>,
+    table: &mut T,
+    text: &mut String,
+    value: &Dynamic<H>,
+    type_name: &str,
+    pos: Position,
+) -> Result<(), EvalAltResult<H>>
+    requires { type_name.now ≡ type_name_of H.name_of (cells_of global.old.cells) value.now }
+    ensures counts { global.old.num_operations ≤ global.new.num_operations }
+    ensures runs { (offer : _) (scope : _) (this : _) →
+        PrintsAndJoins (rules_of limits.now H.name_of offer T.natives) (string_bytes text.old) value.now pos
+        (state_of (T.state table.old) global.old scope this) result (string_bytes text.new)
+        (state_of (T.state table.new) global.new scope this) }
+{
+    match print(limits, alloc, global, table, value, pos)? {
+        Some(part) => join_text(alloc, limits, text, part.get().as_str(), pos),
+        None => join_text(alloc, limits, text, type_name, pos),
+    }
+}
+
+/// The same of a handle, the name of whose type is taken before the native may change its cell.
+fn join_handle<H: Host, T: NativeTable<H>>(
+    limits: &Limits,
+    alloc: Global,
+    global: &mut GlobalRuntimeState<H>,
+    table: &mut T,
+    text: &mut String,
+    value: &Dynamic<H>,
+    pos: Position,
+) -> Result<(), EvalAltResult<H>>
+    ensures counts { global.old.num_operations ≤ global.new.num_operations }
+    ensures runs { (offer : _) (scope : _) (this : _) →
+        PrintsAndJoins (rules_of limits.now H.name_of offer T.natives) (string_bytes text.old) value.now pos
+        (state_of (T.state table.old) global.old scope this) result (string_bytes text.new)
+        (state_of (T.state table.new) global.new scope this) }
+{
+    match shared_text(alloc, value.type_name(&global.cells)) {
+        Ok(name) => {
+            let name = name.get().as_str();
+            join_typed(limits, alloc, global, table, text, value, name, pos)
+        }
+        Err(_) => Err(EvalAltResult::ErrorOutOfMemory(pos)),
+    }
+}
+
+/// The same of any value.
 fn join_printed<H: Host, T: NativeTable<H>>(
     limits: &Limits,
     alloc: Global,
@@ -154,10 +198,11 @@ fn join_printed<H: Host, T: NativeTable<H>>(
         (state_of (T.state table.old) global.old scope this) result (string_bytes text.new)
         (state_of (T.state table.new) global.new scope this) }
 {
-    match print(limits, alloc, global, table, value, pos)? {
-        Some(part) => join_text(alloc, limits, text, part.get().as_str(), pos),
-        None => join_text(alloc, limits, text, value.type_name(&global.cells), pos),
+    if is_bare_handle(value) {
+        return join_handle(limits, alloc, global, table, text, value, pos);
     }
+    let name = value.own_type_name();
+    join_typed(limits, alloc, global, table, text, value, name, pos)
 }
 
 /// The text that a value is.

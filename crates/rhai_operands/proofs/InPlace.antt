@@ -41,7 +41,7 @@ use Rattle.rhai_machine.specs.language.Frames.{Back, Fail}
 use Rattle.rhai_machine.specs.language.Runs.{at, with_core, Goes}
 use Rattle.rhai_steps.specs.States.{state_of}
 use Rattle.rhai_steps.proofs.Pieces.{step_by}
-use Rattle.rhai_calls.proofs.NativeCalls.{built}
+use Rattle.rhai_calls.proofs.Operating.{built}
 use Rattle.rhai_operators.specs.Direct.{integer_in, truth_given, truth_in}
 use Rattle.rhai_operands.specs.Standing.{compared, compared_known, integer_of, standing, truth_answered, two_in, unless_handle}
 use Rattle.rhai_operands.proofs.Standing.{argument_goes, argument_refused, standing_plain}

@@ -34,13 +34,21 @@ two_resolve left right names h =
     let first = both (resolves_expr left names) (resolves_expr right names && true) h in
     (first.0, (both (resolves_expr right names) true first.1).0)
 
-operands_of_call : (call : FnCallExpr) (pos : Position) (names : List Name) → IsTrue (resolves_call call pos names) →
-    IsTrue (all_resolve_exprs (map tests_of call.args) names)
-operands_of_call call pos names h =
-    let opened = fold_out-FnCallExpr (walk.Seen sound) (walk.SeenStmt sound) (Unit {0}) (walk.SeenCall sound)
-    (walk.SeenEntry sound) (walk.Seen sound) (walk.expr_step sound) (walk.stmt_step sound) (λ conditional. tt) (walk.call_step sound)
-    (walk.entry_step sound) (walk.block_step sound) call in
-    (holds_then _ _ (fails_then _ _ (subst (λ (s : walk.SeenCall sound). IsTrue (s.value pos names)) opened h)).1).1
+module _ (call : FnCallExpr) (pos : Position) (names : List Name) (h : IsTrue (resolves_call call pos names)) where
+  passed_call : IsTrue (is_unqualified call.namespace.path) × IsTrue (all_resolve_exprs (map tests_of call.args) names)
+  passed_call =
+      let opened = fold_out-FnCallExpr (walk.Seen sound) (walk.SeenStmt sound) (Unit {0}) (walk.SeenCall sound)
+      (walk.SeenEntry sound) (walk.Seen sound) (walk.expr_step sound) (walk.stmt_step sound) (λ conditional. tt) (walk.call_step sound)
+      (walk.entry_step sound) (walk.block_step sound) call in
+      holds_then _ _ (fails_then _ _ (subst (λ (s : walk.SeenCall sound). IsTrue (s.value pos names)) opened h)).1
+
+  -- a call that resolves has no path
+  pub call_is_plain : is_unqualified call.namespace.path ≡ true
+  call_is_plain = passed_call.0
+
+  -- and its arguments resolve
+  pub operands_of_call : IsTrue (all_resolve_exprs (map tests_of call.args) names)
+  operands_of_call = passed_call.1
 
 -- the operands of a call that resolves do
 pub operands_resolve : (call : FnCallExpr) (pos : Position) (left right : Expr) (names : List Name) → call.args ≡ left ∷ right ∷ [] →

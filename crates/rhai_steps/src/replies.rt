@@ -1,7 +1,7 @@
 //! Built-in operators and natives: what a call does without going down the tree.
 
 ghost use Rattle.std.specs.Prelude.{◌≡◌, ◌<◌, ◌≤◌, ◌+◌, ◌∷◌, ◌++◌, [], Some, IfOk, IfErr, IfSome, OnOk};
-ghost use Rattle.std.specs.Prelude.{is_some, true, false, codes};
+ghost use Rattle.std.specs.Prelude.{is_some, None, true, false, codes};
 ghost use Rattle.std.specs.String.{string_bytes};
 ghost use Rattle.rhai_state.specs.Errors.{indexing_text as indexing_text_of, is_out_of_memory};
 ghost use Rattle.rhai_values.specs.Cells.{cells_of};
@@ -11,7 +11,7 @@ ghost use Rattle.rhai_operators.specs.Answers.{HasMemory};
 ghost use Rattle.rhai_machine.specs.language.State.{Answers, HasMemory as WithMemory};
 ghost use Rattle.rhai_machine.specs.language.Values.{is_handle as handle_at};
 ghost use Rattle.rhai_machine.specs.language.Calls.{applied as applied_at, builtin_of as builtin_for};
-ghost use Rattle.rhai_machine.specs.language.Calls.{call_at, operation_at, not_found as not_found_at};
+ghost use Rattle.rhai_machine.specs.language.Calls.{not_found as not_found_at, unknown};
 ghost use Rattle.rhai_machine.specs.language.Calls.{placed_if_none, replied as replied_at};
 ghost use Rattle.rhai_machine.specs.language.Calls.{signature as signature_of, sized as sized_at, types_of};
 ghost use Rattle.rhai_machine.specs.language.Calls.{names_indexer, property_named, second};
@@ -115,6 +115,26 @@ fn indexed_types<H: Host>(
     Shared::new(alloc, text)
 }
 
+/// There is no function of a name that takes these arguments.
+#[cold]
+#[inline(never)]
+pub fn function_not_found<H: Host>(
+    alloc: Global,
+    cells: &CellStore<H>,
+    name: &str,
+    first: &Dynamic<H>,
+    rest: &[Dynamic<H>],
+    pos: Position,
+) -> EvalAltResult<H>
+    ensures { is_out_of_memory result ≡ false → result ≡ error.ErrorFunctionNotFound
+        (signature_of name.now (types_of H.name_of (cells_of cells.now) (first.now ∷ rest.now))) pos }
+{
+    match signature(alloc, cells, name, first, rest) {
+        Ok(text) => EvalAltResult::ErrorFunctionNotFound(text, pos),
+        Err(_) => EvalAltResult::ErrorOutOfMemory(pos),
+    }
+}
+
 /// No native takes these arguments: a getter or a setter is of a property that is not there, an
 /// indexer's values do not go together, and of any other name there is no such function.
 #[cold]
@@ -139,7 +159,43 @@ fn not_found<H: Host>(
             Err(_) => EvalAltResult::ErrorOutOfMemory(pos),
         };
     }
-    match signature(alloc, cells, name, first, rest) {
+    function_not_found(alloc, cells, name, first, rest, pos)
+}
+
+/// A function's name with no argument.
+fn bare_signature(alloc: Global, name: &str) -> Result<Shared<Text>, AllocError>
+    ensures { IfOk result (λ text. text ≡ signature_of name.now []) }
+{
+    let mut text = open_signature(alloc, name, "")?;
+    text.push_str(")")?;
+    Shared::new(alloc, Text::from_string(text))
+}
+
+/// The types of an object and of an index, neither of which is there.
+fn no_types(alloc: Global) -> Result<Shared<Text>, AllocError>
+    ensures { IfOk result (λ text. text ≡ indexing_text_of [] []) }
+{
+    let text = indexing_text(alloc, "", "")?;
+    Shared::new(alloc, text)
+}
+
+/// No native of a name takes no argument.
+#[cold]
+#[inline(never)]
+fn not_found_alone<H>(alloc: Global, name: &str, pos: Position) -> EvalAltResult<H>
+    ensures { is_out_of_memory result ≡ false → result ≡ unknown (property_named name.now)
+        (names_indexer name.now) name.now [] [] pos }
+{
+    if let Some(property) = property_of(name) {
+        return unknown_property(alloc, property, pos);
+    }
+    if is_indexer(name) {
+        return match no_types(alloc) {
+            Ok(text) => EvalAltResult::ErrorIndexingType(text, pos),
+            Err(_) => EvalAltResult::ErrorOutOfMemory(pos),
+        };
+    }
+    match bare_signature(alloc, name) {
         Ok(text) => EvalAltResult::ErrorFunctionNotFound(text, pos),
         Err(_) => EvalAltResult::ErrorOutOfMemory(pos),
     }
@@ -159,12 +215,13 @@ pub fn placed<H: Host>(error: EvalAltResult<H>, pos: Position) -> EvalAltResult<
 /// What a built-in operator gives for one operand or two, None where there is no such built-in.
 fn builtin<H: Host>(
     alloc: Global,
-    token: Token,
+    token: Option<Token>,
     first: &Dynamic<H>,
     rest: &[Dynamic<H>],
 ) -> Option<Result<Dynamic<H>, EvalAltResult<H>>>
-    ensures { HasMemory result → result ≡ builtin_for (Some token) (first.now ∷ rest.now) }
+    ensures { HasMemory result → result ≡ builtin_for token (first.now ∷ rest.now) }
 {
+    let token = token?;
     match rest {
         [] => builtin_unary(alloc, token, first),
         [second] => builtin_binary(alloc, token, first, second),
@@ -215,40 +272,63 @@ fn missing<H: Host>(
     alloc: Global,
     limits: &Limits,
     cells: &CellStore<H>,
-    name: &Shared<Text>,
-    token: Token,
+    name: &str,
+    token: Option<Token>,
     first: &Dynamic<H>,
     rest: &[Dynamic<H>],
     pos: Position,
 ) -> Result<Dynamic<H>, EvalAltResult<H>>
     ensures { Answers result (replied_at limits.now H.name_of Missing (Some first.now) rest.now
-        (operation_at name.now token pos) (cells_of cells.now)) }
+        (record { name = name.now; token = token; at = pos }) (cells_of cells.now)) }
 {
     match builtin(alloc, token, first, rest) {
         Some(outcome) => applied(alloc, limits, outcome, pos),
-        None => Err(not_found(alloc, cells, name.get().as_str(), first, rest, pos)),
+        None => Err(not_found(alloc, cells, name, first, rest, pos)),
     }
 }
 
-/// What a native's answer comes to, at the call.
+/// What a native's answer comes to, at the call. The cells are those of the moment of the call, while
+/// the first argument is lent to the native; the first argument is what the native left of it.
 pub fn replied<H: Host>(
     alloc: Global,
     limits: &Limits,
     cells: &CellStore<H>,
     answer: Answer<H>,
-    name: &Shared<Text>,
-    token: Token,
+    name: &str,
+    token: Option<Token>,
     first: &Dynamic<H>,
     rest: &[Dynamic<H>],
     pos: Position,
 ) -> Result<Dynamic<H>, EvalAltResult<H>>
     ensures told { IfSome (reply_of answer) (λ reply. Answers result
-        (replied_at limits.now H.name_of reply (Some first.now) rest.now (operation_at name.now token pos)
-        (cells_of cells.now))) }
+        (replied_at limits.now H.name_of reply (Some first.now) rest.now
+        (record { name = name.now; token = token; at = pos }) (cells_of cells.now))) }
     ensures memory { WithMemory result → is_some (reply_of answer) ≡ true }
 {
     match answer {
         Answer::Missing => missing(alloc, limits, cells, name, token, first, rest, pos),
+        Answer::Value(value) => sized(alloc, limits, value, pos),
+        Answer::Fault(error) => Err(placed(error, pos)),
+        Answer::NoMemory => Err(EvalAltResult::ErrorOutOfMemory(pos)),
+    }
+}
+
+/// The same of a native that was called without arguments.
+pub fn replied_alone<H: Host>(
+    alloc: Global,
+    limits: &Limits,
+    answer: Answer<H>,
+    name: &str,
+    token: Option<Token>,
+    pos: Position,
+) -> Result<Dynamic<H>, EvalAltResult<H>>
+    ensures told { (cells : _) → IfSome (reply_of answer) (λ reply. Answers result
+        (replied_at limits.now H.name_of reply None [] (record { name = name.now; token = token; at = pos })
+        cells)) }
+    ensures memory { WithMemory result → is_some (reply_of answer) ≡ true }
+{
+    match answer {
+        Answer::Missing => Err(not_found_alone(alloc, name, pos)),
         Answer::Value(value) => sized(alloc, limits, value, pos),
         Answer::Fault(error) => Err(placed(error, pos)),
         Answer::NoMemory => Err(EvalAltResult::ErrorOutOfMemory(pos)),

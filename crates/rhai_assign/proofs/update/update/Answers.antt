@@ -1,4 +1,4 @@
-use Rattle.std.proofs.Common.{refl, ◌∙◌}
+use Rattle.std.proofs.Common.{refl}
 use Rattle.rhai_operators.specs.Answers.{op_assign_of}
 use Rattle.rhai_machine.specs.language.Setting.{Rules, rules_of}
 use Rattle.rhai_machine.specs.language.Frames.{InPlace, Update}
@@ -20,14 +20,14 @@ returns-in-Some-clause-runs g c offer this =
     c.in-Some.is c.write_outcome.ensures.counts c.write_outcome.result
     (c.write_outcome.ensures.written this) c.write_outcome.ensures.left_global c.write_outcome.ensures.left_scope
 
-pub returns-in-Ok-clause-runs : goal.returns-in-Ok-clause-runs
-returns-in-Ok-clause-runs g c offer this =
+pub returns-in-None-clause-runs : goal.returns-in-None-clause-runs
+returns-in-None-clause-runs g c offer this =
     let rules : Rules _ _ = rules_of c.args.limits.now g.H.Host.name_of offer g.T.NativeTable.natives in
     let u : Update _ = updating c.args.update InPlace c.args.scope.now c.args.global.now c.args.operand in
-    not_built rules c.builtin_op_assign.result (op_assign_of u.operator u.target c.args.operand) c.update_in_place.result u
+    not_built rules c.builtin_op_assign.result (op_assign_of u.operator u.target c.args.operand) c.update_by_natives.result u
     (state_of (g.T.NativeTable.state c.args.table.now) c.args.global.now c.args.scope.now this)
-    (state_of (g.T.NativeTable.state c.update_in_place.new.table) c.update_in_place.new.global c.update_in_place.new.scope this)
+    (state_of (g.T.NativeTable.state c.update_by_natives.new.table) c.update_by_natives.new.global c.update_by_natives.new.scope this)
     (built_for c.builtin_op_assign.result c.args.update c.args.scope.now c.args.global.now.cells c.value_at-target.result.now
     c.args.operand c.args.operand
     c.builtin_op_assign.ensures.value c.value_at-target.ensures refl)
-    c.in-None.is (c.update_in_place.ensures.runs offer this c.args.operand (c.as_slice-rest.ensures ∙ c.in-Ok.ensures.ok))
+    c.in-None.is (c.update_by_natives.ensures.runs offer this)

@@ -31,6 +31,6 @@ returns-clause-runs g c offer this operand only =
     (standing_at c.args.update.place c.ask_native.new.scope c.ask_native.new.global.cells) operand
     (reply_of c.in_ok-answer.answer) c.replied-outcome.result c.write_value.result
     (c.in_ok-answer.ensures.asked offer this AsValue operand named only)
-    (rw (named, ← left, only) at c.replied-outcome.ensures.told) c.replied-outcome.ensures.memory
+    (rw (c.as_str-2.ensures, c.get.ensures, named, ← left, only) at c.replied-outcome.ensures.told) c.replied-outcome.ensures.memory
     c.write_value.ensures.counts (c.write_value.ensures.written this) c.write_value.ensures.measured
     c.write_value.ensures.fault c.write_value.ensures.left_global c.write_value.ensures.left_scope

@@ -1,7 +1,7 @@
-use Rattle.rhai_machine.specs.language.Runs.{Steps}
 use Rattle.rhai_machine.specs.language.Setting.{rules_of}
-use Rattle.rhai_calls.proofs.NativeCalls.{built}
-use Rattle.rhai_calls.proofs.native.operate_one.Goals as goal
+use Rattle.rhai_calls.specs.Dispatch.{Dispatches}
+use Rattle.rhai_calls.proofs.Operating.{built}
+use Rattle.rhai_calls.proofs.operators.operate_one.Goals as goal
 
 pub returns-in-Some-clause-runs : goal.returns-in-Some-clause-runs
 returns-in-Some-clause-runs g c offer scope this k =
@@ -9,6 +9,6 @@ returns-in-Some-clause-runs g c offer scope this k =
     built rules _ k _ _ _ _ _ c.builtin_unary.ensures.value c.in-Some.is c.applied.ensures
 
 pub returns-in-None-clause-runs : goal.returns-in-None-clause-runs
-unfolding Steps
+unfolding Dispatches
 returns-in-None-clause-runs g c offer scope this k =
     rw (← c.builtin_unary.ensures.value (rw c.in-None.is tt), c.in-None.is) (c.call_one.ensures.runs offer scope this k)
