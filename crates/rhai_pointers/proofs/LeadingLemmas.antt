@@ -1,0 +1,109 @@
+-- Where a call by name goes, by whether a variable comes first.
+use Rattle.std.proofs.Common.{◌≡◌, Bool, true, false, List, [], ◌∷◌, Some, None, refl}
+use Rattle.std.specs.Prelude.{if◌then◌else◌}
+use Rattle.rhai_tree.specs.declared.expr.Expr.{Expr, out-Expr}
+use Rattle.rhai_tree.specs.declared.expr.Expr.TheOpen as layer
+use Rattle.rhai_tree.specs.declared.expr.Namespace.{Namespace}
+use Rattle.rhai_tree.specs.Layers.{ExprLayer}
+use Rattle.rhai_check.specs.Forms.{is_unqualified}
+use Rattle.rhai_values.specs.declared.base.value.Dynamic.{Dynamic}
+use Rattle.rhai_machine.specs.machine.Machine.{Go, Charge}
+use Rattle.rhai_machine.specs.language.Setting.{Setting}
+use Rattle.rhai_machine.specs.language.State.{Local}
+use Rattle.rhai_machine.specs.language.Frames.{Operation, Frame, ToCall, ToCallOn}
+use Rattle.rhai_machine.specs.language.Arguments.{arguments_core, captured_move, named_move, on_variable, variable_in}
+use Rattle.rhai_pointers.specs.Leading.{Leading, by_value, first_in, leading, lent_first}
+
+-- what a variable that comes first is of the arguments
+pub record Leads (args : List Expr) (v : Leading) : Type 0 where
+  pub arg : Expr
+  pub namespace : Namespace
+  pub comes_first : args ≡ arg ∷ v.rest
+  pub is_variable : out-Expr arg ≡ layer.Variable v.offset v.name namespace v.at
+  pub has_no_path : is_unqualified namespace.path ≡ true
+
+leads_where : (unqualified : Bool) (first : Leading) (arg : Expr) (namespace : Namespace) (v : Leading) →
+    is_unqualified namespace.path ≡ unqualified → out-Expr arg ≡ layer.Variable first.offset first.name namespace first.at →
+    (if unqualified then Some first else None) ≡ Some v → Leads (arg ∷ first.rest) v
+leads_where true first arg namespace v path is found =
+    let same : first ≡ v = cc in
+    rw (← same) (record { arg = arg; namespace = namespace; comes_first = refl; is_variable = is; has_no_path = path })
+leads_where false first arg namespace v path is found = absurd cc
+
+leads_by : (arg : Expr) (o : ExprLayer) (rest : List Expr) (v : Leading) → out-Expr arg ≡ o → leading o rest ≡ Some v → Leads (arg ∷ rest) v
+leads_by arg (layer.Variable offset name namespace pos) rest v is found =
+    leads_where (is_unqualified namespace.path) (record { offset = offset; name = name; at = pos; rest = rest }) arg namespace v
+    refl is found
+leads_by arg _ rest v is found = absurd cc
+
+-- the variable is the first argument
+pub leads : (args : List Expr) (v : Leading) → first_in args ≡ Some v → Leads args v
+leads [] v found = absurd cc
+leads (arg ∷ args) v found = leads_by arg (out-Expr arg) args v refl found
+
+pub lent_leads : (by_value : Bool) (args : List Expr) (v : Leading) → lent_first by_value args ≡ Some v → Leads args v
+lent_leads true args v found = absurd cc
+lent_leads false args v found = leads args v found
+
+module _ {H : Type 0} (s : Setting H) where
+  charged_where : (unqualified : Bool) (first : Leading) (operation : Operation) (arg : Expr) (k : List (Frame H)) (l : Local H)
+      (v : Leading) → (if unqualified then Some first else None) ≡ Some v →
+      on_variable s (if unqualified then Some (first.name, first.at) else None) operation arg first.rest k l
+      ≡ Charge v.at (arguments_core s (ToCallOn operation v.name v.at) [] v.rest k l)
+  charged_where true first operation arg k l v found = let same : first ≡ v = cc in rw (← same) refl
+  charged_where false first operation arg k l v found = absurd cc
+
+  charged_by : (o : ExprLayer) (operation : Operation) (arg : Expr) (rest : List Expr) (k : List (Frame H)) (l : Local H) (v : Leading) →
+      leading o rest ≡ Some v →
+      on_variable s (variable_in o) operation arg rest k l
+      ≡ Charge v.at (arguments_core s (ToCallOn operation v.name v.at) [] v.rest k l)
+  charged_by (layer.Variable offset name namespace pos) operation arg rest k l v found =
+      charged_where (is_unqualified namespace.path) (record { offset = offset; name = name; at = pos; rest = rest }) operation arg
+      k l v found
+  charged_by _ operation arg rest k l v found = absurd cc
+
+  captured_charges : (captured : Bool) (operation : Operation) (arg : Expr) (rest : List Expr) (k : List (Frame H)) (l : Local H)
+      (v : Leading) → lent_first captured (arg ∷ rest) ≡ Some v →
+      captured_move s captured operation arg rest k l ≡ Charge v.at (arguments_core s (ToCallOn operation v.name v.at) [] v.rest k l)
+  captured_charges true operation arg rest k l v found = absurd cc
+  captured_charges false operation arg rest k l v found = charged_by (out-Expr arg) operation arg rest k l v found
+
+  none_leads : (by_value : Bool) (v : Leading) → lent_first by_value [] ≡ Some v → ⊥
+  none_leads true v found = cc
+  none_leads false v found = cc
+
+  -- a variable that comes first is charged, and the arguments behind it follow
+  pub variable_goes : (operation : Operation) (curried : List (Dynamic H)) (args : List Expr) (captures : Bool) (k : List (Frame H))
+      (l : Local H) (v : Leading) → lent_first (by_value curried captures l.scope) args ≡ Some v →
+      named_move s operation curried args captures k l ≡ Charge v.at (arguments_core s (ToCallOn operation v.name v.at) [] v.rest k l)
+  variable_goes operation (w ∷ ws) args captures k l v found = absurd cc
+  variable_goes operation [] [] captures k l v found = absurd (none_leads _ v found)
+  variable_goes operation [] (arg ∷ args) captures k l v found = captured_charges _ operation arg args k l v found
+
+  taken_where : (unqualified : Bool) (first : Leading) (operation : Operation) (arg : Expr) (k : List (Frame H)) (l : Local H) →
+      (if unqualified then Some first else None) ≡ None →
+      on_variable s (if unqualified then Some (first.name, first.at) else None) operation arg first.rest k l
+      ≡ Go (arguments_core s (ToCall operation []) [] (arg ∷ first.rest) k l)
+  taken_where true first operation arg k l none = absurd cc
+  taken_where false first operation arg k l none = refl
+
+  taken_by : (o : ExprLayer) (operation : Operation) (arg : Expr) (rest : List Expr) (k : List (Frame H)) (l : Local H) →
+      leading o rest ≡ None →
+      on_variable s (variable_in o) operation arg rest k l ≡ Go (arguments_core s (ToCall operation []) [] (arg ∷ rest) k l)
+  taken_by (layer.Variable offset name namespace pos) operation arg rest k l none =
+      taken_where (is_unqualified namespace.path) (record { offset = offset; name = name; at = pos; rest = rest }) operation arg k l none
+  taken_by _ operation arg rest k l none = refl
+
+  captured_takes : (captured : Bool) (operation : Operation) (arg : Expr) (rest : List Expr) (k : List (Frame H)) (l : Local H) →
+      lent_first captured (arg ∷ rest) ≡ None →
+      captured_move s captured operation arg rest k l ≡ Go (arguments_core s (ToCall operation []) [] (arg ∷ rest) k l)
+  captured_takes true operation arg rest k l none = refl
+  captured_takes false operation arg rest k l none = taken_by (out-Expr arg) operation arg rest k l none
+
+  -- otherwise each argument is taken by its value, after those that a pointer has
+  pub values_go : (operation : Operation) (curried : List (Dynamic H)) (args : List Expr) (captures : Bool) (k : List (Frame H))
+      (l : Local H) → lent_first (by_value curried captures l.scope) args ≡ None →
+      named_move s operation curried args captures k l ≡ Go (arguments_core s (ToCall operation curried) [] args k l)
+  values_go operation (w ∷ ws) args captures k l none = refl
+  values_go operation [] [] captures k l none = refl
+  values_go operation [] (arg ∷ args) captures k l none = captured_takes _ operation arg args k l none

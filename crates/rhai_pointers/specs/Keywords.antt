@@ -1,0 +1,11 @@
+-- The keywords of the code as the machine has them.
+use Rattle.rhai_machine.specs.language.Frames as machine
+use Rattle.rhai_pointers.specs.declared.keywords.Keyword.{Keyword}
+use Rattle.rhai_pointers.specs.declared.keywords.Keyword.TheVariants as code
+
+abbrev pub word_of : Keyword → machine.Keyword
+word_of code.CallPointer = machine.CallPointer
+word_of code.MakePointer = machine.MakePointer
+word_of code.Curry = machine.Curry
+word_of code.IsShared = machine.IsShared
+word_of code.IsDefinedVariable = machine.IsDefinedVariable

@@ -1,0 +1,43 @@
+-- A variable that is the first argument of a call.
+use Rattle.std.specs.Prelude.{ℕ, Bool, true, false, not, ◌&&◌, List, [], ◌∷◌, Option, Some, None, length, nat_eq, if◌then◌else◌}
+use Rattle.std.specs.declared.num.NonZeroUsize.{NonZeroUsize}
+use Rattle.rhai_tree.specs.declared.position.Position.{Position}
+use Rattle.rhai_tree.specs.declared.expr.Expr.{Expr, out-Expr}
+use Rattle.rhai_tree.specs.declared.expr.Expr.TheOpen as layer
+use Rattle.rhai_tree.specs.Layers.{ExprLayer}
+use Rattle.rhai_check.specs.Forms.{is_unqualified}
+use Rattle.rhai_values.specs.declared.base.value.Dynamic.{Dynamic}
+use Rattle.rhai_state.specs.declared.scope.ScopeEntry.{ScopeEntry}
+use Rattle.rhai_pointers.specs.declared.arguments.FirstVariable.{FirstVariable}
+
+-- a variable's offset and name, where it stands, and the arguments behind it
+pub record Leading : Type 0 where
+  pub offset : Option NonZeroUsize
+  pub name : List ℕ
+  pub at : Position
+  pub rest : List Expr
+
+-- that of the code
+abbrev pub seen : FirstVariable → Leading
+seen first = record { offset = first.offset; name = first.name.now; at = first.pos; rest = first.rest.now }
+
+-- an argument that is a variable by its name alone
+abbrev pub leading : ExprLayer → (rest : List Expr) → Option Leading
+leading (layer.Variable offset name namespace pos) rest =
+    if is_unqualified namespace.path then Some (record { offset = offset; name = name; at = pos; rest = rest }) else None
+leading _ rest = None
+
+-- the first argument, where it is such a variable
+abbrev pub first_in : (args : List Expr) → Option Leading
+first_in [] = None
+first_in (arg ∷ args) = leading (out-Expr arg) args
+
+-- each argument is taken by its value: behind those that a pointer has, or where a scope that is not empty is captured
+abbrev pub by_value : {H : Type 0} → (curried : List (Dynamic H)) → (captures : Bool) → List (ScopeEntry H) → Bool
+by_value [] captures entries = captures && not (nat_eq (length entries) 0)
+by_value (v ∷ vs) captures entries = true
+
+-- the variable that is charged before the other arguments and read after them
+abbrev pub lent_first : (by_value : Bool) → (args : List Expr) → Option Leading
+lent_first true args = None
+lent_first false args = first_in args

@@ -1,0 +1,3 @@
+pub mod Forms
+pub mod Keywords
+pub mod Leading

@@ -1,0 +1,140 @@
+//! The arguments of a call: how a value is taken as one, and a variable that comes first.
+
+ghost use Rattle.std.specs.Prelude.{◌≡◌, ◌∷◌, ◌++◌, [], true, IfErr, OnOk, OnErr};
+ghost use Rattle.std.specs.Option.{option_map};
+ghost use Rattle.rhai_tree.specs.declared.expr.Expr.{out-Expr};
+ghost use Rattle.rhai_values.specs.Cells.{cells_of};
+ghost use Rattle.rhai_state.specs.Errors.{is_out_of_memory};
+ghost use Rattle.rhai_state.specs.Scope.{entries_of};
+ghost use Rattle.rhai_machine.specs.language.Arguments.{taken as taken_as};
+ghost use Rattle.rhai_machine.specs.language.State.{Answers};
+ghost use Rattle.rhai_pointers.specs.Leading.{by_value, first_in, leading, lent_first, seen};
+
+use rhai_items::{Items, Shared, Text};
+use rhai_state::error::EvalAltResult;
+use rhai_state::scope::Scope;
+use rhai_steps::values::flatten;
+use rhai_tree::expr::Expr;
+use rhai_tree::position::Position;
+use rhai_values::base::value::{Dynamic, Host};
+use rhai_values::cells::CellStore;
+use std::alloc::Global;
+use std::num::NonZeroUsize;
+
+/// A value as an argument: flattened for a function, and as it is for what keeps it.
+///
+/// # Errors
+/// `ErrorDataRace` at the position, for a handle that is flattened and whose cell is held.
+pub fn taken<H: Host>(
+    alloc: Global,
+    cells: &CellStore<H>,
+    value: Dynamic<H>,
+    flattened: bool,
+    pos: Position,
+) -> Result<Dynamic<H>, EvalAltResult<H>>
+    ensures { Answers result (taken_as flattened (cells_of cells.now) value pos) }
+{
+    if flattened {
+        flatten(alloc, cells, value, pos)
+    } else {
+        Ok(value)
+    }
+}
+
+/// One argument more, at the end.
+///
+/// # Errors
+/// `ErrorOutOfMemory` at the position alone. The arguments stay then.
+pub fn keep_argument<H: Host>(
+    args: &mut Items<Dynamic<H>>,
+    value: Dynamic<H>,
+    pos: Position,
+) -> Result<(), EvalAltResult<H>>
+    ensures kept { OnOk result (args.new ≡ args.old ++ value ∷ []) }
+    ensures refused { IfErr result (λ error. is_out_of_memory error ≡ true) }
+    ensures same { OnErr result (args.new ≡ args.old) }
+{
+    match args.push(value) {
+        Ok(()) => Ok(()),
+        Err(_) => Err(EvalAltResult::ErrorOutOfMemory(pos)),
+    }
+}
+
+/// A variable that is the first argument, and the arguments behind it.
+#[derive(Clone, Copy)]
+pub struct FirstVariable<'a> {
+    pub offset: Option<NonZeroUsize>,
+    pub name: &'a Shared<Text>,
+    pub pos: Position,
+    pub rest: &'a [Expr],
+}
+
+/// An argument that is a variable by its name alone.
+fn variable_in<'a>(arg: &'a Expr, rest: &'a [Expr]) -> Option<FirstVariable<'a>>
+    ensures { option_map seen result ≡ leading (out-Expr arg.now) rest.now }
+{
+    let Expr::Variable {
+        offset,
+        name,
+        namespace,
+        pos,
+    } = arg
+    else {
+        return None;
+    };
+    if !namespace.path.is_empty() {
+        return None;
+    }
+    Some(FirstVariable {
+        offset: *offset,
+        name,
+        pos: *pos,
+        rest,
+    })
+}
+
+/// The first argument, where it is a variable by its name alone.
+fn variable_first(args: &[Expr]) -> Option<FirstVariable<'_>>
+    ensures { option_map seen result ≡ first_in args.now }
+{
+    match args {
+        [] => None,
+        [arg, rest @ ..] => variable_in(arg, rest),
+    }
+}
+
+/// Whether a call captures a scope that is not empty.
+fn captures_some<H: Host>(scope: &Scope<H>, captures: bool) -> bool
+    ensures { result ≡ by_value {H = H} [] captures (entries_of scope.now) }
+{
+    captures && scope.len() != 0
+}
+
+/// Whether a call takes each argument by its value: it is of a pointer with arguments, or it captures a
+/// scope that is not empty.
+fn takes_values<H: Host>(scope: &Scope<H>, curried: &[Dynamic<H>], captures: bool) -> bool
+    ensures { result ≡ by_value curried.now captures (entries_of scope.now) }
+{
+    match curried {
+        [] => captures_some(scope, captures),
+        [_, ..] => true,
+    }
+}
+
+/// The variable that a call by name charges before its other arguments and reads after them: the first
+/// argument, where it is a variable by its name alone. None where the call takes each argument by its
+/// value.
+pub fn first_variable<'a, H: Host>(
+    scope: &Scope<H>,
+    curried: &[Dynamic<H>],
+    args: &'a [Expr],
+    captures: bool,
+) -> Option<FirstVariable<'a>>
+    ensures { option_map seen result ≡ lent_first (by_value curried.now captures (entries_of scope.now))
+        args.now }
+{
+    if takes_values(scope, curried, captures) {
+        return None;
+    }
+    variable_first(args)
+}

@@ -1,0 +1,43 @@
+//! Whether a call is an operator's on its operands.
+
+ghost use Rattle.std.specs.Prelude.{Some, true};
+ghost use Rattle.rhai_pointers.specs.Forms.{IsForm};
+
+use rhai_tree::expr::{Expr, FnCallExpr};
+use rhai_tree::token::Token;
+
+/// What a call is evaluated as.
+#[derive(Clone, Copy)]
+pub enum CallForm<'a> {
+    /// An operator on one operand.
+    Unary(Token, &'a Expr),
+    /// An operator on two operands.
+    Binary(Token, &'a Expr, &'a Expr),
+    /// A call by name.
+    Function,
+}
+
+/// An operator on some operands.
+fn operator_form(token: Token, operands: &[Expr]) -> CallForm<'_>
+    ensures { IsForm result true (Some token) operands.now }
+{
+    match operands {
+        [operand] => CallForm::Unary(token, operand),
+        [left, right] => CallForm::Binary(token, left, right),
+        _ => CallForm::Function,
+    }
+}
+
+/// What a call is evaluated as: under fast operators one that was written as an operator on one operand
+/// or two is that operator on them, and any other is a call by name.
+pub fn form_of(fast_operators: bool, call: &FnCallExpr) -> CallForm<'_>
+    ensures { IsForm result fast_operators call.now.op_token call.now.args }
+{
+    if !fast_operators {
+        return CallForm::Function;
+    }
+    match call.op_token {
+        Some(token) => operator_form(token, call.args.as_slice()),
+        None => CallForm::Function,
+    }
+}
