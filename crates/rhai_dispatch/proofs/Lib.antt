@@ -1,0 +1,5 @@
+pub mod Going
+pub mod Lending
+pub mod Levels
+pub mod Lists
+pub mod Passing

@@ -1,0 +1,4 @@
+pub mod Going
+pub mod Kept
+pub mod Pointers
+pub mod Variables

@@ -1,0 +1,29 @@
+//! What a pointer is called by.
+
+ghost use Rattle.std.specs.Prelude.{◌≡◌};
+ghost use Rattle.rhai_values.specs.declared.base.value.FnPtr.{out-FnPtr};
+ghost use Rattle.rhai_dispatch.specs.Pointers.{number_in};
+
+use rhai_items::{Items, Shared, Text};
+use rhai_tree::literal::NativeId;
+use rhai_values::base::value::{Dynamic, FnPtr, FnPtrKind, Host};
+
+/// The number of a native that a pointer leads to, None for any other.
+fn number_of<H: Host>(kind: FnPtrKind<H>) -> Option<NativeId>
+    ensures { result ≡ number_in kind }
+{
+    match kind {
+        FnPtrKind::Native(id) => Some(id),
+        _ => None,
+    }
+}
+
+/// The name of a pointer, the values that it has already, and the number of a native that it leads to.
+pub fn parts_of<H: Host>(pointer: FnPtr<H>) -> (Shared<Text>, Items<Dynamic<H>>, Option<NativeId>)
+    ensures name { result.0 ≡ (out-FnPtr H pointer).name }
+    ensures curried { result.1 ≡ (out-FnPtr H pointer).curry }
+    ensures number { result.2 ≡ number_in (out-FnPtr H pointer).kind }
+{
+    let FnPtr { name, curry, kind } = pointer;
+    (name, curry, number_of(kind))
+}
