@@ -1,7 +1,9 @@
+mod CallSteps
 mod Chain
 mod ChoiceSteps
 mod Conditions
 mod DataSteps
+mod KeywordLemmas
 mod LoopSteps
 mod NameLemmas
 mod Public

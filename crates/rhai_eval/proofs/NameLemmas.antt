@@ -54,6 +54,12 @@ part_resolves parts i part names lt is h =
     (later_resolve (take i parts) (drop i parts) names split) in
     (both (resolves_expr part names) (all_resolve_exprs (map tests_of (drop (i + 1) parts)) names) later).0
 
+-- so do the first of them, and the others
+pub first_resolves : (args : List Expr) (arg : Expr) (rest : List Expr) (names : List Name) → args ≡ arg ∷ rest →
+    IsTrue (all_resolve_exprs (map tests_of args) names) →
+    IsTrue (resolves_expr arg names) × IsTrue (all_resolve_exprs (map tests_of rest) names)
+first_resolves args arg rest names is h = both (resolves_expr arg names) (all_resolve_exprs (map tests_of rest) names) (rw is at h)
+
 -- so does the value of each entry of a map
 entry_resolves : (entry : MapEntry) (names : List Name) → IsTrue ((tests_of_entry entry).value names) →
     IsTrue (resolves_expr entry.value names)

@@ -1,3 +1,4 @@
+pub mod Calls
 pub mod Ends
 pub mod Indexing
 pub mod Lends

@@ -1,3 +1,4 @@
 //! Calls.
 
+mod arguments;
 pub mod call;

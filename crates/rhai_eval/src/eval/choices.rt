@@ -28,7 +28,6 @@ impl<H: Host> Engine<H> {
         parts: &[Expr],
     ) -> Result<Dynamic<H>, EvalAltResult<H>>
         requires resolves { IsTrue (all_resolve_exprs (map tests_of parts.now) (names run.old)) }
-        requires fast { self.now.fast_operators ≡ true }
         ensures counts { OnOk result (run.old.global.num_operations ≤ run.new.global.num_operations) }
         ensures names { OnOk result (names run.new ≡ names run.old) }
         ensures runs { (pos : _) → Runs (under H.name_of self.now T.natives)
@@ -54,7 +53,6 @@ impl<H: Host> Engine<H> {
         parts: &[Expr],
     ) -> Result<Dynamic<H>, EvalAltResult<H>>
         requires resolves { IsTrue (all_resolve_exprs (map tests_of parts.now) (names run.old)) }
-        requires fast { self.now.fast_operators ≡ true }
         ensures counts { OnOk result (run.old.global.num_operations ≤ run.new.global.num_operations) }
         ensures names { OnOk result (names run.new ≡ names run.old) }
         ensures runs { (pos : _) → Runs (under H.name_of self.now T.natives)
@@ -81,7 +79,6 @@ impl<H: Host> Engine<H> {
         parts: &[Expr],
     ) -> Result<Dynamic<H>, EvalAltResult<H>>
         requires resolves { IsTrue (all_resolve_exprs (map tests_of parts.now) (names run.old)) }
-        requires fast { self.now.fast_operators ≡ true }
         ensures counts { OnOk result (run.old.global.num_operations ≤ run.new.global.num_operations) }
         ensures names { OnOk result (names run.new ≡ names run.old) }
         ensures runs { (pos : _) → Runs (under H.name_of self.now T.natives)

@@ -31,7 +31,6 @@ impl<H: Host> Engine<H> {
         pos: Position,
     ) -> Result<Dynamic<H>, EvalAltResult<H>>
         requires resolves { IsTrue (all_resolve_exprs (map tests_of items.now) (names run.old)) }
-        requires fast { self.now.fast_operators ≡ true }
         ensures counts { OnOk result (run.old.global.num_operations ≤ run.new.global.num_operations) }
         ensures names { OnOk result (names run.new ≡ names run.old) }
         ensures runs { Runs (under H.name_of self.now T.natives) (OpenExpr (layer.Array items.now pos))
@@ -72,7 +71,6 @@ impl<H: Host> Engine<H> {
         pos: Position,
     ) -> Result<Dynamic<H>, EvalAltResult<H>>
         requires resolves { IsTrue (entries_resolve (map tests_of_entry entries.now) (names run.old)) }
-        requires fast { self.now.fast_operators ≡ true }
         ensures counts { OnOk result (run.old.global.num_operations ≤ run.new.global.num_operations) }
         ensures names { OnOk result (names run.new ≡ names run.old) }
         ensures runs { (template : _) → Runs (under H.name_of self.now T.natives)
@@ -115,7 +113,6 @@ impl<H: Host> Engine<H> {
         pos: Position,
     ) -> Result<Dynamic<H>, EvalAltResult<H>>
         requires resolves { IsTrue (all_resolve_exprs (map tests_of parts.now) (names run.old)) }
-        requires fast { self.now.fast_operators ≡ true }
         ensures counts { OnOk result (run.old.global.num_operations ≤ run.new.global.num_operations) }
         ensures names { OnOk result (names run.new ≡ names run.old) }
         ensures runs { Runs (under H.name_of self.now T.natives)

@@ -112,7 +112,6 @@ impl<H: Host> Engine<H> {
         expr: &Expr,
     ) -> Result<Dynamic<H>, EvalAltResult<H>>
         requires resolves { IsTrue (resolves_expr expr.now (names_in scope.old)) }
-        requires fast { self.now.fast_operators ≡ true }
         requires plain { Plain self.now global.old }
         ensures ends { EndsAs (under H.name_of self.now T.natives) (Eval expr.now)
             (state_of (T.state table.old) global.old scope.old (was _this.entry)) result
@@ -140,7 +139,6 @@ impl<H: Host> Engine<H> {
         expr: &Expr,
     ) -> Result<Dynamic<H>, EvalAltResult<H>>
         requires resolves { IsTrue (resolves_expr expr.now (names run.old)) }
-        requires fast { self.now.fast_operators ≡ true }
         ensures charges { OnOk result (run.old.global.num_operations < run.new.global.num_operations) }
         ensures names { OnOk result (names run.new ≡ names run.old) }
         ensures runs { Runs (under H.name_of self.now T.natives) (Eval expr.now)
@@ -182,7 +180,8 @@ impl<H: Host> Engine<H> {
         }
     }
 
-    /// Whether a condition holds. One that compares operands which stand is answered in place.
+    /// Whether a condition holds. Under fast operators one that compares operands which stand is answered
+    /// in place.
     #[cycle(eval)]
     pub(crate) fn run_condition<T: NativeTable<H>>(
         &self,
@@ -192,7 +191,6 @@ impl<H: Host> Engine<H> {
         test: &Expr,
     ) -> Result<bool, EvalAltResult<H>>
         requires resolves { IsTrue (resolves_expr test.now (names run.old)) }
-        requires fast { self.now.fast_operators ≡ true }
         ensures charges { OnOk result (run.old.global.num_operations < run.new.global.num_operations) }
         ensures names { OnOk result (names run.new ≡ names run.old) }
         ensures runs { Tests (under H.name_of self.now T.natives) test.now
@@ -200,6 +198,10 @@ impl<H: Host> Engine<H> {
         ensures memory { IfErr result (λ error. is_out_of_memory error ≡ true →
             IsTrue (asks_expr test.now).1) }
     {
+        let is_fast = self.fast_operators;
+        if !is_fast {
+            return self.run_test(alloc, run, table, test);
+        }
         match holds_in_place(
             &self.limits,
             alloc,
@@ -223,7 +225,6 @@ impl<H: Host> Engine<H> {
         test: &Expr,
     ) -> Result<bool, EvalAltResult<H>>
         requires resolves { IsTrue (resolves_expr test.now (names run.old)) }
-        requires fast { self.now.fast_operators ≡ true }
         ensures charges { OnOk result (run.old.global.num_operations < run.new.global.num_operations) }
         ensures names { OnOk result (names run.new ≡ names run.old) }
         ensures runs { Tests (under H.name_of self.now T.natives) test.now

@@ -41,7 +41,6 @@ impl<H: Host> Engine<H> {
     ) -> Result<Dynamic<H>, EvalAltResult<H>>
         requires resolves_test { IsTrue (resolves_expr test.now (names run.old)) }
         requires resolves_body { IsTrue (resolves_block body.now (names run.old)) }
-        requires fast { self.now.fast_operators ≡ true }
         ensures counts { OnOk result (run.old.global.num_operations ≤ run.new.global.num_operations) }
         ensures names { OnOk result (names run.new ≡ names run.old) }
         ensures runs { Runs (under H.name_of self.now T.natives) (WhileTurn test.now body.now)
@@ -67,7 +66,6 @@ impl<H: Host> Engine<H> {
     ) -> Result<Option<Dynamic<H>>, EvalAltResult<H>>
         requires resolves_test { IsTrue (resolves_expr test.now (names run.old)) }
         requires resolves_body { IsTrue (resolves_block body.now (names run.old)) }
-        requires fast { self.now.fast_operators ≡ true }
         ensures charges { OnOk result (run.old.global.num_operations < run.new.global.num_operations) }
         ensures names { OnOk result (names run.new ≡ names run.old) }
         ensures runs { Steps (under H.name_of self.now T.natives) (WhileTurn test.now body.now)
@@ -97,7 +95,6 @@ impl<H: Host> Engine<H> {
     ) -> Result<Option<Dynamic<H>>, EvalAltResult<H>>
         requires endless { without_end (out-Expr test.now) ≡ true }
         requires resolves_body { IsTrue (resolves_block body.now (names run.old)) }
-        requires fast { self.now.fast_operators ≡ true }
         ensures charges { OnOk result (run.old.global.num_operations < run.new.global.num_operations) }
         ensures names { OnOk result (names run.new ≡ names run.old) }
         ensures runs { Steps (under H.name_of self.now T.natives) (WhileTurn test.now body.now)
@@ -122,7 +119,6 @@ impl<H: Host> Engine<H> {
         body: &StmtBlock,
     ) -> Result<Option<Dynamic<H>>, EvalAltResult<H>>
         requires resolves_body { IsTrue (resolves_block body.now (names run.old)) }
-        requires fast { self.now.fast_operators ≡ true }
         ensures counts { OnOk result (run.old.global.num_operations ≤ run.new.global.num_operations) }
         ensures charges { OnOk result (0 < length body.now.statements →
             run.old.global.num_operations < run.new.global.num_operations) }
@@ -150,7 +146,6 @@ impl<H: Host> Engine<H> {
     ) -> Result<Dynamic<H>, EvalAltResult<H>>
         requires resolves_test { IsTrue (resolves_expr test.now (names run.old)) }
         requires resolves_body { IsTrue (resolves_block body.now (names run.old)) }
-        requires fast { self.now.fast_operators ≡ true }
         ensures counts { OnOk result (run.old.global.num_operations ≤ run.new.global.num_operations) }
         ensures names { OnOk result (names run.new ≡ names run.old) }
         ensures runs { Runs (under H.name_of self.now T.natives) (DoTurn test.now body.now options)
@@ -177,7 +172,6 @@ impl<H: Host> Engine<H> {
     ) -> Result<Option<Dynamic<H>>, EvalAltResult<H>>
         requires resolves_test { IsTrue (resolves_expr test.now (names run.old)) }
         requires resolves_body { IsTrue (resolves_block body.now (names run.old)) }
-        requires fast { self.now.fast_operators ≡ true }
         ensures charges { OnOk result (run.old.global.num_operations < run.new.global.num_operations) }
         ensures names { OnOk result (names run.new ≡ names run.old) }
         ensures runs { Steps (under H.name_of self.now T.natives) (DoTurn test.now body.now options)
@@ -204,7 +198,6 @@ impl<H: Host> Engine<H> {
         options: ASTFlags,
     ) -> Result<Option<Dynamic<H>>, EvalAltResult<H>>
         requires resolves { IsTrue (resolves_expr test.now (names run.old)) }
-        requires fast { self.now.fast_operators ≡ true }
         ensures charges { OnOk result (run.old.global.num_operations < run.new.global.num_operations) }
         ensures names { OnOk result (names run.new ≡ names run.old) }
         ensures runs { (body : _) (k : _) → Goes (under H.name_of self.now T.natives)
@@ -228,7 +221,6 @@ impl<H: Host> Engine<H> {
         pos: Position,
     ) -> Result<Dynamic<H>, EvalAltResult<H>>
         requires resolves { IsTrue (option_resolves (option_map tests_of value.now) (names run.old)) }
-        requires fast { self.now.fast_operators ≡ true }
         ensures counts { OnOk result (run.old.global.num_operations ≤ run.new.global.num_operations) }
         ensures names { OnOk result (names run.new ≡ names run.old) }
         ensures runs { (restoring : _) → Runs (under H.name_of self.now T.natives)
@@ -253,7 +245,6 @@ impl<H: Host> Engine<H> {
         pos: Position,
     ) -> Result<Dynamic<H>, EvalAltResult<H>>
         requires resolves { IsTrue (resolves_expr value.now (names run.old)) }
-        requires fast { self.now.fast_operators ≡ true }
         ensures counts { OnOk result (run.old.global.num_operations ≤ run.new.global.num_operations) }
         ensures names { OnOk result (names run.new ≡ names run.old) }
         ensures runs { (restoring : _) → Runs (under H.name_of self.now T.natives)
@@ -275,7 +266,6 @@ impl<H: Host> Engine<H> {
         pos: Position,
     ) -> Result<Dynamic<H>, EvalAltResult<H>>
         requires resolves { IsTrue (option_resolves (option_map tests_of value.now) (names run.old)) }
-        requires fast { self.now.fast_operators ≡ true }
         ensures counts { OnOk result (run.old.global.num_operations ≤ run.new.global.num_operations) }
         ensures names { OnOk result (names run.new ≡ names run.old) }
         ensures runs { (options : _) (restoring : _) → is_throw options ≡ false →
@@ -300,7 +290,6 @@ impl<H: Host> Engine<H> {
         pos: Position,
     ) -> Result<Dynamic<H>, EvalAltResult<H>>
         requires resolves { IsTrue (resolves_expr value.now (names run.old)) }
-        requires fast { self.now.fast_operators ≡ true }
         ensures counts { OnOk result (run.old.global.num_operations ≤ run.new.global.num_operations) }
         ensures names { OnOk result (names run.new ≡ names run.old) }
         ensures runs { (options : _) (restoring : _) → is_throw options ≡ false →

@@ -44,7 +44,6 @@ impl<H: Host> Engine<H> {
         tree: &CheckedTree,
         map_exit_to_return_value: bool,
     ) -> Result<Dynamic<H>, EvalAltResult<H>>
-        requires fast { self.now.fast_operators ≡ true }
         requires plain { Plain self.now global.old }
         ensures ends { EndsAsMachine (under H.name_of self.now T.natives) tree.now.0 map_exit_to_return_value
             (state_of (T.state table.old) global.old scope.old None) result

@@ -58,7 +58,6 @@ impl<H: Host> Engine<H> {
         rewind_scope: bool,
     ) -> Result<Dynamic<H>, EvalAltResult<H>>
         requires resolves { IsTrue (resolves_stmt stmt.now (names_in scope.old)).0 }
-        requires fast { self.now.fast_operators ≡ true }
         requires plain { Plain self.now global.old }
         ensures ends { EndsAs (under H.name_of self.now T.natives) (Exec stmt.now rewind_scope)
             (state_of (T.state table.old) global.old scope.old (was _this.entry)) result
@@ -98,7 +97,6 @@ impl<H: Host> Engine<H> {
         restore_orig_state: bool,
     ) -> Result<Dynamic<H>, EvalAltResult<H>>
         requires resolves { IsTrue (all_resolve (map resolves_stmt statements.now) (names_in scope.old)).0 }
-        requires fast { self.now.fast_operators ≡ true }
         requires plain { Plain self.now global.old }
         ensures ends { EndsAs (under H.name_of self.now T.natives) (Enter statements.now restore_orig_state)
             (state_of (T.state table.old) global.old scope.old (was _this.entry)) result
@@ -130,7 +128,6 @@ impl<H: Host> Engine<H> {
         restoring: bool,
     ) -> Result<Dynamic<H>, EvalAltResult<H>>
         requires resolves { IsTrue (resolves_stmt stmt.now (names run.old)).0 }
-        requires fast { self.now.fast_operators ≡ true }
         ensures charges { OnOk result (run.old.global.num_operations < run.new.global.num_operations) }
         ensures names { OnOk result (names run.new ≡ (resolves_stmt stmt.now (names run.old)).1) }
         ensures runs { Runs (under H.name_of self.now T.natives) (Exec stmt.now restoring)
@@ -141,6 +138,7 @@ impl<H: Host> Engine<H> {
         match stmt {
             Stmt::Noop(_) => Ok(unit_value()),
             Stmt::Expr(expr) => self.run_expr_stmt(alloc, run, table, expr, restoring),
+            Stmt::FnCall(call, pos) => self.run_fn_call_expr(alloc, run, table, call, *pos),
             Stmt::Block(block) => {
                 self.run_stmt_block(alloc, run, table, block.statements.as_slice(), true)
             }
@@ -176,7 +174,6 @@ impl<H: Host> Engine<H> {
         restoring: bool,
     ) -> Result<Dynamic<H>, EvalAltResult<H>>
         requires resolves { IsTrue (resolves_expr expr.now (names run.old)) }
-        requires fast { self.now.fast_operators ≡ true }
         ensures counts { OnOk result (run.old.global.num_operations ≤ run.new.global.num_operations) }
         ensures names { OnOk result (names run.new ≡ names run.old) }
         ensures runs { Runs (under H.name_of self.now T.natives) (OpenStmt (layer.Expr expr.now) restoring)
@@ -188,8 +185,8 @@ impl<H: Host> Engine<H> {
         flatten(alloc, &run.global.cells, value, expr.position())
     }
 
-    /// An assignment to a variable. By an operator it is done in place, where its value is an operand
-    /// that stands and there is a built-in for it.
+    /// An assignment to a variable. By an operator it is done in place under fast operators, where its
+    /// value is an operand that stands and there is a built-in for it.
     #[cycle(eval)]
     fn run_assignment<T: NativeTable<H>>(
         &self,
@@ -203,13 +200,16 @@ impl<H: Host> Engine<H> {
     ) -> Result<Dynamic<H>, EvalAltResult<H>>
         requires resolves_target { IsTrue (target_resolves (tests_of lhs.now) (names run.old)) }
         requires resolves { IsTrue (resolves_expr rhs.now (names run.old)) }
-        requires fast { self.now.fast_operators ≡ true }
         ensures counts { OnOk result (run.old.global.num_operations ≤ run.new.global.num_operations) }
         ensures names { OnOk result (names run.new ≡ names run.old) }
         ensures runs { Runs (under H.name_of self.now T.natives)
             (OpenStmt (layer.Assignment op lhs.now rhs.now) restoring)
             (state_in (T.state table.old) run.old) result (state_in (T.state table.new) run.new) }
     {
+        let is_fast = self.fast_operators;
+        if !is_fast {
+            return self.assign_value(alloc, run, table, op, lhs, rhs, restoring);
+        }
         match assign_in_place(
             &self.limits,
             alloc,
@@ -239,7 +239,6 @@ impl<H: Host> Engine<H> {
     ) -> Result<Dynamic<H>, EvalAltResult<H>>
         requires resolves_target { IsTrue (target_resolves (tests_of lhs.now) (names run.old)) }
         requires resolves { IsTrue (resolves_expr rhs.now (names run.old)) }
-        requires fast { self.now.fast_operators ≡ true }
         ensures counts { OnOk result (run.old.global.num_operations ≤ run.new.global.num_operations) }
         ensures names { OnOk result (names run.new ≡ names run.old) }
         ensures runs { Runs (under H.name_of self.now T.natives)
@@ -268,6 +267,7 @@ impl<H: Host> Engine<H> {
             *pos,
             op,
             value,
+            self.fast_operators,
         )
     }
 
@@ -287,7 +287,6 @@ impl<H: Host> Engine<H> {
         requires resolves_test { IsTrue (resolves_expr test.now (names run.old)) }
         requires resolves_body { IsTrue (resolves_block body.now (names run.old)) }
         requires resolves_branch { IsTrue (resolves_block branch.now (names run.old)) }
-        requires fast { self.now.fast_operators ≡ true }
         ensures counts { OnOk result (run.old.global.num_operations ≤ run.new.global.num_operations) }
         ensures names { OnOk result (names run.new ≡ names run.old) }
         ensures runs { Runs (under H.name_of self.now T.natives)
@@ -314,7 +313,6 @@ impl<H: Host> Engine<H> {
         restoring: bool,
     ) -> Result<Dynamic<H>, EvalAltResult<H>>
         requires resolves { IsTrue (resolves_expr value.now (names run.old)) }
-        requires fast { self.now.fast_operators ≡ true }
         ensures counts { OnOk result (run.old.global.num_operations ≤ run.new.global.num_operations) }
         ensures names { OnOk result (names run.new ≡ names run.old ++ ident.now.name ∷ []) }
         ensures runs { is_exported options ≡ false → Runs (under H.name_of self.now T.natives)
@@ -345,7 +343,6 @@ impl<H: Host> Engine<H> {
         restoring: bool,
     ) -> Result<Dynamic<H>, EvalAltResult<H>>
         requires resolves { IsTrue (all_resolve (map resolves_stmt statements.now) (names run.old)).0 }
-        requires fast { self.now.fast_operators ≡ true }
         ensures counts { OnOk result (run.old.global.num_operations ≤ run.new.global.num_operations) }
         ensures restores { OnOk result (IsTrue restoring → names run.new ≡ names run.old) }
         ensures runs { Runs (under H.name_of self.now T.natives) (Enter statements.now restoring)
@@ -376,7 +373,6 @@ impl<H: Host> Engine<H> {
         restoring: bool,
     ) -> Result<Dynamic<H>, EvalAltResult<H>>
         requires resolves { IsTrue (all_resolve (map resolves_stmt statements.now) (names run.old)).0 }
-        requires fast { self.now.fast_operators ≡ true }
         ensures counts { OnOk result (run.old.global.num_operations ≤ run.new.global.num_operations) }
         ensures runs { Runs (under H.name_of self.now T.natives) (Run statements.now restoring unit)
             (state_in (T.state table.old) run.old) result (state_in (T.state table.new) run.new) }

@@ -1,42 +1,144 @@
-//! Calls. Ports upstream's `func/call.rs`; the contracts speak of the machine's runs.
+//! Calls: operators, keywords and pointers. Ports upstream's `func/call.rs`; the contracts speak of the
+//! machine's runs and of specs/Calls.antt.
 
-ghost use Rattle.std.specs.Prelude.{◌≡◌, ◌<◌, ◌≤◌, ◌∷◌, ◌==◌, ◌||◌, [], IsTrue, Some, OnOk, length, true};
-ghost use Rattle.std.specs.Option.{option_copied, option_to_list};
-ghost use Rattle.rhai_check.specs.Frame.{resolves_expr, resolves_call};
+ghost use Rattle.std.specs.Prelude.{◌≡◌, ◌<◌, ◌≤◌, ◌∷◌, [], IsTrue, Some, None, IfOk, OnOk, codes, length, map};
+ghost use Rattle.std.specs.Prelude.{true, false};
+ghost use Rattle.rhai_check.specs.Frame.{all_resolve_exprs, resolves_expr, resolves_call, tests_of};
 ghost use Rattle.rhai_tree.specs.declared.expr.Expr.TheOpen as layer;
-ghost use Rattle.rhai_machine.specs.language.Frames.{Argument, OpenExpr};
+ghost use Rattle.rhai_tree.specs.Positions.{start_of};
+ghost use Rattle.rhai_machine.specs.language.Frames.{Argument, Back, CallPointer, KeywordArgument, OpenExpr, ToCurry};
+ghost use Rattle.rhai_machine.specs.language.Arguments.{arguments_core};
 ghost use Rattle.rhai_machine.specs.language.Runs.{Runs};
+ghost use Rattle.rhai_state.specs.Native.{was};
+ghost use Rattle.rhai_state.specs.Scope.{names_in};
+ghost use Rattle.rhai_steps.specs.States.{state_of};
+ghost use Rattle.rhai_laws.specs.Kept.{Kept};
+ghost use Rattle.rhai_eval.specs.Ends.{EndsAs};
+ghost use Rattle.rhai_eval.specs.Plain.{Plain};
+ghost use Rattle.rhai_pointers.specs.Forms.{is_operator_form};
+ghost use Rattle.rhai_pointers.specs.Keywords.{word_of};
+ghost use Rattle.rhai_eval.specs.Calls.{RunsUnder, StartsAs, pointer_called, value_with};
 ghost use Rattle.rhai_eval.specs.States.{names, state_in, under};
 
 use crate::engine::Engine;
-use rhai_calls::native::{operate_one, operate_two};
-use rhai_context::Context;
+use rhai_calls::operators::{operate_one, operate_two};
+use rhai_context::{Context, give_back, take};
+use rhai_dispatch::call_number;
+use rhai_dispatch::pointer::parts_of;
+use rhai_items::{Items, Shared, Text};
 use rhai_operands::arguments::literal_arg;
 use rhai_operands::operators::operate_in_place;
+use rhai_pointers::forms::{CallForm, form_of};
+use rhai_pointers::keywords::{Keyword, keyword_of};
+use rhai_pointers::pointers::{
+    is_defined, is_shared, make_pointer, pointer_of, text_of, with_curried,
+};
+use rhai_state::caches::Caches;
 use rhai_state::error::EvalAltResult;
+use rhai_state::scope::Scope;
+use rhai_state::state::GlobalRuntimeState;
 use rhai_state::table::NativeTable;
 use rhai_steps::values::{flatten, let_go};
 use rhai_tree::expr::{Expr, FnCallExpr};
 use rhai_tree::position::Position;
 use rhai_tree::token::Token;
-use rhai_values::base::value::{Dynamic, Host};
+use rhai_values::base::value::{Dynamic, FnPtr, Host};
 use std::alloc::Global;
 
-/// The operands of a call that was written as an operator: one or two.
-fn operands_of(call: &FnCallExpr) -> (&Expr, Option<&Expr>)
-    requires { IsTrue (length call.now.args == 1 || length call.now.args == 2) }
-    ensures { call.now.args ≡ result.0.now ∷ option_to_list (option_copied result.1) }
+/// The first of some arguments, and the others.
+fn first_of(args: &[Expr]) -> (&Expr, &[Expr])
+    requires { 1 ≤ length args.now }
+    ensures { args.now ≡ result.0.now ∷ result.1.now }
 {
-    let args = call.args.as_slice();
-    if args.len() == 1 {
-        (&args[0], None)
-    } else {
-        (&args[0], Some(&args[1]))
+    (&args[0], &args[1..])
+}
+
+/// A value with where it starts.
+fn starting_at<H: Host>(
+    outcome: Result<Dynamic<H>, EvalAltResult<H>>,
+    start: Position,
+) -> Result<(Dynamic<H>, Position), EvalAltResult<H>>
+    ensures value { value_with result ≡ outcome }
+    ensures position { IfOk result (λ pair. pair.1 ≡ start) }
+{
+    match outcome {
+        Ok(value) => Ok((value, start)),
+        Err(error) => Err(error),
     }
 }
 
 impl<H: Host> Engine<H> {
-    /// A call that was written as an operator.
+    /// What a call comes to, whose charge is made already: an operator on its operands, a keyword, or a
+    /// native by its name. Ports upstream's `eval_fn_call_expr`.
+    ///
+    /// The call is a part of a checked tree, above the variables that the scope has there. No form that is
+    /// there reads or writes `this`, so it is left alone. Asked besides: no modules, libraries or imports,
+    /// of which the machine has no rule yet (`Plain`).
+    pub fn eval_fn_call_expr<T: NativeTable<H>>(
+        &self,
+        alloc: Global,
+        global: &mut GlobalRuntimeState<H>,
+        _caches: &mut Caches<H>,
+        table: &mut T,
+        scope: &mut Scope<H>,
+        _this: Option<&mut Dynamic<H>>,
+        expr: &FnCallExpr,
+        pos: Position,
+    ) -> Result<Dynamic<H>, EvalAltResult<H>>
+        requires resolves { IsTrue (resolves_call expr.now pos (names_in scope.old)) }
+        requires plain { Plain self.now global.old }
+        ensures ends { EndsAs (under H.name_of self.now T.natives) (OpenExpr (layer.Expr::FnCall expr.now pos))
+            (state_of (T.state table.old) global.old scope.old (was _this.entry)) result
+            (state_of (T.state table.new) global.new scope.new (was _this.entry)) }
+        ensures kept { Kept (under H.name_of self.now T.natives)
+            (state_of (T.state table.old) global.old scope.old (was _this.entry))
+            (state_of (T.state table.new) global.new scope.new (was _this.entry)) }
+        ensures names { names_in scope.new ≡ names_in scope.old }
+        ensures caches { _caches.new ≡ _caches.old }
+        ensures search { global.new.always_search_scope ≡ global.old.always_search_scope }
+    {
+        let mut run = take(alloc, global, scope);
+        let result = self.run_fn_call_expr(alloc, &mut run, table, expr, pos);
+        give_back(run, global, scope);
+        result
+    }
+
+    /// The value of an argument, and where it starts. A literal is charged at its start, and anything else
+    /// as an expression. Ports upstream's `get_arg_value`.
+    ///
+    /// The argument is a part of a checked tree, above the variables that the scope has there. No form
+    /// that is there reads or writes `this`, so it is left alone. Asked besides: no modules, libraries or
+    /// imports, of which the machine has no rule yet (`Plain`).
+    pub fn get_arg_value<T: NativeTable<H>>(
+        &self,
+        alloc: Global,
+        global: &mut GlobalRuntimeState<H>,
+        _caches: &mut Caches<H>,
+        table: &mut T,
+        scope: &mut Scope<H>,
+        _this: Option<&mut Dynamic<H>>,
+        arg_expr: &Expr,
+    ) -> Result<(Dynamic<H>, Position), EvalAltResult<H>>
+        requires resolves { IsTrue (resolves_expr arg_expr.now (names_in scope.old)) }
+        requires plain { Plain self.now global.old }
+        ensures position { IfOk result (λ pair. pair.1 ≡ start_of arg_expr.now) }
+        ensures ends { EndsAs (under H.name_of self.now T.natives) (Argument arg_expr.now)
+            (state_of (T.state table.old) global.old scope.old (was _this.entry)) (value_with result)
+            (state_of (T.state table.new) global.new scope.new (was _this.entry)) }
+        ensures kept { Kept (under H.name_of self.now T.natives)
+            (state_of (T.state table.old) global.old scope.old (was _this.entry))
+            (state_of (T.state table.new) global.new scope.new (was _this.entry)) }
+        ensures names { names_in scope.new ≡ names_in scope.old }
+        ensures caches { _caches.new ≡ _caches.old }
+        ensures search { global.new.always_search_scope ≡ global.old.always_search_scope }
+    {
+        let mut run = take(alloc, global, scope);
+        let result = self.run_arg(alloc, &mut run, table, arg_expr);
+        give_back(run, global, scope);
+        starting_at(result, arg_expr.start_position())
+    }
+
+    /// A call: an operator on its operands, or of a function.
     #[cycle(eval)]
     pub(crate) fn run_fn_call_expr<T: NativeTable<H>>(
         &self,
@@ -47,19 +149,206 @@ impl<H: Host> Engine<H> {
         pos: Position,
     ) -> Result<Dynamic<H>, EvalAltResult<H>>
         requires resolves { IsTrue (resolves_call call.now pos (names run.old)) }
-        requires fast { self.now.fast_operators ≡ true }
         ensures counts { OnOk result (run.old.global.num_operations ≤ run.new.global.num_operations) }
         ensures names { OnOk result (names run.new ≡ names run.old) }
         ensures runs { Runs (under H.name_of self.now T.natives) (OpenExpr (layer.Expr::FnCall call.now pos))
             (state_in (T.state table.old) run.old) result (state_in (T.state table.new) run.new) }
     {
-        let Some(token) = call.op_token else {
-            unreachable!()
-        };
-        let (left, right) = operands_of(call);
-        match right {
-            None => self.run_unary(alloc, run, table, call, token, left, pos),
-            Some(right) => self.run_operator(alloc, run, table, call, token, left, right, pos),
+        match form_of(self.fast_operators, call) {
+            CallForm::Unary(token, operand) => {
+                self.run_unary(alloc, run, table, call, token, operand, pos)
+            }
+            CallForm::Binary(token, left, right) => {
+                self.run_operator(alloc, run, table, call, token, left, right, pos)
+            }
+            CallForm::Function => self.run_function(alloc, run, table, call, pos),
+        }
+    }
+
+    /// A call of a function by its name, or of a keyword.
+    #[cycle(eval)]
+    fn run_function<T: NativeTable<H>>(
+        &self,
+        alloc: Global,
+        run: &mut Context<H>,
+        table: &mut T,
+        call: &FnCallExpr,
+        pos: Position,
+    ) -> Result<Dynamic<H>, EvalAltResult<H>>
+        requires resolves { IsTrue (resolves_call call.now pos (names run.old)) }
+        requires form { is_operator_form self.now.fast_operators call.now.op_token call.now.args ≡ false }
+        ensures counts { OnOk result (run.old.global.num_operations ≤ run.new.global.num_operations) }
+        ensures names { OnOk result (names run.new ≡ names run.old) }
+        ensures runs { Runs (under H.name_of self.now T.natives) (OpenExpr (layer.Expr::FnCall call.now pos))
+            (state_in (T.state table.old) run.old) result (state_in (T.state table.new) run.new) }
+    {
+        let args = call.args.as_slice();
+        let captures = call.capture_parent_scope;
+        match keyword_of(call) {
+            Some(word) => {
+                let (first, rest) = first_of(args);
+                let name = &call.name;
+                self.run_keyword(alloc, run, table, word, name, first, rest, captures, pos)
+            }
+            None => {
+                let curried = Items::new(alloc);
+                self.run_named(
+                    alloc,
+                    run,
+                    table,
+                    &call.name,
+                    call.op_token,
+                    curried,
+                    args,
+                    captures,
+                    pos,
+                )
+            }
+        }
+    }
+
+    /// A keyword, from its first argument on.
+    #[cycle(eval)]
+    fn run_keyword<T: NativeTable<H>>(
+        &self,
+        alloc: Global,
+        run: &mut Context<H>,
+        table: &mut T,
+        word: Keyword,
+        name: &Shared<Text>,
+        first: &Expr,
+        rest: &[Expr],
+        captures: bool,
+        pos: Position,
+    ) -> Result<Dynamic<H>, EvalAltResult<H>>
+        requires resolves { IsTrue (resolves_expr first.now (names run.old)) }
+        requires resolves_rest { IsTrue (all_resolve_exprs (map tests_of rest.now) (names run.old)) }
+        requires named { word_of word ≡ CallPointer → name.now ≡ codes "call" }
+        ensures counts { OnOk result (run.old.global.num_operations ≤ run.new.global.num_operations) }
+        ensures names { OnOk result (names run.new ≡ names run.old) }
+        ensures runs { RunsUnder (under H.name_of self.now T.natives) (Argument first.now)
+            (KeywordArgument (word_of word) pos (start_of first.now) rest.now captures)
+            (state_in (T.state table.old) run.old) result (state_in (T.state table.new) run.new) }
+    {
+        let value = self.run_arg(alloc, run, table, first)?;
+        let start = first.start_position();
+        self.run_word(
+            alloc, run, table, word, name, value, start, rest, captures, pos,
+        )
+    }
+
+    /// A keyword whose first argument is there.
+    #[cycle(eval)]
+    fn run_word<T: NativeTable<H>>(
+        &self,
+        alloc: Global,
+        run: &mut Context<H>,
+        table: &mut T,
+        word: Keyword,
+        name: &Shared<Text>,
+        value: Dynamic<H>,
+        start: Position,
+        rest: &[Expr],
+        captures: bool,
+        pos: Position,
+    ) -> Result<Dynamic<H>, EvalAltResult<H>>
+        requires resolves { IsTrue (all_resolve_exprs (map tests_of rest.now) (names run.old)) }
+        requires named { word_of word ≡ CallPointer → name.now ≡ codes "call" }
+        ensures counts { OnOk result (run.old.global.num_operations ≤ run.new.global.num_operations) }
+        ensures names { OnOk result (names run.new ≡ names run.old) }
+        ensures runs { RunsUnder (under H.name_of self.now T.natives) (Back value)
+            (KeywordArgument (word_of word) pos start rest.now captures)
+            (state_in (T.state table.old) run.old) result (state_in (T.state table.new) run.new) }
+    {
+        match word {
+            Keyword::IsShared => Ok(is_shared(value)),
+            Keyword::IsDefinedVariable => {
+                let text = text_of(alloc, &run.global.cells, value, start)?;
+                Ok(is_defined(&run.scope, &text))
+            }
+            Keyword::MakePointer => {
+                let text = text_of(alloc, &run.global.cells, value, start)?;
+                make_pointer(alloc, text, start)
+            }
+            Keyword::Curry => {
+                let pointer = pointer_of(alloc, &run.global.cells, value, start)?;
+                self.run_curry(alloc, run, table, pointer, rest, pos)
+            }
+            Keyword::CallPointer => {
+                let pointer = pointer_of(alloc, &run.global.cells, value, start)?;
+                self.run_pointer(alloc, run, table, name, pointer, rest, captures, pos)
+            }
+        }
+    }
+
+    /// A pointer that gets more arguments, which it keeps as they are.
+    #[cycle(eval)]
+    fn run_curry<T: NativeTable<H>>(
+        &self,
+        alloc: Global,
+        run: &mut Context<H>,
+        table: &mut T,
+        pointer: FnPtr<H>,
+        args: &[Expr],
+        pos: Position,
+    ) -> Result<Dynamic<H>, EvalAltResult<H>>
+        requires { IsTrue (all_resolve_exprs (map tests_of args.now) (names run.old)) }
+        ensures counts { OnOk result (run.old.global.num_operations ≤ run.new.global.num_operations) }
+        ensures names { OnOk result (names run.new ≡ names run.old) }
+        ensures runs { StartsAs (under H.name_of self.now T.natives)
+            (arguments_core (under H.name_of self.now T.natives).setting (ToCurry pointer) [] args.now)
+            (state_in (T.state table.old) run.old) result (state_in (T.state table.new) run.new) }
+    {
+        match self.run_args(alloc, run, table, args, false) {
+            Ok(values) => with_curried(alloc, pointer, values, pos),
+            Err(error) => {
+                drop(pointer);
+                Err(error)
+            }
+        }
+    }
+
+    /// A pointer that is called: a native's number at once, anything else by the pointer's name.
+    #[cycle(eval)]
+    fn run_pointer<T: NativeTable<H>>(
+        &self,
+        alloc: Global,
+        run: &mut Context<H>,
+        table: &mut T,
+        word: &Shared<Text>,
+        pointer: FnPtr<H>,
+        args: &[Expr],
+        captures: bool,
+        pos: Position,
+    ) -> Result<Dynamic<H>, EvalAltResult<H>>
+        requires resolves { IsTrue (all_resolve_exprs (map tests_of args.now) (names run.old)) }
+        requires named { word.now ≡ codes "call" }
+        ensures counts { OnOk result (run.old.global.num_operations ≤ run.new.global.num_operations) }
+        ensures names { OnOk result (names run.new ≡ names run.old) }
+        ensures runs { StartsAs (under H.name_of self.now T.natives)
+            (pointer_called (under H.name_of self.now T.natives) pointer pos args.now captures)
+            (state_in (T.state table.old) run.old) result (state_in (T.state table.new) run.new) }
+    {
+        let (name, curried, number) = parts_of(pointer);
+        match number {
+            Some(id) => match self.run_args(alloc, run, table, args, false) {
+                Ok(values) => call_number(
+                    &self.limits,
+                    alloc,
+                    &mut run.global,
+                    table,
+                    id,
+                    word,
+                    curried,
+                    values,
+                    pos,
+                ),
+                Err(error) => {
+                    drop(curried);
+                    Err(error)
+                }
+            },
+            None => { self.run_named(alloc, run, table, &name, None, curried, args, captures, pos) }
         }
     }
 
@@ -190,15 +479,14 @@ impl<H: Host> Engine<H> {
 
     /// The value of an argument. A literal is charged here, anything else as an expression.
     #[cycle(eval)]
-    fn run_arg<T: NativeTable<H>>(
+    pub(crate) fn run_arg<T: NativeTable<H>>(
         &self,
         alloc: Global,
         run: &mut Context<H>,
         table: &mut T,
         arg: &Expr,
     ) -> Result<Dynamic<H>, EvalAltResult<H>>
-        requires resolves { IsTrue (resolves_expr arg.now (names run.old)) }
-        requires fast { self.now.fast_operators ≡ true }
+        requires { IsTrue (resolves_expr arg.now (names run.old)) }
         ensures charges { OnOk result (run.old.global.num_operations < run.new.global.num_operations) }
         ensures names { OnOk result (names run.new ≡ names run.old) }
         ensures runs { Runs (under H.name_of self.now T.natives) (Argument arg.now)

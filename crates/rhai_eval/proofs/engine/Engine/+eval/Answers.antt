@@ -2,6 +2,7 @@ mod Calls
 mod Choices
 mod Data
 mod Expressions
+mod Functions
 mod Leaving
 mod Loops
 mod Statements
@@ -11,6 +12,7 @@ use Rattle.rhai_eval.proofs.engine.Engine.+eval.Answers.Calls as calls
 use Rattle.rhai_eval.proofs.engine.Engine.+eval.Answers.Statements as statements
 use Rattle.rhai_eval.proofs.engine.Engine.+eval.Answers.Choices as choices
 use Rattle.rhai_eval.proofs.engine.Engine.+eval.Answers.Data as making
+use Rattle.rhai_eval.proofs.engine.Engine.+eval.Answers.Functions as functions
 use Rattle.rhai_eval.proofs.engine.Engine.+eval.Answers.Loops as loops
 use Rattle.rhai_eval.proofs.engine.Engine.+eval.Answers.Leaving as leaving
 
@@ -79,6 +81,9 @@ run_stmt-returns-in-Noop-clause-runs = statements.run_stmt-returns-in-Noop-claus
 
 pub run_stmt-returns-in-Expr-clause-runs : goal.run_stmt-returns-in-Expr-clause-runs
 run_stmt-returns-in-Expr-clause-runs = statements.run_stmt-returns-in-Expr-clause-runs
+
+pub run_stmt-returns-in-FnCall-clause-runs : goal.run_stmt-returns-in-FnCall-clause-runs
+run_stmt-returns-in-FnCall-clause-runs = statements.run_stmt-returns-in-FnCall-clause-runs
 
 pub run_stmt-returns-in-Block-clause-runs : goal.run_stmt-returns-in-Block-clause-runs
 run_stmt-returns-in-Block-clause-runs = statements.run_stmt-returns-in-Block-clause-runs
@@ -456,3 +461,111 @@ run_map-returns-clause-runs = making.run_map-returns-clause-runs
 
 pub run_expr-returns-in-Map-clause-runs : goal.run_expr-returns-in-Map-clause-runs
 run_expr-returns-in-Map-clause-runs = expressions.run_expr-returns-in-Map-clause-runs
+
+pub run_fn_call_expr-run_unary-requires : goal.run_fn_call_expr-run_unary-requires
+run_fn_call_expr-run_unary-requires = calls.run_fn_call_expr-run_unary-requires
+
+pub run_function-first_of-requires : goal.run_function-first_of-requires
+run_function-first_of-requires = functions.run_function-first_of-requires
+
+pub run_function-run_keyword-requires : goal.run_function-run_keyword-requires
+run_function-run_keyword-requires = functions.run_function-run_keyword-requires
+
+pub run_function-run_named-requires : goal.run_function-run_named-requires
+run_function-run_named-requires = functions.run_function-run_named-requires
+
+pub run_function-returns-in-Some-clause-runs : goal.run_function-returns-in-Some-clause-runs
+run_function-returns-in-Some-clause-runs = functions.run_function-returns-in-Some-clause-runs
+
+pub run_function-returns-in-None-clause-runs : goal.run_function-returns-in-None-clause-runs
+run_function-returns-in-None-clause-runs = functions.run_function-returns-in-None-clause-runs
+
+pub run_keyword-returns-in_err-value-clause-runs : goal.run_keyword-returns-in_err-value-clause-runs
+run_keyword-returns-in_err-value-clause-runs = functions.run_keyword-returns-in_err-value-clause-runs
+
+pub run_keyword-run_word-requires : goal.run_keyword-run_word-requires
+run_keyword-run_word-requires = functions.run_keyword-run_word-requires
+
+pub run_keyword-returns-clause-runs : goal.run_keyword-returns-clause-runs
+run_keyword-returns-clause-runs = functions.run_keyword-returns-clause-runs
+
+pub run_word-returns-in-IsShared-clause-runs : goal.run_word-returns-in-IsShared-clause-runs
+run_word-returns-in-IsShared-clause-runs = functions.run_word-returns-in-IsShared-clause-runs
+
+pub run_word-returns-in_err-text-in-IsDefinedVariable-clause-runs : goal.run_word-returns-in_err-text-in-IsDefinedVariable-clause-runs
+run_word-returns-in_err-text-in-IsDefinedVariable-clause-runs = functions.run_word-returns-in_err-text-in-IsDefinedVariable-clause-runs
+
+pub run_word-returns-in_ok-text-in-IsDefinedVariable-clause-runs : goal.run_word-returns-in_ok-text-in-IsDefinedVariable-clause-runs
+run_word-returns-in_ok-text-in-IsDefinedVariable-clause-runs = functions.run_word-returns-in_ok-text-in-IsDefinedVariable-clause-runs
+
+pub run_word-returns-in_err-text-in-MakePointer-clause-runs : goal.run_word-returns-in_err-text-in-MakePointer-clause-runs
+run_word-returns-in_err-text-in-MakePointer-clause-runs = functions.run_word-returns-in_err-text-in-MakePointer-clause-runs
+
+pub run_word-returns-in_ok-text-in-MakePointer-clause-runs : goal.run_word-returns-in_ok-text-in-MakePointer-clause-runs
+run_word-returns-in_ok-text-in-MakePointer-clause-runs = functions.run_word-returns-in_ok-text-in-MakePointer-clause-runs
+
+pub run_word-returns-in_err-pointer-in-Curry-clause-runs : goal.run_word-returns-in_err-pointer-in-Curry-clause-runs
+run_word-returns-in_err-pointer-in-Curry-clause-runs = functions.run_word-returns-in_err-pointer-in-Curry-clause-runs
+
+pub run_word-returns-in_ok-pointer-in-Curry-clause-runs : goal.run_word-returns-in_ok-pointer-in-Curry-clause-runs
+run_word-returns-in_ok-pointer-in-Curry-clause-runs = functions.run_word-returns-in_ok-pointer-in-Curry-clause-runs
+
+pub run_word-returns-in_err-pointer-in-CallPointer-clause-runs : goal.run_word-returns-in_err-pointer-in-CallPointer-clause-runs
+run_word-returns-in_err-pointer-in-CallPointer-clause-runs = functions.run_word-returns-in_err-pointer-in-CallPointer-clause-runs
+
+pub run_word-returns-in_ok-pointer-in-CallPointer-clause-runs : goal.run_word-returns-in_ok-pointer-in-CallPointer-clause-runs
+run_word-returns-in_ok-pointer-in-CallPointer-clause-runs = functions.run_word-returns-in_ok-pointer-in-CallPointer-clause-runs
+
+pub run_curry-returns-in-Ok-clause-runs : goal.run_curry-returns-in-Ok-clause-runs
+run_curry-returns-in-Ok-clause-runs = functions.run_curry-returns-in-Ok-clause-runs
+
+pub run_curry-returns-in-Err-clause-runs : goal.run_curry-returns-in-Err-clause-runs
+run_curry-returns-in-Err-clause-runs = functions.run_curry-returns-in-Err-clause-runs
+
+pub run_pointer-returns-clause-runs : goal.run_pointer-returns-clause-runs
+run_pointer-returns-clause-runs = functions.run_pointer-returns-clause-runs
+
+pub run_pointer-returns-in-Some-clause-runs : goal.run_pointer-returns-in-Some-clause-runs
+run_pointer-returns-in-Some-clause-runs = functions.run_pointer-returns-in-Some-clause-runs
+
+pub run_pointer-returns-in-Ok-clause-runs : goal.run_pointer-returns-in-Ok-clause-runs
+run_pointer-returns-in-Ok-clause-runs = functions.run_pointer-returns-in-Ok-clause-runs
+
+pub run_named-run_args-requires : goal.run_named-run_args-requires
+run_named-run_args-requires = functions.run_named-run_args-requires
+
+pub run_named-call_on_variable-requires : goal.run_named-call_on_variable-requires
+run_named-call_on_variable-requires = functions.run_named-call_on_variable-requires
+
+pub run_named-returns-in_err-track_operation-in-Some-clause-runs : goal.run_named-returns-in_err-track_operation-in-Some-clause-runs
+run_named-returns-in_err-track_operation-in-Some-clause-runs = functions.run_named-returns-in_err-track_operation-in-Some-clause-runs
+
+pub run_named-returns-in_err-values-in-Some-clause-runs : goal.run_named-returns-in_err-values-in-Some-clause-runs
+run_named-returns-in_err-values-in-Some-clause-runs = functions.run_named-returns-in_err-values-in-Some-clause-runs
+
+pub run_named-returns-in_ok-values-in-Some-clause-runs : goal.run_named-returns-in_ok-values-in-Some-clause-runs
+run_named-returns-in_ok-values-in-Some-clause-runs = functions.run_named-returns-in_ok-values-in-Some-clause-runs
+
+pub run_named-returns-in-Ok-clause-runs : goal.run_named-returns-in-Ok-clause-runs
+run_named-returns-in-Ok-clause-runs = functions.run_named-returns-in-Ok-clause-runs
+
+pub run_named-returns-in-Err-clause-runs : goal.run_named-returns-in-Err-clause-runs
+run_named-returns-in-Err-clause-runs = functions.run_named-returns-in-Err-clause-runs
+
+pub run_args-run_arg-requires : goal.run_args-run_arg-requires
+run_args-run_arg-requires = functions.run_args-run_arg-requires
+
+pub run_args-each_arg-init : goal.run_args-each_arg-init
+run_args-each_arg-init = functions.run_args-each_arg-init
+
+pub run_args-each_arg-preserved : goal.run_args-each_arg-preserved
+run_args-each_arg-preserved = functions.run_args-each_arg-preserved
+
+pub run_args-returns-in-Err-kept-clause-collects : goal.run_args-returns-in-Err-kept-clause-collects
+run_args-returns-in-Err-kept-clause-collects = functions.run_args-returns-in-Err-kept-clause-collects
+
+pub run_args-returns-in-Err-clause-collects : goal.run_args-returns-in-Err-clause-collects
+run_args-returns-in-Err-clause-collects = functions.run_args-returns-in-Err-clause-collects
+
+pub run_args-returns-clause-collects : goal.run_args-returns-clause-collects
+run_args-returns-clause-collects = functions.run_args-returns-clause-collects

@@ -1,4 +1,4 @@
-use Rattle.std.proofs.Common.{◌∷◌, refl, sym, ap, ◌∙◌, arith, is_some}
+use Rattle.std.proofs.Common.{[], ◌∷◌, refl, sym, ap, ◌∙◌, arith, is_some}
 use Rattle.rhai_machine.specs.machine.Machine.{Go}
 use Rattle.rhai_machine.specs.machine.Point.{after}
 use Rattle.rhai_machine.specs.machine.Memory.{here, next, ◌⨾◌}
@@ -6,17 +6,25 @@ use Rattle.rhai_machine.specs.language.Frames.{core, Eval, UnaryOperand, LeftOpe
 use Rattle.rhai_machine.specs.language.Runs.{Steps}
 use Rattle.rhai_steps.proofs.Pieces.{exits, step_by}
 use Rattle.rhai_eval.specs.States.{names, offer_of, state_in, under}
-use Rattle.rhai_operands.proofs.Names.{operands_resolve}
+use Rattle.rhai_operands.proofs.Names.{operands_of_call, operands_resolve}
 use Rattle.rhai_operands.proofs.InPlace.{opens_binary}
+use Rattle.rhai_eval.proofs.NameLemmas.{first_resolves}
 use Rattle.rhai_eval.proofs.Chain.{flat_fails, opens_unary, still_none}
 use Rattle.rhai_eval.proofs.engine.Engine.+eval.Goals as goal
 
+pub run_fn_call_expr-run_unary-requires : goal.run_fn_call_expr-run_unary-requires
+run_fn_call_expr-run_unary-requires g t c =
+    let form = rw c.in-Unary.is at c.form_of.ensures in
+    let resolved = first_resolves c.args.call.now.args c.in-Unary.operand.now [] (names c.args.run.now) form.2
+    (operands_of_call c.args.call.now c.args.pos (names c.args.run.now) c.requires.resolves) in
+    λ κs lives. (omega arith, (lives.0, (lives.1, (form.1, (form.2, (resolved.0, form.0))))))
+
 pub run_fn_call_expr-run_operator-requires : goal.run_fn_call_expr-run_operator-requires
 run_fn_call_expr-run_operator-requires g t c =
-    let args = rw c.in-Some-right.is at c.operands_of.ensures in
-    let resolved = operands_resolve c.args.call.now c.args.pos c.operands_of.result.0.now c.in-Some-right.right.now
-    (names c.args.run.now) args c.requires.resolves in
-    λ κs lives. (omega arith, (lives.0, (lives.1, (c.in-Some.is, (args, (resolved.0, (resolved.1, c.requires.fast)))))))
+    let form = rw c.in-Binary.is at c.form_of.ensures in
+    let resolved = operands_resolve c.args.call.now c.args.pos c.in-Binary.left.now c.in-Binary.right.now (names c.args.run.now) form.2
+    c.requires.resolves in
+    λ κs lives. (omega arith, (lives.0, (lives.1, (form.1, (form.2, (resolved.0, (resolved.1, form.0)))))))
 
 pub run_operator-returns-in-Some-clause-runs : goal.run_operator-returns-in-Some-clause-runs
 run_operator-returns-in-Some-clause-runs g t c =

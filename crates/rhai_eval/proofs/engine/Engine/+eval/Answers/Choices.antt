@@ -19,11 +19,8 @@ run_and-run_condition-requires g t c =
         lives.0,
         (
           lives.1,
-          (
-            part_resolves c.args.parts.now c.each_part.part-index c.part-item.result
-                (names c.each_part.run) c.each_part-test.true c.part-item.is (rw c.each_part.invariant.names c.requires.resolves),
-            c.requires.fast,
-          ),
+          part_resolves c.args.parts.now c.each_part.part-index c.part-item.result
+              (names c.each_part.run) c.each_part-test.true c.part-item.is (rw c.each_part.invariant.names c.requires.resolves),
         ),
       ),
     )
@@ -72,11 +69,8 @@ run_or-run_condition-requires g t c =
         lives.0,
         (
           lives.1,
-          (
-            part_resolves c.args.parts.now c.each_part.part-index c.part-item.result
-                (names c.each_part.run) c.each_part-test.true c.part-item.is (rw c.each_part.invariant.names c.requires.resolves),
-            c.requires.fast,
-          ),
+          part_resolves c.args.parts.now c.each_part.part-index c.part-item.result
+              (names c.each_part.run) c.each_part-test.true c.part-item.is (rw c.each_part.invariant.names c.requires.resolves),
         ),
       ),
     )
@@ -125,11 +119,8 @@ run_coalesce-run_expr-requires g t c =
         lives.0,
         (
           lives.1,
-          (
-            part_resolves c.args.parts.now c.each_part.part-index c.part-item.result
-                (names c.each_part.run) c.each_part-test.true c.part-item.is (rw c.each_part.invariant.names c.requires.resolves),
-            c.requires.fast,
-          ),
+          part_resolves c.args.parts.now c.each_part.part-index c.part-item.result
+              (names c.each_part.run) c.each_part-test.true c.part-item.is (rw c.each_part.invariant.names c.requires.resolves),
         ),
       ),
     )

@@ -20,11 +20,8 @@ run_array-run_expr-requires g t c =
         lives.0,
         (
           lives.1,
-          (
-            part_resolves c.args.items.now c.each_item.item-index c.item-item.result
-                (names c.each_item.run) c.each_item-test.true c.item-item.is (rw c.each_item.invariant.names c.requires.resolves),
-            c.requires.fast,
-          ),
+          part_resolves c.args.items.now c.each_item.item-index c.item-item.result
+              (names c.each_item.run) c.each_item-test.true c.item-item.is (rw c.each_item.invariant.names c.requires.resolves),
         ),
       ),
     )
@@ -74,11 +71,8 @@ run_map-run_expr-requires g t c =
         lives.0,
         (
           lives.1,
-          (
-            value_resolves c.args.entries.now c.each_entry.entry-index c.entry-item.result
-                (names c.each_entry.run) c.each_entry-test.true c.entry-item.is (rw c.each_entry.invariant.names c.requires.resolves),
-            c.requires.fast,
-          ),
+          value_resolves c.args.entries.now c.each_entry.entry-index c.entry-item.result
+              (names c.each_entry.run) c.each_entry-test.true c.entry-item.is (rw c.each_entry.invariant.names c.requires.resolves),
         ),
       ),
     )
@@ -134,11 +128,8 @@ run_interpolated-run_expr-requires g t c =
         lives.0,
         (
           lives.1,
-          (
-            part_resolves c.args.parts.now c.each_part.part-index c.part-item.result
-                (names c.each_part.run) c.each_part-test.true c.part-item.is (rw c.each_part.invariant.names c.requires.resolves),
-            c.requires.fast,
-          ),
+          part_resolves c.args.parts.now c.each_part.part-index c.part-item.result
+              (names c.each_part.run) c.each_part-test.true c.part-item.is (rw c.each_part.invariant.names c.requires.resolves),
         ),
       ),
     )

@@ -151,11 +151,11 @@ run_expr-returns-in-Coalesce-clause-runs g t c =
 
 pub run_condition-returns-in-Some-clause-runs : goal.run_condition-returns-in-Some-clause-runs
 run_condition-returns-in-Some-clause-runs g t c =
-    c.in-Some.ensures.runs (offer_of c.args.self.now) c.args.run.now.this c.requires.fast
+    c.in-Some.ensures.runs (offer_of c.args.self.now) c.args.run.now.this c.if-not-is_fast.false
 
 pub run_condition-returns-in-None-clause-runs : goal.run_condition-returns-in-None-clause-runs
 run_condition-returns-in-None-clause-runs g t c =
-    rw (c.holds_in_place.ensures.left_alone c.in-None.is) at c.run_test.ensures.runs
+    rw (c.holds_in_place.ensures.left_alone c.in-None.is) at c.run_test-in-None.ensures.runs
 
 pub run_test-returns-in_err-value-clause-runs : goal.run_test-returns-in_err-value-clause-runs
 run_test-returns-in_err-value-clause-runs g t c =

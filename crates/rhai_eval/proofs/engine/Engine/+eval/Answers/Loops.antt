@@ -187,7 +187,7 @@ do_turn-do_test-requires g t c =
     let counts = counted rules _ _ _ _ c.run_stmt_block-outcome.ensures.runs in
     let stays = names_stay rules (Enter c.args.body.now.statements true) (ended c.run_stmt_block-outcome.result) _ _ tt tt (rw
     c.as_slice-statements.ensures at c.run_stmt_block-outcome.ensures.runs) in
-    λ κs lives. (omega (arith, counts), (lives.0, (lives.1, (rw stays c.requires.resolves_test, c.requires.fast))))
+    λ κs lives. (omega (arith, counts), (lives.0, (lives.1, rw stays c.requires.resolves_test)))
 
 pub do_test-returns-in_err-holds-clause-runs : goal.do_test-returns-in_err-holds-clause-runs
 unfolding after Steps Tests

@@ -44,6 +44,15 @@ run_stmt-returns-in-Expr-clause-runs g t c =
     opens_stmt rules _ c.args.run.now.global c.track_operation.new.global _ _ c.in_ok-track_operation.ensures.room
     c.in_ok-track_operation.ensures.charged _ _ _ _ _ c.run_expr_stmt.ensures.runs (rw (c.in-Expr.is, stmts.outs-Expr) refl)
 
+pub run_stmt-returns-in-FnCall-clause-runs : goal.run_stmt-returns-in-FnCall-clause-runs
+unfolding after Steps
+run_stmt-returns-in-FnCall-clause-runs g t c k =
+    let rules = under g.H.Host.name_of c.args.self.now g.T.NativeTable.natives in
+    begins_stmt rules _ c.args.run.now.global c.track_operation.new.global _ _ c.in_ok-track_operation.ensures.room
+    c.in_ok-track_operation.ensures.charged _ _ (layer.Stmt::FnCall c.in-FnCall.call c.in-FnCall.pos)
+    (rw (c.in-FnCall.is, stmts.outs-FnCall) refl) k
+    ⨾ next (c.run_fn_call_expr.ensures.runs k)
+
 pub run_stmt-returns-in-Block-clause-runs : goal.run_stmt-returns-in-Block-clause-runs
 unfolding after Steps
 run_stmt-returns-in-Block-clause-runs g t c k =
@@ -149,12 +158,12 @@ run_if-returns-clause-runs g t c k =
 
 pub run_assignment-returns-in-Some-clause-runs : goal.run_assignment-returns-in-Some-clause-runs
 run_assignment-returns-in-Some-clause-runs g t c =
-    c.in-Some.ensures.runs (offer_of c.args.self.now) c.args.run.now.this c.args.restoring c.requires.fast
+    c.in-Some.ensures.runs (offer_of c.args.self.now) c.args.run.now.this c.args.restoring c.if-not-is_fast.false
 
 pub run_assignment-returns-in-None-clause-runs : goal.run_assignment-returns-in-None-clause-runs
 run_assignment-returns-in-None-clause-runs g t c =
     rw (c.assign_in_place.ensures.left_global c.in-None.is, c.assign_in_place.ensures.left_scope c.in-None.is)
-    at c.assign_value.ensures.runs
+    at c.assign_value-in-None.ensures.runs
 
 pub assign_value-returns-in_err-value-clause-runs : goal.assign_value-returns-in_err-value-clause-runs
 unfolding after Steps
@@ -196,7 +205,7 @@ assign_value-returns-clause-runs g t c k =
     (plain_target c.args.lhs.now c.in-Variable.offset c.in-Variable.name c.in-Variable.namespace c.in-Variable.pos _
     (rw (c.in-Variable.is, exprs.outs-Variable) refl) c.requires.resolves_target) ⨾ c.in_ok-value.ensures.runs (AssignValue _ _ ∷ k)
     ⨾ next (rw (← c.position.ensures, ← (c.in_ok-value-2.ensures.exact tt)) (c.assign_variable.ensures.runs (offer_of c.args.self.now)
-    c.run_expr.new.run.this c.requires.fast k))
+    c.run_expr.new.run.this refl k))
 
 pub run_var-returns-in_err-may_declare-clause-runs : goal.run_var-returns-in_err-may_declare-clause-runs
 unfolding after Steps
