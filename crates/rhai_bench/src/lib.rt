@@ -10,5 +10,5 @@ pub mod rows;
 pub mod script;
 pub mod searches;
 pub mod settings;
-mod tables;
+pub mod tables;
 pub mod timing;

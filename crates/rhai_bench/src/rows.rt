@@ -4,6 +4,7 @@ use crate::script::Script;
 use rhai_eval::base::{Items, Stmt};
 use std::alloc::{AllocError, Global};
 
+mod calls;
 pub mod data;
 pub mod loops;
 pub mod operators;
@@ -17,11 +18,14 @@ pub fn scripts(alloc: Global, row: &str) -> Result<Option<Items<Script>>, AllocE
         "11" => loops::continued(alloc),
         "20" => variables::hidden_and_constant(alloc),
         "22" => data::too_large(alloc),
+        "24" => calls::refused_by_the_checker(alloc),
         "26" => variables::blocks_under_limits(alloc),
         "27" => operators::refused_operands(alloc),
         "28" => loops::turns_under_limits(alloc),
         "29" => loops::left_early(alloc),
         "30" => data::joined_and_gathered(alloc),
+        "31" => calls::natives(alloc),
+        "32" => calls::pointers_and_names(alloc),
         _ => return Ok(None),
     };
     scripts.map(Some)
@@ -79,6 +83,14 @@ impl Row {
             Ok(statements) => {
                 self.push(Script::with_max_array_size(self.alloc, statements, size));
             }
+            Err(AllocError) => self.has_memory = false,
+        }
+    }
+
+    /// Adds a script without fast operators.
+    fn add_without_fast_operators(&mut self, tree: Result<Items<Stmt>, AllocError>) {
+        match tree {
+            Ok(statements) => self.push(Script::without_fast_operators(self.alloc, statements)),
             Err(AllocError) => self.has_memory = false,
         }
     }

@@ -10,7 +10,7 @@ ghost use Rattle.rhai_bench.specs.Outcome.{IfRefused};
 use crate::host::Pair;
 use crate::outcome::{Ending, Outcome};
 use crate::settings::{Settings, Way};
-use crate::tables::NoNatives;
+use crate::tables::counting::Counting;
 use rhai_eval::base::{Items, Scope, Stmt};
 use rhai_eval::check::check_tree;
 use rhai_eval::engine::Engine;
@@ -54,6 +54,15 @@ impl Script {
         Script::with_settings(alloc, statements, Settings::with_max_array_size(size))
     }
 
+    /// A script without functions, and without fast operators.
+    pub fn without_fast_operators(alloc: Global, statements: Items<Stmt>) -> Script
+        ensures statements { result.statements ≡ statements }
+        ensures functions { result.functions ≡ [] }
+        ensures operations { result.settings.limits.max_operations ≡ 0 }
+    {
+        Script::with_settings(alloc, statements, Settings::without_fast_operators())
+    }
+
     fn with_settings(alloc: Global, statements: Items<Stmt>, settings: Settings) -> Script
         ensures statements { result.statements ≡ statements }
         ensures functions { result.functions ≡ [] }
@@ -66,7 +75,8 @@ impl Script {
         }
     }
 
-    /// Checks the script and runs it in one of the ways, in an empty scope and without natives.
+    /// Checks the script and runs it in one of the ways, in an empty scope and with the natives of
+    /// `Counting`.
     pub fn run(self, alloc: Global, way: Way) -> Result<Outcome, AllocError>
         ensures limit { IfOk result (λ o. o.num_operations ≤ limit_of self.settings.limits.max_operations) }
         ensures variables { IfOk result (λ o. length (names_in o.scope)
@@ -79,8 +89,8 @@ impl Script {
         self.run_above(alloc, way, Scope::new(alloc))
     }
 
-    /// Checks the script and runs it in one of the ways, above the variables of a scope and without
-    /// natives.
+    /// Checks the script and runs it in one of the ways, above the variables of a scope and with
+    /// the natives of `Counting`.
     pub fn run_above(
         self,
         alloc: Global,
@@ -98,6 +108,7 @@ impl Script {
         let mut global = GlobalRuntimeState::new(alloc)?;
         global.always_search_scope = way.always_search_scope;
         let mut caches = way.caches(alloc);
+        let mut table = Counting::table(alloc);
         let mut scope = scope;
         let ending = match check_tree(alloc, self.statements, self.functions) {
             Err(fault) => Ending::Refused(fault),
@@ -108,7 +119,7 @@ impl Script {
                     alloc,
                     &mut global,
                     &mut caches,
-                    &mut NoNatives,
+                    &mut table,
                     &mut scope,
                     &tree,
                     exits,

@@ -1,6 +1,6 @@
 //! What is set for a run.
 
-ghost use Rattle.std.specs.Prelude.{◌≡◌, [], true};
+ghost use Rattle.std.specs.Prelude.{◌≡◌, []};
 ghost use Rattle.rhai_state.specs.Caches.{depth_of, is_on};
 
 use crate::host::Pair;
@@ -12,6 +12,7 @@ use std::alloc::Global;
 #[derive(Clone, Copy, Debug, PartialEq, Eq)]
 pub struct Settings {
     pub limits: Limits,
+    pub fast_operators: bool,
     pub allow_shadowing: bool,
     pub fail_on_invalid_map_property: bool,
     pub map_exit_to_return_value: bool,
@@ -29,6 +30,7 @@ impl Settings {
             max_map_size: 0,
             max_string_size: 0,
         },
+        fast_operators: true,
         allow_shadowing: true,
         fail_on_invalid_map_property: false,
         map_exit_to_return_value: false,
@@ -52,10 +54,19 @@ impl Settings {
         settings
     }
 
-    /// An engine with these limits and switches, with fast operators and without modules.
+    /// The usual settings, but without fast operators.
+    pub fn without_fast_operators() -> Settings
+        ensures { result.limits.max_operations ≡ 0 }
+    {
+        let mut settings = Settings::USUAL;
+        settings.fast_operators = false;
+        settings
+    }
+
+    /// An engine with these limits and switches, without modules.
     pub fn engine(&self, alloc: Global) -> Engine<Pair>
         ensures limits { result.limits ≡ self.now.limits }
-        ensures fast_operators { result.fast_operators ≡ true }
+        ensures fast_operators { result.fast_operators ≡ self.now.fast_operators }
         ensures shadowing { result.allow_shadowing ≡ self.now.allow_shadowing }
         ensures map_property { result.fail_on_invalid_map_property ≡ self.now.fail_on_invalid_map_property }
         ensures global_modules { result.global_modules ≡ [] }
@@ -63,6 +74,7 @@ impl Settings {
     {
         let mut engine = Engine::new(alloc);
         engine.limits = self.limits;
+        engine.fast_operators = self.fast_operators;
         engine.allow_shadowing = self.allow_shadowing;
         engine.fail_on_invalid_map_property = self.fail_on_invalid_map_property;
         engine

@@ -3,6 +3,8 @@
 ghost use Rattle.std.specs.Prelude.{◌≡◌, Some};
 ghost use Rattle.rhai_state.specs.Native.{Missing, reply_of};
 
+pub mod counting;
+
 use crate::host::Pair;
 use rhai_eval::base::{Dynamic, NativeId, Position};
 use rhai_eval::cells::CellStore;

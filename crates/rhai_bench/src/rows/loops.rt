@@ -4,8 +4,8 @@ use crate::rows::Row;
 use crate::script::Script;
 use rhai_eval::base::Items;
 use rhai_samples::loops::{
-    break_at_the_top, continued_until, decrements, empty_loop, integer_and_true, return_at_the_top,
-    three_turns, true_or_integer, value_of_a_loop,
+    break_at_the_top, continued_until, decrements, doublings, empty_loop, integer_and_true,
+    return_at_the_top, three_turns, true_or_integer, value_of_a_loop,
 };
 use std::alloc::{AllocError, Global};
 
@@ -51,4 +51,9 @@ pub fn outside_of_loops(alloc: Global) -> Result<Items<Script>, AllocError> {
 /// A variable that is counted down to zero, in so many turns.
 pub fn counted_down(alloc: Global, turns: i64) -> Result<Script, AllocError> {
     Ok(Script::new(alloc, decrements(alloc, turns)?))
+}
+
+/// A native that is called in each of so many turns.
+pub fn called_in_turn(alloc: Global, turns: i64) -> Result<Script, AllocError> {
+    Ok(Script::new(alloc, doublings(alloc, turns)?))
 }

@@ -1,0 +1,63 @@
+//! A host of its own: amounts of money, three natives over them, and a script that is run under a limit.
+#![tactic(auto)]
+
+mod money;
+
+use crate::money::{Money, MoneyNatives};
+use rhai_build::Builder;
+use rhai_build::statements::assign;
+use rhai_eval::base::{AccessMode, Dynamic, Items, Scope, Stmt, Token, Union};
+use rhai_eval::check::{CheckedTree, check_tree};
+use rhai_eval::engine::Engine;
+use rhai_eval::state::{Caches, GlobalRuntimeState};
+use rhai_natives::Natives;
+use std::alloc::{AllocError, Global};
+use std::io;
+
+fn main(rt: HostRuntime) -> io::Result<()> {
+    match check_tree(rt.alloc(), script(rt.alloc())?, Items::new(rt.alloc())) {
+        Ok(tree) => run(&rt, &tree),
+        Err(fault) => println!(rt; "refused: {fault}"),
+    }
+}
+
+/// `let total = price + price; total += price; total - price`
+fn script(alloc: Global) -> Result<Items<Stmt>, AllocError> {
+    let mut tree = Builder::new(alloc);
+    let prices = [tree.variable("price", 0, 13), tree.variable("price", 0, 21)];
+    let sum = tree.operator(Token::Plus, "+", 19, prices);
+    let declared = tree.let_stmt("total", 5, sum, 1);
+    let total = tree.variable("total", 1, 28);
+    let grown = assign(Some(Token::Plus), 34, total, tree.variable("price", 0, 37));
+    let operands = [tree.variable("total", 1, 44), tree.variable("price", 0, 52)];
+    let less = tree.operator(Token::Minus, "-", 50, operands);
+    tree.finish([declared, grown, Stmt::Expr(less)])
+}
+
+/// Runs a script above a price, under a limit of operations, and prints what it came to.
+fn run(rt: &HostRuntime, tree: &CheckedTree) -> io::Result<()> {
+    let alloc = rt.alloc();
+    let mut engine = Engine::new(alloc);
+    engine.limits.max_operations = 100;
+    let mut global = GlobalRuntimeState::new(alloc)?;
+    let mut scope = Scope::new(alloc);
+    let price = Dynamic::new(Union::Host(Money(250)));
+    let name = String::from_str(alloc, "price")?;
+    scope.push_entry(name, AccessMode::ReadOnly, price)?;
+    let mut natives = Natives::new(alloc, MoneyNatives);
+    let outcome = engine.eval_global_statements(
+        alloc,
+        &mut global,
+        &mut Caches::new(alloc),
+        &mut natives,
+        &mut scope,
+        tree,
+        false,
+    );
+    match outcome.as_ref().map(|value| &value.value) {
+        Ok(Union::Host(Money(cents))) => println!(rt; "{cents} cents")?,
+        Ok(value) => println!(rt; "{value:?}")?,
+        Err(error) => println!(rt; "{error:?}")?,
+    }
+    println!(rt; "{} operations", global.num_operations)
+}

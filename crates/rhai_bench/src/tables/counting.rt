@@ -1,0 +1,109 @@
+//! Natives over a counter.
+
+ghost use Rattle.std.specs.Prelude.{◌≡◌, pos};
+ghost use Rattle.rhai_natives.specs.Responses.{IsAnswered};
+ghost use Rattle.rhai_bench.specs.Counting.{counted, doubled, increased, overflow};
+
+use crate::host::Pair;
+use rhai_natives::{Arguments, Datum, Listed, ListedNatives, Natives, Response};
+use std::alloc::Global;
+
+/// A counter, and natives that increase an integer, double one, and count.
+#[derive(Debug, Drop)]
+pub struct Counting {
+    pub counter: i64,
+}
+
+/// A native of the list.
+#[derive(Clone, Copy, Debug, PartialEq, Eq)]
+pub enum CountingNative {
+    Inc,
+    Double,
+    Next,
+}
+
+impl ListedNatives<Pair> for Counting {
+    ghost use Rattle.std.specs.Prelude.{ℤ};
+    ghost use Rattle.rhai_bench.specs.Counting.{answering, listing};
+
+    type Native = CountingNative;
+
+    ghost State = { ℤ };
+
+    ghost state = { λ c. c.counter };
+
+    ghost list = { listing };
+
+    ghost does = { answering };
+
+    fn listed(&self) -> &[Listed<CountingNative>] {
+        &[
+            Listed::Impure("inc", CountingNative::Inc),
+            Listed::Pure("double", CountingNative::Double),
+            Listed::Impure("next", CountingNative::Next),
+        ]
+    }
+
+    fn call(
+        &mut self,
+        alloc: Global,
+        native: CountingNative,
+        arguments: &Arguments<'_, Pair>,
+    ) -> Option<Response<Pair>> {
+        match native {
+            CountingNative::Inc => Some(inc(alloc, arguments.int()?)),
+            CountingNative::Double => Some(double(alloc, arguments.int()?)),
+            CountingNative::Next => {
+                arguments.none()?;
+                Some(self.next(alloc))
+            }
+        }
+    }
+}
+
+impl Counting {
+    /// The table of these natives, at nought.
+    pub fn table(alloc: Global) -> Natives<Counting>
+        ensures { result.natives.counter ≡ pos 0 }
+    {
+        Natives::new(alloc, Counting { counter: 0 })
+    }
+
+    fn next(&mut self, alloc: Global) -> Response<Pair>
+        ensures response { IsAnswered result (counted self.old.counter).response }
+        ensures state { self.new.counter ≡ (counted self.old.counter).state }
+    {
+        let count = self.counter;
+        match count.checked_add(1) {
+            Some(counter) => {
+                self.counter = counter;
+                Response::Gives(Datum::Int(count))
+            }
+            None => overflow(alloc),
+        }
+    }
+}
+
+fn inc(alloc: Global, number: i64) -> Response<Pair>
+    ensures { IsAnswered result (increased number) }
+{
+    match number.checked_add(1) {
+        Some(number) => Response::changing(Datum::Int(number)),
+        None => overflow(alloc),
+    }
+}
+
+fn double(alloc: Global, number: i64) -> Response<Pair>
+    ensures { IsAnswered result (doubled number) }
+{
+    match number.checked_mul(2) {
+        Some(number) => Response::Gives(Datum::Int(number)),
+        None => overflow(alloc),
+    }
+}
+
+fn overflow(alloc: Global) -> Response<Pair>
+    ensures { IsAnswered result overflow }
+{
+    Response::arithmetic(alloc, "integer overflow")
+}
