@@ -25,6 +25,7 @@ use Rattle.rhai_state.specs.Scope.{entries_of, index_of, names_in, revalued, val
 use Rattle.rhai_operators.specs.Answers.{answer, op_assign_of}
 use Rattle.rhai_operators.specs.Direct.{integer_given, integer_in}
 use Rattle.rhai_operators.specs.Operators.{Outcome, op_assign_at}
+use Rattle.rhai_machine.specs.language.State.{Held}
 use Rattle.rhai_machine.specs.language.Setting.{Rules, limit_under}
 use Rattle.rhai_machine.specs.language.Values.{Cells, unit_value}
 use Rattle.rhai_machine.specs.language.Places.{InEntry, is_constant, target, target_at, target_found, target_of, unless_constant}
@@ -118,16 +119,16 @@ module _ {H : Type 0} where
       ∙ ap (λ (b : Bool). unless_constant b name pos (target (InEntry i) v)) writable
 
   -- the integer is written to its entry
-  integer_written : (limits : Limits) (scope later : Scope H) (this : Option (Dynamic H)) (g : GlobalRuntimeState H) (at : Position)
+  integer_written : (limits : Limits) (scope later : Scope H) (held : Held H) (g : GlobalRuntimeState H) (at : Position)
       (i : ℕ) (w : Dynamic H) (z : ℤ) → w ≡ values.plain (value.Int z) →
       entries_of later ≡ revalued (entries_of scope) i (slice_get (entries_of scope) i) w →
-      Becomes (written_core (applied limits (Ok w) at) (InEntry i)) (local_of g scope this) (Ok unit_value) (local_of g later this)
-  integer_written limits scope later this g at i w z is put_there m k =
+      Becomes (written_core (applied limits (Ok w) at) (InEntry i)) (local_of g scope held) (Ok unit_value) (local_of g later held)
+  integer_written limits scope later held g at i w z is put_there m k =
       rw (is, integer_sized H limits z at, ← is)
-      (ap (λ l. core (Back unit_value) k l) (sym (local_put (place.InEntry i) w g g.cells scope later this
+      (ap (λ l. core (Back unit_value) k l) (sym (local_put (place.InEntry i) w g g.cells scope later held
       (record { entries = put_there; cells = refl }))))
 
-module _ {S H : Type 0} (rules : Rules S H) (t : S) (scope : Scope H) (this : Option (Dynamic H)) (op : OpAssignment) (lhs rhs : Expr)
+module _ {S H : Type 0} (rules : Rules S H) (t : S) (scope : Scope H) (held : Held H) (op : OpAssignment) (lhs rhs : Expr)
     (offset : Option NonZeroUsize) (name : Name) (namespace : Namespace) (pos : Position) (restoring : Bool)
     (form : out-Expr lhs ≡ layer.Variable offset name namespace pos) (plain : is_unqualified namespace.path ≡ true)
     (resolves : IsTrue (resolves_expr rhs (names_in scope))) (old new : GlobalRuntimeState H) (later : Scope H)
@@ -139,22 +140,22 @@ module _ {S H : Type 0} (rules : Rules S H) (t : S) (scope : Scope H) (this : Op
 
   assigned_by : Knows token v (standing (out-Expr rhs) (entries_of scope)) w →
       entries_of later ≡ revalued (entries_of scope) i (slice_get (entries_of scope) i) w →
-      Runs rules (OpenStmt (layer.Assignment op lhs rhs) restoring) (state_of t old scope this) (Ok unit_value)
-      (state_of t new later this)
+      Runs rules (OpenStmt (layer.Assignment op lhs rhs) restoring) (state_of t old scope held) (Ok unit_value)
+      (state_of t new later held)
   assigned_by knows put_there =
       let holder = standing_is (InEntry i) v (entries_of scope) (cells_of old.cells) stands in
-      updates_in_place rules t scope this op lhs rhs offset name namespace pos restoring knows.y form plain resolves knows.given
+      updates_in_place rules t scope held op lhs rhs offset name namespace pos restoring knows.y form plain resolves knows.given
       old middle (omega arith) refl new (omega arith)
       (charges ∙ ap (λ (n : ℕ). record old { num_operations = n }) (omega arith)) token is_token fast
       (place.InEntry i) (Ok w) (Ok unit_value) new later
       (rw holder (entry_found (cells_of old.cells) name pos (entries_of scope) i v knows.m at stands knows.writable knows.holds))
       (λ memory. rw holder knows.answers) refl
-      (integer_written rules.setting.limits scope later this new op.position i w knows.z knows.number put_there) tt tt
+      (integer_written rules.setting.limits scope later held new op.position i w knows.z knows.number put_there) tt tt
 
   pub integer_assigned : assigned_known token (writable_in v) (integer_of (standing (out-Expr rhs) (entries_of scope))) ≡ Some w →
       entries_of later ≡ revalued (entries_of scope) i (slice_get (entries_of scope) i) w →
-      Runs rules (OpenStmt (layer.Assignment op lhs rhs) restoring) (state_of t old scope this) (Ok unit_value)
-      (state_of t new later this)
+      Runs rules (OpenStmt (layer.Assignment op lhs rhs) restoring) (state_of t old scope held) (Ok unit_value)
+      (state_of t new later held)
   integer_assigned known put_there = assigned_by (knows_by token v (standing (out-Expr rhs) (entries_of scope)) w
       (writable_in v) (integer_of (standing (out-Expr rhs) (entries_of scope))) refl refl known) put_there
 

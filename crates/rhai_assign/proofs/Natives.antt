@@ -16,7 +16,7 @@ use Rattle.rhai_machine.specs.machine.Machine.{Go, Native}
 use Rattle.rhai_machine.specs.machine.Point.{Point, after}
 use Rattle.rhai_machine.specs.machine.Memory.{here, next, starved, starved_at, ◌⨾◌}
 use Rattle.rhai_machine.specs.language.Setting.{Setting, Rules, limit_under}
-use Rattle.rhai_machine.specs.language.State.{State, Local}
+use Rattle.rhai_machine.specs.language.State.{Held, State, Local}
 use Rattle.rhai_machine.specs.language.Values.{Cells, is_handle}
 use Rattle.rhai_machine.specs.language.Places.{put, while_lent}
 use Rattle.rhai_machine.specs.language.Frames.{Attempt, InPlace, AsValue, Update, Frame, Core, core, AskUpdate, QuestionUpdate}
@@ -63,19 +63,19 @@ module _ {S H : Type 0} (rules : Rules S H) where
       u.target
 
   -- an update that is charged stands before its native, unless it is barred
-  questions_update : (t : S) (old mid : GlobalRuntimeState H) (scope : Scope H) (this : Option (Dynamic H)) (u : Update H) (barred : Bool) →
+  questions_update : (t : S) (old mid : GlobalRuntimeState H) (scope : Scope H) (held : Held H) (u : Update H) (barred : Bool) →
       old.num_operations < limit_under rules → mid ≡ record old { num_operations = old.num_operations + 1 } →
-      barred_in t mid u ≡ barred → (k : List (Frame H)) → Goes rules (at (AskUpdate u) k (state_of t old scope this))
-      (with_core (barred_core rules.setting barred u k (local_of mid scope this)) (state_of t mid scope this))
+      barred_in t mid u ≡ barred → (k : List (Frame H)) → Goes rules (at (AskUpdate u) k (state_of t old scope held))
+      (with_core (barred_core rules.setting barred u k (local_of mid scope held)) (state_of t mid scope held))
   unfolding after
-  questions_update t old mid scope this u barred room counted is k =
-      charged rules t old mid scope this (AskUpdate u) (QuestionUpdate u) u.at (λ j. refl) room counted k ⨾ next (rw is here)
+  questions_update t old mid scope held u barred room counted is k =
+      charged rules t old mid scope held (AskUpdate u) (QuestionUpdate u) u.at (λ j. refl) room counted k ⨾ next (rw is here)
 
-  asks_update : (t : S) (old mid : GlobalRuntimeState H) (scope : Scope H) (this : Option (Dynamic H)) (u : Update H) →
+  asks_update : (t : S) (old mid : GlobalRuntimeState H) (scope : Scope H) (held : Held H) (u : Update H) →
       old.num_operations < limit_under rules → mid ≡ record old { num_operations = old.num_operations + 1 } →
       barred_in t mid u ≡ false →
-      (k : List (Frame H)) → Goes rules (at (AskUpdate u) k (state_of t old scope this)) (at (FireUpdate u) k (state_of t mid scope this))
-  asks_update t old mid scope this u room counted free k = questions_update t old mid scope this u false room counted free k
+      (k : List (Frame H)) → Goes rules (at (AskUpdate u) k (state_of t old scope held)) (at (FireUpdate u) k (state_of t mid scope held))
+  asks_update t old mid scope held u room counted free k = questions_update t old mid scope held u false room counted free k
 
   -- a target that is a bare handle is refused
   fires_held : (u : Update H) (k : List (Frame H)) (now : State S H) → is_handle u.target.value ≡ true →
@@ -115,38 +115,38 @@ module _ {S H : Type 0} (rules : Rules S H) where
       (rw (wants_answered rules.setting u.attempt pos (record u { target = v }) k (put u.place v now.local), is) here)
 
   -- an update that is not charged, and one whose target is a bare handle
-  pub refuses_update : (t : S) (old new : GlobalRuntimeState H) (scope : Scope H) (this : Option (Dynamic H)) (u : Update H)
+  pub refuses_update : (t : S) (old new : GlobalRuntimeState H) (scope : Scope H) (held : Held H) (u : Update H)
       (x : EvalAltResult H) →
       limit_under rules ≤ old.num_operations → x ≡ error.ErrorTooManyOperations u.at → new ≡ old →
-      Steps rules (AskUpdate u) (state_of t old scope this) (Fail x) (state_of t new scope this)
+      Steps rules (AskUpdate u) (state_of t old scope held) (Fail x) (state_of t new scope held)
   unfolding Steps
-  refuses_update t old new scope this u x full is same k =
-      refused rules t old new scope this (AskUpdate u) (QuestionUpdate u) u.at (λ j. refl) x full is same k
+  refuses_update t old new scope held u x full is same k =
+      refused rules t old new scope held (AskUpdate u) (QuestionUpdate u) u.at (λ j. refl) x full is same k
 
-  pub holds_update : (t : S) (old mid : GlobalRuntimeState H) (scope : Scope H) (this : Option (Dynamic H)) (u : Update H) (name : List ℕ)
+  pub holds_update : (t : S) (old mid : GlobalRuntimeState H) (scope : Scope H) (held : Held H) (u : Update H) (name : List ℕ)
       (e : EvalAltResult H) →
       old.num_operations < limit_under rules → mid ≡ record old { num_operations = old.num_operations + 1 } →
       barred_in t mid u ≡ false → is_handle u.target.value ≡ true →
       name ≡ native_of u.attempt u.operator → (is_out_of_memory e ≡ false → e ≡ error.ErrorDataRace name u.at) →
-      Steps rules (AskUpdate u) (state_of t old scope this) (Fail e) (state_of t mid scope this)
+      Steps rules (AskUpdate u) (state_of t old scope held) (Fail e) (state_of t mid scope held)
   unfolding Steps
-  holds_update t old mid scope this u name e room counted free handle named race k =
-      asks_update t old mid scope this u room counted free k
-      ⨾ fires_held u k (state_of t mid scope this) handle
-      ⨾ faulted rules e (error.ErrorDataRace (native_of u.attempt u.operator) u.at) (rw named at race) k (state_of t mid scope this)
+  holds_update t old mid scope held u name e room counted free handle named race k =
+      asks_update t old mid scope held u room counted free k
+      ⨾ fires_held u k (state_of t mid scope held) handle
+      ⨾ faulted rules e (error.ErrorDataRace (native_of u.attempt u.operator) u.at) (rw named at race) k (state_of t mid scope held)
 
   -- one whose native is barred from its target
-  pub bars_update : (t : S) (old mid : GlobalRuntimeState H) (scope : Scope H) (this : Option (Dynamic H)) (u : Update H) (name : List ℕ)
+  pub bars_update : (t : S) (old mid : GlobalRuntimeState H) (scope : Scope H) (held : Held H) (u : Update H) (name : List ℕ)
       (e : EvalAltResult H) →
       old.num_operations < limit_under rules → mid ≡ record old { num_operations = old.num_operations + 1 } →
       barred_in t mid u ≡ true →
       name ≡ native_of u.attempt u.operator → (is_out_of_memory e ≡ false → e ≡ error.ErrorNonPureMethodCallOnConstant name u.at) →
-      Steps rules (AskUpdate u) (state_of t old scope this) (Fail e) (state_of t mid scope this)
+      Steps rules (AskUpdate u) (state_of t old scope held) (Fail e) (state_of t mid scope held)
   unfolding Steps
-  bars_update t old mid scope this u name e room counted barred named bars k =
-      questions_update t old mid scope this u true room counted barred k
+  bars_update t old mid scope held u name e room counted barred named bars k =
+      questions_update t old mid scope held u true room counted barred k
       ⨾ faulted rules e (error.ErrorNonPureMethodCallOnConstant (native_of u.attempt u.operator) u.at) (rw named at bars) k
-      (state_of t mid scope this)
+      (state_of t mid scope held)
 
   module _ (t called : S) (old mid : GlobalRuntimeState H) (store : CellStore H) (before later : Scope H) (update : code.Update)
       (w : Dynamic H)
@@ -160,37 +160,37 @@ module _ {S H : Type 0} (rules : Rules S H) where
 
     answers_update : (answer : Option (Reply H)) (name : List ℕ) (rest : List (Dynamic H)) → FreeFor name →
         Obeys (rules.natives.gives t (lent_request update.place before mid.cells name rest update.at)) answer (Some w) called →
-        (this : Option (Dynamic H)) (attempt : Attempt) (operand : Dynamic H) → name ≡ native_of attempt update.token →
+        (held : Held H) (attempt : Attempt) (operand : Dynamic H) → name ≡ native_of attempt update.token →
         rest ≡ operand ∷ [] →
-        IfSome answer (λ reply. Comes rules (AskUpdate (updating update attempt before old operand)) (state_of t old before this)
+        IfSome answer (λ reply. Comes rules (AskUpdate (updating update attempt before old operand)) (state_of t old before held)
         (answered_core rules.setting attempt reply (update_of update attempt w operand))
-        (state_of called (record mid { cells = store }) later this))
-    answers_update None name rest free obeys this attempt operand named only = tt
-    answers_update (Some reply) name rest free obeys this attempt operand named only = λ k.
-        asks_update t old mid before this (updating update attempt before old operand) room counted (rw named at free) k
-        ⨾ fires_update (updating update attempt before old operand) k (state_of t mid before this) reply w called plain
+        (state_of called (record mid { cells = store }) later held))
+    answers_update None name rest free obeys held attempt operand named only = tt
+    answers_update (Some reply) name rest free obeys held attempt operand named only = λ k.
+        asks_update t old mid before held (updating update attempt before old operand) room counted (rw named at free) k
+        ⨾ fires_update (updating update attempt before old operand) k (state_of t mid before held) reply w called plain
         (rw (standing_charged update.place before old mid _ counted, named, only) at obeys) _
         (ap (λ (l : Local H). record {
           core = answered_core rules.setting attempt reply (update_of update attempt w operand) k l;
           table = called;
           count = mid.num_operations;
         })
-        (local_put update.place w mid store before later this wrote))
+        (local_put update.place w mid store before later held wrote))
 
     -- an update whose native was called, over any attempt whose native has the name
     pub asked : (answer : Option (Reply H)) (name : List ℕ) (rest : List (Dynamic H)) → FreeFor name →
         Obeys (rules.natives.gives t (lent_request update.place before mid.cells name rest update.at)) answer (Some w) called →
-        (this : Option (Dynamic H)) (attempt : Attempt) (operand : Dynamic H) → name ≡ native_of attempt update.token →
+        (held : Held H) (attempt : Attempt) (operand : Dynamic H) → name ≡ native_of attempt update.token →
         rest ≡ operand ∷ [] →
-        Asked rules (updating update attempt before old operand) (state_of t old before this) answer w
-        (state_of called (record mid { cells = store }) later this)
+        Asked rules (updating update attempt before old operand) (state_of t old before held) answer w
+        (state_of called (record mid { cells = store }) later held)
     unfolding Steps
-    asked answer name rest free obeys this attempt operand named only = record {
-      answered = answers_update answer name rest free obeys this attempt operand named only;
+    asked answer name rest free obeys held attempt operand named only = record {
+      answered = answers_update answer name rest free obeys held attempt operand named only;
       starved = λ pos k.
-          asks_update t old mid before this (updating update attempt before old operand) room counted (rw named at free) k
-          ⨾ fires_starved (updating update attempt before old operand) k (state_of t mid before this)
-          (state_of called (record mid { cells = store }) later this) w pos plain
+          asks_update t old mid before held (updating update attempt before old operand) room counted (rw named at free) k
+          ⨾ fires_starved (updating update attempt before old operand) k (state_of t mid before held)
+          (state_of called (record mid { cells = store }) later held) w pos plain
           (ap (λ (l : Local H). record { table = called; count = mid.num_operations; local = l })
-          (local_put update.place w mid store before later this wrote));
+          (local_put update.place w mid store before later held wrote));
     }

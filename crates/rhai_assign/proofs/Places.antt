@@ -12,10 +12,12 @@ use Rattle.rhai_values.specs.declared.cells.CellStore.{CellStore}
 use Rattle.rhai_state.specs.declared.state.GlobalRuntimeState.{GlobalRuntimeState}
 use Rattle.rhai_values.specs.Cells.{cells_of}
 use Rattle.rhai_state.specs.Scope.{name_of, value_of, entries_of, names_in, revalued}
+use Rattle.rhai_machine.specs.language.State.{Held}
 use Rattle.rhai_machine.specs.language.Values.{Cells, unit_value}
-use Rattle.rhai_machine.specs.language.Places.{Place, InEntry, InCell, put, while_lent}
+use Rattle.rhai_machine.specs.language.Places.{Place, InEntry, InCell, InFocus, put, while_lent}
 use Rattle.rhai_steps.specs.States.{local_of}
 use Rattle.rhai_assign.specs.declared.place.Place as code
+use Rattle.rhai_assign.specs.declared.place.Place.TheVariants as place
 use Rattle.rhai_assign.specs.Targets.{there, stands, standing, IsKnown, IsPut, entries_put, cells_put, place_in, stands_at, standing_at}
 use Rattle.rhai_assign.specs.Targets.{there_at}
 
@@ -49,11 +51,13 @@ module _ {H : Type 0} where
       entries_put place a (entries_put place b entries) ≡ entries_put place a entries
   entries_twice (InEntry i) a b entries = revalued_twice entries i (slice_get entries i) a b refl
   entries_twice (InCell n) a b entries = refl
+  entries_twice InFocus a b entries = refl
 
   -- a cell that was lent is there again
   cells_back : (place : Place) (v : Dynamic H) (cells : Cells H) → cells_put place v (while_lent place cells) ≡ cells_put place v cells
   cells_back (InEntry i) v cells = refl
   cells_back (InCell n) v cells = set-set cells n None (Some v)
+  cells_back InFocus v cells = refl
 
   -- a value that is written stands there
   entry_put : (entries : List (ScopeEntry H)) (i : ℕ) (v : Dynamic H) (entry_at : Option (ScopeEntry H)) →
@@ -66,6 +70,7 @@ module _ {H : Type 0} where
       there place (entries_put place v entries) (cells_put place v cells) ≡ Some v
   there_put (InEntry i) v entries cells known = entry_put entries i v (slice_get entries i) refl known
   there_put (InCell n) v entries cells known = ap option_flatten (get_within cells n (Some v) known)
+  there_put InFocus v entries cells known = absurd known
 
   -- what stands at a place
   pub standing_is : (place : Place) (v : Dynamic H) (entries : List (ScopeEntry H)) (cells : Cells H) → there place entries cells ≡ Some v →
@@ -91,6 +96,7 @@ module _ {H : Type 0} where
       IsKnown place entries cells
   known (InEntry i) entries cells some = entry_known entries i (slice_get entries i) refl some
   known (InCell n) entries cells some = cell_known cells n (slice_get cells n) refl some
+  known InFocus entries cells some = cc
 
   -- a place that is lent stays known
   revalued_length : (entries : List (ScopeEntry H)) (i : ℕ) (entry_at : Option (ScopeEntry H)) (v : Dynamic H) →
@@ -102,6 +108,7 @@ module _ {H : Type 0} where
       IsKnown place (entries_put place v entries) (while_lent place cells)
   known_still (InEntry i) v entries cells k = rw (revalued_length entries i (slice_get entries i) v) k
   known_still (InCell n) v entries cells k = rw (length-set cells n None) k
+  known_still InFocus v entries cells k = k
 
   known_lent : (place : Place) (v : Dynamic H) (entries mid : List (ScopeEntry H)) (cells store : Cells H) →
       stands place entries cells ≡ true →
@@ -136,6 +143,7 @@ module _ {H : Type 0} where
       map name_of (entries_put place v entries) ≡ map name_of entries
   names_put (InEntry i) v entries = revalued_names entries i (slice_get entries i) v refl
   names_put (InCell n) v entries = refl
+  names_put InFocus v entries = refl
 
   pub keeps_names : (place : code.Place) (v : Dynamic H) (before after : Scope H) (old new : CellStore H) →
       IsPut place v before after old new →
@@ -143,18 +151,19 @@ module _ {H : Type 0} where
   keeps_names place v before later old new wrote = ap (map name_of) wrote.entries ∙ names_put (place_in place) v (entries_of before)
 
   -- the state once a value is written
-  local_at : (place : Place) (v : Dynamic H) (g : GlobalRuntimeState H) (store : CellStore H) (before after : Scope H)
-      (this : Option (Dynamic H)) →
-      entries_of after ≡ entries_put place v (entries_of before) → cells_of store ≡ cells_put place v (cells_of g.cells) →
-      local_of (record g { cells = store }) after this ≡ put place v (local_of g before this)
-  local_at (InEntry i) v g store before later this e c = rw (e, c) refl
-  local_at (InCell n) v g store before later this e c = rw (e, c) refl
+  local_at : (place : code.Place) (v : Dynamic H) (g : GlobalRuntimeState H) (store : CellStore H) (before after : Scope H)
+      (held : Held H) →
+      entries_of after ≡ entries_put (place_in place) v (entries_of before) →
+      cells_of store ≡ cells_put (place_in place) v (cells_of g.cells) →
+      local_of (record g { cells = store }) after held ≡ put (place_in place) v (local_of g before held)
+  local_at (place.InEntry i) v g store before later held e c = rw (e, c) refl
+  local_at (place.InCell n) v g store before later held e c = rw (e, c) refl
 
   pub local_put : (place : code.Place) (v : Dynamic H) (g : GlobalRuntimeState H) (store : CellStore H) (before after : Scope H)
-      (this : Option (Dynamic H)) →
+      (held : Held H) →
       IsPut place v before after g.cells store →
-      local_of (record g { cells = store }) after this ≡ put (place_in place) v (local_of g before this)
-  local_put place v g store before later this wrote = local_at (place_in place) v g store before later this wrote.entries wrote.cells
+      local_of (record g { cells = store }) after held ≡ put (place_in place) v (local_of g before held)
+  local_put place v g store before later held wrote = local_at place v g store before later held wrote.entries wrote.cells
 
   -- a charge leaves what stands
   pub standing_charged : (place : code.Place) (scope : Scope H) (old mid : GlobalRuntimeState H) (n : ℕ) →

@@ -27,7 +27,7 @@ use Rattle.rhai_machine.specs.machine.Machine.{Go}
 use Rattle.rhai_machine.specs.machine.Memory.{here, next, ◌⨾◌}
 use Rattle.rhai_machine.specs.machine.Point.{after}
 use Rattle.rhai_machine.specs.language.Setting.{Rules, limit_under}
-use Rattle.rhai_machine.specs.language.State.{Local, State}
+use Rattle.rhai_machine.specs.language.State.{Held, Local, State}
 use Rattle.rhai_machine.specs.language.Calls.{applied}
 use Rattle.rhai_machine.specs.language.Places.{target, target_of}
 use Rattle.rhai_machine.specs.language.Assignment.{assign_core, if_fast, update_core, written_core}
@@ -55,7 +55,7 @@ module _ {S H : Type 0} (rules : Rules S H) where
   unfolding after
   begins_assignment op lhs rhs offset name namespace pos restoring k l is plain = next (rw (is, plain) here)
 
-  module _ (t : S) (scope : Scope H) (this : Option (Dynamic H)) (op : OpAssignment) (lhs rhs : Expr) (offset : Option NonZeroUsize)
+  module _ (t : S) (scope : Scope H) (held : Held H) (op : OpAssignment) (lhs rhs : Expr) (offset : Option NonZeroUsize)
       (name : Name) (namespace : Namespace) (pos : Position) (restoring : Bool) (y : Dynamic H)
       (form : out-Expr lhs ≡ layer.Variable offset name namespace pos) (plain : is_unqualified namespace.path ≡ true)
       (resolves : IsTrue (resolves_expr rhs (names_in scope))) (given : standing (out-Expr rhs) (entries_of scope) ≡ Some y) where
@@ -65,35 +65,35 @@ module _ {S H : Type 0} (rules : Rules S H) where
     -- the value is refused
     pub value_stops : (old new : GlobalRuntimeState H) (e : EvalAltResult H) → limit_under rules ≤ old.num_operations →
         e ≡ error.ErrorTooManyOperations (position_of rhs) → new ≡ old →
-        Steps rules (OpenStmt (layer.Assignment op lhs rhs) restoring) (state_of t old scope this) (Fail e) (state_of t new scope this)
+        Steps rules (OpenStmt (layer.Assignment op lhs rhs) restoring) (state_of t old scope held) (Fail e) (state_of t new scope held)
     unfolding after Steps
     value_stops old new e full is same k =
-        begins_assignment op lhs rhs offset name namespace pos restoring k (state_of t old scope this) form plain
-        ⨾ value_refused rules rhs y t old new scope this resolves given e full is same (AssignValue assignment (position_of rhs) ∷ k)
+        begins_assignment op lhs rhs offset name namespace pos restoring k (state_of t old scope held) form plain
+        ⨾ value_refused rules rhs y t old new scope held resolves given e full is same (AssignValue assignment (position_of rhs) ∷ k)
         ⨾ next here
 
     module _ (old mid : GlobalRuntimeState H) (room : old.num_operations < limit_under rules)
         (is : mid ≡ record old { num_operations = old.num_operations + 1 }) where
       -- or there
       value_comes : (k : List (Frame H)) →
-          Goes rules (at (OpenStmt (layer.Assignment op lhs rhs) restoring) k (state_of t old scope this))
-          (at (Assign assignment (copy_of y)) k (state_of t mid scope this))
+          Goes rules (at (OpenStmt (layer.Assignment op lhs rhs) restoring) k (state_of t old scope held))
+          (at (Assign assignment (copy_of y)) k (state_of t mid scope held))
       value_comes k =
-          begins_assignment op lhs rhs offset name namespace pos restoring k (state_of t old scope this) form plain
-          ⨾ value_goes rules rhs y t old mid scope this resolves given room is (AssignValue assignment (position_of rhs) ∷ k)
-          ⨾ step_by rules _ _ (Go (core (Assign assignment (copy_of y)) k (state_of t mid scope this).local))
+          begins_assignment op lhs rhs offset name namespace pos restoring k (state_of t old scope held) form plain
+          ⨾ value_goes rules rhs y t old mid scope held resolves given room is (AssignValue assignment (position_of rhs) ∷ k)
+          ⨾ step_by rules _ _ (Go (core (Assign assignment (copy_of y)) k (state_of t mid scope held).local))
           (ap (λ (r : Result (Dynamic H) (EvalAltResult H)). Go (on_value r (λ v. core (Assign assignment v) k
-          (state_of t mid scope this).local) k (state_of t mid scope this).local))
-          (flat_copy (state_of t mid scope this).local.around.cells y.value (copy_of y) (position_of rhs)
+          (state_of t mid scope held).local) k (state_of t mid scope held).local))
+          (flat_copy (state_of t mid scope held).local.around.cells y.value (copy_of y) (position_of rhs)
           (standing_plain (out-Expr rhs) (entries_of scope) y given))) here
 
       -- the target is refused
       pub target_stops : (new : GlobalRuntimeState H) (e : EvalAltResult H) → limit_under rules ≤ mid.num_operations →
           e ≡ error.ErrorTooManyOperations pos → new ≡ mid →
-          Steps rules (OpenStmt (layer.Assignment op lhs rhs) restoring) (state_of t old scope this) (Fail e) (state_of t new scope this)
+          Steps rules (OpenStmt (layer.Assignment op lhs rhs) restoring) (state_of t old scope held) (Fail e) (state_of t new scope held)
       unfolding Steps
       target_stops new e full refusal same k =
-          value_comes k ⨾ refuses_assignment rules t mid new scope this assignment (copy_of y) e full refusal same k
+          value_comes k ⨾ refuses_assignment rules t mid new scope held assignment (copy_of y) e full refusal same k
 
       module _ (second : GlobalRuntimeState H) (more : mid.num_operations < limit_under rules)
           (last : second ≡ record mid { num_operations = mid.num_operations + 1 }) (token : Token) (is_token : op.op ≡ Some token)
@@ -108,8 +108,8 @@ module _ {S H : Type 0} (rules : Rules S H) where
             (answers : operators.HasMemory (Some outcome) → Some outcome ≡ op_assign_of token (standing_at place scope old.cells) y)
             (counts : new.num_operations ≡ second.num_operations)
             (written : Becomes (written_core (applied rules.setting.limits outcome op.position) (place_in place)) (local_of second
-            scope this)
-            result (local_of new later this))
+            scope held)
+            result (local_of new later held))
             (left_global : IfErr result (λ _. new ≡ second)) (left_scope : IfErr result (λ _. later ≡ scope)) where
           -- the target
           abbrev before : Dynamic H
@@ -130,18 +130,18 @@ module _ {S H : Type 0} (rules : Rules S H) where
               l) is_token
               ∙ ap (λ (b : Bool). update_core rules.setting (if_fast b (op_assign_of token before (copy_of y))) updated k l) fast
 
-          follows : FollowsAssign rules assignment (target (place_in place) before) (copy_of y) (state_of t second scope this) result
-              (state_of t new later this)
-          follows p k go want = built rules t second new scope later this updated (Some outcome) (op_assign_of token before (copy_of y))
+          follows : FollowsAssign rules assignment (target (place_in place) before) (copy_of y) (state_of t second scope held) result
+              (state_of t new later held)
+          follows p k go want = built rules t second new scope later held updated (Some outcome) (op_assign_of token before (copy_of y))
               outcome answers_copy refl counts result written left_global left_scope p k
-              (subst (λ (c : Core H). Goes rules p (with_core c (state_of t second scope this))) (starts k (local_of second scope
-              this)) go) want
+              (subst (λ (c : Core H). Goes rules p (with_core c (state_of t second scope held))) (starts k (local_of second scope
+              held)) go) want
 
           -- or what the built-in gave is written
-          pub updates_in_place : Runs rules (OpenStmt (layer.Assignment op lhs rhs) restoring) (state_of t old scope this) result
-              (state_of t new later this)
+          pub updates_in_place : Runs rules (OpenStmt (layer.Assignment op lhs rhs) restoring) (state_of t old scope held) result
+              (state_of t new later held)
           unfolding Steps
-          updates_in_place k = value_comes k ⨾ assigns rules t mid second scope this assignment (copy_of y) more last
-              (target (place_in place) before) result (state_of t new later this)
+          updates_in_place k = value_comes k ⨾ assigns rules t mid second scope held assignment (copy_of y) more last
+              (target (place_in place) before) result (state_of t new later held)
               (subst (λ (cells : CellStore H). target_of (cells_of cells) name pos (entries_of scope) ≡ Ok (target (place_in place)
               (standing_at place scope cells))) (sym same_cells) finds) follows k

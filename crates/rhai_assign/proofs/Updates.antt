@@ -18,7 +18,7 @@ use Rattle.rhai_operators.specs.Answers.{Answer, op_assign_of}
 use Rattle.rhai_machine.specs.machine.Point.{Point, after}
 use Rattle.rhai_machine.specs.machine.Memory.{here, next, wanting, ◌⨾◌}
 use Rattle.rhai_machine.specs.language.Setting.{Rules, limit_under}
-use Rattle.rhai_machine.specs.language.State.{State, Local, HasMemory, Answers}
+use Rattle.rhai_machine.specs.language.State.{Held, State, Local, HasMemory, Answers}
 use Rattle.rhai_machine.specs.language.Places.{Target, target_of, put}
 use Rattle.rhai_machine.specs.language.Calls.{applied, operation_at, placed_if_none, replied, sized}
 use Rattle.rhai_machine.specs.language.Frames.{Control, Assignment, AsValue, Update, Frame, Core, core, ended, Assign, Store, AskUpdate}
@@ -88,18 +88,18 @@ module _ {S H : Type 0} (rules : Rules S H) where
   unfolding Steps
   wants c old pos k = wanting {at = pos} here
 
-  module _ (t : S) (old new : GlobalRuntimeState H) (before later : Scope H) (this : Option (Dynamic H)) where
+  module _ (t : S) (old new : GlobalRuntimeState H) (before later : Scope H) (held : Held H) where
     -- the native `op` gave a value, which is written and measured, or there is an error
     pub valued_by : (update : code.Update) (start : State S H) (v w operand : Dynamic H) (answer : Option (Reply H))
         (outcome result : Result (Dynamic H) (EvalAltResult H)) →
-        Asked rules (update_of update AsValue v operand) start answer w (state_of t old before this) →
+        Asked rules (update_of update AsValue v operand) start answer w (state_of t old before held) →
         IfSome answer (λ reply. Answers outcome (replied rules.setting.limits rules.setting.host_type reply (Some w) (operand ∷ [])
         (operation_at (native_of AsValue update.token) update.token update.at) (cells_of old.cells))) →
         (HasMemory outcome → is_some answer ≡ true) → new.num_operations ≡ old.num_operations →
-        IfOk outcome (λ x. local_of new later this ≡ put (place_in update.place) x (local_of old before this)) →
+        IfOk outcome (λ x. local_of new later held ≡ put (place_in update.place) x (local_of old before held)) →
         IfOk outcome (λ x. Answers result (finished (sized rules.setting.limits x update.target_at))) →
         IfErr outcome (λ e. result ≡ Err e) → IfErr outcome (λ _. new ≡ old) → IfErr outcome (λ _. later ≡ before) →
-        Runs rules (AskUpdate (update_of update AsValue v operand)) start result (state_of t new later this)
+        Runs rules (AskUpdate (update_of update AsValue v operand)) start result (state_of t new later held)
     unfolding Steps
     valued_by update start v w operand None (Ok x) result asked replies memory counts wrote measured fault left_global left_scope =
         absurd (false≢true (memory tt))
@@ -108,10 +108,10 @@ module _ {S H : Type 0} (rules : Rules S H) where
         asked.answered k
         ⨾ lands _ _ t t _ _
         (ap (λ (r : Result (Dynamic H) (EvalAltResult H)). value_core rules.setting r (update_of update AsValue w operand) k
-        (local_of old before this)) (sym (replies tt))
-        ∙ valued rules.setting x (update_of update AsValue w operand) k (local_of old before this)
+        (local_of old before held)) (sym (replies tt))
+        ∙ valued rules.setting x (update_of update AsValue w operand) k (local_of old before held)
         ∙ ap (λ (l : Local H). core (ended (finished (sized rules.setting.limits x update.target_at))) k l) (sym wrote)) refl (sym counts)
-        ⨾ told rules result (finished (sized rules.setting.limits x update.target_at)) measured k (state_of t new later this)
+        ⨾ told rules result (finished (sized rules.setting.limits x update.target_at)) measured k (state_of t new later held)
     valued_by update start v w operand answer (Err (error.ErrorOutOfMemory pos)) result asked replies memory counts wrote measured fault
         left_global left_scope = λ k.
         rw (fault, left_global, left_scope) (asked.starved pos k)
@@ -119,31 +119,31 @@ module _ {S H : Type 0} (rules : Rules S H) where
         absurd (false≢true (memory refl))
     valued_by update start v w operand (Some reply) (Err e) result asked replies memory counts wrote measured fault left_global
         left_scope = λ k.
-        rw (fault, left_global, left_scope) (asked.answered k ⨾ same_core _ _ (state_of t old before this)
+        rw (fault, left_global, left_scope) (asked.answered k ⨾ same_core _ _ (state_of t old before held)
         (ap (λ (r : Result (Dynamic H) (EvalAltResult H)). value_core rules.setting r (update_of update AsValue w operand) k
-        (local_of old before this)) (sym (replies refl))))
+        (local_of old before held)) (sym (replies refl))))
 
     module _ (u : Update H) (answer wanted : Answer H) (outcome : Result (Dynamic H) (EvalAltResult H))
         (value : operators.HasMemory answer → answer ≡ wanted) (is : answer ≡ Some outcome)
         (counts : new.num_operations ≡ old.num_operations) where
       built_told : (result : Result (Dynamic H) (EvalAltResult H)) → HasMemory result →
-          Becomes (written_core (applied rules.setting.limits outcome u.at) u.place) (local_of old before this) result
-          (local_of new later this) →
-          Follows rules (update_core rules.setting wanted u) (state_of t old before this) result (state_of t new later this)
+          Becomes (written_core (applied rules.setting.limits outcome u.at) u.place) (local_of old before held) result
+          (local_of new later held) →
+          Follows rules (update_core rules.setting wanted u) (state_of t old before held) result (state_of t new later held)
       built_told result m written p k go want =
           let had = wrote_memory rules.setting.limits outcome result u.at u.place k
-          (local_of old before this) (local_of new later this) m (written m k) in
+          (local_of old before held) (local_of new later held) m (written m k) in
           let e : wanted ≡ Some outcome = sym (value (rw is had)) ∙ is in
           go
-          ⨾ lands _ _ t t _ _ (ap (λ (a : Answer H). update_core rules.setting a u k (local_of old before this)) e ∙ written m k)
+          ⨾ lands _ _ t t _ _ (ap (λ (a : Answer H). update_core rules.setting a u k (local_of old before held)) e ∙ written m k)
           refl (sym counts)
 
       -- a built-in has the answer, or wanted memory, and then nothing is written
       pub built : (result : Result (Dynamic H) (EvalAltResult H)) →
-          Becomes (written_core (applied rules.setting.limits outcome u.at) u.place) (local_of old before this) result
-          (local_of new later this) →
+          Becomes (written_core (applied rules.setting.limits outcome u.at) u.place) (local_of old before held) result
+          (local_of new later held) →
           IfErr result (λ _. new ≡ old) → IfErr result (λ _. later ≡ before) →
-          Follows rules (update_core rules.setting wanted u) (state_of t old before this) result (state_of t new later this)
+          Follows rules (update_core rules.setting wanted u) (state_of t old before held) result (state_of t new later held)
       built (Ok x) written left_global left_scope = built_told (Ok x) tt written
       built (Err (error.ErrorOutOfMemory pos)) written left_global left_scope = λ p k go want. rw (left_global, left_scope) (want pos)
       built (Err e) written left_global left_scope = built_told (Err e) refl written
@@ -164,34 +164,34 @@ module _ {S H : Type 0} (rules : Rules S H) where
   unfolding after
   store_step assignment v k now found is = next (rw is here)
 
-  module _ (t : S) (old mid : GlobalRuntimeState H) (scope : Scope H) (this : Option (Dynamic H)) (assignment : Assignment)
+  module _ (t : S) (old mid : GlobalRuntimeState H) (scope : Scope H) (held : Held H) (assignment : Assignment)
       (v : Dynamic H) where
     -- an assignment whose variable is not charged
     pub refuses_assignment : (x : EvalAltResult H) → limit_under rules ≤ old.num_operations →
         x ≡ error.ErrorTooManyOperations assignment.at → mid ≡ old →
-        Steps rules (Assign assignment v) (state_of t old scope this) (Fail x) (state_of t mid scope this)
+        Steps rules (Assign assignment v) (state_of t old scope held) (Fail x) (state_of t mid scope held)
     unfolding Steps
     refuses_assignment x full is same k =
-        refused rules t old mid scope this (Assign assignment v) (Store assignment v) assignment.at (λ j. refl) x full is same k
+        refused rules t old mid scope held (Assign assignment v) (Store assignment v) assignment.at (λ j. refl) x full is same k
 
     module _ (room : old.num_operations < limit_under rules) (counted : mid ≡ record old { num_operations = old.num_operations + 1 }) where
       -- or whose target is not found
       pub misses : (e : EvalAltResult H) → (is_out_of_memory e ≡ false →
           target_of (cells_of mid.cells) assignment.name assignment.at (entries_of scope) ≡ Err e) →
-          Steps rules (Assign assignment v) (state_of t old scope this) (Fail e) (state_of t mid scope this)
+          Steps rules (Assign assignment v) (state_of t old scope held) (Fail e) (state_of t mid scope held)
       unfolding Steps
       misses e is k =
-          charged rules t old mid scope this (Assign assignment v) (Store assignment v) assignment.at (λ j. refl) room counted k
-          ⨾ or_wants rules (Store assignment v) k (state_of t mid scope this) e
-          (λ m. store_step assignment v k (state_of t mid scope this) (Err e) (is m))
+          charged rules t old mid scope held (Assign assignment v) (Store assignment v) assignment.at (λ j. refl) room counted k
+          ⨾ or_wants rules (Store assignment v) k (state_of t mid scope held) e
+          (λ m. store_step assignment v k (state_of t mid scope held) (Err e) (is m))
 
       -- or whose target is found, and goes on from there
       pub assigns : (target : Target H) (result : Result (Dynamic H) (EvalAltResult H)) (new : State S H) →
           target_of (cells_of mid.cells) assignment.name assignment.at (entries_of scope) ≡ Ok target →
-          FollowsAssign rules assignment target v (state_of t mid scope this) result new →
-          Runs rules (Assign assignment v) (state_of t old scope this) result new
+          FollowsAssign rules assignment target v (state_of t mid scope held) result new →
+          Runs rules (Assign assignment v) (state_of t old scope held) result new
       unfolding Steps
       assigns target result new is follows k =
-          charged rules t old mid scope this (Assign assignment v) (Store assignment v) assignment.at (λ j. refl) room counted k
-          ⨾ follows (at (Store assignment v) k (state_of t mid scope this)) k
-          (store_step assignment v k (state_of t mid scope this) (Ok target) is) (λ pos. wanting {at = pos} here)
+          charged rules t old mid scope held (Assign assignment v) (Store assignment v) assignment.at (λ j. refl) room counted k
+          ⨾ follows (at (Store assignment v) k (state_of t mid scope held)) k
+          (store_step assignment v k (state_of t mid scope held) (Ok target) is) (λ pos. wanting {at = pos} here)

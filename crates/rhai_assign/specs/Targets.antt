@@ -1,5 +1,5 @@
 -- Where the value of a variable stands in the code, and what is written there.
-use Rattle.std.specs.Prelude.{◌≡◌, ◌<◌, ℕ, Bool, true, false, List, length, Option, Some, is_some, unwrap_or, slice_get}
+use Rattle.std.specs.Prelude.{◌≡◌, ◌<◌, ℕ, Bool, true, false, List, length, Option, Some, None, is_some, unwrap_or, slice_get}
 use Rattle.std.specs.Prelude.{Result, Ok, Err, is_ok}
 use Rattle.rhai_tree.specs.declared.position.Position.{Position}
 use Rattle.rhai_values.specs.declared.base.value.Dynamic.{Dynamic}
@@ -12,7 +12,7 @@ use Rattle.rhai_state.specs.Errors.{is_out_of_memory}
 use Rattle.rhai_state.specs.Native.{Request, Named, request}
 use Rattle.rhai_state.specs.Scope.{entries_of, value_in, revalued}
 use Rattle.rhai_machine.specs.language.Values.{Cells, unit_value}
-use Rattle.rhai_machine.specs.language.Places.{Place, InEntry, InCell, Target, target, while_lent}
+use Rattle.rhai_machine.specs.language.Places.{Place, InEntry, InCell, InFocus, Target, target, while_lent}
 use Rattle.rhai_assign.specs.declared.place.Place as code
 use Rattle.rhai_assign.specs.declared.place.Place.TheVariants as place
 
@@ -21,10 +21,11 @@ place_in (place.InEntry index) = InEntry index
 place_in (place.InCell id) = InCell id.number
 
 module _ {H : Type 0} where
-  -- the value at a place, None where there is none
+  -- the value at a place of a variable, None where there is none
   abbrev pub there : Place → List (ScopeEntry H) → Cells H → Option (Dynamic H)
   there (InEntry index) entries cells = value_in entries (Some index)
   there (InCell number) entries cells = value_of_cell cells number
+  there InFocus entries cells = None
 
   -- there is a value at a place
   abbrev pub stands : Place → List (ScopeEntry H) → Cells H → Bool
@@ -38,15 +39,18 @@ module _ {H : Type 0} where
   abbrev pub IsKnown : Place → List (ScopeEntry H) → Cells H → Type 0
   IsKnown (InEntry index) entries cells = index < length entries
   IsKnown (InCell number) entries cells = number < length cells
+  IsKnown InFocus entries cells = ⊥
 
   -- the entries and the cells once a value is written to a place
   abbrev pub entries_put : Place → Dynamic H → List (ScopeEntry H) → List (ScopeEntry H)
   entries_put (InEntry index) v entries = revalued entries index (slice_get entries index) v
   entries_put (InCell number) v entries = entries
+  entries_put InFocus v entries = entries
 
   abbrev pub cells_put : Place → Dynamic H → Cells H → Cells H
   cells_put (InEntry index) v cells = cells
   cells_put (InCell number) v cells = with_value cells number v
+  cells_put InFocus v cells = cells
 
   -- the same of a place, a scope and a store of cells in the code
   abbrev pub there_at : code.Place → Scope H → CellStore H → Option (Dynamic H)

@@ -117,11 +117,11 @@ fn assign_integer<H: Host, T: NativeTable<H>>(
     ensures left_global { result ≡ false → global.new ≡ global.old }
     ensures left_scope { result ≡ false → scope.new ≡ scope.old }
     ensures keeps { Keeps global.old global.new scope.old scope.new }
-    ensures runs { result ≡ true → (offer : _) (this : _) (restoring : _) → offer.fast_operators ≡ true →
+    ensures runs { result ≡ true → (offer : _) (held : _) (restoring : _) → offer.fast_operators ≡ true →
         Runs (rules_of limits.now H.name_of offer T.natives)
         (OpenStmt (layer.Assignment op lhs.now rhs.now) restoring)
-        (state_of (T.state _table.now) global.old scope.old this)
-        (Ok unit) (state_of (T.state _table.now) global.new scope.new this) }
+        (state_of (T.state _table.now) global.old scope.old held)
+        (Ok unit) (state_of (T.state _table.now) global.new scope.new held) }
 {
     let Expr::Variable { offset, name, .. } = lhs else {
         return false;
@@ -164,11 +164,11 @@ fn assign_prepared<H: Host, T: NativeTable<H>>(
     ensures left_global { result ≡ None → global.new ≡ global.old }
     ensures left_scope { result ≡ None → scope.new ≡ scope.old }
     ensures keeps { Keeps global.old global.new scope.old scope.new }
-    ensures runs { (offer : _) (this : _) (restoring : _) → offer.fast_operators ≡ true →
+    ensures runs { (offer : _) (held : _) (restoring : _) → offer.fast_operators ≡ true →
         IfSome result (λ result. Runs (rules_of limits.now H.name_of offer T.natives)
         (OpenStmt (layer.Assignment op lhs.now rhs.now) restoring)
-        (state_of (T.state _table.now) global.old scope.old this)
-        result (state_of (T.state _table.now) global.new scope.new this)) }
+        (state_of (T.state _table.now) global.old scope.old held)
+        result (state_of (T.state _table.now) global.new scope.new held)) }
 {
     let Expr::Variable {
         offset,
@@ -223,11 +223,11 @@ pub fn assign_in_place<H: Host, T: NativeTable<H>>(
     ensures left_global { result ≡ None → global.new ≡ global.old }
     ensures left_scope { result ≡ None → scope.new ≡ scope.old }
     ensures keeps { Keeps global.old global.new scope.old scope.new }
-    ensures runs { (offer : _) (this : _) (restoring : _) → offer.fast_operators ≡ true →
+    ensures runs { (offer : _) (held : _) (restoring : _) → offer.fast_operators ≡ true →
         IfSome result (λ result. Runs (rules_of limits.now H.name_of offer T.natives)
         (OpenStmt (layer.Assignment op lhs.now rhs.now) restoring)
-        (state_of (T.state _table.now) global.old scope.old this)
-        result (state_of (T.state _table.now) global.new scope.new this)) }
+        (state_of (T.state _table.now) global.old scope.old held)
+        result (state_of (T.state _table.now) global.new scope.new held)) }
 {
     if assign_integer(limits, global, _table, scope, op, lhs, rhs) {
         return Some(Ok(unit_value()));

@@ -61,11 +61,11 @@ pub fn assign_variable<H: Host, T: NativeTable<H>>(
     requires { IsTrue (is_good offset name.now (names_in scope.old)) }
     ensures counts { global.old.num_operations ≤ global.new.num_operations }
     ensures names { names_in scope.new ≡ names_in scope.old }
-    ensures runs { (offer : _) (this : _) → offer.fast_operators ≡ fast →
+    ensures runs { (offer : _) (held : _) → offer.fast_operators ≡ fast →
         Runs (rules_of limits.now H.name_of offer T.natives)
         (Assign (record { name = name.now; at = pos; op = op }) value)
-        (state_of (T.state table.old) global.old scope.old this)
-        result (state_of (T.state table.new) global.new scope.new this) }
+        (state_of (T.state table.old) global.old scope.old held)
+        result (state_of (T.state table.new) global.new scope.new held) }
 {
     if let Err(error) = track_operation(limits, global, pos) {
         let_go(value);

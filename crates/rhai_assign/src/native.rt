@@ -121,19 +121,19 @@ pub(crate) fn ask_native<H: Host, T: NativeTable<H>>(
     requires { stands_at update.place scope.old global.old.cells ≡ true }
     ensures keeps { Keeps global.old global.new scope.old scope.new }
     ensures stands { stands_at update.place scope.new global.new.cells ≡ true }
-    ensures refused { IfErr result (λ e. (offer : _) (this : _) (attempt : _) (operand : _) →
+    ensures refused { IfErr result (λ e. (offer : _) (held : _) (attempt : _) (operand : _) →
         name.now ≡ native_of attempt update.token →
         Steps (rules_of limits.now H.name_of offer T.natives)
         (AskUpdate (updating update attempt scope.old global.old operand))
-        (state_of (T.state table.old) global.old scope.old this)
-        (Fail e) (state_of (T.state table.new) global.new scope.new this)) }
-    ensures asked { IfOk result (λ answer. (offer : _) (this : _) (attempt : _) (operand : _) →
+        (state_of (T.state table.old) global.old scope.old held)
+        (Fail e) (state_of (T.state table.new) global.new scope.new held)) }
+    ensures asked { IfOk result (λ answer. (offer : _) (held : _) (attempt : _) (operand : _) →
         name.now ≡ native_of attempt update.token → rest.now ≡ operand ∷ [] →
         Asked (rules_of limits.now H.name_of offer T.natives)
         (updating update attempt scope.old global.old operand)
-        (state_of (T.state table.old) global.old scope.old this)
+        (state_of (T.state table.old) global.old scope.old held)
         (reply_of answer) (standing_at update.place scope.new global.new.cells)
-        (state_of (T.state table.new) global.new scope.new this)) }
+        (state_of (T.state table.new) global.new scope.new held)) }
 {
     track_operation(limits, global, update.at)?;
     let target = value_at(&global.cells, scope, update.place);

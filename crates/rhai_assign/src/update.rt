@@ -41,11 +41,11 @@ fn update_by_value<H: Host, T: NativeTable<H>>(
 ) -> Result<Dynamic<H>, EvalAltResult<H>>
     requires { stands_at update.place scope.old global.old.cells ≡ true }
     ensures keeps { Keeps global.old global.new scope.old scope.new }
-    ensures runs { (offer : _) (this : _) (operand : _) → rest.now ≡ operand ∷ [] →
+    ensures runs { (offer : _) (held : _) (operand : _) → rest.now ≡ operand ∷ [] →
         Runs (rules_of limits.now H.name_of offer T.natives)
         (AskUpdate (updating update AsValue scope.old global.old operand))
-        (state_of (T.state table.old) global.old scope.old this)
-        result (state_of (T.state table.new) global.new scope.new this) }
+        (state_of (T.state table.old) global.old scope.old held)
+        result (state_of (T.state table.new) global.new scope.new held) }
 {
     let Ok(name) = shared_text(alloc, update.token.as_str()) else {
         return Err(EvalAltResult::ErrorOutOfMemory(update.at));
@@ -80,11 +80,11 @@ fn update_again<H: Host, T: NativeTable<H>>(
     requires stands { stands_at update.place scope.old global.old.cells ≡ true }
     requires one { length rest.now ≡ 1 }
     ensures keeps { Keeps global.old global.new scope.old scope.new }
-    ensures runs { (offer : _) (this : _) (operand : _) → rest.now ≡ operand ∷ [] →
+    ensures runs { (offer : _) (held : _) (operand : _) → rest.now ≡ operand ∷ [] →
         FollowsUpdate (rules_of limits.now H.name_of offer T.natives)
         (updating update AsValue scope.old global.old operand)
-        (state_of (T.state table.old) global.old scope.old this)
-        result (state_of (T.state table.new) global.new scope.new this) }
+        (state_of (T.state table.old) global.old scope.old held)
+        result (state_of (T.state table.new) global.new scope.new held) }
 {
     let target = value_at(&global.cells, scope, update.place);
     match builtin_op_assign(alloc, update.token, target, &rest[0]) {
@@ -107,11 +107,11 @@ fn update_in_place<H: Host, T: NativeTable<H>>(
     requires stands { stands_at update.place scope.old global.old.cells ≡ true }
     requires one { length rest.now ≡ 1 }
     ensures keeps { Keeps global.old global.new scope.old scope.new }
-    ensures runs { (offer : _) (this : _) (operand : _) → rest.now ≡ operand ∷ [] →
+    ensures runs { (offer : _) (held : _) (operand : _) → rest.now ≡ operand ∷ [] →
         Runs (rules_of limits.now H.name_of offer T.natives)
         (AskUpdate (updating update InPlace scope.old global.old operand))
-        (state_of (T.state table.old) global.old scope.old this)
-        result (state_of (T.state table.new) global.new scope.new this) }
+        (state_of (T.state table.old) global.old scope.old held)
+        result (state_of (T.state table.new) global.new scope.new held) }
 {
     let Ok(name) = assigning_name(alloc, update.token) else {
         return Err(EvalAltResult::ErrorOutOfMemory(update.at));
@@ -142,10 +142,10 @@ fn update_by_natives<H: Host, T: NativeTable<H>>(
 ) -> Result<Dynamic<H>, EvalAltResult<H>>
     requires { stands_at update.place scope.old global.old.cells ≡ true }
     ensures keeps { Keeps global.old global.new scope.old scope.new }
-    ensures runs { (offer : _) (this : _) → Runs (rules_of limits.now H.name_of offer T.natives)
+    ensures runs { (offer : _) (held : _) → Runs (rules_of limits.now H.name_of offer T.natives)
         (AskUpdate (updating update InPlace scope.old global.old operand))
-        (state_of (T.state table.old) global.old scope.old this)
-        result (state_of (T.state table.new) global.new scope.new this) }
+        (state_of (T.state table.old) global.old scope.old held)
+        result (state_of (T.state table.new) global.new scope.new held) }
 {
     match list_of(alloc, operand) {
         Ok(rest) => {
@@ -171,11 +171,11 @@ fn update<H: Host, T: NativeTable<H>>(
 ) -> Result<Dynamic<H>, EvalAltResult<H>>
     requires { stands_at update.place scope.old global.old.cells ≡ true }
     ensures keeps { Keeps global.old global.new scope.old scope.new }
-    ensures runs { (offer : _) (this : _) →
+    ensures runs { (offer : _) (held : _) →
         FollowsUpdate (rules_of limits.now H.name_of offer T.natives)
         (updating update InPlace scope.old global.old operand)
-        (state_of (T.state table.old) global.old scope.old this)
-        result (state_of (T.state table.new) global.new scope.new this) }
+        (state_of (T.state table.old) global.old scope.old held)
+        result (state_of (T.state table.new) global.new scope.new held) }
 {
     let target = value_at(&global.cells, scope, update.place);
     match builtin_op_assign(alloc, update.token, target, &operand) {
@@ -203,12 +203,12 @@ pub(crate) fn store<H: Host, T: NativeTable<H>>(
 ) -> Result<Dynamic<H>, EvalAltResult<H>>
     requires { stands_at place scope.old global.old.cells ≡ true }
     ensures keeps { Keeps global.old global.new scope.old scope.new }
-    ensures runs { (offer : _) (this : _) (name : _) → offer.fast_operators ≡ fast →
+    ensures runs { (offer : _) (held : _) (name : _) → offer.fast_operators ≡ fast →
         FollowsAssign (rules_of limits.now H.name_of offer T.natives)
         (record { name = name; at = pos; op = op })
         (target (place_in place) (standing_at place scope.old global.old.cells)) value
-        (state_of (T.state table.old) global.old scope.old this)
-        result (state_of (T.state table.new) global.new scope.new this) }
+        (state_of (T.state table.old) global.old scope.old held)
+        result (state_of (T.state table.new) global.new scope.new held) }
 {
     match op.op {
         Some(token) => {

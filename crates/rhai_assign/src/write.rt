@@ -69,9 +69,9 @@ pub(crate) fn write_outcome<H: Host>(
     requires { stands_at update.place scope.old global.old.cells ≡ true }
     ensures counts { global.new.num_operations ≡ global.old.num_operations }
     ensures names { names_in scope.new ≡ names_in scope.old }
-    ensures written { (this : _) →
+    ensures written { (held : _) →
         Becomes (written_core (applied_at limits.now outcome update.at) (place_in update.place))
-        (local_of global.old scope.old this) result (local_of global.new scope.new this) }
+        (local_of global.old scope.old held) result (local_of global.new scope.new held) }
     ensures left_global { IfErr result (λ _. global.new ≡ global.old) }
     ensures left_scope { IfErr result (λ _. scope.new ≡ scope.old) }
 {
@@ -93,9 +93,9 @@ pub(crate) fn write_value<H: Host>(
     requires { stands_at update.place scope.old global.old.cells ≡ true }
     ensures counts { global.new.num_operations ≡ global.old.num_operations }
     ensures names { names_in scope.new ≡ names_in scope.old }
-    ensures written { (this : _) →
-        IfOk outcome (λ v. local_of global.new scope.new this ≡
-        put_at (place_in update.place) v (local_of global.old scope.old this)) }
+    ensures written { (held : _) →
+        IfOk outcome (λ v. local_of global.new scope.new held ≡
+        put_at (place_in update.place) v (local_of global.old scope.old held)) }
     ensures measured { IfOk outcome (λ v.
         Answers result (finished (sized_at limits.now v update.target_at))) }
     ensures fault { IfErr outcome (λ e. result ≡ Err e) }

@@ -1,6 +1,6 @@
 -- A call by name whose arguments are there.
-use Rattle.std.proofs.Common.{◌≡◌, ℕ, Bool, true, false, List, [], ◌∷◌, Option, Some, None, Result, Err, refl, ap, subst, ◌∙◌}
-use Rattle.std.specs.Prelude.{codes, if◌then◌else◌}
+use Rattle.std.proofs.Common.{◌≡◌, ℕ, Bool, true, false, List, [], ◌∷◌, Option, Some, None, Result, Err, refl, ap, ◌∙◌}
+use Rattle.std.specs.Prelude.{codes, if◌then◌else◌, IfOk, Ok}
 use Rattle.std.specs.Str.{bytes_eq}
 use Rattle.rhai_tree.specs.declared.position.Position.{Position}
 use Rattle.rhai_values.specs.declared.base.value.Dynamic.{Dynamic}
@@ -11,12 +11,14 @@ use Rattle.rhai_machine.specs.machine.Memory.{here, wanting}
 use Rattle.rhai_machine.specs.language.Setting.{Setting, Rules}
 use Rattle.rhai_machine.specs.language.State.{State, Local}
 use Rattle.rhai_machine.specs.language.Values.{Cells}
-use Rattle.rhai_machine.specs.language.Frames.{Operation, Call, Frame, Core, core, ended, Ask, Fail}
+use Rattle.rhai_machine.specs.language.Frames.{Operation, Call, Frame, Core, core, ended, marked, Ask, Fail}
 use Rattle.rhai_machine.specs.language.Calls.{dispatch_core, named_core, races}
 use Rattle.rhai_machine.specs.language.Language.{want}
-use Rattle.rhai_machine.specs.language.Runs.{at, with_core, Goes, Runs, Steps}
+use Rattle.rhai_machine.specs.language.Runs.{at, with_core, Goes, Steps}
 use Rattle.rhai_steps.proofs.Pieces.{faulted, told}
 use Rattle.rhai_calls.specs.Dispatch.{meant, Dispatches, Means}
+use Rattle.rhai_calls.specs.Marks.{with_mark, without_mark, MarkedDispatches, MarkedRuns}
+use Rattle.rhai_calls.proofs.NativeCalls.{plain_ends, plain_mark}
 
 module _ {H : Type 0} where
   -- where a name leads: to what it means, or to the native of the name
@@ -44,12 +46,10 @@ module _ {H : Type 0} where
   named_is s (v ∷ w ∷ []) call k l = chosen_one _ _ call k l
   named_is s (v ∷ w ∷ u ∷ args) call k l = refl
 
-  -- what is meant by a name is meant by one that is the same
-  pub means_named : (cells : Cells H) (operation : Operation) (name : List ℕ) (host : H → List ℕ) (args : List (Dynamic H))
-      (o : Option (Result (Dynamic H) (EvalAltResult H))) → name ≡ operation.name →
-      Means o (meant cells (record operation { name = name }) host args) → Means o (meant cells operation host args)
-  means_named cells operation name host args o same means =
-      subst (λ (n : List ℕ). Means o (meant cells (record operation { name = n }) host args)) same means
+  -- what a name means is not marked
+  pub unmarks_meant : (marks : Bool) (r : Result (Dynamic H) (EvalAltResult H)) (q : Result (Dynamic H × Bool) (EvalAltResult H)) →
+      q ≡ with_mark false r → IfOk q (λ answer. marks ≡ false → answer.1 ≡ false)
+  unmarks_meant marks r q is = rw is (plain_mark marks false r (λ _. refl))
 
   module _ (s : Setting H) (call : Call H) (k : List (Frame H)) (l : Local H) where
     abbrev race : Core H
@@ -73,6 +73,15 @@ module _ {H : Type 0} where
     wants_dispatched false pos = ap (want pos) (named_is s call.args call k l)
         ∙ wants_meant (meant l.around.cells call.operation s.host_type call.args) pos
 
+module _ {S H : Type 0} (rules : Rules S H) where
+  -- a call that does not mark ends as it would by itself
+  pub dispatches_plainly : (call : Call H) (old new : State S H) (r : Result (Dynamic H × Bool) (EvalAltResult H))
+      (q : Result (Dynamic H) (EvalAltResult H)) →
+      IfOk r (λ answer. false ≡ false → answer.1 ≡ false) → q ≡ without_mark r → MarkedDispatches rules call old r new →
+      Dispatches rules call old q new
+  unfolding Dispatches MarkedDispatches
+  dispatches_plainly call old new r q plain is runs k = rw (is, ← plain_ends r plain) (runs k)
+
 module _ {S H : Type 0} (rules : Rules S H) (call : Call H) (s : State S H) where
   -- memory runs out before a call is dispatched
   pub dispatch_wants : (pos : Position) → Dispatches rules call s (Err (error.ErrorOutOfMemory pos)) s
@@ -83,10 +92,15 @@ module _ {S H : Type 0} (rules : Rules S H) (call : Call H) (s : State S H) wher
   -- an argument's cell is held
   pub dispatch_held : races s.local.around.cells call.args ≡ true → (e : EvalAltResult H) →
       (is_out_of_memory e ≡ false → e ≡ error.ErrorDataRace call.operation.name call.operation.at) →
-      Dispatches rules call s (Err e) s
-  unfolding Dispatches
-  dispatch_held is e held k = rw (dispatch_races rules.setting call k s.local is)
-      (faulted rules e (error.ErrorDataRace call.operation.name call.operation.at) held k s)
+      MarkedDispatches rules call s (Err e) s
+  unfolding MarkedDispatches
+  dispatch_held is e race_told k = rw (dispatch_races rules.setting call k s.local is)
+      (faulted rules e (error.ErrorDataRace call.operation.name call.operation.at) race_told k s)
+
+  -- what a name means is not marked
+  not_marked : (r : Result (Dynamic H) (EvalAltResult H)) → marked (with_mark false r) ≡ ended r
+  not_marked (Ok v) = refl
+  not_marked (Err e) = refl
 
   means_one : (o : Option (Result (Dynamic H) (EvalAltResult H))) (r : Result (Dynamic H) (EvalAltResult H)) → Means (Some r) o →
       (k : List (Frame H)) → Goes rules (with_core (comes_to o call k s.local) s) (at (ended r) k s)
@@ -95,9 +109,11 @@ module _ {S H : Type 0} (rules : Rules S H) (call : Call H) (s : State S H) wher
 
   -- the name means no native
   pub dispatch_means : races s.local.around.cells call.args ≡ false → (r : Result (Dynamic H) (EvalAltResult H)) →
-      Means (Some r) (meant s.local.around.cells call.operation rules.setting.host_type call.args) → Dispatches rules call s r s
-  unfolding Dispatches
-  dispatch_means free r means k = rw (dispatch_is rules.setting call k s.local free) (means_one _ r means k)
+      (q : Result (Dynamic H × Bool) (EvalAltResult H)) → q ≡ with_mark false r →
+      Means (Some r) (meant s.local.around.cells call.operation rules.setting.host_type call.args) → MarkedDispatches rules call s q s
+  unfolding MarkedDispatches
+  dispatch_means free r q is means k =
+      rw (is, not_marked r, dispatch_is rules.setting call k s.local free) (means_one _ r means k)
 
   means_none : (o : Option (Result (Dynamic H) (EvalAltResult H))) → Means None o → o ≡ None
   means_none None means = refl
@@ -106,7 +122,8 @@ module _ {S H : Type 0} (rules : Rules S H) (call : Call H) (s : State S H) wher
   -- or the native of the name is called
   pub dispatch_asks : races s.local.around.cells call.args ≡ false →
       Means None (meant s.local.around.cells call.operation rules.setting.host_type call.args) →
-      (r : Result (Dynamic H) (EvalAltResult H)) (new : State S H) → Runs rules (Ask call) s r new → Dispatches rules call s r new
-  unfolding Dispatches Steps
+      (r : Result (Dynamic H × Bool) (EvalAltResult H)) (new : State S H) → MarkedRuns rules (Ask call) s r new →
+      MarkedDispatches rules call s r new
+  unfolding MarkedDispatches Steps
   dispatch_asks free means r new runs k =
       rw (dispatch_is rules.setting call k s.local free, means_none _ means) (runs k)

@@ -16,9 +16,9 @@ use Rattle.rhai_state.specs.declared.error.EvalAltResult.TheVariants as error
 use Rattle.rhai_state.specs.Scope.{revalued, value_of}
 use Rattle.rhai_machine.specs.language.State.{State, Local}
 use Rattle.rhai_machine.specs.language.Values.{Cells, is_handle}
-use Rattle.rhai_machine.specs.language.Places.{Place, InEntry, InCell}
-use Rattle.rhai_machine.specs.language.Frames.{Operation}
-use Rattle.rhai_machine.specs.language.Calls.{first_in, in_cell, lendable, put_left, while_from}
+use Rattle.rhai_machine.specs.language.Places.{Place, InEntry, InCell, InFocus}
+use Rattle.rhai_machine.specs.language.Frames.{Operation, Lender, FromEntry, FromFocus}
+use Rattle.rhai_machine.specs.language.Calls.{first_in, in_cell, lendable, place_of, put_left, while_from}
 use Rattle.rhai_calls.specs.Lending.{back_in, Stands}
 use Rattle.rhai_calls.specs.Natives.{cell_in, lends_from, StandsAt}
 
@@ -58,25 +58,28 @@ module _ {H : Type 0} where
   put_same (Some (InCell n)) v l stands =
       ap (λ (cells : Cells H). record l { around = record l.around { cells = cells } })
       (cells_same l.around.cells n (slice_get l.around.cells n) v refl stands)
+  put_same (Some InFocus) v l stands = ap (λ (focus : Option (Dynamic H)). record l { focus = focus }) (sym stands)
 
-  -- an entry is such a place
-  pub stands_at : (entry : Option ℕ) (v : Dynamic H) (l : Local H) → Stands entry v l.scope → StandsAt (option_map InEntry entry) v l
+  -- where it is lent from is such a place
+  pub stands_at : (lender : Option Lender) (v : Dynamic H) (l : Local H) → Stands lender v l → StandsAt (option_map place_of lender) v l
   stands_at None v l stands = tt
-  stands_at (Some i) v l stands = stands
+  stands_at (Some (FromEntry i)) v l stands = stands
+  stands_at (Some FromFocus) v l stands = stands
 
-  pub while_entry : (entry : Option ℕ) (cells : Cells H) → cells ≡ while_from (option_map InEntry entry) cells
-  while_entry None cells = refl
-  while_entry (Some i) cells = refl
+  pub while_lender : (lender : Option Lender) (cells : Cells H) → cells ≡ while_from (option_map place_of lender) cells
+  while_lender None cells = refl
+  while_lender (Some (FromEntry i)) cells = refl
+  while_lender (Some FromFocus) cells = refl
 
-  pub back_is : {S : Type 0} (entry : Option ℕ) (v : Dynamic H) (s : State S H) →
-      record s { local = put_left (option_map InEntry entry) (Some v) s.local } ≡ back_in entry v s
+  pub back_is : {S : Type 0} (lender : Option Lender) (v : Dynamic H) (s : State S H) →
+      record s { local = put_left (option_map place_of lender) (Some v) s.local } ≡ back_in lender v s
   back_is None v s = refl
-  back_is (Some i) v s = refl
+  back_is (Some lender) v s = refl
 
-  pub back_same : {S : Type 0} (entry : Option ℕ) (v : Dynamic H) (s : State S H) → Stands entry v s.local.scope → back_in entry v s ≡ s
-  back_same {S} entry v s stands =
-      sym (back_is entry v s)
-      ∙ ap (λ (l : Local H). record s { local = l }) (put_same (option_map InEntry entry) v s.local (stands_at entry v s.local stands))
+  pub back_same : {S : Type 0} (lender : Option Lender) (v : Dynamic H) (s : State S H) → Stands lender v s.local → back_in lender v s ≡ s
+  back_same {S} lender v s stands =
+      sym (back_is lender v s)
+      ∙ ap (λ (l : Local H). record s { local = l }) (put_same (option_map place_of lender) v s.local (stands_at lender v s.local stands))
 
   -- ---- what a first argument is lent as
 
@@ -102,11 +105,11 @@ module _ {H : Type 0} where
   own_named host cells (value.Cell id) h = cc
   own_named host cells _ h = refl
 
-  -- a value that is no handle is lent from its entry
-  pub first_plain : (cells : Cells H) (operation : Operation) (entry : Option ℕ) (u : Union H) (x : Dynamic H) → is_handle u ≡ false →
-      first_in cells operation entry u x ≡ Ok (record { from = option_map InEntry entry; value = x })
-  first_plain cells operation entry (value.Cell id) x h = cc
-  first_plain cells operation entry _ x h = refl
+  -- a value that is no handle is lent from its place
+  pub first_plain : (cells : Cells H) (operation : Operation) (lender : Option Lender) (u : Union H) (x : Dynamic H) → is_handle u ≡ false →
+      first_in cells operation lender u x ≡ Ok (record { from = option_map place_of lender; value = x })
+  first_plain cells operation lender (value.Cell id) x h = cc
+  first_plain cells operation lender _ x h = refl
 
   lent_plain : (operation : Operation) (n : ℕ) (u : Union H) (v : Dynamic H) → is_handle u ≡ false →
       lendable operation (Some (InCell n)) u v ≡ Ok (record { from = Some (InCell n); value = v })
@@ -119,11 +122,11 @@ module _ {H : Type 0} where
   lent_handle operation n _ v h = cc
 
   -- a handle stands for the value of its cell
-  pub first_cell : (cells : Cells H) (operation : Operation) (entry : Option ℕ) (u : Union H) (x v : Dynamic H) (id : CellId) →
+  pub first_cell : (cells : Cells H) (operation : Operation) (lender : Option Lender) (u : Union H) (x v : Dynamic H) (id : CellId) →
       u ≡ value.Cell id → value_of_cell cells id.number ≡ Some v → is_handle v.value ≡ false →
-      first_in cells operation entry u x ≡ Ok (record { from = Some (InCell id.number); value = v })
-  first_cell cells operation entry u x v id is there plain =
-      ap (λ (w : Union H). first_in cells operation entry w x) is
+      first_in cells operation lender u x ≡ Ok (record { from = Some (InCell id.number); value = v })
+  first_cell cells operation lender u x v id is there plain =
+      ap (λ (w : Union H). first_in cells operation lender w x) is
       ∙ ap (λ (o : Option (Dynamic H)). in_cell operation id.number o) there ∙ lent_plain operation id.number v.value v plain
 
   held : (operation : Operation) (n : ℕ) (o : Option (Dynamic H)) → lends_from o ≡ false →
@@ -131,11 +134,11 @@ module _ {H : Type 0} where
   held operation n None lends = refl
   held operation n (Some v) lends = lent_handle operation n v.value v (not_false (is_handle v.value) lends)
 
-  pub first_held : (cells : Cells H) (operation : Operation) (entry : Option ℕ) (u : Union H) (x : Dynamic H) (id : CellId) →
+  pub first_held : (cells : Cells H) (operation : Operation) (lender : Option Lender) (u : Union H) (x : Dynamic H) (id : CellId) →
       u ≡ value.Cell id → lends_from (value_of_cell cells id.number) ≡ false →
-      first_in cells operation entry u x ≡ Err (error.ErrorDataRace operation.name operation.at)
-  first_held cells operation entry u x id is lends =
-      ap (λ (w : Union H). first_in cells operation entry w x) is ∙ held operation id.number (value_of_cell cells id.number) lends
+      first_in cells operation lender u x ≡ Err (error.ErrorDataRace operation.name operation.at)
+  first_held cells operation lender u x id is lends =
+      ap (λ (w : Union H). first_in cells operation lender w x) is ∙ held operation id.number (value_of_cell cells id.number) lends
 
   -- what is lent from a cell is no handle
   lends_plain : (o : Option (Dynamic H)) (v : Dynamic H) → o ≡ Some v → lends_from o ≡ true → is_handle v.value ≡ false

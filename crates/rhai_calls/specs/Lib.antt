@@ -1,4 +1,5 @@
 pub mod Dispatch
 pub mod Lending
+pub mod Marks
 pub mod Natives
 pub mod Operates

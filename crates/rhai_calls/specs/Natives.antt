@@ -1,5 +1,5 @@
 -- A native by its name or by its number, and its call once its first argument is lent to it.
-use Rattle.std.specs.Prelude.{◌≡◌, ⊤, ℕ, ◌+◌, Bool, false, not, ◌&&◌, List, ◌∷◌, length, Option, Some, None, is_some, Result, Ok}
+use Rattle.std.specs.Prelude.{◌≡◌, ⊤, ℕ, ◌+◌, Bool, false, not, ◌&&◌, List, ◌∷◌, length, Option, Some, None, Result, Ok}
 use Rattle.std.specs.Option.{option_map}
 use Rattle.rhai_tree.specs.declared.literal.NativeId.{NativeId}
 use Rattle.rhai_values.specs.declared.base.value.CellId.{CellId}
@@ -14,11 +14,11 @@ use Rattle.rhai_machine.specs.language.Setting.{Rules}
 use Rattle.rhai_machine.specs.language.State.{Local}
 use Rattle.rhai_machine.specs.language.Values.{Cells, is_handle}
 use Rattle.rhai_state.specs.Scope.{value_in}
-use Rattle.rhai_machine.specs.language.Places.{Place, InEntry, InCell, is_barred}
-use Rattle.rhai_machine.specs.language.Frames.{Operation, Call, Question}
+use Rattle.rhai_machine.specs.language.Places.{Place, InEntry, InCell, InFocus, is_barred}
+use Rattle.rhai_machine.specs.language.Frames.{Operation, Lender, Call, Question}
 use Rattle.rhai_machine.specs.language.Calls.{first_of, key_by, put_left, while_from}
-use Rattle.rhai_machine.specs.language.Runs.{Runs}
-use Rattle.rhai_calls.specs.Lending.{lent_call}
+use Rattle.rhai_calls.specs.Lending.{passed_call}
+use Rattle.rhai_calls.specs.Marks.{MarkedRuns}
 
 -- the number of a native that is called by it
 abbrev pub number_in : Option NativeId → Option ℕ
@@ -28,11 +28,14 @@ number_in id = option_map (λ (native : NativeId). native.number) id
 abbrev pub native_key : List ℕ → Option NativeId → Key
 native_key name id = key_by name (number_in id)
 
--- a native is barred from a first argument that is lent to it: that is a constant, and the native is not pure
-abbrev pub is_barred_from : {S H : Type 0} → Natives S H → (H → List ℕ) → S → Key → (first : Dynamic H) → (rest : List (Dynamic H)) →
-    (is_lent : Bool) → Bool
-is_barred_from natives host t key first rest is_lent =
-    is_lent && is_barred (natives.pure t (purity_of key (own_type_name host first.value) (1 + length rest))) first
+module _ {S H : Type 0} (natives : Natives S H) (host : H → List ℕ) (t : S) (key : Key) (first : Dynamic H) (rest : List (Dynamic H)) where
+  -- a native changes nothing, on a first argument that is no handle
+  abbrev pub is_pure_on : Bool
+  is_pure_on = natives.pure t (purity_of key (own_type_name host first.value) (1 + length rest))
+
+  -- a native is barred from a first argument that is guarded: that is a constant, and the native is not pure
+  abbrev pub is_barred_from : (guarded : Bool) → Bool
+  is_barred_from guarded = guarded && is_barred is_pure_on first
 
 module _ {H : Type 0} where
   -- the cell that a value is a handle of
@@ -45,32 +48,34 @@ module _ {H : Type 0} where
   lends_from (Some v) = not (is_handle v.value)
   lends_from None = false
 
-  -- a call of a native by its name, or by its number, whose first argument may be lent from an entry
-  abbrev pub native_call : Operation → Option NativeId → (entry : Option ℕ) → List (Dynamic H) → Call H
-  native_call operation id entry args = record (lent_call operation entry args) { number = number_in id }
+  -- a call of a native by its name, or by its number: its first argument may be lent and may be guarded, and its answer may be marked
+  abbrev pub native_call : Operation → Option NativeId → Option Lender → (guarded marks : Bool) → List (Dynamic H) → Call H
+  native_call operation id lender guarded marks args = record (passed_call operation lender guarded marks args) { number = number_in id }
 
   -- a value stands in the place that it is lent from, if there is one
   abbrev pub StandsAt : (from : Option Place) → Dynamic H → Local H → Type 0
   StandsAt None v l = ⊤
   StandsAt (Some (InEntry index)) v l = value_in l.scope (Some index) ≡ Some v
   StandsAt (Some (InCell number)) v l = value_of_cell l.around.cells number ≡ Some v
+  StandsAt (Some InFocus) v l = l.focus ≡ Some v
 
   -- a native is called with a value for its first argument, which is lent from a place and goes back there: with these cells
   -- meanwhile, and these states of the table before and after
-  unfoldable pub CallsOn : {S : Type 0} → Rules S H → (cells : Cells H) → Operation → Option NativeId → (is_lent : Bool) →
-      (lent left : Dynamic H) → (rest : List (Dynamic H)) → (t t' : S) → Result (Dynamic H) (EvalAltResult H) → Type 0
-  CallsOn {S} rules cells operation id is_lent lent left rest t t' result =
-      (entry : Option ℕ) (from : Option Place) (x : Dynamic H) (count : ℕ) (l : Local H) → is_some entry ≡ is_lent →
+  unfoldable pub CallsOn : {S : Type 0} → Rules S H → (cells : Cells H) → Operation → Option NativeId → (guarded marks : Bool) →
+      (lent left : Dynamic H) → (rest : List (Dynamic H)) → (t t' : S) → Result (Dynamic H × Bool) (EvalAltResult H) → Type 0
+  CallsOn {S} rules cells operation id guarded marks lent left rest t t' result =
+      (lender : Option Lender) (from : Option Place) (x : Dynamic H) (count : ℕ) (l : Local H) →
       StandsAt from lent l → cells ≡ while_from from l.around.cells →
-      first_of l.around.cells (native_call operation id entry (x ∷ rest)) x ≡ Ok (record { from = from; value = lent }) →
-      Runs rules (Question (native_call operation id entry (x ∷ rest))) (record { table = t; count = count; local = l }) result
+      first_of l.around.cells (native_call operation id lender guarded marks (x ∷ rest)) x ≡ Ok (record { from = from; value = lent }) →
+      MarkedRuns rules (Question (native_call operation id lender guarded marks (x ∷ rest)))
+      (record { table = t; count = count; local = l }) result
       (record { table = t'; count = count; local = put_left from (Some left) l })
 
   -- a native is called with the value of a cell, which is held so long: with these cells before and after
-  unfoldable pub CallsInCell : {S : Type 0} → Rules S H → Operation → Option NativeId → (is_lent : Bool) → CellId →
-      (rest : List (Dynamic H)) → (cells cells' : Cells H) → (t t' : S) → Result (Dynamic H) (EvalAltResult H) → Type 0
-  CallsInCell {S} rules operation id is_lent cell rest cells cells' t t' result =
-      (entry : Option ℕ) (x : Dynamic H) (count : ℕ) (l : Local H) → is_some entry ≡ is_lent → x.value ≡ value.Cell cell →
-      cells ≡ l.around.cells →
-      Runs rules (Question (native_call operation id entry (x ∷ rest))) (record { table = t; count = count; local = l }) result
+  unfoldable pub CallsInCell : {S : Type 0} → Rules S H → Operation → Option NativeId → (guarded marks : Bool) → CellId →
+      (rest : List (Dynamic H)) → (cells cells' : Cells H) → (t t' : S) → Result (Dynamic H × Bool) (EvalAltResult H) → Type 0
+  CallsInCell {S} rules operation id guarded marks cell rest cells cells' t t' result =
+      (lender : Option Lender) (x : Dynamic H) (count : ℕ) (l : Local H) → x.value ≡ value.Cell cell → cells ≡ l.around.cells →
+      MarkedRuns rules (Question (native_call operation id lender guarded marks (x ∷ rest)))
+      (record { table = t; count = count; local = l }) result
       (record { table = t'; count = count; local = record l { around = record l.around { cells = cells' } } })

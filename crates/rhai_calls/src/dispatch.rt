@@ -1,29 +1,29 @@
 //! Calls by name whose arguments are there. Ports what upstream's `exec_fn_call` does where the name
 //! means no function of the script. The contracts cite specs/Dispatch.antt and specs/Lending.antt.
 
-ghost use Rattle.std.specs.Prelude.{◌≡◌, ◌≤◌, ◌∷◌, [], Ok, is_some, false};
+ghost use Rattle.std.specs.Prelude.{◌≡◌, ◌≤◌, ◌∷◌, [], Ok, IfOk, false};
 ghost use Rattle.rhai_values.specs.Cells.{cells_of};
 ghost use Rattle.rhai_values.specs.Copy.{plain};
 ghost use Rattle.rhai_values.specs.TypeNames.{type_name_of};
 ghost use Rattle.rhai_values.specs.declared.base.value.Union.TheVariants as kind;
-ghost use Rattle.rhai_state.specs.Scope.{entries_of};
 ghost use Rattle.rhai_machine.specs.language.Calls.{asks_function, call_of, is_held as held_in};
 ghost use Rattle.rhai_machine.specs.language.Calls.{races as races_in};
 ghost use Rattle.rhai_machine.specs.language.Setting.{rules_of};
 ghost use Rattle.rhai_machine.specs.language.State.{Answers};
 ghost use Rattle.rhai_machine.specs.language.Values.{through};
-ghost use Rattle.rhai_steps.specs.States.{state_of};
+ghost use Rattle.rhai_steps.specs.States.{local_of, state_of};
 ghost use Rattle.rhai_calls.specs.Dispatch.{Dispatches, meant, meant_of, meant_of_two, Means};
 ghost use Rattle.rhai_calls.specs.Dispatch.{seen_number, seen_text};
-ghost use Rattle.rhai_calls.specs.Lending.{back_in, lent_call, Stands};
+ghost use Rattle.rhai_calls.specs.Marks.{MarkedDispatches};
+ghost use Rattle.rhai_calls.specs.Lending.{back_in, lent_call, passed_call, Stands};
 
-use crate::native::{call_native, call_native_alone};
-use rhai_items::{Items, Shared, Text};
+use crate::native::{Passing, marked, pass_native, pass_native_alone, unmarked};
+use rhai_items::Items;
 use rhai_state::error::EvalAltResult;
 use rhai_state::limits::Limits;
 use rhai_state::state::GlobalRuntimeState;
 use rhai_state::table::NativeTable;
-use rhai_steps::errors::{data_race_of, shared_text};
+use rhai_steps::errors::{data_race_by, shared_text};
 use rhai_steps::replies::function_not_found;
 use rhai_steps::values::bool_value;
 use rhai_tree::position::Position;
@@ -33,7 +33,7 @@ use rhai_values::cells::CellStore;
 use std::alloc::Global;
 
 /// Whether a value is the handle of a cell that is held.
-fn is_held<H: Host>(cells: &CellStore<H>, value: &Dynamic<H>) -> bool
+pub fn is_held<H: Host>(cells: &CellStore<H>, value: &Dynamic<H>) -> bool
     ensures { result ≡ held_in (cells_of cells.now) value.now.value }
 {
     match &value.value {
@@ -168,71 +168,99 @@ fn meaning<H: Host>(
 }
 
 /// A call by name whose arguments are there: the type of a value, or else the native of the name. The
-/// first argument may be lent, as from a variable's entry, and the native may change it. No compiler
-/// is there, and no function of a script. Ports upstream's `exec_fn_call`.
+/// first argument may be lent, as from a variable's entry or by a chain, and the native may change it. No
+/// compiler is there, and no function of a script. A marked answer says whether a native answered that
+/// is not pure. Ports upstream's `exec_fn_call`.
 ///
 /// # Errors
 /// At the call: `ErrorDataRace` for an argument that is the handle of a cell which is held;
-/// `ErrorFunctionNotFound` for `eval`; those of `rhai_calls::native::call_native`.
+/// `ErrorFunctionNotFound` for `eval`; those of `rhai_calls::native::pass_native`.
+pub fn pass_call<H: Host, T: NativeTable<H>>(
+    limits: &Limits,
+    alloc: Global,
+    global: &mut GlobalRuntimeState<H>,
+    table: &mut T,
+    name: &str,
+    token: Option<Token>,
+    first: &mut Dynamic<H>,
+    rest: &[Dynamic<H>],
+    passing: Passing,
+    pos: Position,
+) -> Result<(Dynamic<H>, bool), EvalAltResult<H>>
+    ensures counts { global.old.num_operations ≤ global.new.num_operations }
+    ensures runs { (offer : _) (scope : _) (held : _) (lender : _) →
+        Stands lender first.old (local_of global.old scope held) →
+        MarkedDispatches (rules_of limits.now H.name_of offer T.natives)
+        (passed_call (record { name = name.now; token = token; at = pos }) lender passing.guarded
+        passing.marks (first.old ∷ rest.now))
+        (state_of (T.state table.old) global.old scope held)
+        result (back_in lender first.new (state_of (T.state table.new) global.new scope held)) }
+    ensures unmarked { IfOk result (λ answer. passing.marks ≡ false → answer.1 ≡ false) }
+{
+    if call_races(&global.cells, first, rest) {
+        return Err(data_race_by(alloc, name, pos));
+    }
+    match meaning(alloc, &global.cells, name, token, first, rest, pos) {
+        Some(result) => marked(result, false),
+        None => pass_native(
+            limits, alloc, global, table, name, token, first, rest, passing, pos,
+        ),
+    }
+}
+
+/// A call by name as `pass_call` makes it, whose answer is not marked.
+///
+/// # Errors
+/// Those of `pass_call`.
 pub fn dispatch<H: Host, T: NativeTable<H>>(
     limits: &Limits,
     alloc: Global,
     global: &mut GlobalRuntimeState<H>,
     table: &mut T,
-    name: &Shared<Text>,
+    name: &str,
     token: Option<Token>,
     first: &mut Dynamic<H>,
     rest: &[Dynamic<H>],
-    is_lent: bool,
+    guarded: bool,
     pos: Position,
 ) -> Result<Dynamic<H>, EvalAltResult<H>>
     ensures counts { global.old.num_operations ≤ global.new.num_operations }
-    ensures runs { (offer : _) (scope : _) (this : _) (entry : _) → is_some entry ≡ is_lent →
-        Stands entry first.old (entries_of scope) →
+    ensures runs { (offer : _) (scope : _) (held : _) (lender : _) →
+        Stands lender first.old (local_of global.old scope held) →
         Dispatches (rules_of limits.now H.name_of offer T.natives)
-        (lent_call (record { name = name.now; token = token; at = pos }) entry (first.old ∷ rest.now))
-        (state_of (T.state table.old) global.old scope this)
-        result (back_in entry first.new (state_of (T.state table.new) global.new scope this)) }
+        (lent_call (record { name = name.now; token = token; at = pos }) lender guarded
+        (first.old ∷ rest.now))
+        (state_of (T.state table.old) global.old scope held)
+        result (back_in lender first.new (state_of (T.state table.new) global.new scope held)) }
 {
-    if call_races(&global.cells, first, rest) {
-        return Err(data_race_of(name, pos));
-    }
-    let called = name.get().as_str();
-    match meaning(alloc, &global.cells, called, token, first, rest, pos) {
-        Some(result) => result,
-        None => call_native(
-            limits, alloc, global, table, called, token, first, rest, is_lent, pos,
-        ),
-    }
+    let passing = Passing {
+        guarded,
+        marks: false,
+    };
+    unmarked(pass_call(
+        limits, alloc, global, table, name, token, first, rest, passing, pos,
+    ))
 }
 
 /// A call by name without arguments.
 ///
 /// # Errors
-/// Those of `rhai_calls::native::call_native_alone`.
+/// Those of `rhai_calls::native::pass_native_alone`.
 pub fn dispatch_alone<H: Host, T: NativeTable<H>>(
     limits: &Limits,
     alloc: Global,
     global: &mut GlobalRuntimeState<H>,
     table: &mut T,
-    name: &Shared<Text>,
+    name: &str,
     token: Option<Token>,
     pos: Position,
 ) -> Result<Dynamic<H>, EvalAltResult<H>>
     ensures counts { global.old.num_operations ≤ global.new.num_operations }
-    ensures runs { (offer : _) (scope : _) (this : _) →
+    ensures runs { (offer : _) (scope : _) (held : _) →
         Dispatches (rules_of limits.now H.name_of offer T.natives)
         (call_of (record { name = name.now; token = token; at = pos }) [])
-        (state_of (T.state table.old) global.old scope this)
-        result (state_of (T.state table.new) global.new scope this) }
+        (state_of (T.state table.old) global.old scope held)
+        result (state_of (T.state table.new) global.new scope held) }
 {
-    call_native_alone(
-        limits,
-        alloc,
-        global,
-        table,
-        name.get().as_str(),
-        token,
-        pos,
-    )
+    unmarked(pass_native_alone(limits, alloc, global, table, name, token, false, pos))
 }

@@ -1,20 +1,20 @@
 //! Calls of natives, by their names and by their numbers. Ports upstream's `exec_native_fn_call`. The
-//! contracts cite the machine's runs, specs/Lending.antt and specs/Natives.antt.
+//! contracts cite the machine's runs, specs/Lending.antt, specs/Marks.antt and specs/Natives.antt.
 
-ghost use Rattle.std.specs.Prelude.{◌≡◌, ◌≤◌, ◌+◌, ◌∷◌, [], None, Some, is_some, length, true, false};
+ghost use Rattle.std.specs.Prelude.{◌≡◌, ◌≤◌, ◌+◌, ◌&&◌, ◌∷◌, [], None, Some, IfOk, length, not, true, false};
 ghost use Rattle.rhai_values.specs.Cells.{cells_of, value_of_cell, IsNoHandle};
 ghost use Rattle.rhai_state.specs.Native.{Obeys, purity_of, reply_of, request};
-ghost use Rattle.rhai_state.specs.Scope.{entries_of};
 ghost use Rattle.rhai_machine.specs.language.Calls.{call_of};
 ghost use Rattle.rhai_machine.specs.language.Frames.{Ask, Question};
 ghost use Rattle.rhai_machine.specs.language.Runs.{Runs};
 ghost use Rattle.rhai_machine.specs.language.Setting.{rules_of};
-ghost use Rattle.rhai_steps.specs.States.{state_of};
-ghost use Rattle.rhai_calls.specs.Lending.{back_in, lent_call, Stands};
-ghost use Rattle.rhai_calls.specs.Natives.{CallsInCell, CallsOn, cell_in, is_barred_from, lends_from};
-ghost use Rattle.rhai_calls.specs.Natives.{native_call, native_key};
+ghost use Rattle.rhai_steps.specs.States.{local_of, state_of};
+ghost use Rattle.rhai_calls.specs.Lending.{back_in, lent_call, passed_call, Stands};
+ghost use Rattle.rhai_calls.specs.Marks.{gives, with_mark, without_mark, MarkedRuns};
+ghost use Rattle.rhai_calls.specs.Natives.{CallsInCell, CallsOn, cell_in, is_barred_from, is_pure_on};
+ghost use Rattle.rhai_calls.specs.Natives.{lends_from, native_call, native_key};
 
-use rhai_items::{Items, Shared, Text};
+use rhai_items::Items;
 use rhai_state::error::EvalAltResult;
 use rhai_state::limits::Limits;
 use rhai_state::state::GlobalRuntimeState;
@@ -29,6 +29,40 @@ use rhai_tree::token::Token;
 use rhai_values::base::value::{AccessMode, CellId, Dynamic, Host, Union};
 use rhai_values::cells::CellStore;
 use std::alloc::Global;
+
+/// How a native gets its first argument, and what its answer tells of it.
+#[derive(Clone, Copy)]
+pub struct Passing {
+    /// A constant is kept from a native that is not pure.
+    pub guarded: bool,
+    /// The answer says whether the native may have changed it.
+    pub marks: bool,
+}
+
+/// A result with its mark.
+pub(crate) fn marked<H>(
+    answer: Result<Dynamic<H>, EvalAltResult<H>>,
+    changed: bool,
+) -> Result<(Dynamic<H>, bool), EvalAltResult<H>>
+    ensures { result ≡ with_mark changed answer }
+{
+    match answer {
+        Ok(value) => Ok((value, changed)),
+        Err(error) => Err(error),
+    }
+}
+
+/// A result without its mark.
+pub(crate) fn unmarked<H>(
+    marked: Result<(Dynamic<H>, bool), EvalAltResult<H>>,
+) -> Result<Dynamic<H>, EvalAltResult<H>>
+    ensures { result ≡ without_mark marked }
+{
+    match marked {
+        Ok((value, _)) => Ok(value),
+        Err(error) => Err(error),
+    }
+}
 
 /// Whether a native, by its number or else by its name, changes nothing.
 fn is_pure<H: Host, T: NativeTable<H>>(
@@ -47,22 +81,57 @@ fn is_pure<H: Host, T: NativeTable<H>>(
     }
 }
 
-/// Whether a native is barred from a first argument, which is no handle: it is lent to it and a
-/// constant, and the native is not pure.
+/// Whether a native is barred from a first argument, which is no handle: it is guarded and a constant,
+/// and the native is not pure.
 fn is_barred<H: Host, T: NativeTable<H>>(
     table: &T,
     name: &str,
     id: Option<NativeId>,
     first: &Dynamic<H>,
     rest: &[Dynamic<H>],
-    is_lent: bool,
+    guarded: bool,
 ) -> bool
     ensures { result ≡ is_barred_from T.natives H.name_of (T.state table.now)
-        (native_key name.now id) first.now rest.now is_lent }
+        (native_key name.now id) first.now rest.now guarded }
 {
-    is_lent
+    guarded
         && matches!(first.mode, AccessMode::ReadOnly)
         && !is_pure(table, name, id, first.own_type_name(), 1 + rest.len())
+}
+
+/// Whether a native may change a first argument, which is no handle, where that is to be told.
+fn may_change<H: Host, T: NativeTable<H>>(
+    table: &T,
+    name: &str,
+    id: Option<NativeId>,
+    first: &Dynamic<H>,
+    rest: &[Dynamic<H>],
+    marks: bool,
+) -> bool
+    ensures { result ≡ (marks && not (is_pure_on T.natives H.name_of (T.state table.now)
+        (native_key name.now id) first.now rest.now)) }
+{
+    marks && !is_pure(table, name, id, first.own_type_name(), 1 + rest.len())
+}
+
+/// Whether a native that is called without arguments is not pure, where that is to be told.
+fn lone_changes<H: Host, T: NativeTable<H>>(
+    table: &T,
+    name: &str,
+    id: Option<NativeId>,
+    marks: bool,
+) -> bool
+    ensures { result ≡ (marks && not (T.natives.pure (T.state table.now)
+        (purity_of (native_key name.now id) [] 0))) }
+{
+    marks && !is_pure(table, name, id, "", 0)
+}
+
+/// Whether a native that may change its first argument answered with a value.
+fn has_changed<H>(may_change: bool, answer: &Answer<H>) -> bool
+    ensures { result ≡ (may_change && gives (reply_of answer.now)) }
+{
+    may_change && matches!(answer, Answer::Value(_))
 }
 
 /// What a native answers, by its number or else by its name.
@@ -120,19 +189,24 @@ fn call_value<H: Host, T: NativeTable<H>>(
     token: Option<Token>,
     first: &mut Dynamic<H>,
     rest: &[Dynamic<H>],
-    is_lent: bool,
+    passing: Passing,
     pos: Position,
-) -> Result<Dynamic<H>, EvalAltResult<H>>
+) -> Result<(Dynamic<H>, bool), EvalAltResult<H>>
     requires { IsNoHandle first.old.value }
-    ensures { (offer : _) → CallsOn (rules_of limits.now H.name_of offer T.natives) (cells_of cells.now)
-        (record { name = name.now; token = token; at = pos }) id is_lent first.old first.new rest.now
+    ensures runs { (offer : _) → CallsOn (rules_of limits.now H.name_of offer T.natives)
+        (cells_of cells.now) (record { name = name.now; token = token; at = pos }) id
+        passing.guarded passing.marks first.old first.new rest.now
         (T.state table.old) (T.state table.new) result }
+    ensures unmarked { IfOk result (λ answer. passing.marks ≡ false → answer.1 ≡ false) }
 {
-    if is_barred(&*table, name, id, first, rest, is_lent) {
+    if is_barred(&*table, name, id, first, rest, passing.guarded) {
         return Err(non_pure(alloc, name, pos));
     }
+    let changes = may_change(&*table, name, id, first, rest, passing.marks);
     let answer = answer_of(table, cells, name, id, &mut *first, rest, pos);
-    replied(alloc, limits, cells, answer, name, token, first, rest, pos)
+    let changed = has_changed(changes, &answer);
+    let result = replied(alloc, limits, cells, answer, name, token, first, rest, pos);
+    marked(result, changed)
 }
 
 /// The cell that a value is a handle of.
@@ -166,19 +240,21 @@ fn call_in_cell<H: Host, T: NativeTable<H>>(
     token: Option<Token>,
     cell: CellId,
     rest: &[Dynamic<H>],
-    is_lent: bool,
+    passing: Passing,
     pos: Position,
-) -> Result<Dynamic<H>, EvalAltResult<H>>
+) -> Result<(Dynamic<H>, bool), EvalAltResult<H>>
     requires { lends_from (value_of_cell (cells_of cells.old) cell.number) ≡ true }
-    ensures { (offer : _) → CallsInCell (rules_of limits.now H.name_of offer T.natives)
-        (record { name = name.now; token = token; at = pos }) id is_lent cell rest.now
-        (cells_of cells.old) (cells_of cells.new) (T.state table.old) (T.state table.new) result }
+    ensures runs { (offer : _) → CallsInCell (rules_of limits.now H.name_of offer T.natives)
+        (record { name = name.now; token = token; at = pos }) id passing.guarded passing.marks cell
+        rest.now (cells_of cells.old) (cells_of cells.new) (T.state table.old) (T.state table.new)
+        result }
+    ensures unmarked { IfOk result (λ answer. passing.marks ≡ false → answer.1 ≡ false) }
 {
     match cells.take(cell) {
         Some(lent) => {
             let mut lent = lent;
             let result = call_value(
-                limits, alloc, &*cells, table, name, id, token, &mut lent, rest, is_lent, pos,
+                limits, alloc, &*cells, table, name, id, token, &mut lent, rest, passing, pos,
             );
             cells.set(cell, lent);
             result
@@ -198,21 +274,23 @@ fn call_first<H: Host, T: NativeTable<H>>(
     token: Option<Token>,
     first: &mut Dynamic<H>,
     rest: &[Dynamic<H>],
-    is_lent: bool,
+    passing: Passing,
     pos: Position,
-) -> Result<Dynamic<H>, EvalAltResult<H>>
+) -> Result<(Dynamic<H>, bool), EvalAltResult<H>>
     ensures counts { global.new.num_operations ≡ global.old.num_operations }
-    ensures runs { (offer : _) (scope : _) (this : _) (entry : _) → is_some entry ≡ is_lent →
-        Stands entry first.old (entries_of scope) → Runs (rules_of limits.now H.name_of offer T.natives)
-        (Question (native_call (record { name = name.now; token = token; at = pos }) id entry
-        (first.old ∷ rest.now)))
-        (state_of (T.state table.old) global.old scope this)
-        result (back_in entry first.new (state_of (T.state table.new) global.new scope this)) }
+    ensures runs { (offer : _) (scope : _) (held : _) (lender : _) →
+        Stands lender first.old (local_of global.old scope held) →
+        MarkedRuns (rules_of limits.now H.name_of offer T.natives)
+        (Question (native_call (record { name = name.now; token = token; at = pos }) id lender
+        passing.guarded passing.marks (first.old ∷ rest.now)))
+        (state_of (T.state table.old) global.old scope held)
+        result (back_in lender first.new (state_of (T.state table.new) global.new scope held)) }
+    ensures unmarked { IfOk result (λ answer. passing.marks ≡ false → answer.1 ≡ false) }
 {
     let Some(cell) = handle_of(first) else {
         let cells = &global.cells;
         return call_value(
-            limits, alloc, cells, table, name, id, token, first, rest, is_lent, pos,
+            limits, alloc, cells, table, name, id, token, first, rest, passing, pos,
         );
     };
     if !lends(&global.cells, cell) {
@@ -228,15 +306,43 @@ fn call_first<H: Host, T: NativeTable<H>>(
         token,
         cell,
         rest,
-        is_lent,
+        passing,
         pos,
     )
 }
 
+/// Calls a native without arguments.
+fn call_alone<H: Host, T: NativeTable<H>>(
+    limits: &Limits,
+    alloc: Global,
+    cells: &CellStore<H>,
+    table: &mut T,
+    name: &str,
+    id: Option<NativeId>,
+    token: Option<Token>,
+    marks: bool,
+    pos: Position,
+) -> Result<(Dynamic<H>, bool), EvalAltResult<H>>
+    ensures runs { (offer : _) (count : _) (l : _) → l.around.cells ≡ cells_of cells.now →
+        MarkedRuns (rules_of limits.now H.name_of offer T.natives)
+        (Question (native_call (record { name = name.now; token = token; at = pos }) id None
+        false marks []))
+        (record { table = T.state table.old; count = count; local = l }) result
+        (record { table = T.state table.new; count = count; local = l }) }
+    ensures unmarked { IfOk result (λ answer. marks ≡ false → answer.1 ≡ false) }
+{
+    let changes = lone_changes(&*table, name, id, marks);
+    let answer = answer_alone(alloc, table, cells, name, id, pos);
+    let changed = has_changed(changes, &answer);
+    let result = replied_alone(alloc, limits, answer, name, token, pos);
+    marked(result, changed)
+}
+
 /// Charges a call at its position, and calls the native of its name. A first argument that is a
-/// handle stands for the value of its cell, which is held so long. One that is lent, as from a
-/// variable's entry, is kept from a native that is not pure where it is a constant. Where no native
-/// has the name, the built-in of the operator has the answer. Ports upstream's `exec_native_fn_call`.
+/// handle stands for the value of its cell, which is held so long. Where it is guarded, it is kept from
+/// a native that is not pure where it is a constant. Where no native has the name, the built-in of the
+/// operator has the answer. A marked answer says whether the native is not pure. Ports upstream's
+/// `exec_native_fn_call`.
 ///
 /// # Errors
 /// At the call: `ErrorTooManyOperations` where the count has reached the limit, and then nothing is
@@ -244,6 +350,65 @@ fn call_first<H: Host, T: NativeTable<H>>(
 /// `ErrorNonPureMethodCallOnConstant`; `ErrorDotExpr`, `ErrorIndexingType` or `ErrorFunctionNotFound`
 /// where there is no such native; its own fault where that says no position; `ErrorDataTooLarge` for
 /// an answer above a limit.
+pub fn pass_native<H: Host, T: NativeTable<H>>(
+    limits: &Limits,
+    alloc: Global,
+    global: &mut GlobalRuntimeState<H>,
+    table: &mut T,
+    name: &str,
+    token: Option<Token>,
+    first: &mut Dynamic<H>,
+    rest: &[Dynamic<H>],
+    passing: Passing,
+    pos: Position,
+) -> Result<(Dynamic<H>, bool), EvalAltResult<H>>
+    ensures counts { global.old.num_operations ≤ global.new.num_operations }
+    ensures runs { (offer : _) (scope : _) (held : _) (lender : _) →
+        Stands lender first.old (local_of global.old scope held) →
+        MarkedRuns (rules_of limits.now H.name_of offer T.natives)
+        (Ask (passed_call (record { name = name.now; token = token; at = pos }) lender passing.guarded
+        passing.marks (first.old ∷ rest.now)))
+        (state_of (T.state table.old) global.old scope held)
+        result (back_in lender first.new (state_of (T.state table.new) global.new scope held)) }
+    ensures unmarked { IfOk result (λ answer. passing.marks ≡ false → answer.1 ≡ false) }
+{
+    track_operation(limits, global, pos)?;
+    call_first(
+        limits, alloc, global, table, name, None, token, first, rest, passing, pos,
+    )
+}
+
+/// Charges a call without arguments at its position, and calls the native of its name.
+///
+/// # Errors
+/// Those of `pass_native` but for a race and a constant.
+pub fn pass_native_alone<H: Host, T: NativeTable<H>>(
+    limits: &Limits,
+    alloc: Global,
+    global: &mut GlobalRuntimeState<H>,
+    table: &mut T,
+    name: &str,
+    token: Option<Token>,
+    marks: bool,
+    pos: Position,
+) -> Result<(Dynamic<H>, bool), EvalAltResult<H>>
+    ensures counts { global.old.num_operations ≤ global.new.num_operations }
+    ensures runs { (offer : _) (scope : _) (held : _) →
+        MarkedRuns (rules_of limits.now H.name_of offer T.natives)
+        (Ask (passed_call (record { name = name.now; token = token; at = pos }) None false marks []))
+        (state_of (T.state table.old) global.old scope held)
+        result (state_of (T.state table.new) global.new scope held) }
+    ensures unmarked { IfOk result (λ answer. marks ≡ false → answer.1 ≡ false) }
+{
+    track_operation(limits, global, pos)?;
+    let cells = &global.cells;
+    call_alone(limits, alloc, cells, table, name, None, token, marks, pos)
+}
+
+/// A call of a native as `pass_native` makes it, whose answer is not marked.
+///
+/// # Errors
+/// Those of `pass_native`.
 pub fn call_native<H: Host, T: NativeTable<H>>(
     limits: &Limits,
     alloc: Global,
@@ -253,72 +418,55 @@ pub fn call_native<H: Host, T: NativeTable<H>>(
     token: Option<Token>,
     first: &mut Dynamic<H>,
     rest: &[Dynamic<H>],
-    is_lent: bool,
+    guarded: bool,
     pos: Position,
 ) -> Result<Dynamic<H>, EvalAltResult<H>>
     ensures counts { global.old.num_operations ≤ global.new.num_operations }
-    ensures runs { (offer : _) (scope : _) (this : _) (entry : _) → is_some entry ≡ is_lent →
-        Stands entry first.old (entries_of scope) → Runs (rules_of limits.now H.name_of offer T.natives)
-        (Ask (lent_call (record { name = name.now; token = token; at = pos }) entry
+    ensures runs { (offer : _) (scope : _) (held : _) (lender : _) →
+        Stands lender first.old (local_of global.old scope held) →
+        Runs (rules_of limits.now H.name_of offer T.natives)
+        (Ask (lent_call (record { name = name.now; token = token; at = pos }) lender guarded
         (first.old ∷ rest.now)))
-        (state_of (T.state table.old) global.old scope this)
-        result (back_in entry first.new (state_of (T.state table.new) global.new scope this)) }
+        (state_of (T.state table.old) global.old scope held)
+        result (back_in lender first.new (state_of (T.state table.new) global.new scope held)) }
 {
-    track_operation(limits, global, pos)?;
-    call_first(
-        limits, alloc, global, table, name, None, token, first, rest, is_lent, pos,
-    )
-}
-
-/// Charges a call without arguments at its position, and calls the native of its name.
-///
-/// # Errors
-/// Those of `call_native` but for a race and a constant.
-pub fn call_native_alone<H: Host, T: NativeTable<H>>(
-    limits: &Limits,
-    alloc: Global,
-    global: &mut GlobalRuntimeState<H>,
-    table: &mut T,
-    name: &str,
-    token: Option<Token>,
-    pos: Position,
-) -> Result<Dynamic<H>, EvalAltResult<H>>
-    ensures counts { global.old.num_operations ≤ global.new.num_operations }
-    ensures runs { (offer : _) (scope : _) (this : _) → Runs (rules_of limits.now H.name_of offer T.natives)
-        (Ask (call_of (record { name = name.now; token = token; at = pos }) []))
-        (state_of (T.state table.old) global.old scope this)
-        result (state_of (T.state table.new) global.new scope this) }
-{
-    track_operation(limits, global, pos)?;
-    let answer = answer_alone(alloc, table, &global.cells, name, None, pos);
-    replied_alone(alloc, limits, answer, name, token, pos)
+    let passing = Passing {
+        guarded,
+        marks: false,
+    };
+    unmarked(pass_native(
+        limits, alloc, global, table, name, token, first, rest, passing, pos,
+    ))
 }
 
 /// Calls the native of a number, with the name under which it was called. It charges nothing, and
-/// lends no constant.
+/// guards no constant.
 ///
 /// # Errors
-/// Those of `call_native` but for the charge and a constant.
+/// Those of `pass_native` but for the charge and a constant.
 pub fn call_number<H: Host, T: NativeTable<H>>(
     limits: &Limits,
     alloc: Global,
     global: &mut GlobalRuntimeState<H>,
     table: &mut T,
     id: NativeId,
-    name: &Shared<Text>,
+    name: &str,
     first: &mut Dynamic<H>,
     rest: &[Dynamic<H>],
     pos: Position,
 ) -> Result<Dynamic<H>, EvalAltResult<H>>
     ensures counts { global.old.num_operations ≤ global.new.num_operations }
-    ensures runs { (offer : _) (scope : _) (this : _) → Runs (rules_of limits.now H.name_of offer T.natives)
+    ensures runs { (offer : _) (scope : _) (held : _) → Runs (rules_of limits.now H.name_of offer T.natives)
         (Question (record (call_of (record { name = name.now; token = None; at = pos })
         (first.old ∷ rest.now)) { number = Some id.number }))
-        (state_of (T.state table.old) global.old scope this)
-        result (state_of (T.state table.new) global.new scope this) }
+        (state_of (T.state table.old) global.old scope held)
+        result (state_of (T.state table.new) global.new scope held) }
 {
-    let name = name.get().as_str();
-    call_first(
+    let passing = Passing {
+        guarded: false,
+        marks: false,
+    };
+    unmarked(call_first(
         limits,
         alloc,
         global,
@@ -328,9 +476,9 @@ pub fn call_number<H: Host, T: NativeTable<H>>(
         None,
         first,
         rest,
-        false,
+        passing,
         pos,
-    )
+    ))
 }
 
 /// Calls the native of a number without arguments, as `call_number` does.
@@ -343,17 +491,26 @@ pub fn call_number_alone<H: Host, T: NativeTable<H>>(
     global: &mut GlobalRuntimeState<H>,
     table: &mut T,
     id: NativeId,
-    name: &Shared<Text>,
+    name: &str,
     pos: Position,
 ) -> Result<Dynamic<H>, EvalAltResult<H>>
     ensures counts { global.old.num_operations ≤ global.new.num_operations }
-    ensures runs { (offer : _) (scope : _) (this : _) → Runs (rules_of limits.now H.name_of offer T.natives)
+    ensures runs { (offer : _) (scope : _) (held : _) → Runs (rules_of limits.now H.name_of offer T.natives)
         (Question (record (call_of (record { name = name.now; token = None; at = pos }) [])
         { number = Some id.number }))
-        (state_of (T.state table.old) global.old scope this)
-        result (state_of (T.state table.new) global.new scope this) }
+        (state_of (T.state table.old) global.old scope held)
+        result (state_of (T.state table.new) global.new scope held) }
 {
-    let name = name.get().as_str();
-    let answer = answer_alone(alloc, table, &global.cells, name, Some(id), pos);
-    replied_alone(alloc, limits, answer, name, None, pos)
+    let cells = &global.cells;
+    unmarked(call_alone(
+        limits,
+        alloc,
+        cells,
+        table,
+        name,
+        Some(id),
+        None,
+        false,
+        pos,
+    ))
 }

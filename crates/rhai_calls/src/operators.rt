@@ -9,7 +9,7 @@ ghost use Rattle.rhai_calls.specs.Dispatch.{Dispatches};
 ghost use Rattle.rhai_calls.specs.Operates.{Operates};
 
 use crate::dispatch::dispatch;
-use rhai_items::{Items, Shared, Text};
+use rhai_items::Items;
 use rhai_operators::{builtin_binary, builtin_unary};
 use rhai_state::error::EvalAltResult;
 use rhai_state::limits::Limits;
@@ -28,17 +28,17 @@ fn call_one<H: Host, T: NativeTable<H>>(
     alloc: Global,
     global: &mut GlobalRuntimeState<H>,
     table: &mut T,
-    name: &Shared<Text>,
+    name: &str,
     token: Token,
     operand: Dynamic<H>,
     pos: Position,
 ) -> Result<Dynamic<H>, EvalAltResult<H>>
     ensures counts { global.old.num_operations ≤ global.new.num_operations }
-    ensures runs { (offer : _) (scope : _) (this : _) →
+    ensures runs { (offer : _) (scope : _) (held : _) →
         Dispatches (rules_of limits.now H.name_of offer T.natives)
         (call_at name.now token pos (operand ∷ []))
-        (state_of (T.state table.old) global.old scope this)
-        result (state_of (T.state table.new) global.new scope this) }
+        (state_of (T.state table.old) global.old scope held)
+        result (state_of (T.state table.new) global.new scope held) }
 {
     let mut operand = operand;
     let rest = Items::new(alloc);
@@ -66,18 +66,18 @@ fn call_two<H: Host, T: NativeTable<H>>(
     alloc: Global,
     global: &mut GlobalRuntimeState<H>,
     table: &mut T,
-    name: &Shared<Text>,
+    name: &str,
     token: Token,
     left: Dynamic<H>,
     right: Dynamic<H>,
     pos: Position,
 ) -> Result<Dynamic<H>, EvalAltResult<H>>
     ensures counts { global.old.num_operations ≤ global.new.num_operations }
-    ensures runs { (offer : _) (scope : _) (this : _) →
+    ensures runs { (offer : _) (scope : _) (held : _) →
         Dispatches (rules_of limits.now H.name_of offer T.natives)
         (call_at name.now token pos (left ∷ right ∷ []))
-        (state_of (T.state table.old) global.old scope this)
-        result (state_of (T.state table.new) global.new scope this) }
+        (state_of (T.state table.old) global.old scope held)
+        result (state_of (T.state table.new) global.new scope held) }
 {
     let mut left = left;
     match list_of(alloc, right) {
@@ -108,17 +108,17 @@ pub fn operate_one<H: Host, T: NativeTable<H>>(
     alloc: Global,
     global: &mut GlobalRuntimeState<H>,
     table: &mut T,
-    name: &Shared<Text>,
+    name: &str,
     token: Token,
     operand: Dynamic<H>,
     pos: Position,
 ) -> Result<Dynamic<H>, EvalAltResult<H>>
     ensures counts { global.old.num_operations ≤ global.new.num_operations }
-    ensures runs { (offer : _) (scope : _) (this : _) → Operates
+    ensures runs { (offer : _) (scope : _) (held : _) → Operates
         (rules_of limits.now H.name_of offer T.natives)
         (call_at name.now token pos (operand ∷ []))
-        (state_of (T.state table.old) global.old scope this)
-        result (state_of (T.state table.new) global.new scope this) }
+        (state_of (T.state table.old) global.old scope held)
+        result (state_of (T.state table.new) global.new scope held) }
 {
     match builtin_unary(alloc, token, &operand) {
         Some(outcome) => {
@@ -138,18 +138,18 @@ pub fn operate_two<H: Host, T: NativeTable<H>>(
     alloc: Global,
     global: &mut GlobalRuntimeState<H>,
     table: &mut T,
-    name: &Shared<Text>,
+    name: &str,
     token: Token,
     left: Dynamic<H>,
     right: Dynamic<H>,
     pos: Position,
 ) -> Result<Dynamic<H>, EvalAltResult<H>>
     ensures counts { global.old.num_operations ≤ global.new.num_operations }
-    ensures runs { (offer : _) (scope : _) (this : _) → Operates
+    ensures runs { (offer : _) (scope : _) (held : _) → Operates
         (rules_of limits.now H.name_of offer T.natives)
         (call_at name.now token pos (left ∷ right ∷ []))
-        (state_of (T.state table.old) global.old scope this)
-        result (state_of (T.state table.new) global.new scope this) }
+        (state_of (T.state table.old) global.old scope held)
+        result (state_of (T.state table.new) global.new scope held) }
 {
     match builtin_binary(alloc, token, &left, &right) {
         Some(outcome) => {

@@ -110,9 +110,9 @@ fn print<H: Host, T: NativeTable<H>>(
     pos: Position,
 ) -> Result<Option<Shared<Text>>, EvalAltResult<H>>
     ensures counts { global.old.num_operations ≤ global.new.num_operations }
-    ensures runs { (offer : _) (scope : _) (this : _) → Prints (rules_of limits.now H.name_of offer T.natives)
-        value.now pos (state_of (T.state table.old) global.old scope this)
-        result (state_of (T.state table.new) global.new scope this) }
+    ensures runs { (offer : _) (scope : _) (held : _) → Prints (rules_of limits.now H.name_of offer T.natives)
+        value.now pos (state_of (T.state table.old) global.old scope held)
+        result (state_of (T.state table.new) global.new scope held) }
 {
     let mut first = copy(alloc, value, pos)?;
     let rest = Items::new(alloc);
@@ -146,10 +146,10 @@ fn join_typed<H: Host, T: NativeTable<H>>(
 ) -> Result<(), EvalAltResult<H>>
     requires { type_name.now ≡ type_name_of H.name_of (cells_of global.old.cells) value.now }
     ensures counts { global.old.num_operations ≤ global.new.num_operations }
-    ensures runs { (offer : _) (scope : _) (this : _) →
+    ensures runs { (offer : _) (scope : _) (held : _) →
         PrintsAndJoins (rules_of limits.now H.name_of offer T.natives) (string_bytes text.old) value.now pos
-        (state_of (T.state table.old) global.old scope this) result (string_bytes text.new)
-        (state_of (T.state table.new) global.new scope this) }
+        (state_of (T.state table.old) global.old scope held) result (string_bytes text.new)
+        (state_of (T.state table.new) global.new scope held) }
 {
     match print(limits, alloc, global, table, value, pos)? {
         Some(part) => join_text(alloc, limits, text, part.get().as_str(), pos),
@@ -168,10 +168,10 @@ fn join_handle<H: Host, T: NativeTable<H>>(
     pos: Position,
 ) -> Result<(), EvalAltResult<H>>
     ensures counts { global.old.num_operations ≤ global.new.num_operations }
-    ensures runs { (offer : _) (scope : _) (this : _) →
+    ensures runs { (offer : _) (scope : _) (held : _) →
         PrintsAndJoins (rules_of limits.now H.name_of offer T.natives) (string_bytes text.old) value.now pos
-        (state_of (T.state table.old) global.old scope this) result (string_bytes text.new)
-        (state_of (T.state table.new) global.new scope this) }
+        (state_of (T.state table.old) global.old scope held) result (string_bytes text.new)
+        (state_of (T.state table.new) global.new scope held) }
 {
     match shared_text(alloc, value.type_name(&global.cells)) {
         Ok(name) => {
@@ -193,10 +193,10 @@ fn join_printed<H: Host, T: NativeTable<H>>(
     pos: Position,
 ) -> Result<(), EvalAltResult<H>>
     ensures counts { global.old.num_operations ≤ global.new.num_operations }
-    ensures runs { (offer : _) (scope : _) (this : _) →
+    ensures runs { (offer : _) (scope : _) (held : _) →
         PrintsAndJoins (rules_of limits.now H.name_of offer T.natives) (string_bytes text.old) value.now pos
-        (state_of (T.state table.old) global.old scope this) result (string_bytes text.new)
-        (state_of (T.state table.new) global.new scope this) }
+        (state_of (T.state table.old) global.old scope held) result (string_bytes text.new)
+        (state_of (T.state table.new) global.new scope held) }
 {
     if is_bare_handle(value) {
         return join_handle(limits, alloc, global, table, text, value, pos);
@@ -226,10 +226,10 @@ fn join_flat<H: Host, T: NativeTable<H>>(
     pos: Position,
 ) -> Result<(), EvalAltResult<H>>
     ensures counts { global.old.num_operations ≤ global.new.num_operations }
-    ensures runs { (offer : _) (scope : _) (this : _) →
+    ensures runs { (offer : _) (scope : _) (held : _) →
         JoinsFlat (rules_of limits.now H.name_of offer T.natives) (string_bytes text.old) value.now pos
-        (state_of (T.state table.old) global.old scope this) result (string_bytes text.new)
-        (state_of (T.state table.new) global.new scope this) }
+        (state_of (T.state table.old) global.old scope held) result (string_bytes text.new)
+        (state_of (T.state table.new) global.new scope held) }
 {
     match text_at(value) {
         Some(part) => join_text(alloc, limits, text, part, pos),
@@ -253,10 +253,10 @@ pub fn join<H: Host, T: NativeTable<H>>(
     pos: Position,
 ) -> Result<(), EvalAltResult<H>>
     ensures counts { global.old.num_operations ≤ global.new.num_operations }
-    ensures runs { (offer : _) (scope : _) (this : _) →
+    ensures runs { (offer : _) (scope : _) (held : _) →
         Joins (rules_of limits.now H.name_of offer T.natives) (string_bytes text.old) value pos
-        (state_of (T.state table.old) global.old scope this) result (string_bytes text.new)
-        (state_of (T.state table.new) global.new scope this) }
+        (state_of (T.state table.old) global.old scope held) result (string_bytes text.new)
+        (state_of (T.state table.new) global.new scope held) }
 {
     let value = flatten(alloc, &global.cells, value, pos)?;
     let joined = join_flat(limits, alloc, global, table, text, &value, pos);

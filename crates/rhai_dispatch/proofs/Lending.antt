@@ -12,8 +12,8 @@ use Rattle.rhai_state.specs.declared.error.EvalAltResult.{EvalAltResult}
 use Rattle.rhai_state.specs.Scope.{entries_of, name_of, names_in, revalued}
 use Rattle.rhai_steps.specs.States.{local_of, state_of}
 use Rattle.rhai_machine.specs.language.Setting.{Rules}
-use Rattle.rhai_machine.specs.language.State.{State}
-use Rattle.rhai_machine.specs.language.Frames.{Call}
+use Rattle.rhai_machine.specs.language.State.{Held, State}
+use Rattle.rhai_machine.specs.language.Frames.{FromEntry, Call}
 use Rattle.rhai_calls.specs.Lending.{back_in}
 use Rattle.rhai_calls.specs.Dispatch.{Dispatches}
 
@@ -53,16 +53,16 @@ module _ {H : Type 0} where
         given ∙ ap (λ (entries : List (ScopeEntry H)). revalued entries i (slice_get entries i) v) taken
         ∙ revalued_twice (entries_of old) i (slice_get (entries_of old) i) v u refl
 
-    lent_state : {S : Type 0} (t : S) (global : GlobalRuntimeState H) (this : Option (Dynamic H)) →
-        back_in (Some i) v (state_of t global old this) ≡ state_of t global new this
-    lent_state t global this =
-        ap (λ (entries : List (ScopeEntry H)). record (state_of t global old this) {
-          local = record (local_of global old this) { scope = entries };
+    lent_state : {S : Type 0} (t : S) (global : GlobalRuntimeState H) (held : Held H) →
+        back_in (Some (FromEntry i)) v (state_of t global old held) ≡ state_of t global new held
+    lent_state t global held =
+        ap (λ (entries : List (ScopeEntry H)). record (state_of t global old held) {
+          local = record (local_of global old held) { scope = entries };
         }) (sym lent_entries)
 
     pub lent_runs : {S : Type 0} (rules : Rules S H) (call : Call H) (start : State S H) (r : Result (Dynamic H) (EvalAltResult H)) (t : S)
-        (global : GlobalRuntimeState H) (this : Option (Dynamic H)) →
-        Dispatches rules call start r (back_in (Some i) v (state_of t global old this)) →
-        Dispatches rules call start r (state_of t global new this)
-    lent_runs {S} rules call start r t global this =
-        subst (λ (s : State S H). Dispatches rules call start r s) (lent_state t global this)
+        (global : GlobalRuntimeState H) (held : Held H) →
+        Dispatches rules call start r (back_in (Some (FromEntry i)) v (state_of t global old held)) →
+        Dispatches rules call start r (state_of t global new held)
+    lent_runs {S} rules call start r t global held =
+        subst (λ (s : State S H). Dispatches rules call start r s) (lent_state t global held)

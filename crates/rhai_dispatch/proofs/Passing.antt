@@ -1,6 +1,7 @@
 -- A variable that comes first: what is passed of it.
 use Rattle.std.proofs.Common.{◌≡◌, ℕ, Bool, true, false, not, ◌&&◌, List, ◌∷◌, Option, Some, None, Result, Ok, Err, is_some, refl, sym, ap}
 use Rattle.std.proofs.Common.{◌∙◌}
+use Rattle.std.specs.Option.{option_map}
 use Rattle.rhai_tree.specs.declared.position.Position.{Position}
 use Rattle.rhai_values.specs.declared.base.value.AccessMode.{AccessMode}
 use Rattle.rhai_values.specs.declared.base.value.Dynamic.{Dynamic}
@@ -15,7 +16,7 @@ use Rattle.rhai_state.specs.Scope.{index_of, value_in}
 use Rattle.rhai_machine.specs.language.Values.{Cells, flat, is_handle}
 use Rattle.rhai_machine.specs.language.Names.{entered, looked_up, variable_of}
 use Rattle.rhai_machine.specs.language.Places.{is_constant}
-use Rattle.rhai_machine.specs.language.Frames.{Operation}
+use Rattle.rhai_machine.specs.language.Frames.{Operation, FromEntry}
 use Rattle.rhai_machine.specs.language.Calls.{is_held}
 use Rattle.rhai_machine.specs.language.Arguments.{call_on, passed, passed_as, passed_flat, passed_seen}
 use Rattle.rhai_calls.specs.Lending.{lent_call}
@@ -56,7 +57,7 @@ module _ {H : Type 0} (cells : Cells H) (at : Position) where
   module _ (operation : Operation) (args : List (Dynamic H)) (entry : Option ℕ) where
     -- what may be lent is lent from its entry
     passed_lent : (u : Union H) (v : Dynamic H) → (not (is_constant v.mode) && not (is_handle u)) ≡ true →
-        passed cells at operation args entry u v ≡ Ok (lent_call operation entry (v ∷ args))
+        passed cells at operation args entry u v ≡ Ok (lent_call operation (option_map FromEntry entry) true (v ∷ args))
     passed_lent (value.Cell id) v is = let no : true ≡ false = not_handle (is_constant v.mode) true is in cc
     passed_lent _ v is =
         ap (λ (b : Bool). Ok (passed_as b operation args entry v)) (not_constant (is_constant v.mode) false is)
@@ -96,7 +97,7 @@ module _ {H : Type 0} (cells : Cells H) (at : Position) where
 
       -- its value is lent
       pub on_lent : is_held cells v.value ≡ false → is_lendable v ≡ true →
-          call_on cells entries operation variable at args ≡ Ok (lent_call operation (Some index) (v ∷ args))
+          call_on cells entries operation variable at args ≡ Ok (lent_call operation (Some (FromEntry index)) true (v ∷ args))
       on_lent is lends = free is ∙ passed_lent operation args (Some index) v.value v lends
 
       -- a copy of it is passed

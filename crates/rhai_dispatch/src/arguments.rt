@@ -44,9 +44,6 @@ pub(crate) fn joined<H: Host>(
     ensures joined { IfOk result (λ all. all ≡ curried ++ args) }
     ensures refused { IfErr result (λ e. is_out_of_memory e ≡ true) }
 {
-    if curried.is_empty() {
-        return Ok(args);
-    }
     let mut all = curried;
     match all.append(args) {
         Ok(()) => Ok(all),

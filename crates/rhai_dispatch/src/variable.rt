@@ -1,14 +1,13 @@
 //! A call by name whose first argument is a variable, which is read last.
 
-ghost use Rattle.std.specs.Prelude.{◌≡◌, ◌≤◌, ◌<◌, ◌∷◌, IsTrue, Some, length};
+ghost use Rattle.std.specs.Prelude.{◌≡◌, ◌≤◌, ◌<◌, ◌∷◌, IsTrue, Some, length, true};
 ghost use Rattle.rhai_check.specs.Names.{is_good};
 ghost use Rattle.rhai_values.specs.Cells.{cells_of};
 ghost use Rattle.rhai_values.specs.Copy.{copy_of};
 ghost use Rattle.rhai_state.specs.Scope.{entries_of, index_of, names_in, value_in};
 ghost use Rattle.rhai_machine.specs.language.State.{Answers};
 ghost use Rattle.rhai_machine.specs.language.Values.{flat};
-ghost use Rattle.rhai_machine.specs.language.Frames.{ToCallOn};
-ghost use Rattle.rhai_machine.specs.language.Calls.{is_held as held_in};
+ghost use Rattle.rhai_machine.specs.language.Frames.{FromEntry, ToCallOn};
 ghost use Rattle.rhai_machine.specs.language.Setting.{rules_of};
 ghost use Rattle.rhai_steps.specs.States.{state_of};
 ghost use Rattle.rhai_dispatch.specs.Going.{GoesOn};
@@ -16,8 +15,8 @@ ghost use Rattle.rhai_calls.specs.Dispatch.{Dispatches};
 ghost use Rattle.rhai_calls.specs.Lending.{lent_call};
 ghost use Rattle.rhai_dispatch.specs.Variables.{is_lendable as lendable};
 
-use rhai_calls::dispatch::dispatch;
-use rhai_items::{Items, Shared, Text};
+use rhai_calls::dispatch::{dispatch, is_held};
+use rhai_items::{Shared, Text};
 use rhai_state::error::EvalAltResult;
 use rhai_state::limits::Limits;
 use rhai_state::scope::Scope;
@@ -32,16 +31,6 @@ use rhai_values::base::value::{AccessMode, Dynamic, Host, Union};
 use rhai_values::cells::CellStore;
 use std::alloc::Global;
 use std::num::NonZeroUsize;
-
-/// Whether a value is the handle of a cell that is held.
-fn is_held<H: Host>(cells: &CellStore<H>, value: &Dynamic<H>) -> bool
-    ensures { result ≡ held_in (cells_of cells.now) value.now.value }
-{
-    match &value.value {
-        Union::Cell(id) => cells.get(*id).is_none(),
-        _ => false,
-    }
-}
 
 /// Whether a variable's value may be lent: it is no handle and no constant.
 fn is_lendable<H: Host>(value: &Dynamic<H>) -> bool
@@ -75,7 +64,7 @@ fn call_lent<H: Host, T: NativeTable<H>>(
     table: &mut T,
     scope: &mut Scope<H>,
     index: usize,
-    name: &Shared<Text>,
+    name: &str,
     token: Option<Token>,
     args: &[Dynamic<H>],
     pos: Position,
@@ -83,11 +72,12 @@ fn call_lent<H: Host, T: NativeTable<H>>(
     requires { index < length (entries_of scope.old) }
     ensures counts { global.old.num_operations ≤ global.new.num_operations }
     ensures names { names_in scope.new ≡ names_in scope.old }
-    ensures runs { (offer : _) (this : _) (v : _) → value_in (entries_of scope.old) (Some index) ≡ Some v →
+    ensures runs { (offer : _) (held : _) (v : _) → value_in (entries_of scope.old) (Some index) ≡ Some v →
         Dispatches (rules_of limits.now H.name_of offer T.natives)
-        (lent_call (record { name = name.now; token = token; at = pos }) (Some index) (v ∷ args.now))
-        (state_of (T.state table.old) global.old scope.old this)
-        result (state_of (T.state table.new) global.new scope.new this) }
+        (lent_call (record { name = name.now; token = token; at = pos }) (Some (FromEntry index)) true
+        (v ∷ args.now))
+        (state_of (T.state table.old) global.old scope.old held)
+        result (state_of (T.state table.new) global.new scope.new held) }
 {
     let mut first = scope.replace_value(index, unit_value());
     let result = dispatch(
@@ -105,7 +95,7 @@ fn call_found<H: Host, T: NativeTable<H>>(
     table: &mut T,
     scope: &mut Scope<H>,
     index: usize,
-    name: &Shared<Text>,
+    name: &str,
     token: Option<Token>,
     variable: &Shared<Text>,
     variable_at: Position,
@@ -115,11 +105,11 @@ fn call_found<H: Host, T: NativeTable<H>>(
     requires { index < length (entries_of scope.old) }
     ensures counts { global.old.num_operations ≤ global.new.num_operations }
     ensures names { names_in scope.new ≡ names_in scope.old }
-    ensures runs { (offer : _) (this : _) → index_of variable.now (entries_of scope.old) ≡ Some index →
+    ensures runs { (offer : _) (held : _) → index_of variable.now (entries_of scope.old) ≡ Some index →
         GoesOn (rules_of limits.now H.name_of offer T.natives)
         (ToCallOn (record { name = name.now; token = token; at = pos }) variable.now variable_at) args.now
-        (state_of (T.state table.old) global.old scope.old this)
-        result (state_of (T.state table.new) global.new scope.new this) }
+        (state_of (T.state table.old) global.old scope.old held)
+        result (state_of (T.state table.new) global.new scope.new held) }
 {
     let value = scope.value_at(index);
     if is_held(&global.cells, value) {
@@ -138,14 +128,21 @@ fn call_found<H: Host, T: NativeTable<H>>(
     result
 }
 
-/// A call on a variable, which is looked for first.
-fn call_named<H: Host, T: NativeTable<H>>(
+/// A call by name with a variable before its arguments, which are there. The variable is read now: a
+/// constant or a handle is passed as a copy, and any other is lent, so that a native may change it.
+/// Asked: the offset leads to the newest variable of the name. Ports what upstream's
+/// `make_function_call` does with a variable that comes first.
+///
+/// # Errors
+/// At the variable: `ErrorVariableNotFound`, and `ErrorDataRace` where it is the handle of a cell that is
+/// held. All others are those of `rhai_calls::dispatch::dispatch`.
+pub fn call_on_variable<H: Host, T: NativeTable<H>>(
     limits: &Limits,
     alloc: Global,
     global: &mut GlobalRuntimeState<H>,
     table: &mut T,
     scope: &mut Scope<H>,
-    name: &Shared<Text>,
+    name: &str,
     token: Option<Token>,
     offset: Option<NonZeroUsize>,
     variable: &Shared<Text>,
@@ -156,10 +153,10 @@ fn call_named<H: Host, T: NativeTable<H>>(
     requires { IsTrue (is_good offset variable.now (names_in scope.old)) }
     ensures counts { global.old.num_operations ≤ global.new.num_operations }
     ensures names { names_in scope.new ≡ names_in scope.old }
-    ensures runs { (offer : _) (this : _) → GoesOn (rules_of limits.now H.name_of offer T.natives)
+    ensures runs { (offer : _) (held : _) → GoesOn (rules_of limits.now H.name_of offer T.natives)
         (ToCallOn (record { name = name.now; token = token; at = pos }) variable.now variable_at) args.now
-        (state_of (T.state table.old) global.old scope.old this)
-        result (state_of (T.state table.new) global.new scope.new this) }
+        (state_of (T.state table.old) global.old scope.old held)
+        result (state_of (T.state table.new) global.new scope.new held) }
 {
     match place_of_variable(global, scope, offset, variable) {
         None => Err(variable_not_found(variable, variable_at)),
@@ -178,53 +175,4 @@ fn call_named<H: Host, T: NativeTable<H>>(
             pos,
         ),
     }
-}
-
-/// A call by name with a variable before its arguments, which are there. The variable is read now: a
-/// constant or a handle is passed as a copy, and any other is lent, so that a native may change it.
-/// Asked: the offset leads to the newest variable of the name. Ports what upstream's
-/// `make_function_call` does with a variable that comes first.
-///
-/// # Errors
-/// At the variable: `ErrorVariableNotFound`, and `ErrorDataRace` where it is the handle of a cell that is
-/// held. All others are those of `rhai_calls::dispatch::dispatch`.
-pub fn call_on_variable<H: Host, T: NativeTable<H>>(
-    limits: &Limits,
-    alloc: Global,
-    global: &mut GlobalRuntimeState<H>,
-    table: &mut T,
-    scope: &mut Scope<H>,
-    name: &Shared<Text>,
-    token: Option<Token>,
-    offset: Option<NonZeroUsize>,
-    variable: &Shared<Text>,
-    variable_at: Position,
-    args: Items<Dynamic<H>>,
-    pos: Position,
-) -> Result<Dynamic<H>, EvalAltResult<H>>
-    requires { IsTrue (is_good offset variable.now (names_in scope.old)) }
-    ensures counts { global.old.num_operations ≤ global.new.num_operations }
-    ensures names { names_in scope.new ≡ names_in scope.old }
-    ensures runs { (offer : _) (this : _) → GoesOn (rules_of limits.now H.name_of offer T.natives)
-        (ToCallOn (record { name = name.now; token = token; at = pos }) variable.now variable_at) args
-        (state_of (T.state table.old) global.old scope.old this)
-        result (state_of (T.state table.new) global.new scope.new this) }
-{
-    let args = args;
-    let result = call_named(
-        limits,
-        alloc,
-        global,
-        table,
-        scope,
-        name,
-        token,
-        offset,
-        variable,
-        variable_at,
-        args.as_slice(),
-        pos,
-    );
-    drop(args);
-    result
 }

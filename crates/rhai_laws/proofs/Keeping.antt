@@ -13,7 +13,7 @@ use Rattle.rhai_state.specs.declared.error.EvalAltResult.{EvalAltResult}
 use Rattle.rhai_state.specs.Scope.{name_of}
 use Rattle.rhai_machine.specs.language.State.{Surroundings, Local}
 use Rattle.rhai_machine.specs.language.Values.{Cells, unit_value}
-use Rattle.rhai_machine.specs.language.Places.{Place, InEntry, InCell, put}
+use Rattle.rhai_machine.specs.language.Places.{Place, InEntry, InCell, InFocus, put}
 use Rattle.rhai_machine.specs.language.Frames.{Saved, Control, Frame, Core, core, ended, Exec, OpenStmt, Enter, Run, Back, DefineValue}
 use Rattle.rhai_machine.specs.language.Frames.{RestOfList, RestoreList}
 use Rattle.rhai_machine.specs.language.Statements.{saved_by, restored_by, deeper}
@@ -91,6 +91,7 @@ module _ {H : Type 0} where
   put_outline : (place : Place) (v : Dynamic H) (l : Local H) → Stands place l → outline (put place v l) ≡ outline l
   put_outline (InEntry index) v l is = refl
   put_outline (InCell n) v l is = rw (free_cell l.around.cells n v is) refl
+  put_outline InFocus v l is = refl
 
   still_free : (cells : Cells H) (n : ℕ) (v : Dynamic H) → is_some (option_flatten (slice_get cells n)) ≡ true →
       is_some (option_flatten (slice_get (slice_set cells n (Some v)) n)) ≡ true
@@ -102,6 +103,7 @@ module _ {H : Type 0} where
   pub put_stands : (place : Place) (v : Dynamic H) (l : Local H) → Stands place l → Stands place (put place v l)
   put_stands (InEntry index) v l is = tt
   put_stands (InCell n) v l is = still_free l.around.cells n v is
+  put_stands InFocus v l is = tt
 
   module _ (a : Asked) where
     -- what is asked of the names n over a stack: under the rest of a list, and under a `let`, there may be more of them

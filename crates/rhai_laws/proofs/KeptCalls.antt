@@ -22,13 +22,14 @@ use Rattle.rhai_machine.specs.language.Setting.{Setting}
 use Rattle.rhai_machine.specs.language.State.{Local}
 use Rattle.rhai_machine.specs.language.Values.{through as seen_through}
 use Rattle.rhai_machine.specs.language.Places.{Place, InEntry, InCell, is_barred}
-use Rattle.rhai_machine.specs.language.Frames.{Operation, Call, Frame, Core, core, on_value, CallNamed, Question, Fire, OpenExpr}
+use Rattle.rhai_machine.specs.language.Frames.{Operation, Lender, FromEntry, FromFocus, Call, Frame, Core, core, changed, on_value, CallNamed, Question, Fire, OpenExpr}
+use Rattle.rhai_state.specs.Native.{Reply, Missing, Gives, Faults}
 use Rattle.rhai_machine.specs.language.Frames.{Purpose, ToCall, ToCallOn, ToCallNumber, ToCurry}
 use Rattle.rhai_machine.specs.language.Frames.{Keyword, CallPointer, MakePointer, Curry, IsShared, IsDefinedVariable}
 use Rattle.rhai_machine.specs.language.Expressions.{call_move}
-use Rattle.rhai_machine.specs.language.Calls.{First, first_of, first_in, in_cell, lendable, while_from, put_left, call_native, fire_first}
+use Rattle.rhai_machine.specs.language.Calls.{First, first_of, first_in, in_cell, lendable, place_of, while_from, put_left, call_native, fire_first}
 use Rattle.rhai_machine.specs.language.Calls.{fire_move, barred_call, question_first, question_move, call_of, races, named_core}
-use Rattle.rhai_machine.specs.language.Calls.{dispatch_core, operator_core, asks_function, replied, applied}
+use Rattle.rhai_machine.specs.language.Calls.{answered, dispatch_core, operator_core, asks_function, replied, applied}
 use Rattle.rhai_machine.specs.language.Arguments.{call_on, numbered_core, arguments_there, arguments_core, on_variable, captured_move}
 use Rattle.rhai_machine.specs.language.Arguments.{named_move, operation_named, pointer_of, pointer_wanted, text_wanted, pointer_core}
 use Rattle.rhai_machine.specs.language.Arguments.{keyword_core, keyword_of, function_core, function_of, variable_in}
@@ -43,9 +44,10 @@ module _ {H : Type 0} where
   GoesBack None l = ⊤
   GoesBack (Some place) l = Stands place l
 
-  entry_stands : (entry : Option ℕ) (l : Local H) → GoesBack (option_map InEntry entry) l
-  entry_stands None l = tt
-  entry_stands (Some index) l = tt
+  lender_stands : (lender : Option Lender) (l : Local H) → GoesBack (option_map place_of lender) l
+  lender_stands None l = tt
+  lender_stands (Some (FromEntry index)) l = tt
+  lender_stands (Some FromFocus) l = tt
 
   lendable_stands : (operation : Operation) (from : Option Place) (u : Union H) (v : Dynamic H) (first : First H) (l : Local H) →
       GoesBack from l → lendable operation from u v ≡ Ok first → GoesBack first.from l
@@ -60,17 +62,17 @@ module _ {H : Type 0} where
       lendable_stands operation (Some (InCell n)) v.value v first l (ap is_some there) is
   cell_stands operation n None first l there is = cc
 
-  first_in_stands : (operation : Operation) (entry : Option ℕ) (u : Union H) (v : Dynamic H) (first : First H) (l : Local H) →
-      first_in l.around.cells operation entry u v ≡ Ok first → GoesBack first.from l
-  first_in_stands operation entry (value.Cell id) v first l is =
+  first_in_stands : (operation : Operation) (lender : Option Lender) (u : Union H) (v : Dynamic H) (first : First H) (l : Local H) →
+      first_in l.around.cells operation lender u v ≡ Ok first → GoesBack first.from l
+  first_in_stands operation lender (value.Cell id) v first l is =
       cell_stands operation id.number (value_of_cell l.around.cells id.number) first l refl is
-  first_in_stands operation entry _ v first l is =
-      let same : option_map InEntry entry ≡ first.from = cc in
-      subst (λ (p : Option Place). GoesBack p l) same (entry_stands entry l)
+  first_in_stands operation lender _ v first l is =
+      let same : option_map place_of lender ≡ first.from = cc in
+      subst (λ (p : Option Place). GoesBack p l) same (lender_stands lender l)
 
   first_stands : (call : Call H) (x : Dynamic H) (first : First H) (l : Local H) → first_of l.around.cells call x ≡ Ok first →
       GoesBack first.from l
-  first_stands call x first l is = first_in_stands call.operation call.entry x.value x first l is
+  first_stands call x first l is = first_in_stands call.operation call.lender x.value x first l is
 
 module _ {H : Type 0} (a : Asked) where
   -- what a value leads to keeps it, and so does an error
@@ -106,14 +108,26 @@ module _ {H : Type 0} (a : Asked) where
   put_left_keeps (Some place) None k l stands = quiet a tt refl (λ t. t)
   put_left_keeps None left k l stands = quiet a tt refl (λ t. t)
 
+  -- an answer, which may say that the first argument may have changed
+  changed_keeps : (r : Result (Dynamic H) (EvalAltResult H)) (k : List (Frame H)) (l : Local H) → Keeps a (calm k l) (core (changed r) k l)
+  changed_keeps (Ok v) k l = quiet a tt refl (λ t. t)
+  changed_keeps (Err e) k l = quiet a tt refl (λ t. t)
+
+  answered_keeps : (marks : Bool) (reply : Reply H) (r : Result (Dynamic H) (EvalAltResult H)) (k : List (Frame H)) (l : Local H) →
+      Keeps a (calm k l) (core (answered marks reply r) k l)
+  answered_keeps false reply r k l = ended_keeps a r k l
+  answered_keeps true (Gives v) r k l = changed_keeps r k l
+  answered_keeps true Missing r k l = ended_keeps a r k l
+  answered_keeps true (Faults e) r k l = ended_keeps a r k l
+
   module _ (s : Setting H) where
     native_keeps : (call : Call H) (from : Option Place) (first : Option (Dynamic H)) (rest : List (Dynamic H)) (k : List (Frame H))
         (l : Local H) → GoesBack from l →
         Moves (Keeps a) (core (Fire call) k l) (call_native s call from first rest k l)
     native_keeps call from first rest k l stands = λ reply left.
         after a (calm k l) refl (λ t. t) (through a (put_left_keeps from left k l stands)
-        (ended_keeps a (replied s.limits s.host_type reply left rest call.operation (while_from from l.around.cells)) k
-        (put_left from left l)))
+        (answered_keeps call.marks reply
+        (replied s.limits s.host_type reply left rest call.operation (while_from from l.around.cells)) k (put_left from left l)))
 
     fire_first_keeps : (call : Call H) (rest : List (Dynamic H)) (x : Dynamic H) (r : Result (First H) (EvalAltResult H))
         (k : List (Frame H)) (l : Local H) → first_of l.around.cells call x ≡ r →
@@ -127,16 +141,16 @@ module _ {H : Type 0} (a : Asked) where
     fire_keeps call [] k l = native_keeps call None None [] k l tt
     fire_keeps call (x ∷ rest) k l = fire_first_keeps call rest x (first_of l.around.cells call x) k l refl
 
-    barred_call_keeps : (barred : Bool) (call : Call H) (k : List (Frame H)) (l : Local H) →
-        Keeps a (core (Question call) k l) (barred_call s barred call k l)
-    barred_call_keeps true call k l = quiet a tt refl (λ t. t)
-    barred_call_keeps false call k l = quiet a tt refl (λ t. t)
+    barred_call_keeps : (barred pure : Bool) (call : Call H) (k : List (Frame H)) (l : Local H) →
+        Keeps a (core (Question call) k l) (barred_call s barred pure call k l)
+    barred_call_keeps true pure call k l = quiet a tt refl (λ t. t)
+    barred_call_keeps false pure call k l = quiet a tt refl (λ t. t)
 
     question_first_keeps : (call : Call H) (rest : List (Dynamic H)) (r : Result (First H) (EvalAltResult H)) (k : List (Frame H))
         (l : Local H) →
         Moves (Keeps a) (core (Question call) k l) (question_first s call rest r k l)
     question_first_keeps call rest (Ok first) k l =
-        λ pure. barred_call_keeps (is_some call.entry && is_barred pure first.value) call k l
+        λ pure. barred_call_keeps (call.guarded && is_barred pure first.value) pure call k l
     question_first_keeps call rest (Err e) k l = quiet a tt refl (λ t. t)
 
     pub question_keeps : (call : Call H) (args : List (Dynamic H)) (k : List (Frame H)) (l : Local H) →

@@ -30,7 +30,7 @@ use Rattle.rhai_machine.specs.language.Names.{read}
 use Rattle.rhai_machine.specs.language.Frames.{on_value}
 use Rattle.rhai_machine.specs.language.Frames.{Operation, Control, Frame, Core, core, Eval, Exec, Ask, Assign, AskUpdate, Argument}
 use Rattle.rhai_machine.specs.language.Frames.{Question, Fire, QuestionUpdate, FireUpdate, OpenExpr, OpenStmt, Enter, Run, Store, WhileTurn}
-use Rattle.rhai_machine.specs.language.Frames.{DoTurn, Back, Fail, StatementValue, DefineValue, IfCondition, RestOfList, RestoreList, Top}
+use Rattle.rhai_machine.specs.language.Frames.{DoTurn, Back, Changed, Fail, StatementValue, DefineValue, IfCondition, RestOfList, RestoreList, Top}
 use Rattle.rhai_machine.specs.language.Frames.{UnaryOperand, LeftOperand, RightOperand, AndPart, OrPart, CoalescePart, AssignValue}
 use Rattle.rhai_machine.specs.language.Frames.{WhileCondition, WhileBody, DoCondition, DoBody, BreakValue, ReturnValue}
 use Rattle.rhai_machine.specs.language.Frames.{ArrayItem, EntryValue, TextPart, PrintedPart, CallNamed, CallArgument, KeywordArgument}
@@ -357,6 +357,7 @@ module _ {H : Type 0} (a : Asked) where
           (store_keeps a s (target_of l.around.cells assignment.name assignment.at l.scope) assignment v k l refl)
       move_keeps (WhileTurn test body) k l h = while_keeps (is_endless (out-Expr test)) body.statements test body k l
       move_keeps (DoTurn test body options) k l h = quiet a tt refl (λ t. t)
+      move_keeps (Changed v) k l h = quiet a tt refl (λ t. t)
       move_keeps (Back v) [] l h = tt
       move_keeps (Back v) (frame ∷ k) l h = up_keeps frame v k l
       move_keeps (Fail e) [] l h = tt

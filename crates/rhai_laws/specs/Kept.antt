@@ -7,7 +7,7 @@ use Rattle.rhai_state.specs.Scope.{name_of}
 use Rattle.rhai_machine.specs.language.Setting.{Rules, limit_under}
 use Rattle.rhai_machine.specs.language.State.{Surroundings, Local, State}
 use Rattle.rhai_machine.specs.language.Values.{unit_value}
-use Rattle.rhai_machine.specs.language.Places.{Place, InEntry, InCell}
+use Rattle.rhai_machine.specs.language.Places.{Place, InEntry, InCell, InFocus}
 use Rattle.rhai_machine.specs.language.Frames.{Control, Exec, AskUpdate, QuestionUpdate, FireUpdate, OpenStmt, Enter, Run}
 
 module _ {H : Type 0} where
@@ -24,6 +24,7 @@ module _ {H : Type 0} where
   abbrev pub Stands : Place → Local H → Type 0
   Stands (InEntry index) l = ⊤
   Stands (InCell number) l = is_some (value_of_cell l.around.cells number) ≡ true
+  Stands InFocus l = ⊤
 
   -- in the midst of an update its place may be written to
   abbrev pub Sound : Control H → Local H → Type 0

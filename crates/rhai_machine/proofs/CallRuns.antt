@@ -1,6 +1,6 @@
 -- The sample runs of calls by name.
 use Rattle.std.proofs.Common.{refl}
-use Rattle.std.specs.Prelude.{ℕ, false, List, [], ◌∷◌, Some, codes}
+use Rattle.std.specs.Prelude.{ℕ, true, false, List, [], ◌∷◌, Some, codes}
 use Rattle.rhai_tree.specs.declared.token.Token.TheVariants.{Plus}
 use Rattle.rhai_tree.specs.declared.expr.Expr.{Expr}
 use Rattle.rhai_tree.specs.declared.expr.Expr.TheVariants as expr
@@ -12,12 +12,12 @@ use Rattle.rhai_values.specs.declared.base.value.Union.TheVariants as kind
 use Rattle.rhai_values.specs.Copy.{plain}
 use Rattle.rhai_values.proofs.CopyLemmas.{copy-pointer, copy-FnPtr}
 use Rattle.rhai_machine.specs.machine.Machine.{Config}
-use Rattle.rhai_machine.specs.language.Frames.{Frame, Core, core, Fire, Back, StatementValue, RestOfList, KeywordArgument, Top}
+use Rattle.rhai_machine.specs.language.Frames.{FromEntry, Call, Frame, Core, core, Fire, Back, StatementValue, RestOfList, KeywordArgument, Top}
 use Rattle.rhai_machine.specs.language.Frames.{CallPointer, Curry}
 use Rattle.rhai_machine.specs.language.Calls.{call_at, call_of}
 use Rattle.rhai_machine.specs.language.Arguments.{operation_named, pointer_named}
 use Rattle.rhai_machine.specs.samples.Trees.{column, int, var}
-use Rattle.rhai_machine.specs.samples.Runs.{Table, entry, integer}
+use Rattle.rhai_machine.specs.samples.Runs.{Table, entry, fixed, integer}
 use Rattle.rhai_machine.specs.samples.Handles.{one_cell}
 use Rattle.rhai_machine.specs.samples.Calls.{Calls, Keywords, Pointers, number_pointer}
 use Rattle.rhai_machine.proofs.SampleRuns.{opened, placed, measured, by_steps, stretch, script_at}
@@ -47,6 +47,28 @@ module _ {S H : Type 0} (table : Table S H) (host : H → List ℕ) where
       (StatementValue (column 1) ∷ RestOfList [] false ∷ [])
       (entry (codes "x") (integer 1) ∷ []) 4
 
+  -- of the variable `x`, lent or by its value
+  abbrev x_fires : Call H → Dynamic H → Config S H (Core H)
+  x_fires call x = script_at table (Fire call) (StatementValue (column 1) ∷ RestOfList [] false ∷ []) (entry (codes "x") x ∷ []) 4
+
+  abbrev lent_fires : Config S H (Core H)
+  lent_fires = x_fires (record (call_of (operation_named (codes "inc") (column 1)) (integer 1 ∷ [])) {
+    lender = Some (FromEntry 0);
+    guarded = true;
+  }) (integer 1)
+
+  abbrev constant_fires : Config S H (Core H)
+  constant_fires = x_fires (call_of (operation_named (codes "inc") (column 1)) (integer 1 ∷ [])) (fixed 1)
+
+  abbrev cell_fires : Config S H (Core H)
+  cell_fires = record {
+    core = core (Fire (call_of (operation_named (codes "inc") (column 1)) (integer 5 ∷ [])))
+        (StatementValue (column 1) ∷ RestOfList [] false ∷ Top false ∷ []) (one_cell table host (Some (integer 5)) []);
+    table = table.state;
+    count = 4;
+    calls = [];
+  }
+
   abbrev sum_fires : Config S H (Core H)
   sum_fires =
       script_at table (Fire (call_at (codes "+") Plus (column 4) (integer 40 ∷ integer 2 ∷ [])))
@@ -54,16 +76,16 @@ module _ {S H : Type 0} (table : Table S H) (host : H → List ℕ) where
 
   pub calls : Calls table host
   calls = record {
-    lent = λ replies. by_steps _ _ 40 (simp (replies, forms)) refl;
+    lent = λ replies. stretch _ _ 9 _ lent_fires (simp forms) (by_steps _ _ 9 (simp replies) refl);
     as_statement = λ replies. by_steps _ _ 40 (simp (replies, forms)) refl;
-    faults = λ replies. by_steps _ _ 40 (simp (replies, forms)) refl;
-    constant = λ replies. by_steps _ _ 40 (simp (replies, forms)) refl;
+    faults = λ replies. stretch _ _ 9 _ lent_fires (simp forms) (by_steps _ _ 9 (simp replies) refl);
+    constant = λ replies. stretch _ _ 9 _ constant_fires (simp forms) (by_steps _ _ 9 (simp replies) refl);
     by_value = λ replies. stretch _ _ 13 _ captured_fires (simp opened) (by_steps _ _ 9 (simp replies) refl);
-    by_copy = λ replies. by_steps _ _ 40 (simp (replies, forms)) refl;
+    by_copy = λ replies. stretch _ _ 9 _ cell_fires (simp forms) (by_steps _ _ 9 (simp replies) refl);
     held = by_steps _ _ 40 (simp forms) refl;
     unknown = by_steps _ _ 40 (simp forms) refl;
     cut = by_steps _ _ 40 (simp forms) refl;
-    missing = λ replies. by_steps _ _ 40 (simp (replies, forms)) refl;
+    missing = λ replies. stretch _ _ 11 _ (fires (codes "nope") (integer 1 ∷ []) 4) (simp forms) (by_steps _ _ 9 (simp (replies, forms)) refl);
     no_arguments = λ replies. by_steps _ _ 40 (simp (replies, forms)) refl;
     slow = λ replies. stretch _ _ 13 _ sum_fires (simp opened) (by_steps _ _ 9 (simp replies) refl);
   }

@@ -33,9 +33,9 @@ use Rattle.rhai_machine.specs.language.Setting.{Setting}
 use Rattle.rhai_machine.specs.language.State.{Local}
 use Rattle.rhai_machine.specs.language.Values.{unit_value, flat, through, truth}
 use Rattle.rhai_machine.specs.language.Frames.{Operation, Attempt, InPlace, AsValue, Assignment, Update, Call, Control, Frame, Core, core}
-use Rattle.rhai_machine.specs.language.Frames.{where_there, on_value, ended, Eval, Exec, Ask, Assign}
+use Rattle.rhai_machine.specs.language.Frames.{where_there, on_value, ended, changed, Eval, Exec, Ask, Assign}
 use Rattle.rhai_machine.specs.language.Frames.{AskUpdate, Argument, CallNamed, Question, Fire, QuestionUpdate}
-use Rattle.rhai_machine.specs.language.Frames.{FireUpdate, OpenExpr, OpenStmt, Enter, Run, Store, WhileTurn, DoTurn, Back, Fail}
+use Rattle.rhai_machine.specs.language.Frames.{FireUpdate, OpenExpr, OpenStmt, Enter, Run, Store, WhileTurn, DoTurn, Back, Changed, Fail}
 use Rattle.rhai_machine.specs.language.Frames.{StatementValue, DefineValue, IfCondition, RestOfList, RestoreList, Top, UnaryOperand}
 use Rattle.rhai_machine.specs.language.Frames.{LeftOperand, RightOperand, AndPart, OrPart, CoalescePart, AssignValue, WhileCondition}
 use Rattle.rhai_machine.specs.language.Frames.{WhileBody, DoCondition, DoBody, BreakValue, ReturnValue, ArrayItem, EntryValue, TextPart}
@@ -55,7 +55,7 @@ use Rattle.rhai_machine.specs.language.Expressions.{literal_of, argument_move, c
 use Rattle.rhai_machine.specs.language.Expressions.{coalesce_core, coalesce_seen, coalesce_next, expr_move}
 use Rattle.rhai_machine.specs.language.Calls.{operator_core, builtin_of, call_of, races, named_core, dispatch_core, fire_first, fire_move}
 use Rattle.rhai_machine.specs.language.Calls.{First, first_of, while_from, barred_call, question_first, question_move, call_native}
-use Rattle.rhai_machine.specs.language.Calls.{asks_function, replied, applied, sized, placed_if_none}
+use Rattle.rhai_machine.specs.language.Calls.{answered, asks_function, replied, applied, sized, placed_if_none}
 use Rattle.rhai_machine.specs.language.Arguments.{call_on, flattens, taken, numbered_core, arguments_there, arguments_core, on_variable}
 use Rattle.rhai_machine.specs.language.Arguments.{captured_move, named_move, operation_named, pointer_of, pointer_wanted, text_wanted}
 use Rattle.rhai_machine.specs.language.Arguments.{pointer_core, keyword_core, keyword_of, function_core, function_of, variable_in}
@@ -90,6 +90,7 @@ module _ {H : Type 0} where
   control_size (WhileTurn test body) = 7
   control_size (DoTurn test body options) = 10
   control_size (Back v) = 7
+  control_size (Changed v) = 8
   control_size (Fail e) = 10
 
   abbrev pub frame_size : Frame H → ℕ
@@ -130,6 +131,17 @@ module _ {H : Type 0} where
   result_falls : (r : Result (Dynamic H) (EvalAltResult H)) (n m : ℕ) → 10 + m < n → control_size (ended r) + m < n
   result_falls (Ok v) n m lt = omega (arith, lt)
   result_falls (Err e) n m lt = lt
+
+  mark_falls : (r : Result (Dynamic H) (EvalAltResult H)) (n m : ℕ) → 10 + m < n → control_size (changed r) + m < n
+  mark_falls (Ok v) n m lt = omega (arith, lt)
+  mark_falls (Err e) n m lt = lt
+
+  reply_falls : (marks : Bool) (reply : Reply H) (r : Result (Dynamic H) (EvalAltResult H)) (n m : ℕ) → 10 + m < n →
+      control_size (answered marks reply r) + m < n
+  reply_falls false reply r n m lt = result_falls r n m lt
+  reply_falls true (Gives v) r n m lt = mark_falls r n m lt
+  reply_falls true Missing r n m lt = result_falls r n m lt
+  reply_falls true (Faults e) r n m lt = result_falls r n m lt
 
   enter_size : (stmts : List Stmt) (restoring : Bool) (k : List (Frame H)) →
       control_size (Enter stmts restoring) + stack_size k ≤ 8 + stack_size k
@@ -287,7 +299,7 @@ module _ {H : Type 0} where
     native_falls : (call : Call H) (from : Option Place) (first : Option (Dynamic H)) (rest : List (Dynamic H)) (k : List (Frame H))
         (l : Local H) →
         Falls size (core (Fire call) k l) (call_native s call from first rest k l)
-    native_falls call from first rest k l reply left = result_falls
+    native_falls call from first rest k l reply left = reply_falls call.marks reply
         (replied s.limits s.host_type reply left rest call.operation (while_from from l.around.cells)) (11 + stack_size k)
         (stack_size k) (omega arith)
 
@@ -302,16 +314,16 @@ module _ {H : Type 0} where
     fire_falls call [] k l = native_falls call None None [] k l
     fire_falls call (x ∷ rest) k l = fire_first_falls call rest (first_of l.around.cells call x) k l
 
-    barred_call_falls : (barred : Bool) (call : Call H) (k : List (Frame H)) (l : Local H) →
-        size (barred_call s barred call k l) < 12 + stack_size k
-    barred_call_falls true call k l = omega arith
-    barred_call_falls false call k l = omega arith
+    barred_call_falls : (barred pure : Bool) (call : Call H) (k : List (Frame H)) (l : Local H) →
+        size (barred_call s barred pure call k l) < 12 + stack_size k
+    barred_call_falls true pure call k l = omega arith
+    barred_call_falls false pure call k l = omega arith
 
     question_first_falls : (call : Call H) (rest : List (Dynamic H)) (r : Result (First H) (EvalAltResult H)) (k : List (Frame H))
         (l : Local H) →
         Falls size (core (Question call) k l) (question_first s call rest r k l)
     question_first_falls call rest (Ok first) k l =
-        λ pure. barred_call_falls (is_some call.entry && is_barred pure first.value) call k l
+        λ pure. barred_call_falls (call.guarded && is_barred pure first.value) pure call k l
     question_first_falls call rest (Err e) k l = omega arith
 
     question_falls : (call : Call H) (args : List (Dynamic H)) (k : List (Frame H)) (l : Local H) →
@@ -685,6 +697,7 @@ module _ {H : Type 0} where
     control_falls (Store assignment v) k l = store_falls (target_of l.around.cells assignment.name assignment.at l.scope) assignment v k l
     control_falls (WhileTurn test body) k l = while_turn_falls (is_endless (out-Expr test)) body.statements test body k l
     control_falls (DoTurn test body options) k l = omega (arith, enter_size body.statements true k)
+    control_falls (Changed v) k l = omega arith
     control_falls (Back v) [] l = tt
     control_falls (Back v) (frame ∷ k) l = up_falls frame v k l
     control_falls (Fail e) [] l = tt

@@ -12,7 +12,7 @@ use Rattle.rhai_values.specs.Cells.{value_of_cell}
 use Rattle.rhai_state.specs.Scope.{name_of, value_of, value_in, index_of, found, revalued}
 use Rattle.rhai_machine.specs.language.State.{Local}
 use Rattle.rhai_machine.specs.language.Values.{Cells}
-use Rattle.rhai_machine.specs.language.Places.{Place, InEntry, InCell, Target, target, is_constant, unless_constant, target_in_cell}
+use Rattle.rhai_machine.specs.language.Places.{Place, InEntry, InCell, InFocus, Target, target, is_constant, unless_constant, target_in_cell}
 use Rattle.rhai_machine.specs.language.Places.{target_at, target_found, target_of, put}
 
 module _ {A : Type 0} where
@@ -54,6 +54,7 @@ module _ {H : Type 0} where
       (revalued_twice l.scope i (slice_get l.scope i) a b refl)
   put_twice (InCell n) a b l = ap (λ (cells : Cells H). record l { around = record l.around { cells = cells } })
       (set_twice l.around.cells n (Some a) (Some b))
+  put_twice InFocus a b l = refl
 
   revalued_names : (entries : List (ScopeEntry H)) (i : ℕ) (there : Option (ScopeEntry H)) (v : Dynamic H) → slice_get entries i ≡ there →
       map name_of (revalued entries i there v) ≡ map name_of entries
@@ -64,6 +65,7 @@ module _ {H : Type 0} where
   pub put_names : (place : Place) (v : Dynamic H) (l : Local H) → map name_of (put place v l).scope ≡ map name_of l.scope
   put_names (InEntry i) v l = revalued_names l.scope i (slice_get l.scope i) v refl
   put_names (InCell n) v l = refl
+  put_names InFocus v l = refl
 
   revalued_same : (entries : List (ScopeEntry H)) (i : ℕ) (there : Option (ScopeEntry H)) (v : Dynamic H) → slice_get entries i ≡ there →
       option_map value_of there ≡ Some v → revalued entries i there v ≡ entries

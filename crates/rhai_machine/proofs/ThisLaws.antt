@@ -42,7 +42,7 @@ use Rattle.rhai_state.specs.Native.{Reply, Missing, Gives, Faults, Named, OfName
 use Rattle.rhai_machine.specs.language.Frames.{Operation, Call, Attempt, InPlace, AsValue, Assignment, Update, Control, Frame, Core, core}
 use Rattle.rhai_machine.specs.language.Frames.{where_there, on_value, ended, Eval, Exec, Ask, Assign, AskUpdate}
 use Rattle.rhai_machine.specs.language.Frames.{Argument, CallNamed, Question, Fire, QuestionUpdate, FireUpdate}
-use Rattle.rhai_machine.specs.language.Frames.{OpenExpr, OpenStmt, Enter, Run, Store, WhileTurn, DoTurn, Back, Fail, StatementValue}
+use Rattle.rhai_machine.specs.language.Frames.{OpenExpr, OpenStmt, Enter, Run, Store, WhileTurn, DoTurn, Back, Changed, Fail, StatementValue}
 use Rattle.rhai_machine.specs.language.Frames.{DefineValue, IfCondition, RestOfList, RestoreList, Top, UnaryOperand, LeftOperand}
 use Rattle.rhai_machine.specs.language.Frames.{RightOperand, AndPart, OrPart, CoalescePart, AssignValue, WhileCondition, WhileBody}
 use Rattle.rhai_machine.specs.language.Frames.{DoCondition, DoBody, BreakValue, ReturnValue, ArrayItem, EntryValue, TextPart}
@@ -50,7 +50,7 @@ use Rattle.rhai_machine.specs.language.Frames.{PrintedPart, CallArgument, Keywor
 use Rattle.rhai_machine.specs.language.Frames.{Keyword, CallPointer, MakePointer, Curry, IsShared, IsDefinedVariable}
 use Rattle.rhai_machine.specs.language.Data.{with_item, with_value, with_part, items_core, entries_core, parts_core, part_core}
 use Rattle.rhai_machine.specs.language.Data.{joined_core, printed, unprinted_core}
-use Rattle.rhai_machine.specs.language.Places.{Place, InEntry, InCell, Target, is_barred, put, target_of, while_lent}
+use Rattle.rhai_machine.specs.language.Places.{Place, InEntry, InCell, InFocus, Target, is_barred, put, target_of, while_lent}
 use Rattle.rhai_machine.specs.language.Assignment.{assignment_move, written_core, done, if_fast, left_in, update_core}
 use Rattle.rhai_machine.specs.language.Assignment.{assign_core, store_core, changed_core, fault_core, value_core, answered_core}
 use Rattle.rhai_machine.specs.language.Assignment.{barred_core, question_update, lent_core, call_update, fire_update}
@@ -60,7 +60,7 @@ use Rattle.rhai_machine.specs.language.Expressions.{literal_of, argument_move, c
 use Rattle.rhai_machine.specs.language.Expressions.{or_next, coalesce_core, coalesce_seen, coalesce_next}
 use Rattle.rhai_machine.specs.language.Calls.{operator_core, builtin_of, call_of, races, named_core, dispatch_core, fire_first, fire_move}
 use Rattle.rhai_machine.specs.language.Calls.{First, first_of, while_from, put_left, key_of as native_key, barred_call, question_first}
-use Rattle.rhai_machine.specs.language.Calls.{question_move, call_native, asks_function, replied, applied, sized, placed_if_none}
+use Rattle.rhai_machine.specs.language.Calls.{answered, question_move, call_native, asks_function, replied, applied, sized, placed_if_none}
 use Rattle.rhai_machine.specs.language.Arguments.{call_on, flattens, taken, numbered_core, arguments_there, arguments_core, on_variable}
 use Rattle.rhai_machine.specs.language.Arguments.{captured_move, named_move, operation_named, pointer_wanted, text_wanted}
 use Rattle.rhai_machine.specs.language.Arguments.{pointer_core, keyword_core, keyword_of, function_core, variable_in}
@@ -175,6 +175,7 @@ module _ {H : Type 0} (t : Option (Dynamic H)) where
     put_same : (place : Place) (v : Dynamic H) (l : Local H) → put place v (with_local l) ≡ with_local (put place v l)
     put_same (InEntry index) v l = refl
     put_same (InCell number) v l = refl
+    put_same InFocus v l = refl
 
     there_same : (there : Bool) (c d : Core H) → c ≡ in_core d → where_there there c ≡ in_move (where_there there d)
     there_same true c d is = ap Go is
@@ -360,7 +361,7 @@ module _ {H : Type 0} (t : Option (Dynamic H)) where
     native_same call from first rest k l = ap
         (Native (request (while_from from l.around.cells) (native_key call) first rest call.operation.at))
         (fun_ext (λ reply. fun_ext (λ left. ap (core
-        (ended (replied s.limits s.host_type reply left rest call.operation (while_from from l.around.cells))) k)
+        (answered call.marks reply (replied s.limits s.host_type reply left rest call.operation (while_from from l.around.cells))) k)
         (put_left_same from left l))))
 
     fire_first_same : (call : Call H) (rest : List (Dynamic H)) (r : Result (First H) (EvalAltResult H)) (k : List (Frame H))
@@ -374,17 +375,17 @@ module _ {H : Type 0} (t : Option (Dynamic H)) where
     fire_same call [] k l = native_same call None None [] k l
     fire_same call (x ∷ rest) k l = fire_first_same call rest (first_of l.around.cells call x) k l
 
-    barred_call_same : (barred : Bool) (call : Call H) (k : List (Frame H)) (l : Local H) →
-        barred_call s barred call k (with_local l) ≡ in_core (barred_call s barred call k l)
-    barred_call_same true call k l = refl
-    barred_call_same false call k l = refl
+    barred_call_same : (barred pure : Bool) (call : Call H) (k : List (Frame H)) (l : Local H) →
+        barred_call s barred pure call k (with_local l) ≡ in_core (barred_call s barred pure call k l)
+    barred_call_same true pure call k l = refl
+    barred_call_same false pure call k l = refl
 
     question_first_same : (call : Call H) (rest : List (Dynamic H)) (r : Result (First H) (EvalAltResult H)) (k : List (Frame H))
         (l : Local H) →
         question_first s call rest r k (with_local l) ≡ in_move (question_first s call rest r k l)
     question_first_same call rest (Ok first) k l = ap
         (AskPure (purity_of (native_key call) (type_name_of s.host_type l.around.cells first.value) (1 + length rest)))
-        (fun_ext (λ pure. barred_call_same (is_some call.entry && is_barred pure first.value) call k l))
+        (fun_ext (λ pure. barred_call_same (call.guarded && is_barred pure first.value) pure call k l))
     question_first_same call rest (Err e) k l = refl
 
     question_call_same : (call : Call H) (args : List (Dynamic H)) (k : List (Frame H)) (l : Local H) →
@@ -552,6 +553,7 @@ module _ {H : Type 0} (t : Option (Dynamic H)) where
     move_same (OpenStmt form restoring) k l = stmt_same form restoring k l
     move_same (Enter stmts restoring) k l = ap Go (enter_same stmts restoring k l)
     move_same (Run stmts restoring last) k l = ap Go (run_same stmts restoring last k l)
+    move_same (Changed v) k l = refl
     move_same (Back v) [] l = refl
     move_same (Back v) (frame ∷ k) l = ap Go (up_same frame v k l)
     move_same (Fail e) [] l = refl

@@ -19,7 +19,7 @@ use Rattle.rhai_machine.specs.machine.Machine.{Go}
 use Rattle.rhai_machine.specs.machine.Memory.{here, next, ◌⨾◌}
 use Rattle.rhai_machine.specs.machine.Point.{after}
 use Rattle.rhai_machine.specs.language.Setting.{Rules, limit_under}
-use Rattle.rhai_machine.specs.language.State.{Local, State}
+use Rattle.rhai_machine.specs.language.State.{Held, Local, State}
 use Rattle.rhai_machine.specs.language.Values.{bool_value}
 use Rattle.rhai_machine.specs.language.Unwinding.{down_core}
 use Rattle.rhai_machine.specs.language.Frames.{Frame, core, Eval, OpenExpr, Fail, IfCondition}
@@ -46,7 +46,7 @@ module _ {S H : Type 0} (rules : Rules S H) where
       Goes rules (at (Fail x) (f ∷ k) l) (at (Fail x) k l)
   passes_on f pos is x k l = step_by rules _ _ (Go (core (Fail x) k l.local)) (ap Go (truth_passes f pos is x k l.local)) here
 
-  module _ (t : S) (scope : Scope H) (this : Option (Dynamic H)) (test : Expr) (call : FnCallExpr) (token : Token) (left right : Expr)
+  module _ (t : S) (scope : Scope H) (held : Held H) (test : Expr) (call : FnCallExpr) (token : Token) (left right : Expr)
       (pos : Position) (x y : Dynamic H) (fast : rules.setting.offer.fast_operators ≡ true)
       (form : out-Expr test ≡ layer.Expr::FnCall call pos) (is_token : call.op_token ≡ Some token) (args : call.args ≡ left ∷ right ∷ [])
       (resolves_left : IsTrue (resolves_expr left (names_in scope))) (resolves_right : IsTrue (resolves_expr right (names_in scope)))
@@ -55,62 +55,62 @@ module _ {S H : Type 0} (rules : Rules S H) where
     -- the condition is refused
     pub test_refused : (old new : GlobalRuntimeState H) (e : EvalAltResult H) → limit_under rules ≤ old.num_operations →
         e ≡ error.ErrorTooManyOperations pos → new ≡ old →
-        Tests rules test (state_of t old scope this) (Err e) (state_of t new scope this)
+        Tests rules test (state_of t old scope held) (Err e) (state_of t new scope held)
     unfolding Tests
     test_refused old new e full is same f k asks =
-        refused rules t old new scope this (Eval test) (OpenExpr (out-Expr test)) (position_of test) (λ k. refl) e full (rw form is) same
+        refused rules t old new scope held (Eval test) (OpenExpr (out-Expr test)) (position_of test) (λ k. refl) e full (rw form is) same
         (f ∷ k)
-        ⨾ passes_on f (position_of test) asks e k (state_of t new scope this)
+        ⨾ passes_on f (position_of test) asks e k (state_of t new scope held)
 
     module _ (old first : GlobalRuntimeState H) (room : old.num_operations < limit_under rules)
         (is : first ≡ record old { num_operations = old.num_operations + 1 }) where
       -- or begins
       test_begins : (k : List (Frame H)) →
-          Goes rules (at (Eval test) k (state_of t old scope this)) (at (OpenExpr (layer.Expr::FnCall call pos)) k (state_of t first
-          scope this))
-      test_begins k = charged rules t old first scope this (Eval test) (OpenExpr (layer.Expr::FnCall call pos)) (position_of test)
+          Goes rules (at (Eval test) k (state_of t old scope held)) (at (OpenExpr (layer.Expr::FnCall call pos)) k (state_of t first
+          scope held))
+      test_begins k = charged rules t old first scope held (Eval test) (OpenExpr (layer.Expr::FnCall call pos)) (position_of test)
           (λ k. rw form refl) room is k
 
       -- an operand is refused
       pub test_left_refused : (new : GlobalRuntimeState H) (e : EvalAltResult H) → limit_under rules ≤ first.num_operations →
           e ≡ error.ErrorTooManyOperations (position_of left) → new ≡ first →
-          Tests rules test (state_of t old scope this) (Err e) (state_of t new scope this)
+          Tests rules test (state_of t old scope held) (Err e) (state_of t new scope held)
       unfolding Tests
       test_left_refused new e full refusal same f k asks =
           test_begins (f ∷ k)
-          ⨾ left_refused rules t scope this call token left right pos x y (f ∷ k) fast is_token args resolves_left resolves_right
+          ⨾ left_refused rules t scope held call token left right pos x y (f ∷ k) fast is_token args resolves_left resolves_right
           left_stands
           right_stands first new e full refusal same
-          ⨾ passes_on f (position_of test) asks e k (state_of t new scope this)
+          ⨾ passes_on f (position_of test) asks e k (state_of t new scope held)
 
       module _ (second : GlobalRuntimeState H) (more : first.num_operations < limit_under rules)
           (then : second ≡ record first { num_operations = first.num_operations + 1 }) where
         pub test_right_refused : (new : GlobalRuntimeState H) (e : EvalAltResult H) → limit_under rules ≤ second.num_operations →
             e ≡ error.ErrorTooManyOperations (position_of right) → new ≡ second →
-            Tests rules test (state_of t old scope this) (Err e) (state_of t new scope this)
+            Tests rules test (state_of t old scope held) (Err e) (state_of t new scope held)
         unfolding Tests
         test_right_refused new e full refusal same f k asks =
             test_begins (f ∷ k)
-            ⨾ right_refused rules t scope this call token left right pos x y (f ∷ k) fast is_token args resolves_left resolves_right
+            ⨾ right_refused rules t scope held call token left right pos x y (f ∷ k) fast is_token args resolves_left resolves_right
             left_stands right_stands first second new more then e full refusal same
-            ⨾ passes_on f (position_of test) asks e k (state_of t new scope this)
+            ⨾ passes_on f (position_of test) asks e k (state_of t new scope held)
 
         -- or the operator says whether it holds
         pub test_holds : (new : GlobalRuntimeState H) → second.num_operations < limit_under rules →
             new ≡ record second { num_operations = second.num_operations + 1 } →
             (holds : Bool) → binary_of token x y ≡ Some (Ok (bool_value holds)) →
-            Tests rules test (state_of t old scope this) (Ok holds) (state_of t new scope this)
+            Tests rules test (state_of t old scope held) (Ok holds) (state_of t new scope held)
         unfolding after Tests
         test_holds new most last holds is f k asks =
             test_begins (f ∷ k)
-            ⨾ compares rules t scope this call token left right pos x y (f ∷ k) fast is_token args resolves_left resolves_right
+            ⨾ compares rules t scope held call token left right pos x y (f ∷ k) fast is_token args resolves_left resolves_right
             left_stands right_stands first second new more then most last holds is
             ⨾ next here
 
     -- the operator says whether it holds, and its charge and those of its operands are taken at once
     pub test_holds_at_once : (old new : GlobalRuntimeState H) → old.num_operations + 3 ≤ limit_under rules →
         new ≡ record old { num_operations = old.num_operations + 3 } → (holds : Bool) → binary_of token x y ≡ Some (Ok (bool_value holds)) →
-        Tests rules test (state_of t old scope this) (Ok holds) (state_of t new scope this)
+        Tests rules test (state_of t old scope held) (Ok holds) (state_of t new scope held)
     test_holds_at_once old new room is holds says =
         let first = record old { num_operations = old.num_operations + 1 } in
         let second = record first { num_operations = first.num_operations + 1 } in
@@ -118,9 +118,9 @@ module _ {S H : Type 0} (rules : Rules S H) where
         (is ∙ ap (λ (n : ℕ). record old { num_operations = n }) (omega arith)) holds says
 
   -- what starts in a state that is the same
-  pub from_same : (t : S) (scope : Scope H) (this : Option (Dynamic H)) (test : Expr) (old mid new : GlobalRuntimeState H) (r : Result Bool
+  pub from_same : (t : S) (scope : Scope H) (held : Held H) (test : Expr) (old mid new : GlobalRuntimeState H) (r : Result Bool
       (EvalAltResult H)) →
-      mid ≡ old → Tests rules test (state_of t mid scope this) r (state_of t new scope this) →
-      Tests rules test (state_of t old scope this) r (state_of t new scope this)
-  from_same t scope this test old mid new r is tests =
-      subst (λ (g : GlobalRuntimeState H). Tests rules test (state_of t g scope this) r (state_of t new scope this)) is tests
+      mid ≡ old → Tests rules test (state_of t mid scope held) r (state_of t new scope held) →
+      Tests rules test (state_of t old scope held) r (state_of t new scope held)
+  from_same t scope held test old mid new r is tests =
+      subst (λ (g : GlobalRuntimeState H). Tests rules test (state_of t g scope held) r (state_of t new scope held)) is tests

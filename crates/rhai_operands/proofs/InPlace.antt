@@ -32,7 +32,7 @@ use Rattle.rhai_machine.specs.machine.Machine.{Go}
 use Rattle.rhai_machine.specs.machine.Memory.{here, next, ◌⨾◌}
 use Rattle.rhai_machine.specs.machine.Point.{after}
 use Rattle.rhai_machine.specs.language.Setting.{Rules, limit_under}
-use Rattle.rhai_machine.specs.language.State.{State, Answers}
+use Rattle.rhai_machine.specs.language.State.{Held, State, Answers}
 use Rattle.rhai_machine.specs.language.Values.{Cells, bool_value, flat_union, is_handle}
 use Rattle.rhai_machine.specs.language.Calls.{applied, call_at, operation_at, operator_core, sized_by}
 use Rattle.rhai_machine.specs.language.Frames.{Operation, Call, Frame, core, on_value, ended}
@@ -217,7 +217,7 @@ module _ {H : Type 0} (token : Token) where
   known_stands (Some x) None holds is = one_known H token (integer_in x.value) holds is
   known_stands (Some x) (Some y) holds is = known_at x.value y.value holds is
 
-module _ {S H : Type 0} (rules : Rules S H) (t : S) (scope : Scope H) (this : Option (Dynamic H)) (call : FnCallExpr) (token : Token)
+module _ {S H : Type 0} (rules : Rules S H) (t : S) (scope : Scope H) (held : Held H) (call : FnCallExpr) (token : Token)
     (left right : Expr) (pos : Position) (x y : Dynamic H) (k : List (Frame H)) (fast : rules.setting.offer.fast_operators ≡ true)
     (is_token : call.op_token ≡ Some token) (args : call.args ≡ left ∷ right ∷ [])
     (resolves_left : IsTrue (resolves_expr left (names_in scope))) (resolves_right : IsTrue (resolves_expr right (names_in scope)))
@@ -241,24 +241,24 @@ module _ {S H : Type 0} (rules : Rules S H) (t : S) (scope : Scope H) (this : Op
       -- the left operand is refused
       pub left_refused : (e : EvalAltResult H) → limit_under rules ≤ old.num_operations →
           e ≡ error.ErrorTooManyOperations (position_of left) → new ≡ old →
-          Goes rules (at (OpenExpr (layer.Expr::FnCall call pos)) k (state_of t old scope this)) (at (Fail e) k (state_of t new scope
-          this))
+          Goes rules (at (OpenExpr (layer.Expr::FnCall call pos)) k (state_of t old scope held)) (at (Fail e) k (state_of t new scope
+          held))
       unfolding after
       left_refused e full is same =
-          opens_binary rules call token left right pos k (state_of t old scope this) fast is_token args
-          ⨾ argument_refused rules left x t old new scope this resolves_left left_stands e full is same on_left ⨾ next here
+          opens_binary rules call token left right pos k (state_of t old scope held) fast is_token args
+          ⨾ argument_refused rules left x t old new scope held resolves_left left_stands e full is same on_left ⨾ next here
 
       -- or there
       left_there : old.num_operations < limit_under rules → new ≡ record old { num_operations = old.num_operations + 1 } →
-          Goes rules (at (OpenExpr (layer.Expr::FnCall call pos)) k (state_of t old scope this))
-          (at (Argument right) on_right (state_of t new scope this))
+          Goes rules (at (OpenExpr (layer.Expr::FnCall call pos)) k (state_of t old scope held))
+          (at (Argument right) on_right (state_of t new scope held))
       left_there room is =
-          opens_binary rules call token left right pos k (state_of t old scope this) fast is_token args
-          ⨾ argument_goes rules left x t old new scope this resolves_left left_stands room is on_left
-          ⨾ step_by rules _ _ (Go (core (Argument right) on_right (state_of t new scope this).local))
+          opens_binary rules call token left right pos k (state_of t old scope held) fast is_token args
+          ⨾ argument_goes rules left x t old new scope held resolves_left left_stands room is on_left
+          ⨾ step_by rules _ _ (Go (core (Argument right) on_right (state_of t new scope held).local))
           (ap (λ (r : Result (Dynamic H) (EvalAltResult H)). Go (on_value r
-          (λ v. core (Argument right) (RightOperand operation v (position_of right) ∷ k) (state_of t new scope this).local) k
-          (state_of t new scope this).local)) (flat_copy (state_of t new scope this).local.around.cells x.value (copy_of x)
+          (λ v. core (Argument right) (RightOperand operation v (position_of right) ∷ k) (state_of t new scope held).local) k
+          (state_of t new scope held).local)) (flat_copy (state_of t new scope held).local.around.cells x.value (copy_of x)
           (position_of left)
           (standing_plain (out-Expr left) (entries_of scope) x left_stands))) here
 
@@ -267,41 +267,41 @@ module _ {S H : Type 0} (rules : Rules S H) (t : S) (scope : Scope H) (this : Op
       -- the right operand is refused
       pub right_refused : (e : EvalAltResult H) → limit_under rules ≤ mid.num_operations →
           e ≡ error.ErrorTooManyOperations (position_of right) → new ≡ mid →
-          Goes rules (at (OpenExpr (layer.Expr::FnCall call pos)) k (state_of t old scope this)) (at (Fail e) k (state_of t new scope
-          this))
+          Goes rules (at (OpenExpr (layer.Expr::FnCall call pos)) k (state_of t old scope held)) (at (Fail e) k (state_of t new scope
+          held))
       unfolding after
       right_refused e full refusal same =
           left_there old mid room is
-          ⨾ argument_refused rules right y t mid new scope this resolves_right right_stands e full refusal same on_right ⨾ next here
+          ⨾ argument_refused rules right y t mid new scope held resolves_right right_stands e full refusal same on_right ⨾ next here
 
       module _ (more : mid.num_operations < limit_under rules) (last : new ≡ record mid { num_operations = mid.num_operations + 1 }) where
         -- or there, and the operator comes
-        both_there : Goes rules (at (OpenExpr (layer.Expr::FnCall call pos)) k (state_of t old scope this))
-            (with_core (operator_core rules.setting (binary_of token (copy_of x) (copy_of y)) made k (state_of t new scope this).local)
-            (state_of t new scope this))
+        both_there : Goes rules (at (OpenExpr (layer.Expr::FnCall call pos)) k (state_of t old scope held))
+            (with_core (operator_core rules.setting (binary_of token (copy_of x) (copy_of y)) made k (state_of t new scope held).local)
+            (state_of t new scope held))
         both_there =
             left_there old mid room is
-            ⨾ argument_goes rules right y t mid new scope this resolves_right right_stands more last on_right
+            ⨾ argument_goes rules right y t mid new scope held resolves_right right_stands more last on_right
             ⨾ step_by rules _ _ (Go (operator_core rules.setting (binary_of token (copy_of x) (copy_of y)) made k
-            (state_of t new scope this).local))
+            (state_of t new scope held).local))
             (ap (λ (r : Result (Dynamic H) (EvalAltResult H)). Go (on_value r
             (λ v. operator_core rules.setting (binary_of token (copy_of x) v) (call_at call.name token pos (copy_of x ∷ v ∷ [])) k
-            (state_of t new scope this).local) k (state_of t new scope this).local))
-            (flat_copy (state_of t new scope this).local.around.cells y.value (copy_of y) (position_of right)
+            (state_of t new scope held).local) k (state_of t new scope held).local))
+            (flat_copy (state_of t new scope held).local.around.cells y.value (copy_of y) (position_of right)
             (standing_plain (out-Expr right) (entries_of scope) y right_stands))) here
 
         -- what it gives, applied at the operator
         pub operates : (answer : operators.Answer H) (outcome result : Result (Dynamic H) (EvalAltResult H)) →
             (operators.HasMemory answer → answer ≡ binary_of token x y) → answer ≡ Some outcome →
             Answers result (applied rules.setting.limits outcome pos) →
-            Goes rules (at (OpenExpr (layer.Expr::FnCall call pos)) k (state_of t old scope this))
-            (at (ended result) k (state_of t new scope this))
+            Goes rules (at (OpenExpr (layer.Expr::FnCall call pos)) k (state_of t old scope held))
+            (at (ended result) k (state_of t new scope held))
         operates answer outcome result value is answers = both_there
-            ⨾ built rules made k (state_of t new scope this) answer (binary_of token (copy_of x) (copy_of y)) outcome result
+            ⨾ built rules made k (state_of t new scope held) answer (binary_of token (copy_of x) (copy_of y)) outcome result
             (λ m. value m ∙ sym (binary_copied token x y)) is answers
 
         -- a truth value
         pub compares : (holds : Bool) → binary_of token x y ≡ Some (Ok (bool_value holds)) →
-            Goes rules (at (OpenExpr (layer.Expr::FnCall call pos)) k (state_of t old scope this))
-            (at (Back (bool_value holds)) k (state_of t new scope this))
+            Goes rules (at (OpenExpr (layer.Expr::FnCall call pos)) k (state_of t old scope held))
+            (at (Back (bool_value holds)) k (state_of t new scope held))
         compares holds is = both_there ⨾ rw (binary_copied token x y, is, truth_sized H rules.setting.limits holds pos) here

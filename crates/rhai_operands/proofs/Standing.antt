@@ -18,6 +18,7 @@ use Rattle.rhai_state.specs.declared.state.GlobalRuntimeState.{GlobalRuntimeStat
 use Rattle.rhai_state.specs.declared.error.EvalAltResult.{EvalAltResult}
 use Rattle.rhai_state.specs.declared.error.EvalAltResult.TheVariants as error
 use Rattle.rhai_state.specs.Scope.{entries_of, names_in, found}
+use Rattle.rhai_machine.specs.language.State.{Held}
 use Rattle.rhai_machine.specs.machine.Machine.{Go}
 use Rattle.rhai_machine.specs.machine.Memory.{here, next, ◌⨾◌}
 use Rattle.rhai_machine.specs.machine.Point.{after}
@@ -81,79 +82,79 @@ literal_starts e _ w is literal = cc
 module _ {S H : Type 0} (rules : Rules S H) where
   -- its form, once it is charged, gives its value
   opens_standing : (e : Expr) (form : ExprLayer) (v : Dynamic H) (k : List (Frame H)) (t : S) (g : GlobalRuntimeState H) (scope : Scope H)
-      (this : Option (Dynamic H)) →
+      (held : Held H) →
       out-Expr e ≡ form → IsTrue (resolves_expr e (names_in scope)) → standing form (entries_of scope) ≡ Some v →
-      Goes rules (at (OpenExpr form) k (state_of t g scope this)) (at (Back (copy_of v)) k (state_of t g scope this))
+      Goes rules (at (OpenExpr form) k (state_of t g scope held)) (at (Back (copy_of v)) k (state_of t g scope held))
   unfolding after
-  opens_standing e (layer.BoolConstant b pos) v k t g scope this is resolves stands = let same : bool_value b ≡ v = cc in rw (← same)
+  opens_standing e (layer.BoolConstant b pos) v k t g scope held is resolves stands = let same : bool_value b ≡ v = cc in rw (← same)
       (next here)
-  opens_standing e (layer.IntegerConstant n pos) v k t g scope this is resolves stands =
+  opens_standing e (layer.IntegerConstant n pos) v k t g scope held is resolves stands =
       let same : plain (value.Int n) ≡ v = cc in rw (← same) (next here)
-  opens_standing e (layer.CharConstant c pos) v k t g scope this is resolves stands =
+  opens_standing e (layer.CharConstant c pos) v k t g scope held is resolves stands =
       let same : plain (value.Char c) ≡ v = cc in rw (← same) (next here)
-  opens_standing e (layer.Unit pos) v k t g scope this is resolves stands = let same : unit_value ≡ v = cc in rw (← same) (next here)
-  opens_standing e (layer.Variable offset name namespace pos) v k t g scope this is resolves stands =
-      step_by rules _ _ (Go (core (Back (copy_of v)) k (state_of t g scope this).local))
+  opens_standing e (layer.Unit pos) v k t g scope held is resolves stands = let same : unit_value ≡ v = cc in rw (← same) (next here)
+  opens_standing e (layer.Variable offset name namespace pos) v k t g scope held is resolves stands =
+      step_by rules _ _ (Go (core (Back (copy_of v)) k (state_of t g scope held).local))
       (rw (
         plain_name e offset name namespace pos (names_in scope) is resolves,
-        reads_standing (state_of t g scope this).local.around.cells
+        reads_standing (state_of t g scope held).local.around.cells
             name pos (entries_of scope) v stands,
       ) refl) here
-  opens_standing e _ v k t g scope this is resolves stands = cc
+  opens_standing e _ v k t g scope held is resolves stands = cc
 
-  module _ (e : Expr) (v : Dynamic H) (t : S) (old new : GlobalRuntimeState H) (scope : Scope H) (this : Option (Dynamic H))
+  module _ (e : Expr) (v : Dynamic H) (t : S) (old new : GlobalRuntimeState H) (scope : Scope H) (held : Held H)
       (resolves : IsTrue (resolves_expr e (names_in scope))) (stands : standing (out-Expr e) (entries_of scope) ≡ Some v) where
     module _ (room : old.num_operations < limit_under rules) (is : new ≡ record old { num_operations = old.num_operations + 1 }) where
       -- an expression that stands is charged, and there
       pub value_goes : (k : List (Frame H)) →
-          Goes rules (at (Eval e) k (state_of t old scope this)) (at (Back (copy_of v)) k (state_of t new scope this))
-      value_goes k = charged rules t old new scope this (Eval e) (OpenExpr (out-Expr e)) (position_of e) (λ k. refl) room is k
-          ⨾ opens_standing e (out-Expr e) v k t new scope this refl resolves stands
+          Goes rules (at (Eval e) k (state_of t old scope held)) (at (Back (copy_of v)) k (state_of t new scope held))
+      value_goes k = charged rules t old new scope held (Eval e) (OpenExpr (out-Expr e)) (position_of e) (λ k. refl) room is k
+          ⨾ opens_standing e (out-Expr e) v k t new scope held refl resolves stands
 
       argument_by : (form : ExprLayer) → out-Expr e ≡ form → standing form (entries_of scope) ≡ Some v → (k : List (Frame H)) →
-          Goes rules (at (Argument e) k (state_of t old scope this)) (at (Back (copy_of v)) k (state_of t new scope this))
+          Goes rules (at (Argument e) k (state_of t old scope held)) (at (Back (copy_of v)) k (state_of t new scope held))
       argument_by (layer.BoolConstant b pos) form stand k = let same : bool_value b ≡ v = cc in rw (← same)
-          (charged rules t old new scope this (Argument e) (Back (bool_value b)) (start_of e) (λ k. rw form refl) room is k)
+          (charged rules t old new scope held (Argument e) (Back (bool_value b)) (start_of e) (λ k. rw form refl) room is k)
       argument_by (layer.IntegerConstant n pos) form stand k = let same : plain (value.Int n) ≡ v = cc in rw (← same)
-          (charged rules t old new scope this (Argument e) (Back (plain (value.Int n))) (start_of e) (λ k. rw form refl) room is k)
+          (charged rules t old new scope held (Argument e) (Back (plain (value.Int n))) (start_of e) (λ k. rw form refl) room is k)
       argument_by (layer.CharConstant c pos) form stand k = let same : plain (value.Char c) ≡ v = cc in rw (← same)
-          (charged rules t old new scope this (Argument e) (Back (plain (value.Char c))) (start_of e) (λ k. rw form refl) room is k)
+          (charged rules t old new scope held (Argument e) (Back (plain (value.Char c))) (start_of e) (λ k. rw form refl) room is k)
       argument_by (layer.Unit pos) form stand k = let same : unit_value ≡ v = cc in rw (← same)
-          (charged rules t old new scope this (Argument e) (Back unit_value) (start_of e) (λ k. rw form refl) room is k)
+          (charged rules t old new scope held (Argument e) (Back unit_value) (start_of e) (λ k. rw form refl) room is k)
       argument_by (layer.Variable offset name namespace pos) form stand k =
-          step_by rules _ _ (Go (core (Eval e) k (state_of t old scope this).local)) (rw form refl) (value_goes k)
+          step_by rules _ _ (Go (core (Eval e) k (state_of t old scope held).local)) (rw form refl) (value_goes k)
       argument_by _ form stand k = cc
 
       -- so is an argument
       pub argument_goes : (k : List (Frame H)) →
-          Goes rules (at (Argument e) k (state_of t old scope this)) (at (Back (copy_of v)) k (state_of t new scope this))
+          Goes rules (at (Argument e) k (state_of t old scope held)) (at (Back (copy_of v)) k (state_of t new scope held))
       argument_goes k = argument_by (out-Expr e) refl stands k
 
     module _ (x : EvalAltResult H) (full : limit_under rules ≤ old.num_operations) (is : x ≡ error.ErrorTooManyOperations (position_of e))
         (same : new ≡ old) where
       -- or its charge is refused
       pub value_refused : (k : List (Frame H)) →
-          Goes rules (at (Eval e) k (state_of t old scope this)) (at (Fail x) k (state_of t new scope this))
-      value_refused k = refused rules t old new scope this (Eval e) (OpenExpr (out-Expr e)) (position_of e) (λ k. refl) x full is same k
+          Goes rules (at (Eval e) k (state_of t old scope held)) (at (Fail x) k (state_of t new scope held))
+      value_refused k = refused rules t old new scope held (Eval e) (OpenExpr (out-Expr e)) (position_of e) (λ k. refl) x full is same k
 
       refused_by : (form : ExprLayer) → out-Expr e ≡ form → standing form (entries_of scope) ≡ Some v → (k : List (Frame H)) →
-          Goes rules (at (Argument e) k (state_of t old scope this)) (at (Fail x) k (state_of t new scope this))
-      refused_by (layer.BoolConstant b pos) form stand k = refused rules t old new scope this (Argument e) (Back (bool_value b))
+          Goes rules (at (Argument e) k (state_of t old scope held)) (at (Fail x) k (state_of t new scope held))
+      refused_by (layer.BoolConstant b pos) form stand k = refused rules t old new scope held (Argument e) (Back (bool_value b))
           (start_of e)
           (λ k. rw form refl) x full (rw (literal_starts {H = H} e (layer.BoolConstant b pos) (bool_value b) form refl) is) same k
-      refused_by (layer.IntegerConstant n pos) form stand k = refused rules t old new scope this (Argument e) (Back (plain (value.Int n)))
+      refused_by (layer.IntegerConstant n pos) form stand k = refused rules t old new scope held (Argument e) (Back (plain (value.Int n)))
           (start_of e) (λ k. rw form refl) x full (rw (literal_starts {H = H} e (layer.IntegerConstant n pos) (plain (value.Int n))
           form refl) is)
           same k
-      refused_by (layer.CharConstant c pos) form stand k = refused rules t old new scope this (Argument e) (Back (plain (value.Char c)))
+      refused_by (layer.CharConstant c pos) form stand k = refused rules t old new scope held (Argument e) (Back (plain (value.Char c)))
           (start_of e) (λ k. rw form refl) x full (rw (literal_starts {H = H} e (layer.CharConstant c pos) (plain (value.Char c))
           form refl) is) same k
-      refused_by (layer.Unit pos) form stand k = refused rules t old new scope this (Argument e) (Back unit_value) (start_of e)
+      refused_by (layer.Unit pos) form stand k = refused rules t old new scope held (Argument e) (Back unit_value) (start_of e)
           (λ k. rw form refl) x full (rw (literal_starts {H = H} e (layer.Unit pos) unit_value form refl) is) same k
       refused_by (layer.Variable offset name namespace pos) form stand k =
-          step_by rules _ _ (Go (core (Eval e) k (state_of t old scope this).local)) (rw form refl) (value_refused k)
+          step_by rules _ _ (Go (core (Eval e) k (state_of t old scope held).local)) (rw form refl) (value_refused k)
       refused_by _ form stand k = cc
 
       pub argument_refused : (k : List (Frame H)) →
-          Goes rules (at (Argument e) k (state_of t old scope this)) (at (Fail x) k (state_of t new scope this))
+          Goes rules (at (Argument e) k (state_of t old scope held)) (at (Fail x) k (state_of t new scope held))
       argument_refused k = refused_by (out-Expr e) refl stands k

@@ -72,10 +72,10 @@ pub fn literal_arg<H: Host, T: NativeTable<H>>(
     ensures left_alone { result ≡ None → global.new ≡ global.old }
     ensures charges { IfSome result (λ result. OnOk result
         (global.old.num_operations < global.new.num_operations)) }
-    ensures runs { (offer : _) (scope : _) (this : _) →
+    ensures runs { (offer : _) (scope : _) (held : _) →
         IfSome result (λ result. Runs (rules_of limits.now H.name_of offer T.natives) (Argument arg.now)
-        (state_of (T.state _table.now) global.old scope this)
-        result (state_of (T.state _table.now) global.new scope this)) }
+        (state_of (T.state _table.now) global.old scope held)
+        result (state_of (T.state _table.now) global.new scope held)) }
 {
     if !is_literal::<H>(arg) {
         return None;

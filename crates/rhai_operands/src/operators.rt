@@ -57,11 +57,11 @@ pub fn operate_in_place<H: Host, T: NativeTable<H>>(
         (standing (out-Expr right.now) (entries_of scope.now))) }
     ensures left_alone { result ≡ None → global.new ≡ global.old }
     ensures counts { global.old.num_operations ≤ global.new.num_operations }
-    ensures runs { (offer : _) (this : _) → offer.fast_operators ≡ true →
+    ensures runs { (offer : _) (held : _) → offer.fast_operators ≡ true →
         IfSome result (λ result. Runs (rules_of limits.now H.name_of offer T.natives)
         (OpenExpr (layer.Expr::FnCall call.now pos))
-        (state_of (T.state _table.now) global.old scope.now this)
-        result (state_of (T.state _table.now) global.new scope.now this)) }
+        (state_of (T.state _table.now) global.old scope.now held)
+        result (state_of (T.state _table.now) global.new scope.now held)) }
 {
     let first = operand_in_place(global, scope, left)?;
     let second = operand_in_place(global, scope, right)?;
@@ -162,10 +162,10 @@ pub fn holds_in_place<H: Host, T: NativeTable<H>>(
     ensures charges { IfSome result (λ result. OnOk result
         (global.old.num_operations < global.new.num_operations)) }
     ensures memory { IfSome result (λ result. IfErr result (λ error. is_out_of_memory error ≡ false)) }
-    ensures runs { (offer : _) (this : _) → offer.fast_operators ≡ true →
+    ensures runs { (offer : _) (held : _) → offer.fast_operators ≡ true →
         IfSome result (λ result. Tests (rules_of limits.now H.name_of offer T.natives) test.now
-        (state_of (T.state _table.now) global.old scope.now this)
-        result (state_of (T.state _table.now) global.new scope.now this)) }
+        (state_of (T.state _table.now) global.old scope.now held)
+        result (state_of (T.state _table.now) global.new scope.now held)) }
 {
     let Expr::FnCall(call, pos) = test else {
         return None;

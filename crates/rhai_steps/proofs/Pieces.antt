@@ -14,7 +14,7 @@ use Rattle.rhai_machine.specs.machine.Machine.{Move, Charge}
 use Rattle.rhai_machine.specs.machine.Point.{Point, moved, after}
 use Rattle.rhai_machine.specs.machine.Memory.{here, next, wanting}
 use Rattle.rhai_machine.specs.language.Setting.{Rules, cut, limit_under}
-use Rattle.rhai_machine.specs.language.State.{State, Answers}
+use Rattle.rhai_machine.specs.language.State.{Held, State, Answers}
 use Rattle.rhai_machine.specs.language.Frames.{Control, Frame, Core, core, ended, Fail}
 use Rattle.rhai_machine.specs.language.Language.{machine, move}
 use Rattle.rhai_machine.specs.language.Runs.{at, Goes, Steps, Runs}
@@ -53,15 +53,15 @@ module _ {S H : Type 0} (rules : Rules S H) where
       Goes rules (at (Fail x) k s) (at (Fail e) k s)
   faulted e x a k s = or_wants (Fail x) k s e (λ m. rw (a m) here)
 
-  module _ (t : S) (old new : GlobalRuntimeState H) (scope : Scope H) (this : Option (Dynamic H)) (c d : Control H) (pos : Position)
-      (charges : (k : List (Frame H)) → move rules.setting (at {S = S} c k (state_of t old scope this)).core ≡ Charge pos
-      (core d k (state_of t old scope this).local)) where
+  module _ (t : S) (old new : GlobalRuntimeState H) (scope : Scope H) (held : Held H) (c d : Control H) (pos : Position)
+      (charges : (k : List (Frame H)) → move rules.setting (at {S = S} c k (state_of t old scope held)).core ≡ Charge pos
+      (core d k (state_of t old scope held).local)) where
     -- a charge that is let through
     pub charged : old.num_operations < limit_under rules → new ≡ record old { num_operations = old.num_operations + 1 } →
-        (k : List (Frame H)) → Goes rules (at c k (state_of t old scope this)) (at d k (state_of t new scope this))
+        (k : List (Frame H)) → Goes rules (at c k (state_of t old scope held)) (at d k (state_of t new scope held))
     charged room is k = step_by _ _ _ (charges k) (rw (lt-ltb _ _ room, is) here)
 
     -- and one that is refused
     pub refused : (x : EvalAltResult H) → limit_under rules ≤ old.num_operations → x ≡ error.ErrorTooManyOperations pos → new ≡ old →
-        (k : List (Frame H)) → Goes rules (at c k (state_of t old scope this)) (at (Fail x) k (state_of t new scope this))
+        (k : List (Frame H)) → Goes rules (at c k (state_of t old scope held)) (at (Fail x) k (state_of t new scope held))
     refused x full is same k = step_by _ _ _ (charges k) (rw (le-ltb _ _ full, is, same) here)

@@ -1,20 +1,5 @@
-use Rattle.rhai_machine.specs.language.Setting.{Rules, rules_of}
-use Rattle.rhai_machine.specs.language.Frames.{Operation, ToCall}
-use Rattle.rhai_steps.specs.States.{state_of}
-use Rattle.rhai_dispatch.proofs.Going.{goes_joined, there_wants}
 use Rattle.rhai_dispatch.proofs.call_values.Goals as goal
 
-pub returns-in-Ok-clause-runs : goal.returns-in-Ok-clause-runs
-returns-in-Ok-clause-runs g c offer scope this =
-    let rules : Rules _ _ = rules_of c.args.limits.now g.H.Host.name_of offer g.T.NativeTable.natives in
-    let operation : Operation = record { name = c.args.name.now; token = c.args.token; at = c.args.pos } in
-    goes_joined rules operation c.args.curried c.args.args c.in-Ok.all c.in-Ok.ensures.joined (state_of (g.T.NativeTable.state c.args.table.now) c.args.global.now scope this)
-    (state_of (g.T.NativeTable.state c.call_all.new.table) c.call_all.new.global scope this) c.call_all.result
-    (c.call_all.ensures.runs offer scope this)
-
-pub returns-in-Err-clause-runs : goal.returns-in-Err-clause-runs
-returns-in-Err-clause-runs g c offer scope this =
-    let rules : Rules _ _ = rules_of c.args.limits.now g.H.Host.name_of offer g.T.NativeTable.natives in
-    let operation : Operation = record { name = c.args.name.now; token = c.args.token; at = c.args.pos } in
-    there_wants rules (ToCall operation c.args.curried) c.args.args
-    (state_of (g.T.NativeTable.state c.args.table.now) c.args.global.now scope this) c.in-Err.error c.in-Err.ensures.refused
+pub returns-then-is_empty-clause-runs : goal.returns-then-is_empty-clause-runs
+returns-then-is_empty-clause-runs g c offer scope held =
+    rw (c.is_empty.ensures.0 c.if-is_empty.true) (c.call_all.ensures.runs offer scope held)

@@ -1,6 +1,7 @@
 -- The rules of a call's arguments, and of the keywords.
 use Rattle.std.specs.Prelude.{ℕ, Bool, true, false, not, ◌&&◌, ◌||◌, List, [], ◌∷◌, ◌++◌, Option, Some, None, Result, Ok, Err}
 use Rattle.std.specs.Prelude.{codes, is_some, length, nat_eq, nat_le, if◌then◌else◌}
+use Rattle.std.specs.Option.{option_map}
 use Rattle.std.specs.List.{list_all, list_any}
 use Rattle.std.specs.Str.{bytes_eq}
 use Rattle.rhai_machine.specs.Types.{Dynamic, EvalAltResult, Expr, out-Expr, FnPtr, Position, ScopeEntry, Token, Union}
@@ -25,7 +26,7 @@ use Rattle.rhai_machine.specs.language.State.{Local}
 use Rattle.rhai_machine.specs.language.Values.{Cells, bool_value, flat, is_handle, mismatch, through}
 use Rattle.rhai_machine.specs.language.Names.{variable_of}
 use Rattle.rhai_machine.specs.language.Places.{is_constant}
-use Rattle.rhai_machine.specs.language.Frames.{Operation, Call, Keyword, CallPointer, MakePointer, Curry, IsShared, IsDefinedVariable}
+use Rattle.rhai_machine.specs.language.Frames.{Operation, FromEntry, Call, Keyword, CallPointer, MakePointer, Curry, IsShared, IsDefinedVariable}
 use Rattle.rhai_machine.specs.language.Frames.{Purpose, ToCall, ToCallOn, ToCallNumber, ToCurry}
 use Rattle.rhai_machine.specs.language.Frames.{Frame, Core, core, on_value, ended, Argument, CallNamed, Question, Back, Fail}
 use Rattle.rhai_machine.specs.language.Frames.{CallArgument, KeywordArgument}
@@ -131,7 +132,8 @@ module _ {H : Type 0} where
   -- a constant is passed as a copy, and anything else is lent from its entry
   abbrev pub passed_as : (constant : Bool) → Operation → List (Dynamic H) → (entry : Option ℕ) → Dynamic H → Call H
   passed_as true operation args entry v = call_of operation (copy_of v ∷ args)
-  passed_as false operation args entry v = record (call_of operation (v ∷ args)) { entry = entry }
+  passed_as false operation args entry v =
+      record (call_of operation (v ∷ args)) { lender = option_map FromEntry entry; guarded = true }
 
   -- of a handle a copy of the cell's value is passed
   abbrev pub passed : Cells H → Position → Operation → List (Dynamic H) → (entry : Option ℕ) → Union H → Dynamic H →

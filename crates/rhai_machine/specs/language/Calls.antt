@@ -19,8 +19,9 @@ use Rattle.rhai_machine.specs.machine.Machine.{Move, Go, Native, AskPure}
 use Rattle.rhai_machine.specs.language.Setting.{Setting}
 use Rattle.rhai_machine.specs.language.State.{Local}
 use Rattle.rhai_machine.specs.language.Values.{Cells, bool_value, through}
-use Rattle.rhai_machine.specs.language.Places.{Place, InEntry, InCell, is_barred, put, while_lent}
-use Rattle.rhai_machine.specs.language.Frames.{Operation, Call, Frame, Core, core, ended, Ask, Fire, Back, Fail}
+use Rattle.rhai_machine.specs.language.Places.{Place, InEntry, InCell, InFocus, is_barred, put, while_lent}
+use Rattle.rhai_machine.specs.language.Frames.{Operation, Lender, FromEntry, FromFocus, Call, Control, Frame, Core, core, ended, changed}
+use Rattle.rhai_machine.specs.language.Frames.{Ask, Fire, Back, Fail}
 
 -- further texts of a row, each after a comma
 abbrev pub more : List (List ℕ) → List ℕ
@@ -63,6 +64,11 @@ pub record First (H : Type 0) : Type 0 where
   pub from : Option Place
   pub value : Dynamic H
 
+-- where a first argument that is lent stands
+abbrev pub place_of : Lender → Place
+place_of (FromEntry index) = InEntry index
+place_of FromFocus = InFocus
+
 -- an operator's name, and where it stands
 abbrev pub operation_at : List ℕ → Token → Position → Operation
 operation_at name token at = record { name = name; token = Some token; at = at }
@@ -100,7 +106,8 @@ module _ {H : Type 0} where
 
   -- a call by name, of values
   abbrev pub call_of : Operation → List (Dynamic H) → Call H
-  call_of operation args = record { operation = operation; number = None; args = args; entry = None }
+  call_of operation args =
+      record { operation = operation; number = None; args = args; lender = None; guarded = false; marks = false }
 
   -- a call of an operator's name at a position
   abbrev pub call_at : List ℕ → Token → Position → List (Dynamic H) → Call H
@@ -120,12 +127,12 @@ module _ {H : Type 0} where
   in_cell operation number (Some v) = lendable operation (Some (InCell number)) v.value v
   in_cell operation number None = Err (error.ErrorDataRace operation.name operation.at)
 
-  abbrev pub first_in : Cells H → Operation → (entry : Option ℕ) → Union H → Dynamic H → Result (First H) (EvalAltResult H)
-  first_in cells operation entry (value.Cell id) v = in_cell operation id.number (value_of_cell cells id.number)
-  first_in cells operation entry _ v = Ok (record { from = option_map InEntry entry; value = v })
+  abbrev pub first_in : Cells H → Operation → Option Lender → Union H → Dynamic H → Result (First H) (EvalAltResult H)
+  first_in cells operation lender (value.Cell id) v = in_cell operation id.number (value_of_cell cells id.number)
+  first_in cells operation lender _ v = Ok (record { from = option_map place_of lender; value = v })
 
   abbrev pub first_of : Cells H → Call H → Dynamic H → Result (First H) (EvalAltResult H)
-  first_of cells call x = first_in cells call.operation call.entry x.value x
+  first_of cells call x = first_in cells call.operation call.lender x.value x
 
   -- the cells while a first argument is lent
   abbrev pub while_from : Option Place → Cells H → Cells H
@@ -136,6 +143,17 @@ module _ {H : Type 0} where
   abbrev pub put_left : Option Place → Option (Dynamic H) → Local H → Local H
   put_left (Some place) (Some v) l = put place v l
   put_left _ _ l = l
+
+  -- a call that marks does so only where the native is not pure, once the table was asked
+  abbrev pub noted : (marks pure : Bool) → Call H → Call H
+  noted false pure call = call
+  noted true pure call = record call { marks = not pure }
+
+  -- a native's answer, marked where the call marks: what a built-in gives changed nothing
+  abbrev pub answered : (marks : Bool) → Reply H → Result (Dynamic H) (EvalAltResult H) → Control H
+  answered false reply r = ended r
+  answered true (Gives v) r = changed r
+  answered true reply r = ended r
 
   module _ (limits : Limits) where
     abbrev pub sized_by : {A : Type 0} → Option (List ℕ) → A → Position → Result A (EvalAltResult H)
@@ -232,20 +250,20 @@ module _ {H : Type 0} where
     -- ---- natives
 
     -- a call that is barred from its first argument fails, and else is made
-    abbrev pub barred_call : (barred : Bool) → Call H → List (Frame H) → Local H → Core H
-    barred_call true call k l = core (Fail (error.ErrorNonPureMethodCallOnConstant call.operation.name call.operation.at)) k l
-    barred_call false call k l = core (Fire call) k l
+    abbrev pub barred_call : (barred pure : Bool) → Call H → List (Frame H) → Local H → Core H
+    barred_call true pure call k l = core (Fail (error.ErrorNonPureMethodCallOnConstant call.operation.name call.operation.at)) k l
+    barred_call false pure call k l = core (Fire (noted call.marks pure call)) k l
 
-    -- the native of a call is asked whether it is pure: a constant that is lent is kept from one that is not
+    -- the native of a call is asked whether it is pure: a constant is kept from one that is not where the call is guarded
     abbrev pub question_first : Call H → (rest : List (Dynamic H)) → Result (First H) (EvalAltResult H) → List (Frame H) → Local H →
         Move H (Core H)
     question_first call rest (Ok first) k l =
         AskPure (purity_of (key_of call) (type_name_of s.host_type l.around.cells first.value) (1 + length rest))
-        (λ pure. barred_call (is_some call.entry && is_barred pure first.value) call k l)
+        (λ pure. barred_call (call.guarded && is_barred pure first.value) pure call k l)
     question_first call rest (Err e) k l = Go (core (Fail e) k l)
 
     abbrev pub question_move : Call H → List (Dynamic H) → List (Frame H) → Local H → Move H (Core H)
-    question_move call [] k l = AskPure (purity_of (key_of call) [] 0) (λ pure. core (Fire call) k l)
+    question_move call [] k l = AskPure (purity_of (key_of call) [] 0) (λ pure. core (Fire (noted call.marks pure call)) k l)
     question_move call (x ∷ rest) k l = question_first call rest (first_of l.around.cells call x) k l
 
     -- it is called, and what it leaves of its first argument goes back to where that was lent from, whatever the answer
@@ -253,8 +271,8 @@ module _ {H : Type 0} where
         Move H (Core H)
     call_native call from first rest k l =
         Native (request (while_from from l.around.cells) (key_of call) first rest call.operation.at)
-        (λ reply left. core
-        (ended (replied s.limits s.host_type reply left rest call.operation (while_from from l.around.cells))) k (put_left from left l))
+        (λ reply left. core (answered call.marks reply
+        (replied s.limits s.host_type reply left rest call.operation (while_from from l.around.cells))) k (put_left from left l))
 
     abbrev pub fire_first : Call H → (rest : List (Dynamic H)) → Result (First H) (EvalAltResult H) → List (Frame H) → Local H →
         Move H (Core H)

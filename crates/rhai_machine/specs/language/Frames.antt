@@ -13,13 +13,21 @@ pub record Operation : Type 0 where
   pub token : Option Token
   pub at : Position
 
--- A call with its arguments: of a native by its name, or by a number. The first argument may be a variable's value, lent from the
--- entry of the scope that it stands in.
+-- who lends the first argument of a call: the entry of a variable, or a chain the value that it works on
+pub data Lender : Type 0 where
+  FromEntry : (index : ℕ) → Lender
+  FromFocus : Lender
+
+-- A call with its arguments: of a native by its name, or by a number. The first argument may be lent, and goes back then. Where it is
+-- guarded, a constant is kept from a native that is not pure. Where the call marks, its answer says whether the native may have changed
+-- the first argument: from the question on it marks only where the native is not pure.
 pub record Call (H : Type 0) : Type 0 where
   pub operation : Operation
   pub number : Option ℕ
   pub args : List (Dynamic H)
-  pub entry : Option ℕ
+  pub lender : Option Lender
+  pub guarded : Bool
+  pub marks : Bool
 
 -- the words by which a call is no function's, where it was not written as an operator
 pub data Keyword : Type 0 where
@@ -95,8 +103,9 @@ pub data Control (H : Type 0) : Type 0 where
   Store : Assignment → Dynamic H → Control H
   WhileTurn : (test : Expr) → (body : StmtBlock) → Control H
   DoTurn : (test : Expr) → (body : StmtBlock) → (options : ASTFlags) → Control H
-  -- a value comes up, or an error comes down
+  -- a value comes up, also one of a native that may have changed its first argument; or an error comes down
   Back : Dynamic H → Control H
+  Changed : Dynamic H → Control H
   Fail : EvalAltResult H → Control H
 
 -- what waits below
@@ -167,3 +176,14 @@ module _ {H : Type 0} where
   abbrev pub ended : Result (Dynamic H) (EvalAltResult H) → Control H
   ended (Ok v) = Back v
   ended (Err e) = Fail e
+
+  -- and so does one of a native that may have changed its first argument
+  abbrev pub changed : Result (Dynamic H) (EvalAltResult H) → Control H
+  changed (Ok v) = Changed v
+  changed (Err e) = Fail e
+
+  -- a result comes back that says whether the first argument may have changed
+  abbrev pub marked : Result (Dynamic H × Bool) (EvalAltResult H) → Control H
+  marked (Ok (v, true)) = Changed v
+  marked (Ok (v, false)) = Back v
+  marked (Err e) = Fail e

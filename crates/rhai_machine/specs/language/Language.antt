@@ -8,7 +8,7 @@ use Rattle.rhai_machine.specs.machine.Machine.{Move, Halt, Go, Charge, Machine}
 use Rattle.rhai_machine.specs.language.Setting.{Setting, Rules}
 use Rattle.rhai_machine.specs.language.State.{Local}
 use Rattle.rhai_machine.specs.language.Frames.{Control, Frame, Core, core, Eval, Exec, Ask, Assign, AskUpdate, Argument, Question, Fire}
-use Rattle.rhai_machine.specs.language.Frames.{QuestionUpdate, FireUpdate, OpenExpr, OpenStmt, Enter, Run, Store, WhileTurn, DoTurn, Back}
+use Rattle.rhai_machine.specs.language.Frames.{QuestionUpdate, FireUpdate, OpenExpr, OpenStmt, Enter, Run, Store, WhileTurn, DoTurn, Back, Changed}
 use Rattle.rhai_machine.specs.language.Frames.{Fail, DoBody, CallNamed}
 use Rattle.rhai_machine.specs.language.Expressions.{literal_of, argument_move, expr_move}
 use Rattle.rhai_machine.specs.language.Calls.{question_move, fire_move}
@@ -42,6 +42,7 @@ module _ {H : Type 0} (s : Setting H) where
   move_at (DoTurn test body options) k l = Go (core (Enter body.statements true) (DoBody test body options ∷ k) l)
   move_at (Back v) [] l = Halt
   move_at (Back v) (frame ∷ k) l = Go (up_core s frame v k l)
+  move_at (Changed v) k l = Go (core (Back v) k l)
   move_at (Fail e) [] l = Halt
   move_at (Fail e) (frame ∷ k) l = Go (down_core s frame e k l)
 

@@ -9,10 +9,11 @@ use Rattle.rhai_state.specs.Scope.{index_of, found, revalued}
 use Rattle.rhai_machine.specs.language.State.{Local}
 use Rattle.rhai_machine.specs.language.Values.{Cells}
 
--- in an entry of the scope, or in a cell
+-- in an entry of the scope, in a cell, or as the value that a chain works on
 pub data Place : Type 0 where
   InEntry : (index : ℕ) → Place
   InCell : (number : ℕ) → Place
+  InFocus : Place
 
 -- a place with the value that stands there
 pub record Target (H : Type 0) : Type 0 where
@@ -57,8 +58,10 @@ module _ {H : Type 0} where
   abbrev pub put : Place → Dynamic H → Local H → Local H
   put (InEntry index) v l = record l { scope = revalued l.scope index (slice_get l.scope index) v }
   put (InCell number) v l = record l { around = record l.around { cells = with_value l.around.cells number v } }
+  put InFocus v l = record l { focus = Some v }
 
   -- the cells while the value of a place is lent to a native: its cell is held
   abbrev pub while_lent : Place → Cells H → Cells H
   while_lent (InEntry index) cells = cells
   while_lent (InCell number) cells = with_held cells number
+  while_lent InFocus cells = cells

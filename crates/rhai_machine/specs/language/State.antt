@@ -16,10 +16,16 @@ pub record Surroundings (H : Type 0) : Type 0 where
   pub source : Option (List ℕ)
   pub cells : List (Option (Dynamic H))
 
--- what the rules of the language read and change
+-- what a run has in hand beside its variables: `this`, and the value that a chain works on
+pub record Held (H : Type 0) : Type 0 where
+  pub this : Option (Dynamic H)
+  pub focus : Option (Dynamic H)
+
+-- what the rules of the language read and change; the focus is a copy of the value that a chain works on, which goes back to its place
 pub record Local (H : Type 0) : Type 0 where
   pub scope : List (ScopeEntry H)
   pub this : Option (Dynamic H)
+  pub focus : Option (Dynamic H)
   pub scope_level : ℕ
   pub around : Surroundings H
 

@@ -87,6 +87,7 @@ module _ {H : Type 0} where
   nothing_but scope = record {
     scope = scope;
     this = None;
+    focus = None;
     scope_level = 0;
     around = record {
       lib = [];

@@ -23,14 +23,14 @@ returns-clause-found g c is = integer_found c.args.scope.now (cells_of c.args.gl
     ∙ c.in-Some-assign_known.is)
 
 pub returns-clause-runs : goal.returns-clause-runs
-returns-clause-runs g c is offer this restoring fast =
+returns-clause-runs g c is offer held restoring fast =
     let form : out-Expr c.args.lhs.now ≡ layer.Variable c.in-Variable.offset c.in-Variable.name c.in-Variable.namespace
     c.in-Variable.pos =
     rw (c.in-Variable.is, exprs.outs-Variable) refl in
     let plain = plain_target c.args.lhs.now c.in-Variable.offset c.in-Variable.name c.in-Variable.namespace c.in-Variable.pos
     (names_in c.args.scope.now) form c.requires.resolves_target in
     integer_assigned (rules_of c.args.limits.now g.H.Host.name_of offer g.T.NativeTable.natives)
-    (g.T.NativeTable.state c.args._table.now) c.args.scope.now this c.args.op c.args.lhs.now c.args.rhs.now c.in-Variable.offset
+    (g.T.NativeTable.state c.args._table.now) c.args.scope.now held c.args.op c.args.lhs.now c.args.rhs.now c.in-Variable.offset
     c.in-Variable.name c.in-Variable.namespace c.in-Variable.pos restoring form plain c.requires.resolves c.args.global.now
     c.charge_all.new.global c.replace_value.new.self (c.charge_all.ensures.room c.if-not-charge_all.false)
     (c.charge_all.ensures.charged c.if-not-charge_all.false) c.in-Some.token c.in-Some.is fast c.in-Some-place_of_variable.index

@@ -10,7 +10,7 @@ use Rattle.rhai_assign.proofs.Prepared.{target_stops, updates_in_place, value_st
 use Rattle.rhai_assign.proofs.in_place.assign_prepared.Goals as goal
 
 pub returns-in-Err-clause-runs : goal.returns-in-Err-clause-runs
-returns-in-Err-clause-runs g c offer this restoring fast =
+returns-in-Err-clause-runs g c offer held restoring fast =
     let rules = rules_of c.args.limits.now g.H.Host.name_of offer g.T.NativeTable.natives in
     let ready : IsReady c.in_ok-ready.ready c.in-Variable.name c.in-Variable.pos c.in_ok-token.token (out-Expr c.args.rhs.now)
     c.args.scope.now
@@ -20,14 +20,14 @@ returns-in-Err-clause-runs g c offer this restoring fast =
     rw (c.in-Variable.is, exprs.outs-Variable) refl in
     let plain = plain_target c.args.lhs.now c.in-Variable.offset c.in-Variable.name c.in-Variable.namespace c.in-Variable.pos
     (names_in c.args.scope.now) form c.requires.resolves_target in
-    value_stops rules (g.T.NativeTable.state c.args._table.now) c.args.scope.now this c.args.op c.args.lhs.now c.args.rhs.now
+    value_stops rules (g.T.NativeTable.state c.args._table.now) c.args.scope.now held c.args.op c.args.lhs.now c.args.rhs.now
     c.in-Variable.offset
     c.in-Variable.name c.in-Variable.namespace c.in-Variable.pos restoring ready.operand form plain c.requires.resolves ready.given
     c.args.global.now c.track_operation.new.global c.in-Err.error c.in-Err.ensures.full
     (rw c.position.ensures at c.in-Err.ensures.refused) c.in-Err.ensures.same
 
 pub returns-in-Err-track_operation-clause-runs : goal.returns-in-Err-track_operation-clause-runs
-returns-in-Err-track_operation-clause-runs g c offer this restoring fast =
+returns-in-Err-track_operation-clause-runs g c offer held restoring fast =
     let rules = rules_of c.args.limits.now g.H.Host.name_of offer g.T.NativeTable.natives in
     let ready : IsReady c.in_ok-ready.ready c.in-Variable.name c.in-Variable.pos c.in_ok-token.token (out-Expr c.args.rhs.now)
     c.args.scope.now
@@ -37,7 +37,7 @@ returns-in-Err-track_operation-clause-runs g c offer this restoring fast =
     rw (c.in-Variable.is, exprs.outs-Variable) refl in
     let plain = plain_target c.args.lhs.now c.in-Variable.offset c.in-Variable.name c.in-Variable.namespace c.in-Variable.pos
     (names_in c.args.scope.now) form c.requires.resolves_target in
-    target_stops rules (g.T.NativeTable.state c.args._table.now) c.args.scope.now this c.args.op c.args.lhs.now c.args.rhs.now
+    target_stops rules (g.T.NativeTable.state c.args._table.now) c.args.scope.now held c.args.op c.args.lhs.now c.args.rhs.now
     c.in-Variable.offset
     c.in-Variable.name c.in-Variable.namespace c.in-Variable.pos restoring ready.operand form plain c.requires.resolves ready.given
     c.args.global.now c.track_operation.new.global c.in_default-track_operation.ensures.room
@@ -45,7 +45,7 @@ returns-in-Err-track_operation-clause-runs g c offer this restoring fast =
     c.in-Err-track_operation.ensures.full c.in-Err-track_operation.ensures.refused c.in-Err-track_operation.ensures.same
 
 pub returns-clause-runs : goal.returns-clause-runs
-returns-clause-runs g c offer this restoring fast =
+returns-clause-runs g c offer held restoring fast =
     let rules = rules_of c.args.limits.now g.H.Host.name_of offer g.T.NativeTable.natives in
     let ready : IsReady c.in_ok-ready.ready c.in-Variable.name c.in-Variable.pos c.in_ok-token.token (out-Expr c.args.rhs.now)
     c.args.scope.now
@@ -55,7 +55,7 @@ returns-clause-runs g c offer this restoring fast =
     rw (c.in-Variable.is, exprs.outs-Variable) refl in
     let plain = plain_target c.args.lhs.now c.in-Variable.offset c.in-Variable.name c.in-Variable.namespace c.in-Variable.pos
     (names_in c.args.scope.now) form c.requires.resolves_target in
-    updates_in_place rules (g.T.NativeTable.state c.args._table.now) c.args.scope.now this c.args.op c.args.lhs.now c.args.rhs.now
+    updates_in_place rules (g.T.NativeTable.state c.args._table.now) c.args.scope.now held c.args.op c.args.lhs.now c.args.rhs.now
     c.in-Variable.offset
     c.in-Variable.name c.in-Variable.namespace c.in-Variable.pos restoring ready.operand form plain c.requires.resolves ready.given
     c.args.global.now c.track_operation.new.global c.in_default-track_operation.ensures.room
@@ -63,5 +63,5 @@ returns-clause-runs g c offer this restoring fast =
     c.in_default-track_operation-2.ensures.charged c.in_ok-token.token c.in_ok-token.was fast c.in_ok-ready.ready.place
     c.in_ok-ready.ready.outcome c.write_outcome.result c.write_outcome.new.global c.write_outcome.new.scope ready.finds
     ready.answers.value
-    c.write_outcome.ensures.counts (c.write_outcome.ensures.written this) c.write_outcome.ensures.left_global
+    c.write_outcome.ensures.counts (c.write_outcome.ensures.written held) c.write_outcome.ensures.left_global
     c.write_outcome.ensures.left_scope

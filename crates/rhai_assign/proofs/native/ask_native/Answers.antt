@@ -14,19 +14,19 @@ use Rattle.rhai_assign.proofs.native.ask_native.Goals as goal
 pub returns-in_err-track_operation-clause-refused :
     goal.returns-in_err-track_operation-clause-refused
 returns-in_err-track_operation-clause-refused g c =
-    rw (passed c.from_residual.result c.from_residual.ensures) (λ offer this attempt operand named.
+    rw (passed c.from_residual.result c.from_residual.ensures) (λ offer held attempt operand named.
     let rules : Rules _ _ = rules_of c.args.limits.now g.H.Host.name_of offer g.T.NativeTable.natives in
-    refuses_update rules (g.T.NativeTable.state c.args.table.now) c.args.global.now c.track_operation.new.global c.args.scope.now this
+    refuses_update rules (g.T.NativeTable.state c.args.table.now) c.args.global.now c.track_operation.new.global c.args.scope.now held
     (updating c.args.update attempt c.args.scope.now c.args.global.now operand) c.in_err-track_operation.field-0.0
     c.in_err-track_operation.ensures.full c.in_err-track_operation.ensures.refused c.in_err-track_operation.ensures.same)
 
 pub returns-then-is_bare_handle-clause-refused : goal.returns-then-is_bare_handle-clause-refused
-returns-then-is_bare_handle-clause-refused g c offer this attempt operand named =
+returns-then-is_bare_handle-clause-refused g c offer held attempt operand named =
     let rules : Rules _ _ = rules_of c.args.limits.now g.H.Host.name_of offer g.T.NativeTable.natives in
     let same = standing_uncharged c.args.update.place c.args.scope.now c.args.global.now c.track_operation.new.global
     c.value_at-target.result.now
     (c.args.global.now.num_operations + 1) c.in_ok-track_operation.ensures.charged c.value_at-target.ensures in
-    holds_update rules (g.T.NativeTable.state c.args.table.now) c.args.global.now c.track_operation.new.global c.args.scope.now this
+    holds_update rules (g.T.NativeTable.state c.args.table.now) c.args.global.now c.track_operation.new.global c.args.scope.now held
     (updating c.args.update attempt c.args.scope.now c.args.global.now operand) c.args.name.now c.data_race_of.result
     c.in_ok-track_operation.ensures.room c.in_ok-track_operation.ensures.charged
     (asked_alike g.H.Host.name_of g.T.NativeTable.natives _ _ c.as_str.result.now _ c.value_at-target.result.now _ c.is_barred.result _
@@ -34,12 +34,12 @@ returns-then-is_bare_handle-clause-refused g c offer this attempt operand named 
     (ap (λ (v : Dynamic _). is_handle v.value) same ∙ sym c.is_bare_handle.ensures ∙ c.if-is_bare_handle.true) named c.data_race_of.ensures
 
 pub returns-then-is_barred-clause-refused : goal.returns-then-is_barred-clause-refused
-returns-then-is_barred-clause-refused g c offer this attempt operand named =
+returns-then-is_barred-clause-refused g c offer held attempt operand named =
     let rules : Rules _ _ = rules_of c.args.limits.now g.H.Host.name_of offer g.T.NativeTable.natives in
     let same = standing_uncharged c.args.update.place c.args.scope.now c.args.global.now c.track_operation.new.global
     c.value_at-target.result.now
     (c.args.global.now.num_operations + 1) c.in_ok-track_operation.ensures.charged c.value_at-target.ensures in
-    bars_update rules (g.T.NativeTable.state c.args.table.now) c.args.global.now c.track_operation.new.global c.args.scope.now this
+    bars_update rules (g.T.NativeTable.state c.args.table.now) c.args.global.now c.track_operation.new.global c.args.scope.now held
     (updating c.args.update attempt c.args.scope.now c.args.global.now operand) c.args.name.now c.non_pure_of.result
     c.in_ok-track_operation.ensures.room c.in_ok-track_operation.ensures.charged
     (asked_alike g.H.Host.name_of g.T.NativeTable.natives _ _ c.as_str.result.now _ c.value_at-target.result.now _ c.is_barred.result _

@@ -18,7 +18,7 @@ returns-in-None-clause-keeps g c = record {
 }
 
 pub returns-else-fast-clause-runs : goal.returns-else-fast-clause-runs
-returns-else-fast-clause-runs g c offer this name is =
+returns-else-fast-clause-runs g c offer held name is =
     let rules : Rules _ _ = rules_of c.args.limits.now g.H.Host.name_of offer g.T.NativeTable.natives in
     let by : code.Update = record {
       token = c.in-Some.token;
@@ -29,6 +29,6 @@ returns-else-fast-clause-runs g c offer this name is =
     let u : Update _ = updating by InPlace c.args.scope.now c.args.global.now c.args.value in
     rw c.in-Some.is (not_built rules (if_fast offer.fast_operators (op_assign_of u.operator u.target c.args.value))
     (if_fast offer.fast_operators (op_assign_of u.operator u.target c.args.value)) c.update_by_natives.result u
-    (state_of (g.T.NativeTable.state c.args.table.now) c.args.global.now c.args.scope.now this)
-    (state_of (g.T.NativeTable.state c.update_by_natives.new.table) c.update_by_natives.new.global c.update_by_natives.new.scope this)
-    (λ m. refl) (not_fast offer.fast_operators _ (is ∙ c.if-fast.false)) (c.update_by_natives.ensures.runs offer this))
+    (state_of (g.T.NativeTable.state c.args.table.now) c.args.global.now c.args.scope.now held)
+    (state_of (g.T.NativeTable.state c.update_by_natives.new.table) c.update_by_natives.new.global c.update_by_natives.new.scope held)
+    (λ m. refl) (not_fast offer.fast_operators _ (is ∙ c.if-fast.false)) (c.update_by_natives.ensures.runs offer held))

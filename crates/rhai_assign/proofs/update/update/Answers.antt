@@ -8,26 +8,26 @@ use Rattle.rhai_assign.proofs.Updates.{built, built_for, not_built}
 use Rattle.rhai_assign.proofs.update.update.Goals as goal
 
 pub returns-in-Some-clause-runs : goal.returns-in-Some-clause-runs
-returns-in-Some-clause-runs g c offer this =
+returns-in-Some-clause-runs g c offer held =
     let rules : Rules _ _ = rules_of c.args.limits.now g.H.Host.name_of offer g.T.NativeTable.natives in
     let u : Update _ = updating c.args.update InPlace c.args.scope.now c.args.global.now c.args.operand in
     built rules (g.T.NativeTable.state c.args.table.now)
-    c.args.global.now c.write_outcome.new.global c.args.scope.now c.write_outcome.new.scope this u
+    c.args.global.now c.write_outcome.new.global c.args.scope.now c.write_outcome.new.scope held u
     c.builtin_op_assign.result (op_assign_of u.operator u.target c.args.operand) c.in-Some.outcome
     (built_for c.builtin_op_assign.result c.args.update c.args.scope.now c.args.global.now.cells c.value_at-target.result.now
     c.args.operand c.args.operand
     c.builtin_op_assign.ensures.value c.value_at-target.ensures refl)
     c.in-Some.is c.write_outcome.ensures.counts c.write_outcome.result
-    (c.write_outcome.ensures.written this) c.write_outcome.ensures.left_global c.write_outcome.ensures.left_scope
+    (c.write_outcome.ensures.written held) c.write_outcome.ensures.left_global c.write_outcome.ensures.left_scope
 
 pub returns-in-None-clause-runs : goal.returns-in-None-clause-runs
-returns-in-None-clause-runs g c offer this =
+returns-in-None-clause-runs g c offer held =
     let rules : Rules _ _ = rules_of c.args.limits.now g.H.Host.name_of offer g.T.NativeTable.natives in
     let u : Update _ = updating c.args.update InPlace c.args.scope.now c.args.global.now c.args.operand in
     not_built rules c.builtin_op_assign.result (op_assign_of u.operator u.target c.args.operand) c.update_by_natives.result u
-    (state_of (g.T.NativeTable.state c.args.table.now) c.args.global.now c.args.scope.now this)
-    (state_of (g.T.NativeTable.state c.update_by_natives.new.table) c.update_by_natives.new.global c.update_by_natives.new.scope this)
+    (state_of (g.T.NativeTable.state c.args.table.now) c.args.global.now c.args.scope.now held)
+    (state_of (g.T.NativeTable.state c.update_by_natives.new.table) c.update_by_natives.new.global c.update_by_natives.new.scope held)
     (built_for c.builtin_op_assign.result c.args.update c.args.scope.now c.args.global.now.cells c.value_at-target.result.now
     c.args.operand c.args.operand
     c.builtin_op_assign.ensures.value c.value_at-target.ensures refl)
-    c.in-None.is (c.update_by_natives.ensures.runs offer this)
+    c.in-None.is (c.update_by_natives.ensures.runs offer held)

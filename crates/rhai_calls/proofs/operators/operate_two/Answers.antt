@@ -4,11 +4,11 @@ use Rattle.rhai_calls.proofs.Operating.{built}
 use Rattle.rhai_calls.proofs.operators.operate_two.Goals as goal
 
 pub returns-in-Some-clause-runs : goal.returns-in-Some-clause-runs
-returns-in-Some-clause-runs g c offer scope this k =
+returns-in-Some-clause-runs g c offer scope held k =
     let rules = rules_of c.args.limits.now g.H.Host.name_of offer g.T.NativeTable.natives in
     built rules _ k _ _ _ _ _ c.builtin_binary.ensures.value c.in-Some.is c.applied.ensures
 
 pub returns-in-None-clause-runs : goal.returns-in-None-clause-runs
 unfolding Dispatches
-returns-in-None-clause-runs g c offer scope this k =
-    rw (← c.builtin_binary.ensures.value (rw c.in-None.is tt), c.in-None.is) (c.call_two.ensures.runs offer scope this k)
+returns-in-None-clause-runs g c offer scope held k =
+    rw (← c.builtin_binary.ensures.value (rw c.in-None.is tt), c.in-None.is) (c.call_two.ensures.runs offer scope held k)

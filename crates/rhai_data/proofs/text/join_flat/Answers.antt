@@ -8,7 +8,7 @@ use Rattle.rhai_data.proofs.text.join_flat.Goals as goal
 
 pub returns-in-Some-clause-runs : goal.returns-in-Some-clause-runs
 unfolding JoinsFlat
-returns-in-Some-clause-runs g c offer scope this rest k =
+returns-in-Some-clause-runs g c offer scope held rest k =
     let rules = rules_of c.args.limits.now g.H.Host.name_of offer g.T.NativeTable.natives in
     rw (text_core rules.setting c.args.value.now.value c.args.value.now (string_bytes c.args.text.now) c.in-Some.part.now c.args.pos
     rest k _ (sym c.text_at.ensures ∙ ap option_copied c.in-Some.is))
@@ -17,8 +17,8 @@ returns-in-Some-clause-runs g c offer scope this rest k =
 
 pub returns-in-None-clause-runs : goal.returns-in-None-clause-runs
 unfolding JoinsFlat PrintsAndJoins
-returns-in-None-clause-runs g c offer scope this rest k =
+returns-in-None-clause-runs g c offer scope held rest k =
     let rules = rules_of c.args.limits.now g.H.Host.name_of offer g.T.NativeTable.natives in
     rw (other_core rules.setting c.args.value.now.value c.args.value.now (string_bytes c.args.text.now) c.args.pos rest k _
     (sym c.text_at.ensures ∙ ap option_copied c.in-None.is))
-    (c.join_printed.ensures.runs offer scope this rest k)
+    (c.join_printed.ensures.runs offer scope held rest k)

@@ -8,6 +8,6 @@ pub join_typed-requires : goal.join_typed-requires
 join_typed-requires g c = c.as_str-name.ensures ∙ c.get.ensures ∙ c.in-Ok.ensures ∙ c.type_name.ensures
 
 pub returns-in-Err-clause-runs : goal.returns-in-Err-clause-runs
-returns-in-Err-clause-runs g c offer scope this =
+returns-in-Err-clause-runs g c offer scope held =
     let rules = rules_of c.args.limits.now g.H.Host.name_of offer g.T.NativeTable.natives in
     joins_wants rules _ (string_bytes c.args.text.now) c.args.value.now c.args.pos c.args.pos _ (string_bytes c.args.text.now)

@@ -10,14 +10,14 @@ use Rattle.rhai_data.proofs.text.join_typed.Goals as goal
 
 pub returns-in_err-part-clause-runs : goal.returns-in_err-part-clause-runs
 unfolding Prints PrintsAndJoins
-returns-in_err-part-clause-runs g c offer scope this rest k =
-    rw (passed _ c.from_residual.ensures) (c.in_err-part.ensures.runs offer scope this _ _ rest k)
+returns-in_err-part-clause-runs g c offer scope held rest k =
+    rw (passed _ c.from_residual.ensures) (c.in_err-part.ensures.runs offer scope held _ _ rest k)
 
 pub returns-in-Some-clause-runs : goal.returns-in-Some-clause-runs
 unfolding Prints PrintsAndJoins
-returns-in-Some-clause-runs g c offer scope this rest k =
+returns-in-Some-clause-runs g c offer scope held rest k =
     let rules = rules_of c.args.limits.now g.H.Host.name_of offer g.T.NativeTable.natives in
-    (rw c.in-Some.is at (c.in_ok-part.ensures.runs offer scope this (string_bytes c.args.text.now)
+    (rw c.in-Some.is at (c.in_ok-part.ensures.runs offer scope held (string_bytes c.args.text.now)
     (type_name_of g.H.Host.name_of (cells_of c.args.global.now.cells) c.args.value.now) rest k))
     ⨾ joined_leads rules (string_bytes c.args.text.now) c.in-Some.part c.args.pos rest k _ c.join_text.result _
     (rw (c.as_str.ensures, c.get.ensures) at c.join_text.ensures.joined)
@@ -25,9 +25,9 @@ returns-in-Some-clause-runs g c offer scope this rest k =
 
 pub returns-in-None-clause-runs : goal.returns-in-None-clause-runs
 unfolding Prints PrintsAndJoins
-returns-in-None-clause-runs g c offer scope this rest k =
+returns-in-None-clause-runs g c offer scope held rest k =
     let rules = rules_of c.args.limits.now g.H.Host.name_of offer g.T.NativeTable.natives in
-    (rw c.in-None.is at (c.in_ok-part.ensures.runs offer scope this (string_bytes c.args.text.now)
+    (rw c.in-None.is at (c.in_ok-part.ensures.runs offer scope held (string_bytes c.args.text.now)
     (type_name_of g.H.Host.name_of (cells_of c.args.global.now.cells) c.args.value.now) rest k))
     ⨾ joined_leads rules (string_bytes c.args.text.now)
     (type_name_of g.H.Host.name_of (cells_of c.args.global.now.cells) c.args.value.now) c.args.pos rest k _ c.join_text-in-None.result _

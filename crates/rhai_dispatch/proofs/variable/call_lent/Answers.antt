@@ -1,6 +1,6 @@
-use Rattle.std.proofs.Common.{◌≡◌, ◌∷◌, Some, refl}
+use Rattle.std.proofs.Common.{◌≡◌, ◌∷◌, Some, true}
 use Rattle.rhai_machine.specs.language.Setting.{Rules, rules_of}
-use Rattle.rhai_machine.specs.language.Frames.{Operation}
+use Rattle.rhai_machine.specs.language.Frames.{Operation, FromEntry}
 use Rattle.rhai_steps.specs.States.{state_of}
 use Rattle.rhai_calls.specs.Lending.{lent_call}
 use Rattle.rhai_dispatch.proofs.Lending.{lent_names, lent_runs}
@@ -12,13 +12,13 @@ returns-clause-names g c =
     c.dispatch-result.new.first c.replace_value-first.ensures.after c.replace_value.ensures.after
 
 pub returns-clause-runs : goal.returns-clause-runs
-returns-clause-runs g c offer this v stands =
+returns-clause-runs g c offer held v stands =
     let rules : Rules _ _ = rules_of c.args.limits.now g.H.Host.name_of offer g.T.NativeTable.natives in
     let operation : Operation = record { name = c.args.name.now; token = c.args.token; at = c.args.pos } in
     let before = c.replace_value-first.ensures.before in
     let same : v ≡ c.replace_value-first.result = cc in
     lent_runs c.args.scope.now c.replace_value-first.new.self c.replace_value.new.self c.args.index c.unit_value.result
     c.dispatch-result.new.first c.replace_value-first.ensures.after c.replace_value.ensures.after rules
-    (lent_call operation (Some c.args.index) (v ∷ c.args.args.now)) (state_of (g.T.NativeTable.state c.args.table.now) c.args.global.now c.args.scope.now this)
-    c.dispatch-result.result (g.T.NativeTable.state c.dispatch-result.new.table) c.dispatch-result.new.global this
-    (rw same (c.dispatch-result.ensures.runs offer c.args.scope.now this (Some c.args.index) refl before))
+    (lent_call operation (Some (FromEntry c.args.index)) true (v ∷ c.args.args.now)) (state_of (g.T.NativeTable.state c.args.table.now) c.args.global.now c.args.scope.now held)
+    c.dispatch-result.result (g.T.NativeTable.state c.dispatch-result.new.table) c.dispatch-result.new.global held
+    (rw same (c.dispatch-result.ensures.runs offer c.args.scope.now held (Some (FromEntry c.args.index)) before))

@@ -22,7 +22,7 @@ compare_in_place-requires-clause-resolves_right g c = (call_resolves c.args.test
     (two_args _ _ _ c.in_ok-left.ensures) c.requires).1
 
 pub returns-in-Err-clause-runs : goal.returns-in-Err-clause-runs
-returns-in-Err-clause-runs g c offer this fast =
+returns-in-Err-clause-runs g c offer held fast =
     let rules = rules_of c.args.limits.now g.H.Host.name_of offer g.T.NativeTable.natives in
     let form : out-Expr c.args.test.now ≡ layer.Expr::FnCall c.in-FnCall.call c.in-FnCall.pos = rw (c.in-FnCall.is, exprs.outs-FnCall)
     refl in
@@ -30,9 +30,9 @@ returns-in-Err-clause-runs g c offer this fast =
     (names_in c.args.scope.now) form (two_args _ _ _ c.in_ok-left.ensures) c.requires in
     let seen = compared_stands c.in_ok-token.token (standing (out-Expr c.in_ok-left.left.now) (entries_of c.args.scope.now))
     (standing (out-Expr c.in_ok-left.right.now) (entries_of c.args.scope.now)) c.in_ok-holds.holds (sym c.in_ok-holds.ensures) in
-    from_same rules (g.T.NativeTable.state c.args._table.now) c.args.scope.now this c.args.test.now c.args.global.now
+    from_same rules (g.T.NativeTable.state c.args._table.now) c.args.scope.now held c.args.test.now c.args.global.now
     c.charge_all.new.global c.track_operation.new.global _ (c.charge_all.ensures.same c.if-charge_all.false) (
-    test_refused rules (g.T.NativeTable.state c.args._table.now) c.args.scope.now this c.args.test.now c.in-FnCall.call
+    test_refused rules (g.T.NativeTable.state c.args._table.now) c.args.scope.now held c.args.test.now c.in-FnCall.call
     c.in_ok-token.token
     c.in_ok-left.left.now c.in_ok-left.right.now c.in-FnCall.pos seen.0 seen.1 fast form c.in_ok-token.was
     (two_args _ _ _ c.in_ok-left.ensures) both.0
@@ -40,7 +40,7 @@ returns-in-Err-clause-runs g c offer this fast =
     c.in-Err.ensures.refused c.in-Err.ensures.same)
 
 pub returns-in-Err-track_operation-clause-runs : goal.returns-in-Err-track_operation-clause-runs
-returns-in-Err-track_operation-clause-runs g c offer this fast =
+returns-in-Err-track_operation-clause-runs g c offer held fast =
     let rules = rules_of c.args.limits.now g.H.Host.name_of offer g.T.NativeTable.natives in
     let form : out-Expr c.args.test.now ≡ layer.Expr::FnCall c.in-FnCall.call c.in-FnCall.pos = rw (c.in-FnCall.is, exprs.outs-FnCall)
     refl in
@@ -48,9 +48,9 @@ returns-in-Err-track_operation-clause-runs g c offer this fast =
     (names_in c.args.scope.now) form (two_args _ _ _ c.in_ok-left.ensures) c.requires in
     let seen = compared_stands c.in_ok-token.token (standing (out-Expr c.in_ok-left.left.now) (entries_of c.args.scope.now))
     (standing (out-Expr c.in_ok-left.right.now) (entries_of c.args.scope.now)) c.in_ok-holds.holds (sym c.in_ok-holds.ensures) in
-    from_same rules (g.T.NativeTable.state c.args._table.now) c.args.scope.now this c.args.test.now c.args.global.now
+    from_same rules (g.T.NativeTable.state c.args._table.now) c.args.scope.now held c.args.test.now c.args.global.now
     c.charge_all.new.global c.track_operation-2.new.global _ (c.charge_all.ensures.same c.if-charge_all.false) (
-    test_left_refused rules (g.T.NativeTable.state c.args._table.now) c.args.scope.now this c.args.test.now c.in-FnCall.call
+    test_left_refused rules (g.T.NativeTable.state c.args._table.now) c.args.scope.now held c.args.test.now c.in-FnCall.call
     c.in_ok-token.token c.in_ok-left.left.now c.in_ok-left.right.now c.in-FnCall.pos seen.0 seen.1 fast form c.in_ok-token.was
     (two_args _ _ _ c.in_ok-left.ensures) both.0 both.1 seen.2 seen.3 c.charge_all.new.global c.track_operation.new.global
     c.in_default-track_operation.ensures.room c.in_default-track_operation.ensures.charged c.track_operation-2.new.global
@@ -59,7 +59,7 @@ returns-in-Err-track_operation-clause-runs g c offer this fast =
     c.in-Err-track_operation.ensures.same)
 
 pub returns-in-Err-track_operation-2-clause-runs : goal.returns-in-Err-track_operation-2-clause-runs
-returns-in-Err-track_operation-2-clause-runs g c offer this fast =
+returns-in-Err-track_operation-2-clause-runs g c offer held fast =
     let rules = rules_of c.args.limits.now g.H.Host.name_of offer g.T.NativeTable.natives in
     let form : out-Expr c.args.test.now ≡ layer.Expr::FnCall c.in-FnCall.call c.in-FnCall.pos = rw (c.in-FnCall.is, exprs.outs-FnCall)
     refl in
@@ -67,9 +67,9 @@ returns-in-Err-track_operation-2-clause-runs g c offer this fast =
     (names_in c.args.scope.now) form (two_args _ _ _ c.in_ok-left.ensures) c.requires in
     let seen = compared_stands c.in_ok-token.token (standing (out-Expr c.in_ok-left.left.now) (entries_of c.args.scope.now))
     (standing (out-Expr c.in_ok-left.right.now) (entries_of c.args.scope.now)) c.in_ok-holds.holds (sym c.in_ok-holds.ensures) in
-    from_same rules (g.T.NativeTable.state c.args._table.now) c.args.scope.now this c.args.test.now c.args.global.now
+    from_same rules (g.T.NativeTable.state c.args._table.now) c.args.scope.now held c.args.test.now c.args.global.now
     c.charge_all.new.global c.track_operation-3.new.global _ (c.charge_all.ensures.same c.if-charge_all.false) (
-    test_right_refused rules (g.T.NativeTable.state c.args._table.now) c.args.scope.now this c.args.test.now c.in-FnCall.call
+    test_right_refused rules (g.T.NativeTable.state c.args._table.now) c.args.scope.now held c.args.test.now c.in-FnCall.call
     c.in_ok-token.token c.in_ok-left.left.now c.in_ok-left.right.now c.in-FnCall.pos seen.0 seen.1 fast form c.in_ok-token.was
     (two_args _ _ _ c.in_ok-left.ensures) both.0 both.1 seen.2 seen.3 c.charge_all.new.global c.track_operation.new.global
     c.in_default-track_operation.ensures.room c.in_default-track_operation.ensures.charged c.track_operation-2.new.global
@@ -78,7 +78,7 @@ returns-in-Err-track_operation-2-clause-runs g c offer this fast =
     (rw c.position-2.ensures at c.in-Err-track_operation-2.ensures.refused) c.in-Err-track_operation-2.ensures.same)
 
 pub returns-clause-runs : goal.returns-clause-runs
-returns-clause-runs g c offer this fast =
+returns-clause-runs g c offer held fast =
     let rules = rules_of c.args.limits.now g.H.Host.name_of offer g.T.NativeTable.natives in
     let form : out-Expr c.args.test.now ≡ layer.Expr::FnCall c.in-FnCall.call c.in-FnCall.pos = rw (c.in-FnCall.is, exprs.outs-FnCall)
     refl in
@@ -86,9 +86,9 @@ returns-clause-runs g c offer this fast =
     (names_in c.args.scope.now) form (two_args _ _ _ c.in_ok-left.ensures) c.requires in
     let seen = compared_stands c.in_ok-token.token (standing (out-Expr c.in_ok-left.left.now) (entries_of c.args.scope.now))
     (standing (out-Expr c.in_ok-left.right.now) (entries_of c.args.scope.now)) c.in_ok-holds.holds (sym c.in_ok-holds.ensures) in
-    from_same rules (g.T.NativeTable.state c.args._table.now) c.args.scope.now this c.args.test.now c.args.global.now
+    from_same rules (g.T.NativeTable.state c.args._table.now) c.args.scope.now held c.args.test.now c.args.global.now
     c.charge_all.new.global c.track_operation-3.new.global _ (c.charge_all.ensures.same c.if-charge_all.false) (
-    test_holds rules (g.T.NativeTable.state c.args._table.now) c.args.scope.now this c.args.test.now c.in-FnCall.call
+    test_holds rules (g.T.NativeTable.state c.args._table.now) c.args.scope.now held c.args.test.now c.in-FnCall.call
     c.in_ok-token.token c.in_ok-left.left.now c.in_ok-left.right.now c.in-FnCall.pos seen.0 seen.1 fast form c.in_ok-token.was
     (two_args _ _ _ c.in_ok-left.ensures) both.0 both.1 seen.2 seen.3 c.charge_all.new.global c.track_operation.new.global
     c.in_default-track_operation.ensures.room c.in_default-track_operation.ensures.charged c.track_operation-2.new.global
@@ -96,7 +96,7 @@ returns-clause-runs g c offer this fast =
     c.in_default-track_operation-3.ensures.room c.in_default-track_operation-3.ensures.charged c.in_ok-holds.holds seen.4)
 
 pub returns-then-charge_all-clause-runs : goal.returns-then-charge_all-clause-runs
-returns-then-charge_all-clause-runs g c offer this fast =
+returns-then-charge_all-clause-runs g c offer held fast =
     let rules = rules_of c.args.limits.now g.H.Host.name_of offer g.T.NativeTable.natives in
     let form : out-Expr c.args.test.now ≡ layer.Expr::FnCall c.in-FnCall.call c.in-FnCall.pos = rw (c.in-FnCall.is, exprs.outs-FnCall)
     refl in
@@ -104,7 +104,7 @@ returns-then-charge_all-clause-runs g c offer this fast =
     (names_in c.args.scope.now) form (two_args _ _ _ c.in_ok-left.ensures) c.requires in
     let seen = compared_stands c.in_ok-token.token (standing (out-Expr c.in_ok-left.left.now) (entries_of c.args.scope.now))
     (standing (out-Expr c.in_ok-left.right.now) (entries_of c.args.scope.now)) c.in_ok-holds.holds (sym c.in_ok-holds.ensures) in
-    test_holds_at_once rules (g.T.NativeTable.state c.args._table.now) c.args.scope.now this c.args.test.now c.in-FnCall.call
+    test_holds_at_once rules (g.T.NativeTable.state c.args._table.now) c.args.scope.now held c.args.test.now c.in-FnCall.call
     c.in_ok-token.token c.in_ok-left.left.now c.in_ok-left.right.now c.in-FnCall.pos seen.0 seen.1 fast form c.in_ok-token.was
     (two_args _ _ _ c.in_ok-left.ensures) both.0 both.1 seen.2 seen.3 c.args.global.now c.charge_all.new.global
     (c.charge_all.ensures.room c.if-charge_all.true) (c.charge_all.ensures.charged c.if-charge_all.true) c.in_ok-holds.holds seen.4

@@ -9,18 +9,18 @@ use Rattle.rhai_operands.proofs.operators.operate_in_place.Goals as goal
 
 pub returns-in-Err-clause-runs : goal.returns-in-Err-clause-runs
 unfolding Steps
-returns-in-Err-clause-runs g c offer this fast k =
+returns-in-Err-clause-runs g c offer held fast k =
     let rules = rules_of c.args.limits.now g.H.Host.name_of offer g.T.NativeTable.natives in
-    left_refused rules (g.T.NativeTable.state c.args._table.now) c.args.scope.now this c.args.call.now c.args.token c.args.left.now
+    left_refused rules (g.T.NativeTable.state c.args._table.now) c.args.scope.now held c.args.call.now c.args.token c.args.left.now
     c.args.right.now c.args.pos _ _ k fast c.requires.token c.requires.args c.requires.resolves_left c.requires.resolves_right
     (sym c.in_ok-first.ensures) (sym c.in_ok-second.ensures) c.args.global.now c.track_operation.new.global c.in-Err.error
     c.in-Err.ensures.full (rw c.position.ensures at c.in-Err.ensures.refused) c.in-Err.ensures.same
 
 pub returns-in-Err-track_operation-clause-runs : goal.returns-in-Err-track_operation-clause-runs
 unfolding Steps
-returns-in-Err-track_operation-clause-runs g c offer this fast k =
+returns-in-Err-track_operation-clause-runs g c offer held fast k =
     let rules = rules_of c.args.limits.now g.H.Host.name_of offer g.T.NativeTable.natives in
-    right_refused rules (g.T.NativeTable.state c.args._table.now) c.args.scope.now this c.args.call.now c.args.token c.args.left.now
+    right_refused rules (g.T.NativeTable.state c.args._table.now) c.args.scope.now held c.args.call.now c.args.token c.args.left.now
     c.args.right.now c.args.pos _ _ k fast c.requires.token c.requires.args c.requires.resolves_left c.requires.resolves_right
     (sym c.in_ok-first.ensures) (sym c.in_ok-second.ensures) c.args.global.now c.track_operation.new.global
     c.track_operation-2.new.global c.in_default.ensures.room c.in_default.ensures.charged c.in-Err-track_operation.error
@@ -29,13 +29,13 @@ returns-in-Err-track_operation-clause-runs g c offer this fast k =
 
 pub returns-clause-runs : goal.returns-clause-runs
 unfolding Steps
-returns-clause-runs g c offer this fast k =
+returns-clause-runs g c offer held fast k =
     let rules = rules_of c.args.limits.now g.H.Host.name_of offer g.T.NativeTable.natives in
     let left : standing (out-Expr c.args.left.now) (entries_of c.args.scope.now) ≡ Some c.value.result.now =
     rw c.value.ensures (sym c.in_ok-first.ensures) in
     let right : standing (out-Expr c.args.right.now) (entries_of c.args.scope.now) ≡ Some c.value-2.result.now =
     rw c.value-2.ensures (sym c.in_ok-second.ensures) in
-    operates rules (g.T.NativeTable.state c.args._table.now) c.args.scope.now this c.args.call.now c.args.token c.args.left.now
+    operates rules (g.T.NativeTable.state c.args._table.now) c.args.scope.now held c.args.call.now c.args.token c.args.left.now
     c.args.right.now c.args.pos _ _ k fast c.requires.token c.requires.args c.requires.resolves_left c.requires.resolves_right
     left right c.args.global.now c.track_operation.new.global c.track_operation-2.new.global
     c.in_default.ensures.room c.in_default.ensures.charged c.in_default-track_operation.ensures.room

@@ -1,0 +1,21 @@
+use Rattle.rhai_state.specs.Native.{reply_of}
+use Rattle.rhai_machine.specs.language.Frames.{Operation}
+use Rattle.rhai_machine.specs.language.Runs.{Steps}
+use Rattle.rhai_machine.specs.language.Setting.{Rules, rules_of}
+use Rattle.rhai_calls.proofs.NativeCalls.{fires_alone, marks_it, unmarks_it}
+use Rattle.rhai_calls.proofs.native.call_alone.Goals as goal
+
+pub returns-clause-runs : goal.returns-clause-runs
+unfolding Steps
+returns-clause-runs g c offer count l same k =
+    let rules : Rules _ _ = rules_of c.args.limits.now g.H.Host.name_of offer g.T.NativeTable.natives in
+    let operation : Operation = record { name = c.args.name.now; token = c.args.token; at = c.args.pos } in
+    fires_alone rules operation c.args.id k (record { table = g.T.NativeTable.state c.args.table.now; count = count; local = l })
+    c.args.marks (reply_of c.answer_alone-answer.result) (g.T.NativeTable.state c.answer_alone-answer.new.table)
+    c.replied_alone-result.result c.marked.result (rw (← same) at c.answer_alone-answer.ensures)
+    (c.replied_alone-result.ensures.told l.around.cells) c.replied_alone-result.ensures.memory
+    (marks_it _ _ _ _ _ _ _ c.lone_changes-changes.ensures c.has_changed-changed.ensures c.marked.ensures)
+
+pub returns-clause-unmarked : goal.returns-clause-unmarked
+returns-clause-unmarked g c =
+    unmarks_it _ _ _ _ _ _ _ c.lone_changes-changes.ensures c.has_changed-changed.ensures c.marked.ensures

@@ -1,0 +1,27 @@
+use Rattle.rhai_machine.specs.machine.Memory.{◌⨾◌}
+use Rattle.rhai_machine.specs.language.Runs.{Steps}
+use Rattle.rhai_machine.specs.language.Setting.{Rules, rules_of}
+use Rattle.rhai_steps.specs.States.{state_of}
+use Rattle.rhai_calls.proofs.Lent.{back_same}
+use Rattle.rhai_calls.proofs.NativeCalls.{charges_call, exits_marked, refuses_call, still_stands}
+use Rattle.rhai_calls.proofs.native.pass_native.Goals as goal
+
+pub returns-in_err-track_operation-clause-runs : goal.returns-in_err-track_operation-clause-runs
+unfolding Steps
+returns-in_err-track_operation-clause-runs g c offer scope held lender stands =
+    let rules : Rules _ _ = rules_of c.args.limits.now g.H.Host.name_of offer g.T.NativeTable.natives in
+    rw (back_same lender c.args.first.now
+    (state_of (g.T.NativeTable.state c.args.table.now) c.track_operation.new.global scope held)
+    (still_stands lender c.args.first.now c.args.global.now c.track_operation.new.global scope held stands))
+    (exits_marked rules _ _ _ _ _ c.from_residual.ensures (λ k.
+    refuses_call rules _ c.args.global.now c.track_operation.new.global scope held _ _
+    c.in_err-track_operation.ensures.full c.in_err-track_operation.ensures.refused c.in_err-track_operation.ensures.same k))
+
+pub returns-clause-runs : goal.returns-clause-runs
+unfolding Steps
+returns-clause-runs g c offer scope held lender stands k =
+    let rules : Rules _ _ = rules_of c.args.limits.now g.H.Host.name_of offer g.T.NativeTable.natives in
+    charges_call rules _ c.args.global.now c.track_operation.new.global scope held _ c.in_ok-track_operation.ensures.room
+    c.in_ok-track_operation.ensures.charged k
+    ⨾ c.call_first.ensures.runs offer scope held lender
+    (still_stands lender c.args.first.now c.args.global.now c.track_operation.new.global scope held stands) k

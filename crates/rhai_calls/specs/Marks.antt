@@ -1,0 +1,36 @@
+-- Results that say whether a native may have changed its first argument.
+use Rattle.std.specs.Prelude.{Bool, true, false, List, Option, Some, Result, Ok, Err}
+use Rattle.rhai_values.specs.declared.base.value.Dynamic.{Dynamic}
+use Rattle.rhai_state.specs.declared.error.EvalAltResult.{EvalAltResult}
+use Rattle.rhai_state.specs.Native.{Reply, Gives}
+use Rattle.rhai_machine.specs.language.Setting.{Rules}
+use Rattle.rhai_machine.specs.language.State.{State}
+use Rattle.rhai_machine.specs.language.Frames.{Call, Control, Frame, marked}
+use Rattle.rhai_machine.specs.language.Calls.{dispatch_core}
+use Rattle.rhai_machine.specs.language.Runs.{at, with_core, Goes, Steps}
+
+module _ {H : Type 0} where
+  -- a result with its mark, and without
+  abbrev pub with_mark : (changed : Bool) → Result (Dynamic H) (EvalAltResult H) → Result (Dynamic H × Bool) (EvalAltResult H)
+  with_mark changed (Ok v) = Ok (v, changed)
+  with_mark changed (Err e) = Err e
+
+  abbrev pub without_mark : Result (Dynamic H × Bool) (EvalAltResult H) → Result (Dynamic H) (EvalAltResult H)
+  without_mark (Ok (v, changed)) = Ok v
+  without_mark (Err e) = Err e
+
+  -- it was a native that gave the value, and no built-in
+  abbrev pub gives : Option (Reply H) → Bool
+  gives (Some (Gives v)) = true
+  gives _ = false
+
+  -- from a control to the value, with its mark, or the error that came of it
+  abbrev pub MarkedRuns : {S : Type 0} → Rules S H → Control H → State S H → Result (Dynamic H × Bool) (EvalAltResult H) → State S H →
+      Type 0
+  MarkedRuns rules c old result new = Steps rules c old (marked result) new
+
+  -- from where a call is dispatched, over any stack, to how it ended
+  unfoldable pub MarkedDispatches : {S : Type 0} → Rules S H → Call H → State S H → Result (Dynamic H × Bool) (EvalAltResult H) →
+      State S H → Type 0
+  MarkedDispatches {S} rules call old result new = (k : List (Frame H)) →
+      Goes rules (with_core (dispatch_core rules.setting call k old.local) old) (at (marked result) k new)
