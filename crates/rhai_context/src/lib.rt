@@ -2,7 +2,7 @@
 //! values in, and put them back on every way out; neither takes memory.
 #![tactic(auto)]
 
-ghost use Rattle.std.specs.Prelude.{◌≡◌, None};
+ghost use Rattle.std.specs.Prelude.{◌≡◌, [], None};
 
 use rhai_items::Items;
 use rhai_state::scope::Scope;
@@ -12,12 +12,14 @@ use rhai_values::cells::CellStore;
 use std::alloc::Global;
 use std::mem::replace;
 
-/// The state of a run: what stays beside the variables, the variables and `this`.
+/// The state of a run: what stays beside the variables, the variables and `this`. Besides it has a list
+/// that holds arguments while a call collects them.
 #[derive(Drop)]
 pub struct Context<H> {
     pub global: GlobalRuntimeState<H>,
     pub scope: Scope<H>,
     pub this: Option<Dynamic<H>>,
+    pub spare: Items<Dynamic<H>>,
 }
 
 /// A state with nothing in it but whether variables are searched for. No memory is asked for it.
@@ -46,7 +48,7 @@ pub fn take<H: Host>(
     global: &mut GlobalRuntimeState<H>,
     scope: &mut Scope<H>,
 ) -> Context<H>
-    ensures run { result ≡ record { global = global.old; scope = scope.old; this = None } }
+    ensures run { result ≡ record { global = global.old; scope = scope.old; this = None; spare = [] } }
     ensures search { global.new.always_search_scope ≡ global.old.always_search_scope }
 {
     let empty = nothing(alloc, global.always_search_scope);
@@ -54,7 +56,27 @@ pub fn take<H: Host>(
         global: replace(global, empty),
         scope: replace(scope, Scope::new(alloc)),
         this: None,
+        spare: Items::new(alloc),
     }
+}
+
+/// An empty list for arguments: the one that the last call left, with its room, or else a new one.
+pub fn lend_list<H: Host>(alloc: Global, run: &mut Context<H>) -> Items<Dynamic<H>>
+    ensures list { result ≡ [] }
+    ensures run { run.new ≡ record run.old { spare = [] } }
+{
+    let mut list = replace(&mut run.spare, Items::new(alloc));
+    list.truncate(0);
+    list
+}
+
+/// Keeps a list of arguments for the next call, without what it holds.
+pub fn keep_list<H: Host>(run: &mut Context<H>, list: Items<Dynamic<H>>)
+    ensures { run.new ≡ record run.old { spare = [] } }
+{
+    let mut list = list;
+    list.truncate(0);
+    drop(replace(&mut run.spare, list));
 }
 
 /// Puts the values of a run back in their places. No run changes whether its caller's variables are

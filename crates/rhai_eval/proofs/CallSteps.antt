@@ -1,8 +1,10 @@
 -- Steps of calls.
 use Rattle.std.proofs.Common.{◌≡◌, ◌<◌, ◌≤◌, ◌+◌, ℕ, Bool, true, false, List, [], ◌∷◌, ◌++◌, Option, Some, None, Result, Ok, Err}
-use Rattle.std.proofs.Common.{refl, sym, ap, ◌∙◌, codes, is_some, length}
+use Rattle.std.proofs.Common.{refl, sym, ap, ◌∙◌, arith, codes, is_some, length, suc}
+use Rattle.std.specs.Prelude.{IfErr, OnOk}
 use Rattle.std.proofs.lemmas.Bool.{lt-ltb, le-ltb}
 use Rattle.rhai_tree.specs.declared.position.Position.{Position}
+use Rattle.rhai_tree.specs.declared.token.Token.{Token}
 use Rattle.rhai_tree.specs.declared.literal.NativeId.{NativeId}
 use Rattle.rhai_tree.specs.declared.expr.Expr.{Expr}
 use Rattle.rhai_tree.specs.declared.expr.FnCallExpr.{FnCallExpr}
@@ -22,11 +24,11 @@ use Rattle.rhai_machine.specs.machine.Machine.{Go, Charge}
 use Rattle.rhai_machine.specs.machine.Memory.{here}
 use Rattle.rhai_machine.specs.machine.Point.{Point}
 use Rattle.rhai_machine.specs.language.Setting.{Rules, limit_under}
-use Rattle.rhai_machine.specs.language.State.{Local, State}
-use Rattle.rhai_machine.specs.language.Frames.{Control, Frame, Core, core, on_value, Argument, Back, CallNamed, Fail, OpenExpr}
+use Rattle.rhai_machine.specs.language.State.{Held, Local, State}
+use Rattle.rhai_machine.specs.language.Frames.{Operation, Control, Frame, Core, core, on_value, Argument, Back, CallNamed, Fail, OpenExpr}
 use Rattle.rhai_machine.specs.language.Frames.{CallArgument, KeywordArgument, Keyword, CallPointer, Curry, IsDefinedVariable, MakePointer}
 use Rattle.rhai_machine.specs.language.Frames.{Purpose, ToCallNumber, ToCurry, ended}
-use Rattle.rhai_machine.specs.language.Arguments.{arguments_core, flattens, keyword_of, operation_named}
+use Rattle.rhai_machine.specs.language.Arguments.{arguments_core, flattens, function_core, keyword_of, operation_named}
 use Rattle.rhai_machine.specs.language.Arguments.{pointer_core, taken, pointer_of as pointer_named_by, pointer_wanted, text_wanted}
 use Rattle.rhai_machine.specs.language.Values.{bool_value}
 use Rattle.rhai_state.specs.Scope.{index_of}
@@ -38,40 +40,56 @@ use Rattle.rhai_pointers.specs.Forms.{is_operator_form}
 use Rattle.rhai_pointers.proofs.FormLemmas.{function_goes}
 use Rattle.rhai_dispatch.specs.Kept.{HasKept}
 use Rattle.rhai_dispatch.specs.Pointers.{number_in}
+use Rattle.rhai_eval.specs.Calls.{called, has_taken}
 use Rattle.rhai_eval.proofs.Chain.{fails_on}
+
+-- a first argument is one more than the others
+one_more : (n : ℕ) → suc n ≡ 1 + n
+one_more n = omega arith
+
+pub counted : (token : Option Token) (name : List ℕ) (rest : List Expr) →
+    keyword_of token name (suc (length rest)) ≡ keyword_of token name (1 + length rest)
+counted token name rest = ap (keyword_of token name) (one_more (length rest))
 
 module _ {S H : Type 0} (rules : Rules S H) where
   module _ (call : FnCallExpr) (pos : Position) (k : List (Frame H)) (s : State S H)
       (plain : is_unqualified call.namespace.path ≡ true)
       (form : is_operator_form rules.setting.offer.fast_operators call.op_token call.args ≡ false) where
     -- a call that is no operator on its operands begins as a keyword does, or as a call by name
-    pub begins_keyword : (word : Keyword) (first : Expr) (rest : List Expr) →
-        keyword_of call.op_token call.name (length call.args) ≡ Some word → call.args ≡ first ∷ rest →
-        Goes rules (at (OpenExpr (layer.Expr::FnCall call pos)) k s)
-        (at (Argument first) (KeywordArgument word pos (start_of first) rest call.capture_parent_scope ∷ k) s)
-    begins_keyword word first rest is args =
-        step_by rules _ _ (Go (core (Argument first) (KeywordArgument word pos (start_of first) rest call.capture_parent_scope ∷ k)
+    pub begins_call : Goes rules (at (OpenExpr (layer.Expr::FnCall call pos)) k s)
+        (with_core (called (record { name = call.name; token = call.op_token; at = pos }) call.args call.capture_parent_scope k s.local) s)
+    begins_call =
+        step_by rules _ _ (Go (called (record { name = call.name; token = call.op_token; at = pos }) call.args call.capture_parent_scope k
         s.local))
-        (function_goes rules.setting.offer.fast_operators call.op_token call call.args pos k s.local form ∙ rw (plain, is, args) refl) here
+        (function_goes rules.setting.offer.fast_operators call.op_token call call.args pos k s.local form ∙ rw plain refl) here
 
-    pub begins_named : keyword_of call.op_token call.name (length call.args) ≡ None →
-        Goes rules (at (OpenExpr (layer.Expr::FnCall call pos)) k s)
-        (at (CallNamed (record { name = call.name; token = call.op_token; at = pos }) [] call.args call.capture_parent_scope) k s)
-    begins_named is =
-        step_by rules _ _ (Go (core (CallNamed (record { name = call.name; token = call.op_token; at = pos }) [] call.args
-        call.capture_parent_scope) k s.local))
-        (function_goes rules.setting.offer.fast_operators call.op_token call call.args pos k s.local form ∙ rw (plain, is) refl) here
+  -- without arguments there is no keyword
+  module _ (operation : Operation) (captures : Bool) (k : List (Frame H)) (l : Local H) where
+    pub named_alone : (word : Option Keyword) →
+        function_core word operation [] captures k l ≡ core (CallNamed operation [] [] captures) k l
+    named_alone None = refl
+    named_alone (Some word) = refl
 
-  module _ (t : S) (old new : GlobalRuntimeState H) (scope : Scope H) (this : Option (Dynamic H)) (c : Control H) (pos : Position)
+    -- with arguments it is a keyword, or a call by name
+    pub named_so : (word : Option Keyword) (args : List Expr) → word ≡ None →
+        function_core word operation args captures k l ≡ core (CallNamed operation [] args captures) k l
+    named_so word args is = rw is refl
+
+    pub worded : (word : Option Keyword) (found : Keyword) (arg : Expr) (args : List Expr) → word ≡ Some found →
+        function_core word operation (arg ∷ args) captures k l
+        ≡ core (Argument arg) (KeywordArgument found operation.at (start_of arg) args captures ∷ k) l
+    worded word found arg args is = rw is refl
+
+  module _ (t : S) (old new : GlobalRuntimeState H) (scope : Scope H) (held : Held H) (c : Control H) (pos : Position)
       (k : List (Frame H)) (d : Local H → Core H)
-      (charges : move rules.setting (core c k (local_of old scope this)) ≡ Charge pos (d (local_of old scope this))) where
+      (charges : move rules.setting (core c k (local_of old scope held)) ≡ Charge pos (d (local_of old scope held))) where
     -- a charge that leads to another stack
     pub charged_on : old.num_operations < limit_under rules → new ≡ record old { num_operations = old.num_operations + 1 } →
-        Goes rules (at c k (state_of t old scope this)) (with_core (d (local_of new scope this)) (state_of t new scope this))
+        Goes rules (at c k (state_of t old scope held)) (with_core (d (local_of new scope held)) (state_of t new scope held))
     charged_on room is = step_by rules _ _ _ charges (rw (lt-ltb _ _ room, is) here)
 
     pub refused_on : (x : EvalAltResult H) → limit_under rules ≤ old.num_operations → x ≡ error.ErrorTooManyOperations pos → new ≡ old →
-        Goes rules (at c k (state_of t old scope this)) (at (Fail x) k (state_of t new scope this))
+        Goes rules (at c k (state_of t old scope held)) (at (Fail x) k (state_of t new scope held))
     refused_on x full is same = step_by rules _ _ _ charges (rw (le-ltb _ _ full, is, same) here)
 
   -- an argument is taken behind those before it, or refused
@@ -95,6 +113,16 @@ module _ {S H : Type 0} (rules : Rules S H) where
         Goes rules (at (Back v) (CallArgument purpose made pos rest ∷ k) l) (at (Fail e) k l)
     taken_fails flattened e is refused = fails_on rules v (CallArgument purpose made pos rest) k l e (λ x. refl)
         (λ m. rw (is, refused m) refl)
+
+  -- an argument that was evaluated is taken, or an error comes down
+  pub takes_told : (purpose : Purpose H) (made : List (Dynamic H)) (v : Dynamic H) (pos : Position) (rest : List Expr) (k : List (Frame H))
+      (l : State S H) (flattened : Bool) (more : List (Dynamic H)) (r : Result (Unit {0}) (EvalAltResult H)) →
+      flattens purpose ≡ flattened → OnOk r (HasKept (taken flattened l.local.around.cells v pos) made more) →
+      IfErr r (λ e. is_out_of_memory e ≡ false → taken flattened l.local.around.cells v pos ≡ Err e) →
+      Goes rules (at (Back v) (CallArgument purpose made pos rest ∷ k) l) (has_taken rules purpose r more rest k l)
+  takes_told purpose made v pos rest k l flattened more (Ok x) is kept refused = taken_on purpose made v pos rest k l flattened more is kept
+  takes_told purpose made v pos rest k l flattened more (Err e) is kept refused = taken_fails purpose made v pos rest k l flattened e is
+      refused
 
   -- a pointer is called by its number, or by its name
   module _ (pointer : FnPtr H) (pos : Position) (args : List Expr) (captures : Bool) (k : List (Frame H)) (l : Local H) where

@@ -18,7 +18,7 @@ use Rattle.rhai_machine.specs.machine.Machine.{Go}
 use Rattle.rhai_machine.specs.machine.Point.{Point, after}
 use Rattle.rhai_machine.specs.machine.Memory.{here, next, wanting, ◌⨾◌}
 use Rattle.rhai_machine.specs.language.Setting.{Rules, limit_under}
-use Rattle.rhai_machine.specs.language.State.{State}
+use Rattle.rhai_machine.specs.language.State.{Held, State}
 use Rattle.rhai_state.specs.Errors.{is_out_of_memory}
 use Rattle.rhai_machine.specs.language.Frames.{StatementValue, RightOperand, AssignValue}
 use Rattle.rhai_machine.specs.language.Frames.{ReturnValue, Control, Frame, Core, core, ended, UnaryOperand, LeftOperand}
@@ -44,7 +44,7 @@ use Rattle.rhai_tree.specs.declared.flags.ASTFlags.{ASTFlags}
 use Rattle.rhai_values.specs.declared.base.value.AccessMode.{AccessMode}
 use Rattle.rhai_state.specs.Scope.{entries_of, new_entry}
 use Rattle.rhai_machine.proofs.ThisLaws.{steps_with}
-use Rattle.rhai_steps.specs.States.{local_of, state_of}
+use Rattle.rhai_steps.specs.States.{holding, local_of, state_of}
 use Rattle.rhai_steps.specs.Declaring.{declarable, is_full, is_taken}
 use Rattle.rhai_steps.proofs.Pieces.{or_wants, step_by}
 use Rattle.rhai_steps.specs.Saves.{saved_in, left_global}
@@ -66,48 +66,48 @@ pub is_not_empty : {A : Type 0} (xs : List A) → (length xs == 0) ≡ false →
 is_not_empty xs h e = absurd (true≢false (rw e at h))
 
 -- the state that a restoring list leaves
-pub left_state : {S H : Type 0} (t : S) (old new : GlobalRuntimeState H) (before after : Scope H) (this : Option (Dynamic H))
+pub left_state : {S H : Type 0} (t : S) (old new : GlobalRuntimeState H) (before after : Scope H) (held : Held H)
     (saved : code.Saved) (kept : Saved) →
     saved_in saved ≡ kept → entries_of after ≡ take saved.scope_length (entries_of before) → new ≡ left_global saved old →
-    state_of t new after this ≡ record (state_of t old before this) { local = restored_by kept (local_of old before this) }
-left_state t old new before after this saved kept is scope global = rw (← is, scope, global) refl
+    state_of t new after held ≡ record (state_of t old before held) { local = restored_by kept (local_of old before held) }
+left_state t old new before after held saved kept is scope global = rw (← is, scope, global) refl
 
 module _ {S H : Type 0} (rules : Rules S H) where
-  module _ (t : S) (old mid : GlobalRuntimeState H) (scope : Scope H) (this : Option (Dynamic H))
+  module _ (t : S) (old mid : GlobalRuntimeState H) (scope : Scope H) (held : Held H)
       (room : old.num_operations < limit_under rules) (charged : mid ≡ record old { num_operations = old.num_operations + 1 }) where
     -- a start that is charged opens the expression
     pub begins : (e : Expr) (o : ExprLayer) → out-Expr e ≡ o → (k : List (Frame H)) →
-        Goes rules (at (Eval e) k (state_of t old scope this)) (at (OpenExpr o) k (state_of t mid scope this))
+        Goes rules (at (Eval e) k (state_of t old scope held)) (at (OpenExpr o) k (state_of t mid scope held))
     unfolding after
     begins e o is k = next (rw (lt-ltb _ _ room, charged, is) here)
 
     pub begins_stmt : (x : Stmt) (restoring : Bool) (o : StmtLayer) → out-Stmt x ≡ o → (k : List (Frame H)) →
-        Goes rules (at (Exec x restoring) k (state_of t old scope this)) (at (OpenStmt o restoring) k (state_of t mid scope this))
+        Goes rules (at (Exec x restoring) k (state_of t old scope held)) (at (OpenStmt o restoring) k (state_of t mid scope held))
     unfolding after
     begins_stmt x restoring o is k = next (rw (lt-ltb _ _ room, charged, is) here)
 
     -- a charged form does what its opened form does
     pub opens : (new : State S H) (r : Result (Dynamic H) (EvalAltResult H)) (e : Expr) (o : ExprLayer) →
-        Runs rules (OpenExpr o) (state_of t mid scope this) r new → out-Expr e ≡ o → Runs rules (Eval e) (state_of t old scope this) r new
+        Runs rules (OpenExpr o) (state_of t mid scope held) r new → out-Expr e ≡ o → Runs rules (Eval e) (state_of t old scope held) r new
     unfolding Steps
     opens new r e o runs is k = begins e o is k ⨾ runs k
 
     pub opens_stmt : (new : State S H) (r : Result (Dynamic H) (EvalAltResult H)) (x : Stmt) (restoring : Bool) (o : StmtLayer) →
-        Runs rules (OpenStmt o restoring) (state_of t mid scope this) r new → out-Stmt x ≡ o →
-        Runs rules (Exec x restoring) (state_of t old scope this) r new
+        Runs rules (OpenStmt o restoring) (state_of t mid scope held) r new → out-Stmt x ≡ o →
+        Runs rules (Exec x restoring) (state_of t old scope held) r new
     unfolding Steps
     opens_stmt new r x restoring o runs is k = begins_stmt x restoring o is k ⨾ runs k
 
-  module _ (t : S) (old new : GlobalRuntimeState H) (scope : Scope H) (this : Option (Dynamic H)) (pos : Position) (x : EvalAltResult H)
+  module _ (t : S) (old new : GlobalRuntimeState H) (scope : Scope H) (held : Held H) (pos : Position) (x : EvalAltResult H)
       (r : Result (Dynamic H) (EvalAltResult H))
       (is : r ≡ Err x) (full : limit_under rules ≤ old.num_operations) (refused : x ≡ error.ErrorTooManyOperations pos)
       (same : new ≡ old) where
-    pub refuses : (e : Expr) → pos ≡ position_of e → Runs rules (Eval e) (state_of t old scope this) r (state_of t new scope this)
+    pub refuses : (e : Expr) → pos ≡ position_of e → Runs rules (Eval e) (state_of t old scope held) r (state_of t new scope held)
     unfolding after Steps
     refuses e place k = next (rw (le-ltb _ _ full, is, refused, same, place) here)
 
     pub refuses_stmt : (e : Stmt) (restoring : Bool) → pos ≡ stmt_position_of e →
-        Runs rules (Exec e restoring) (state_of t old scope this) r (state_of t new scope this)
+        Runs rules (Exec e restoring) (state_of t old scope held) r (state_of t new scope held)
     unfolding after Steps
     refuses_stmt e restoring place k = next (rw (le-ltb _ _ full, is, refused, same, place) here)
 
@@ -131,10 +131,10 @@ module _ {S H : Type 0} (rules : Rules S H) where
   -- a run with nothing under `this` is the same with what the caller has there
   pub with_this : (c : Control H) (t u : S) (g h : GlobalRuntimeState H) (old new : Scope H) (r : Result (Dynamic H) (EvalAltResult H))
       (before after this : Option (Dynamic H)) →
-      before ≡ None → after ≡ None → Runs rules c (state_of t g old before) r (state_of u h new after) →
-      Runs rules c (state_of t g old this) r (state_of u h new this)
+      before ≡ None → after ≡ None → Runs rules c (state_of t g old (holding before)) r (state_of u h new (holding after)) →
+      Runs rules c (state_of t g old (holding this)) r (state_of u h new (holding this))
   with_this c t u g h old new r before after this is none runs =
-      steps_with this rules c (ended r) (state_of t g old None) (state_of u h new None) (rw (is, none) at runs)
+      steps_with this rules c (ended r) (state_of t g old (holding None)) (state_of u h new (holding None)) (rw (is, none) at runs)
 
   -- a list that is entered: an empty one has no effect
   pub enters_empty : (stmts : List Stmt) (restoring : Bool) (k : List (Frame H)) (l : State S H) → stmts ≡ [] →
@@ -249,14 +249,14 @@ module _ {S H : Type 0} (rules : Rules S H) where
         (rw kept (ap Go (declared_core taken full is))) here
 
   -- the variable is there, or there was no memory for it
-  module _ (t : S) (g : GlobalRuntimeState H) (old new : Scope H) (this : Option (Dynamic H)) (ident : Ident) (options : ASTFlags)
+  module _ (t : S) (g : GlobalRuntimeState H) (old new : Scope H) (held : Held H) (ident : Ident) (options : ASTFlags)
       (given v : Dynamic H) (value_at : Position)
       (flattened : Ok v ≡ flat (cells_of g.cells) given value_at) (mode : AccessMode) (asked : mode ≡ mode_of options)
       (k : List (Frame H)) where
     pub defines : (r : Result (Dynamic H) (EvalAltResult H)) → IfOk r (λ x. x ≡ unit_value) → IfErr r (λ e. is_out_of_memory e ≡ true) →
         OnOk r (entries_of new ≡ entries_of old ++ new_entry ident.name mode v ∷ []) → OnErr r (entries_of new ≡ entries_of old) →
-        Goes rules (at (Back given) (DefineValue ident options value_at ∷ k) (state_of t g old this))
-        (at (ended r) k (state_of t g new this))
+        Goes rules (at (Back given) (DefineValue ident options value_at ∷ k) (state_of t g old held))
+        (at (ended r) k (state_of t g new held))
     unfolding after
     defines (Ok x) value fault pushed same = next (rw (← flattened, value, pushed, asked) here)
     defines (Err (error.ErrorOutOfMemory at)) value fault pushed same = wanting {at = at} (next (rw same here))

@@ -3,7 +3,6 @@ mod Chain
 mod ChoiceSteps
 mod Conditions
 mod DataSteps
-mod KeywordLemmas
 mod LoopSteps
 mod NameLemmas
 mod Public

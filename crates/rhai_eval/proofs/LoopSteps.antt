@@ -21,7 +21,7 @@ use Rattle.rhai_machine.specs.machine.Machine.{Machine, Move, Halt, Go, Charge, 
 use Rattle.rhai_machine.specs.machine.Point.{Point, moved, after}
 use Rattle.rhai_machine.specs.machine.Memory.{Leads, here, next, wanting, starved}
 use Rattle.rhai_machine.specs.language.Setting.{Rules, limit_under}
-use Rattle.rhai_machine.specs.language.State.{State, Local}
+use Rattle.rhai_machine.specs.language.State.{Held, State, Local}
 use Rattle.rhai_machine.specs.language.Frames.{Control, Frame, Core, core, ended, OpenStmt, Eval, Enter, WhileTurn, DoTurn, Back, Fail}
 use Rattle.rhai_machine.specs.language.Frames.{WhileCondition, WhileBody, DoBody, DoCondition, ReturnValue}
 use Rattle.rhai_machine.specs.language.Loops.{is_endless, while_move}
@@ -109,19 +109,19 @@ module _ {S H : Type 0} (rules : Rules S H) where
         (rw is (entered body.statements l.local some)) here
 
     -- an empty body is charged, or its charge is refused
-    pub endless_charged : (t : S) (old mid : GlobalRuntimeState H) (scope : Scope H) (this : Option (Dynamic H)) →
+    pub endless_charged : (t : S) (old mid : GlobalRuntimeState H) (scope : Scope H) (held : Held H) →
         old.num_operations < limit_under rules → mid ≡ record old { num_operations = old.num_operations + 1 } →
         is_endless (out-Expr test) ≡ true → body.statements ≡ [] →
-        Goes rules (at (WhileTurn test body) k (state_of t old scope this)) (at (WhileTurn test body) k (state_of t mid scope this))
+        Goes rules (at (WhileTurn test body) k (state_of t old scope held)) (at (WhileTurn test body) k (state_of t mid scope held))
     unfolding after
-    endless_charged t old mid scope this room charged is empty = next (rw (is, empty, lt-ltb _ _ room, charged) here)
+    endless_charged t old mid scope held room charged is empty = next (rw (is, empty, lt-ltb _ _ room, charged) here)
 
-    pub endless_refused : (t : S) (old new : GlobalRuntimeState H) (scope : Scope H) (this : Option (Dynamic H)) (x : EvalAltResult H) →
+    pub endless_refused : (t : S) (old new : GlobalRuntimeState H) (scope : Scope H) (held : Held H) (x : EvalAltResult H) →
         limit_under rules ≤ old.num_operations → x ≡ error.ErrorTooManyOperations body.position → new ≡ old →
         is_endless (out-Expr test) ≡ true → body.statements ≡ [] →
-        Goes rules (at (WhileTurn test body) k (state_of t old scope this)) (at (Fail x) k (state_of t new scope this))
+        Goes rules (at (WhileTurn test body) k (state_of t old scope held)) (at (Fail x) k (state_of t new scope held))
     unfolding after
-    endless_refused t old new scope this x full refused same is empty = next (rw (is, empty, le-ltb _ _ full, refused, same) here)
+    endless_refused t old new scope held x full refused same is empty = next (rw (is, empty, le-ltb _ _ full, refused, same) here)
 
   -- a `break` without a value
   pub breaks_unit : (options : ASTFlags) (is_break : Bool) (v : Dynamic H) (e : EvalAltResult H) (pos : Position) (restoring : Bool)

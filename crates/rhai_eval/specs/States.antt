@@ -6,7 +6,7 @@ use Rattle.rhai_state.specs.Native.{Natives}
 use Rattle.rhai_state.specs.Scope.{names_in}
 use Rattle.rhai_machine.specs.language.Setting.{Offer, Rules, rules_of}
 use Rattle.rhai_machine.specs.language.State.{State}
-use Rattle.rhai_steps.specs.States.{state_of}
+use Rattle.rhai_steps.specs.States.{holding, state_of}
 use Rattle.rhai_context.specs.declared.Context.{Context}
 use Rattle.rhai_eval.specs.declared.engine.Engine.{Engine}
 
@@ -39,7 +39,7 @@ module _ {H : Type 0} where
 
   -- all that a run changes
   abbrev pub state_in : {S : Type 0} → S → Context H → State S H
-  state_in table run = state_of table run.global run.scope run.this
+  state_in table run = state_of table run.global run.scope (holding run.this)
 
   -- the names of the variables
   abbrev pub names : Context H → List Name

@@ -10,6 +10,11 @@ use Rattle.rhai_values.specs.declared.base.value.Dynamic.{Dynamic}
 use Rattle.rhai_state.specs.declared.scope.ScopeEntry.{ScopeEntry}
 use Rattle.rhai_pointers.specs.declared.arguments.FirstVariable.{FirstVariable}
 
+-- the arguments of a call, the first of which is told apart: where there is no first there are none
+abbrev pub all_args : (first : Option Expr) → (rest : List Expr) → List Expr
+all_args None rest = []
+all_args (Some arg) rest = arg ∷ rest
+
 -- a variable's offset and name, where it stands, and the arguments behind it
 pub record Leading : Type 0 where
   pub offset : Option NonZeroUsize

@@ -1,14 +1,14 @@
 //! The arguments of a call: how a value is taken as one, and a variable that comes first.
 
 ghost use Rattle.std.specs.Prelude.{◌≡◌, ◌∷◌, ◌++◌, [], true, IfErr, OnOk, OnErr};
-ghost use Rattle.std.specs.Option.{option_map};
+ghost use Rattle.std.specs.Option.{option_copied, option_map};
 ghost use Rattle.rhai_tree.specs.declared.expr.Expr.{out-Expr};
 ghost use Rattle.rhai_values.specs.Cells.{cells_of};
 ghost use Rattle.rhai_state.specs.Errors.{is_out_of_memory};
 ghost use Rattle.rhai_state.specs.Scope.{entries_of};
 ghost use Rattle.rhai_machine.specs.language.Arguments.{taken as taken_as};
 ghost use Rattle.rhai_machine.specs.language.State.{Answers};
-ghost use Rattle.rhai_pointers.specs.Leading.{by_value, first_in, leading, lent_first, seen};
+ghost use Rattle.rhai_pointers.specs.Leading.{all_args, by_value, first_in, leading, lent_first, seen};
 
 use rhai_items::{Items, Shared, Text};
 use rhai_state::error::EvalAltResult;
@@ -94,12 +94,22 @@ fn variable_in<'a>(arg: &'a Expr, rest: &'a [Expr]) -> Option<FirstVariable<'a>>
 }
 
 /// The first argument, where it is a variable by its name alone.
-fn variable_first(args: &[Expr]) -> Option<FirstVariable<'_>>
-    ensures { option_map seen result ≡ first_in args.now }
+fn variable_first<'a>(first: Option<&'a Expr>, rest: &'a [Expr]) -> Option<FirstVariable<'a>>
+    ensures { option_map seen result ≡ first_in (all_args (option_copied first.entry) rest.now) }
+{
+    match first {
+        None => None,
+        Some(arg) => variable_in(arg, rest),
+    }
+}
+
+/// The first of some arguments, and the others.
+pub fn parted(args: &[Expr]) -> (Option<&Expr>, &[Expr])
+    ensures { args.now ≡ all_args (option_copied result.0) result.1.now }
 {
     match args {
-        [] => None,
-        [arg, rest @ ..] => variable_in(arg, rest),
+        [] => (None, args),
+        [first, rest @ ..] => (Some(first), rest),
     }
 }
 
@@ -127,14 +137,15 @@ fn takes_values<H: Host>(scope: &Scope<H>, curried: &[Dynamic<H>], captures: boo
 pub fn first_variable<'a, H: Host>(
     scope: &Scope<H>,
     curried: &[Dynamic<H>],
-    args: &'a [Expr],
+    first: Option<&'a Expr>,
+    rest: &'a [Expr],
     captures: bool,
 ) -> Option<FirstVariable<'a>>
     ensures { option_map seen result ≡ lent_first (by_value curried.now captures (entries_of scope.now))
-        args.now }
+        (all_args (option_copied first.entry) rest.now) }
 {
     if takes_values(scope, curried, captures) {
         return None;
     }
-    variable_first(args)
+    variable_first(first, rest)
 }

@@ -1,12 +1,12 @@
 //! The names that mean no function.
 
-ghost use Rattle.std.specs.Prelude.{◌≡◌, ◌&&◌, length, nat_eq, nat_le, codes};
+ghost use Rattle.std.specs.Prelude.{◌≡◌, ◌&&◌, nat_eq, nat_le, codes};
 ghost use Rattle.std.specs.Option.{option_map};
 ghost use Rattle.std.specs.Str.{bytes_eq};
 ghost use Rattle.rhai_machine.specs.language.Arguments.{keyword_named, keyword_of};
 ghost use Rattle.rhai_pointers.specs.Keywords.{word_of};
 
-use rhai_tree::expr::FnCallExpr;
+use rhai_tree::token::Token;
 
 /// The words by which a call is no function's.
 #[derive(Clone, Copy, Debug, PartialEq, Eq)]
@@ -45,14 +45,13 @@ fn keyword_named(name: &str, count: usize) -> Option<Keyword>
     None
 }
 
-/// The keyword that a call is of, None where it is a call of a function. What was written as an
-/// operator is no keyword. It takes no memory.
-pub fn keyword_of(call: &FnCallExpr) -> Option<Keyword>
-    ensures { option_map word_of result ≡ keyword_of call.now.op_token call.now.name
-        (length call.now.args) }
+/// The keyword that a call is of, by its name, its operator and the number of its arguments. None where
+/// it is a call of a function: what was written as an operator is no keyword. It takes no memory.
+pub fn keyword_of(name: &str, op_token: Option<Token>, count: usize) -> Option<Keyword>
+    ensures { option_map word_of result ≡ keyword_of op_token name.now count }
 {
-    match call.op_token {
+    match op_token {
         Some(_) => None,
-        None => keyword_named(call.name.get().as_str(), call.args.len()),
+        None => keyword_named(name, count),
     }
 }

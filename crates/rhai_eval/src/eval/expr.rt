@@ -13,7 +13,7 @@ ghost use Rattle.rhai_machine.specs.language.Frames.{Eval};
 ghost use Rattle.rhai_machine.specs.language.Runs.{Runs};
 ghost use Rattle.rhai_operands.specs.Tests.{Tests};
 ghost use Rattle.rhai_steps.specs.Offsets.{offset_in, place_at};
-ghost use Rattle.rhai_steps.specs.States.{state_of};
+ghost use Rattle.rhai_steps.specs.States.{holding, state_of};
 ghost use Rattle.rhai_laws.specs.Kept.{Kept};
 ghost use Rattle.rhai_eval.specs.Ends.{EndsAs};
 ghost use Rattle.rhai_eval.specs.Memory.{asks_expr};
@@ -114,11 +114,11 @@ impl<H: Host> Engine<H> {
         requires resolves { IsTrue (resolves_expr expr.now (names_in scope.old)) }
         requires plain { Plain self.now global.old }
         ensures ends { EndsAs (under H.name_of self.now T.natives) (Eval expr.now)
-            (state_of (T.state table.old) global.old scope.old (was _this.entry)) result
-            (state_of (T.state table.new) global.new scope.new (was _this.entry)) }
+            (state_of (T.state table.old) global.old scope.old (holding (was _this.entry))) result
+            (state_of (T.state table.new) global.new scope.new (holding (was _this.entry))) }
         ensures kept { Kept (under H.name_of self.now T.natives)
-            (state_of (T.state table.old) global.old scope.old (was _this.entry))
-            (state_of (T.state table.new) global.new scope.new (was _this.entry)) }
+            (state_of (T.state table.old) global.old scope.old (holding (was _this.entry)))
+            (state_of (T.state table.new) global.new scope.new (holding (was _this.entry))) }
         ensures names { names_in scope.new ≡ names_in scope.old }
         ensures caches { _caches.new ≡ _caches.old }
         ensures search { global.new.always_search_scope ≡ global.old.always_search_scope }

@@ -7,7 +7,7 @@ ghost use Rattle.rhai_state.specs.Scope.{names_in};
 ghost use Rattle.rhai_machine.specs.language.Memory.{UpToMemory};
 ghost use Rattle.rhai_machine.specs.language.Script.{EndsAsMachine, AgreesWithHigherLimits, start_of_script};
 ghost use Rattle.rhai_machine.specs.language.Script.{end_of_script};
-ghost use Rattle.rhai_steps.specs.States.{state_of};
+ghost use Rattle.rhai_steps.specs.States.{holding, state_of};
 ghost use Rattle.rhai_laws.specs.Kept.{Kept};
 ghost use Rattle.rhai_eval.specs.Memory.{may_ask};
 ghost use Rattle.rhai_eval.specs.Plain.{Plain};
@@ -46,20 +46,20 @@ impl<H: Host> Engine<H> {
     ) -> Result<Dynamic<H>, EvalAltResult<H>>
         requires plain { Plain self.now global.old }
         ensures ends { EndsAsMachine (under H.name_of self.now T.natives) tree.now.0 map_exit_to_return_value
-            (state_of (T.state table.old) global.old scope.old None) result
-            (state_of (T.state table.new) global.new scope.new None) }
+            (state_of (T.state table.old) global.old scope.old (holding None)) result
+            (state_of (T.state table.new) global.new scope.new (holding None)) }
         ensures two_limits { AgreesWithHigherLimits (under H.name_of self.now T.natives) tree.now.0
             map_exit_to_return_value
-            (state_of (T.state table.old) global.old scope.old None) result
-            (state_of (T.state table.new) global.new scope.new None) }
+            (state_of (T.state table.old) global.old scope.old (holding None)) result
+            (state_of (T.state table.new) global.new scope.new (holding None)) }
         ensures up_to { UpToMemory (under H.name_of self.now T.natives)
             (start_of_script tree.now.0 map_exit_to_return_value
-            (state_of (T.state table.old) global.old scope.old None))
-            (end_of_script result (state_of (T.state table.new) global.new scope.new None)) }
+            (state_of (T.state table.old) global.old scope.old (holding None)))
+            (end_of_script result (state_of (T.state table.new) global.new scope.new (holding None))) }
         ensures memory { IfErr result (λ error. is_out_of_memory error ≡ true → IsTrue (may_ask tree.now.0)) }
         ensures kept { Kept (under H.name_of self.now T.natives)
-            (state_of (T.state table.old) global.old scope.old None)
-            (state_of (T.state table.new) global.new scope.new None) }
+            (state_of (T.state table.old) global.old scope.old (holding None))
+            (state_of (T.state table.new) global.new scope.new (holding None)) }
         ensures begins { Begins (names_in scope.old) (names_in scope.new) }
         ensures variables { length (names_in scope.old) ≤ self.now.limits.max_variables →
             length (names_in scope.new) ≤ self.now.limits.max_variables }

@@ -13,7 +13,7 @@ ghost use Rattle.rhai_state.specs.Scope.{names_in};
 ghost use Rattle.rhai_machine.specs.language.Values.{unit_value as unit};
 ghost use Rattle.rhai_machine.specs.language.Frames.{Exec, OpenStmt, Enter, Run};
 ghost use Rattle.rhai_machine.specs.language.Runs.{Runs};
-ghost use Rattle.rhai_steps.specs.States.{state_of};
+ghost use Rattle.rhai_steps.specs.States.{holding, state_of};
 ghost use Rattle.rhai_laws.specs.Kept.{Kept};
 ghost use Rattle.rhai_eval.specs.Ends.{EndsAs};
 ghost use Rattle.rhai_eval.specs.Memory.{asks_expr, asks_block, asks_stmt, may_ask};
@@ -60,11 +60,11 @@ impl<H: Host> Engine<H> {
         requires resolves { IsTrue (resolves_stmt stmt.now (names_in scope.old)).0 }
         requires plain { Plain self.now global.old }
         ensures ends { EndsAs (under H.name_of self.now T.natives) (Exec stmt.now rewind_scope)
-            (state_of (T.state table.old) global.old scope.old (was _this.entry)) result
-            (state_of (T.state table.new) global.new scope.new (was _this.entry)) }
+            (state_of (T.state table.old) global.old scope.old (holding (was _this.entry))) result
+            (state_of (T.state table.new) global.new scope.new (holding (was _this.entry))) }
         ensures kept { Kept (under H.name_of self.now T.natives)
-            (state_of (T.state table.old) global.old scope.old (was _this.entry))
-            (state_of (T.state table.new) global.new scope.new (was _this.entry)) }
+            (state_of (T.state table.old) global.old scope.old (holding (was _this.entry)))
+            (state_of (T.state table.new) global.new scope.new (holding (was _this.entry))) }
         ensures begins { Begins (names_in scope.old) (names_in scope.new) }
         ensures names { OnOk result (names_in scope.new ≡ (resolves_stmt stmt.now (names_in scope.old)).1) }
         ensures variables { length (names_in scope.old) ≤ self.now.limits.max_variables →
@@ -99,11 +99,11 @@ impl<H: Host> Engine<H> {
         requires resolves { IsTrue (all_resolve (map resolves_stmt statements.now) (names_in scope.old)).0 }
         requires plain { Plain self.now global.old }
         ensures ends { EndsAs (under H.name_of self.now T.natives) (Enter statements.now restore_orig_state)
-            (state_of (T.state table.old) global.old scope.old (was _this.entry)) result
-            (state_of (T.state table.new) global.new scope.new (was _this.entry)) }
+            (state_of (T.state table.old) global.old scope.old (holding (was _this.entry))) result
+            (state_of (T.state table.new) global.new scope.new (holding (was _this.entry))) }
         ensures kept { Kept (under H.name_of self.now T.natives)
-            (state_of (T.state table.old) global.old scope.old (was _this.entry))
-            (state_of (T.state table.new) global.new scope.new (was _this.entry)) }
+            (state_of (T.state table.old) global.old scope.old (holding (was _this.entry)))
+            (state_of (T.state table.new) global.new scope.new (holding (was _this.entry))) }
         ensures begins { Begins (names_in scope.old) (names_in scope.new) }
         ensures restores { IsTrue restore_orig_state → names_in scope.new ≡ names_in scope.old }
         ensures variables { length (names_in scope.old) ≤ self.now.limits.max_variables →

@@ -1,33 +1,36 @@
 //! Calls: operators, keywords and pointers. Ports upstream's `func/call.rs`; the contracts speak of the
 //! machine's runs and of specs/Calls.antt.
 
-ghost use Rattle.std.specs.Prelude.{◌≡◌, ◌<◌, ◌≤◌, ◌∷◌, [], IsTrue, Some, None, IfOk, OnOk, codes, length, map};
+ghost use Rattle.std.specs.Prelude.{◌≡◌, ◌<◌, ◌≤◌, ◌∷◌, [], IsTrue, Some, IfOk, OnOk, codes, map};
 ghost use Rattle.std.specs.Prelude.{true, false};
+ghost use Rattle.std.specs.Option.{option_copied};
 ghost use Rattle.rhai_check.specs.Frame.{all_resolve_exprs, resolves_expr, resolves_call, tests_of};
 ghost use Rattle.rhai_tree.specs.declared.expr.Expr.TheOpen as layer;
 ghost use Rattle.rhai_tree.specs.Positions.{start_of};
-ghost use Rattle.rhai_machine.specs.language.Frames.{Argument, Back, CallPointer, KeywordArgument, OpenExpr, ToCurry};
-ghost use Rattle.rhai_machine.specs.language.Arguments.{arguments_core};
+ghost use Rattle.rhai_machine.specs.language.Frames.{Argument, Back, KeywordArgument, OpenExpr, ToCallNumber, ToCurry};
+ghost use Rattle.rhai_machine.specs.language.Arguments.{arguments_core, operation_named};
 ghost use Rattle.rhai_machine.specs.language.Runs.{Runs};
 ghost use Rattle.rhai_state.specs.Native.{was};
 ghost use Rattle.rhai_state.specs.Scope.{names_in};
-ghost use Rattle.rhai_steps.specs.States.{state_of};
+ghost use Rattle.rhai_steps.specs.States.{holding, state_of};
 ghost use Rattle.rhai_laws.specs.Kept.{Kept};
 ghost use Rattle.rhai_eval.specs.Ends.{EndsAs};
 ghost use Rattle.rhai_eval.specs.Plain.{Plain};
 ghost use Rattle.rhai_pointers.specs.Forms.{is_operator_form};
 ghost use Rattle.rhai_pointers.specs.Keywords.{word_of};
-ghost use Rattle.rhai_eval.specs.Calls.{RunsUnder, StartsAs, pointer_called, value_with};
+ghost use Rattle.rhai_pointers.specs.Leading.{all_args};
+ghost use Rattle.rhai_eval.specs.Calls.{RunsUnder, StartsAs, called, pointer_called, value_with};
 ghost use Rattle.rhai_eval.specs.States.{names, state_in, under};
 
 use crate::engine::Engine;
 use rhai_calls::operators::{operate_one, operate_two};
-use rhai_context::{Context, give_back, take};
+use rhai_context::{Context, give_back, lend_list, take};
 use rhai_dispatch::call_number;
 use rhai_dispatch::pointer::parts_of;
-use rhai_items::{Items, Shared, Text};
+use rhai_items::Items;
 use rhai_operands::arguments::literal_arg;
 use rhai_operands::operators::operate_in_place;
+use rhai_pointers::arguments::parted;
 use rhai_pointers::forms::{CallForm, form_of};
 use rhai_pointers::keywords::{Keyword, keyword_of};
 use rhai_pointers::pointers::{
@@ -40,18 +43,11 @@ use rhai_state::state::GlobalRuntimeState;
 use rhai_state::table::NativeTable;
 use rhai_steps::values::{flatten, let_go};
 use rhai_tree::expr::{Expr, FnCallExpr};
+use rhai_tree::literal::NativeId;
 use rhai_tree::position::Position;
 use rhai_tree::token::Token;
 use rhai_values::base::value::{Dynamic, FnPtr, Host};
 use std::alloc::Global;
-
-/// The first of some arguments, and the others.
-fn first_of(args: &[Expr]) -> (&Expr, &[Expr])
-    requires { 1 ≤ length args.now }
-    ensures { args.now ≡ result.0.now ∷ result.1.now }
-{
-    (&args[0], &args[1..])
-}
 
 /// A value with where it starts.
 fn starting_at<H: Host>(
@@ -88,11 +84,11 @@ impl<H: Host> Engine<H> {
         requires resolves { IsTrue (resolves_call expr.now pos (names_in scope.old)) }
         requires plain { Plain self.now global.old }
         ensures ends { EndsAs (under H.name_of self.now T.natives) (OpenExpr (layer.Expr::FnCall expr.now pos))
-            (state_of (T.state table.old) global.old scope.old (was _this.entry)) result
-            (state_of (T.state table.new) global.new scope.new (was _this.entry)) }
+            (state_of (T.state table.old) global.old scope.old (holding (was _this.entry))) result
+            (state_of (T.state table.new) global.new scope.new (holding (was _this.entry))) }
         ensures kept { Kept (under H.name_of self.now T.natives)
-            (state_of (T.state table.old) global.old scope.old (was _this.entry))
-            (state_of (T.state table.new) global.new scope.new (was _this.entry)) }
+            (state_of (T.state table.old) global.old scope.old (holding (was _this.entry)))
+            (state_of (T.state table.new) global.new scope.new (holding (was _this.entry))) }
         ensures names { names_in scope.new ≡ names_in scope.old }
         ensures caches { _caches.new ≡ _caches.old }
         ensures search { global.new.always_search_scope ≡ global.old.always_search_scope }
@@ -123,11 +119,11 @@ impl<H: Host> Engine<H> {
         requires plain { Plain self.now global.old }
         ensures position { IfOk result (λ pair. pair.1 ≡ start_of arg_expr.now) }
         ensures ends { EndsAs (under H.name_of self.now T.natives) (Argument arg_expr.now)
-            (state_of (T.state table.old) global.old scope.old (was _this.entry)) (value_with result)
-            (state_of (T.state table.new) global.new scope.new (was _this.entry)) }
+            (state_of (T.state table.old) global.old scope.old (holding (was _this.entry))) (value_with result)
+            (state_of (T.state table.new) global.new scope.new (holding (was _this.entry))) }
         ensures kept { Kept (under H.name_of self.now T.natives)
-            (state_of (T.state table.old) global.old scope.old (was _this.entry))
-            (state_of (T.state table.new) global.new scope.new (was _this.entry)) }
+            (state_of (T.state table.old) global.old scope.old (holding (was _this.entry)))
+            (state_of (T.state table.new) global.new scope.new (holding (was _this.entry))) }
         ensures names { names_in scope.new ≡ names_in scope.old }
         ensures caches { _caches.new ≡ _caches.old }
         ensures search { global.new.always_search_scope ≡ global.old.always_search_scope }
@@ -165,7 +161,7 @@ impl<H: Host> Engine<H> {
         }
     }
 
-    /// A call of a function by its name, or of a keyword.
+    /// A call that is no operator on its operands.
     #[cycle(eval)]
     fn run_function<T: NativeTable<H>>(
         &self,
@@ -182,26 +178,86 @@ impl<H: Host> Engine<H> {
         ensures runs { Runs (under H.name_of self.now T.natives) (OpenExpr (layer.Expr::FnCall call.now pos))
             (state_in (T.state table.old) run.old) result (state_in (T.state table.new) run.new) }
     {
-        let args = call.args.as_slice();
+        let (first, rest) = parted(call.args.as_slice());
+        let name = call.name.get().as_str();
         let captures = call.capture_parent_scope;
-        match keyword_of(call) {
-            Some(word) => {
-                let (first, rest) = first_of(args);
-                let name = &call.name;
-                self.run_keyword(alloc, run, table, word, name, first, rest, captures, pos)
-            }
+        self.run_call(
+            alloc,
+            run,
+            table,
+            name,
+            call.op_token,
+            first,
+            rest,
+            captures,
+            pos,
+        )
+    }
+
+    /// A call of a keyword, or of a function by its name.
+    #[cycle(eval)]
+    fn run_call<T: NativeTable<H>>(
+        &self,
+        alloc: Global,
+        run: &mut Context<H>,
+        table: &mut T,
+        name: &str,
+        token: Option<Token>,
+        first: Option<&Expr>,
+        rest: &[Expr],
+        captures: bool,
+        pos: Position,
+    ) -> Result<Dynamic<H>, EvalAltResult<H>>
+        requires { IsTrue (all_resolve_exprs (map tests_of (all_args (option_copied first) rest.now))
+            (names run.old)) }
+        ensures counts { OnOk result (run.old.global.num_operations ≤ run.new.global.num_operations) }
+        ensures names { OnOk result (names run.new ≡ names run.old) }
+        ensures runs { StartsAs (under H.name_of self.now T.natives)
+            (called (record { name = name.now; token = token; at = pos })
+            (all_args (option_copied first.entry) rest.now) captures)
+            (state_in (T.state table.old) run.old) result (state_in (T.state table.new) run.new) }
+    {
+        match first {
             None => {
                 let curried = Items::new(alloc);
                 self.run_named(
-                    alloc,
-                    run,
-                    table,
-                    &call.name,
-                    call.op_token,
-                    curried,
-                    args,
-                    captures,
-                    pos,
+                    alloc, run, table, name, token, curried, first, rest, captures, pos,
+                )
+            }
+            Some(arg) => {
+                self.run_called(alloc, run, table, name, token, arg, rest, captures, pos)
+            }
+        }
+    }
+
+    /// The same of a call with arguments.
+    #[cycle(eval)]
+    fn run_called<T: NativeTable<H>>(
+        &self,
+        alloc: Global,
+        run: &mut Context<H>,
+        table: &mut T,
+        name: &str,
+        token: Option<Token>,
+        first: &Expr,
+        rest: &[Expr],
+        captures: bool,
+        pos: Position,
+    ) -> Result<Dynamic<H>, EvalAltResult<H>>
+        requires { IsTrue (all_resolve_exprs (map tests_of (first.now ∷ rest.now)) (names run.old)) }
+        ensures counts { OnOk result (run.old.global.num_operations ≤ run.new.global.num_operations) }
+        ensures names { OnOk result (names run.new ≡ names run.old) }
+        ensures runs { StartsAs (under H.name_of self.now T.natives)
+            (called (record { name = name.now; token = token; at = pos }) (first.now ∷ rest.now) captures)
+            (state_in (T.state table.old) run.old) result (state_in (T.state table.new) run.new) }
+    {
+        match keyword_of(name, token, 1 + rest.len()) {
+            Some(word) => self.run_keyword(alloc, run, table, word, first, rest, captures, pos),
+            None => {
+                let curried = Items::new(alloc);
+                let first = Some(first);
+                self.run_named(
+                    alloc, run, table, name, token, curried, first, rest, captures, pos,
                 )
             }
         }
@@ -215,7 +271,6 @@ impl<H: Host> Engine<H> {
         run: &mut Context<H>,
         table: &mut T,
         word: Keyword,
-        name: &Shared<Text>,
         first: &Expr,
         rest: &[Expr],
         captures: bool,
@@ -223,7 +278,6 @@ impl<H: Host> Engine<H> {
     ) -> Result<Dynamic<H>, EvalAltResult<H>>
         requires resolves { IsTrue (resolves_expr first.now (names run.old)) }
         requires resolves_rest { IsTrue (all_resolve_exprs (map tests_of rest.now) (names run.old)) }
-        requires named { word_of word ≡ CallPointer → name.now ≡ codes "call" }
         ensures counts { OnOk result (run.old.global.num_operations ≤ run.new.global.num_operations) }
         ensures names { OnOk result (names run.new ≡ names run.old) }
         ensures runs { RunsUnder (under H.name_of self.now T.natives) (Argument first.now)
@@ -232,9 +286,7 @@ impl<H: Host> Engine<H> {
     {
         let value = self.run_arg(alloc, run, table, first)?;
         let start = first.start_position();
-        self.run_word(
-            alloc, run, table, word, name, value, start, rest, captures, pos,
-        )
+        self.run_word(alloc, run, table, word, value, start, rest, captures, pos)
     }
 
     /// A keyword whose first argument is there.
@@ -245,15 +297,13 @@ impl<H: Host> Engine<H> {
         run: &mut Context<H>,
         table: &mut T,
         word: Keyword,
-        name: &Shared<Text>,
         value: Dynamic<H>,
         start: Position,
         rest: &[Expr],
         captures: bool,
         pos: Position,
     ) -> Result<Dynamic<H>, EvalAltResult<H>>
-        requires resolves { IsTrue (all_resolve_exprs (map tests_of rest.now) (names run.old)) }
-        requires named { word_of word ≡ CallPointer → name.now ≡ codes "call" }
+        requires { IsTrue (all_resolve_exprs (map tests_of rest.now) (names run.old)) }
         ensures counts { OnOk result (run.old.global.num_operations ≤ run.new.global.num_operations) }
         ensures names { OnOk result (names run.new ≡ names run.old) }
         ensures runs { RunsUnder (under H.name_of self.now T.natives) (Back value)
@@ -276,7 +326,7 @@ impl<H: Host> Engine<H> {
             }
             Keyword::CallPointer => {
                 let pointer = pointer_of(alloc, &run.global.cells, value, start)?;
-                self.run_pointer(alloc, run, table, name, pointer, rest, captures, pos)
+                self.run_pointer(alloc, run, table, pointer, rest, captures, pos)
             }
         }
     }
@@ -299,7 +349,8 @@ impl<H: Host> Engine<H> {
             (arguments_core (under H.name_of self.now T.natives).setting (ToCurry pointer) [] args.now)
             (state_in (T.state table.old) run.old) result (state_in (T.state table.new) run.new) }
     {
-        match self.run_args(alloc, run, table, args, false) {
+        let made = lend_list(alloc, run);
+        match self.run_more_args(alloc, run, table, made, args, false) {
             Ok(values) => with_curried(alloc, pointer, values, pos),
             Err(error) => {
                 drop(pointer);
@@ -315,14 +366,12 @@ impl<H: Host> Engine<H> {
         alloc: Global,
         run: &mut Context<H>,
         table: &mut T,
-        word: &Shared<Text>,
         pointer: FnPtr<H>,
         args: &[Expr],
         captures: bool,
         pos: Position,
     ) -> Result<Dynamic<H>, EvalAltResult<H>>
-        requires resolves { IsTrue (all_resolve_exprs (map tests_of args.now) (names run.old)) }
-        requires named { word.now ≡ codes "call" }
+        requires { IsTrue (all_resolve_exprs (map tests_of args.now) (names run.old)) }
         ensures counts { OnOk result (run.old.global.num_operations ≤ run.new.global.num_operations) }
         ensures names { OnOk result (names run.new ≡ names run.old) }
         ensures runs { StartsAs (under H.name_of self.now T.natives)
@@ -331,24 +380,50 @@ impl<H: Host> Engine<H> {
     {
         let (name, curried, number) = parts_of(pointer);
         match number {
-            Some(id) => match self.run_args(alloc, run, table, args, false) {
-                Ok(values) => call_number(
-                    &self.limits,
-                    alloc,
-                    &mut run.global,
-                    table,
-                    id,
-                    word,
-                    curried,
-                    values,
-                    pos,
-                ),
-                Err(error) => {
-                    drop(curried);
-                    Err(error)
-                }
-            },
-            None => { self.run_named(alloc, run, table, &name, None, curried, args, captures, pos) }
+            Some(id) => self.run_number(alloc, run, table, id, curried, args, pos),
+            None => {
+                let (first, rest) = parted(args);
+                let name = name.get().as_str();
+                self.run_named(
+                    alloc, run, table, name, None, curried, first, rest, captures, pos,
+                )
+            }
+        }
+    }
+
+    /// A native that is called by its number, with the values that a pointer has before its arguments.
+    #[cycle(eval)]
+    fn run_number<T: NativeTable<H>>(
+        &self,
+        alloc: Global,
+        run: &mut Context<H>,
+        table: &mut T,
+        id: NativeId,
+        curried: Items<Dynamic<H>>,
+        args: &[Expr],
+        pos: Position,
+    ) -> Result<Dynamic<H>, EvalAltResult<H>>
+        requires { IsTrue (all_resolve_exprs (map tests_of args.now) (names run.old)) }
+        ensures counts { OnOk result (run.old.global.num_operations ≤ run.new.global.num_operations) }
+        ensures names { OnOk result (names run.new ≡ names run.old) }
+        ensures runs { StartsAs (under H.name_of self.now T.natives)
+            (arguments_core (under H.name_of self.now T.natives).setting
+            (ToCallNumber id.number (operation_named (codes "call") pos) curried) [] args.now)
+            (state_in (T.state table.old) run.old) result (state_in (T.state table.new) run.new) }
+    {
+        let made = lend_list(alloc, run);
+        match self.run_more_args(alloc, run, table, made, args, false) {
+            Ok(values) => {
+                let limits = &self.limits;
+                let global = &mut run.global;
+                call_number(
+                    limits, alloc, global, table, id, "call", curried, values, pos,
+                )
+            }
+            Err(error) => {
+                drop(curried);
+                Err(error)
+            }
         }
     }
 
@@ -380,7 +455,7 @@ impl<H: Host> Engine<H> {
             alloc,
             &mut run.global,
             table,
-            &call.name,
+            call.name.get().as_str(),
             token,
             value,
             pos,
@@ -467,7 +542,7 @@ impl<H: Host> Engine<H> {
                     alloc,
                     &mut run.global,
                     table,
-                    &call.name,
+                    call.name.get().as_str(),
                     token,
                     first,
                     second,

@@ -465,20 +465,35 @@ run_expr-returns-in-Map-clause-runs = expressions.run_expr-returns-in-Map-clause
 pub run_fn_call_expr-run_unary-requires : goal.run_fn_call_expr-run_unary-requires
 run_fn_call_expr-run_unary-requires = calls.run_fn_call_expr-run_unary-requires
 
-pub run_function-first_of-requires : goal.run_function-first_of-requires
-run_function-first_of-requires = functions.run_function-first_of-requires
+pub run_function-run_call-requires : goal.run_function-run_call-requires
+run_function-run_call-requires = functions.run_function-run_call-requires
 
-pub run_function-run_keyword-requires : goal.run_function-run_keyword-requires
-run_function-run_keyword-requires = functions.run_function-run_keyword-requires
+pub run_function-returns-clause-runs : goal.run_function-returns-clause-runs
+run_function-returns-clause-runs = functions.run_function-returns-clause-runs
 
-pub run_function-run_named-requires : goal.run_function-run_named-requires
-run_function-run_named-requires = functions.run_function-run_named-requires
+pub run_call-run_named-requires : goal.run_call-run_named-requires
+run_call-run_named-requires = functions.run_call-run_named-requires
 
-pub run_function-returns-in-Some-clause-runs : goal.run_function-returns-in-Some-clause-runs
-run_function-returns-in-Some-clause-runs = functions.run_function-returns-in-Some-clause-runs
+pub run_call-run_called-requires : goal.run_call-run_called-requires
+run_call-run_called-requires = functions.run_call-run_called-requires
 
-pub run_function-returns-in-None-clause-runs : goal.run_function-returns-in-None-clause-runs
-run_function-returns-in-None-clause-runs = functions.run_function-returns-in-None-clause-runs
+pub run_call-returns-in-None-clause-runs : goal.run_call-returns-in-None-clause-runs
+run_call-returns-in-None-clause-runs = functions.run_call-returns-in-None-clause-runs
+
+pub run_call-returns-in-Some-clause-runs : goal.run_call-returns-in-Some-clause-runs
+run_call-returns-in-Some-clause-runs = functions.run_call-returns-in-Some-clause-runs
+
+pub run_called-run_keyword-requires : goal.run_called-run_keyword-requires
+run_called-run_keyword-requires = functions.run_called-run_keyword-requires
+
+pub run_called-run_named-requires : goal.run_called-run_named-requires
+run_called-run_named-requires = functions.run_called-run_named-requires
+
+pub run_called-returns-in-Some-clause-runs : goal.run_called-returns-in-Some-clause-runs
+run_called-returns-in-Some-clause-runs = functions.run_called-returns-in-Some-clause-runs
+
+pub run_called-returns-in-None-clause-runs : goal.run_called-returns-in-None-clause-runs
+run_called-returns-in-None-clause-runs = functions.run_called-returns-in-None-clause-runs
 
 pub run_keyword-returns-in_err-value-clause-runs : goal.run_keyword-returns-in_err-value-clause-runs
 run_keyword-returns-in_err-value-clause-runs = functions.run_keyword-returns-in_err-value-clause-runs
@@ -516,11 +531,17 @@ run_word-returns-in_err-pointer-in-CallPointer-clause-runs = functions.run_word-
 pub run_word-returns-in_ok-pointer-in-CallPointer-clause-runs : goal.run_word-returns-in_ok-pointer-in-CallPointer-clause-runs
 run_word-returns-in_ok-pointer-in-CallPointer-clause-runs = functions.run_word-returns-in_ok-pointer-in-CallPointer-clause-runs
 
+pub run_curry-run_more_args-requires : goal.run_curry-run_more_args-requires
+run_curry-run_more_args-requires = functions.run_curry-run_more_args-requires
+
 pub run_curry-returns-in-Ok-clause-runs : goal.run_curry-returns-in-Ok-clause-runs
 run_curry-returns-in-Ok-clause-runs = functions.run_curry-returns-in-Ok-clause-runs
 
 pub run_curry-returns-in-Err-clause-runs : goal.run_curry-returns-in-Err-clause-runs
 run_curry-returns-in-Err-clause-runs = functions.run_curry-returns-in-Err-clause-runs
+
+pub run_pointer-run_named-requires : goal.run_pointer-run_named-requires
+run_pointer-run_named-requires = functions.run_pointer-run_named-requires
 
 pub run_pointer-returns-clause-runs : goal.run_pointer-returns-clause-runs
 run_pointer-returns-clause-runs = functions.run_pointer-returns-clause-runs
@@ -528,14 +549,20 @@ run_pointer-returns-clause-runs = functions.run_pointer-returns-clause-runs
 pub run_pointer-returns-in-Some-clause-runs : goal.run_pointer-returns-in-Some-clause-runs
 run_pointer-returns-in-Some-clause-runs = functions.run_pointer-returns-in-Some-clause-runs
 
-pub run_pointer-returns-in-Ok-clause-runs : goal.run_pointer-returns-in-Ok-clause-runs
-run_pointer-returns-in-Ok-clause-runs = functions.run_pointer-returns-in-Ok-clause-runs
+pub run_number-run_more_args-requires : goal.run_number-run_more_args-requires
+run_number-run_more_args-requires = functions.run_number-run_more_args-requires
 
-pub run_named-run_args-requires : goal.run_named-run_args-requires
-run_named-run_args-requires = functions.run_named-run_args-requires
+pub run_number-returns-in-Err-clause-runs : goal.run_number-returns-in-Err-clause-runs
+run_number-returns-in-Err-clause-runs = functions.run_number-returns-in-Err-clause-runs
 
-pub run_named-call_on_variable-requires : goal.run_named-call_on_variable-requires
-run_named-call_on_variable-requires = functions.run_named-call_on_variable-requires
+pub run_number-returns-in-Ok-clause-runs : goal.run_number-returns-in-Ok-clause-runs
+run_number-returns-in-Ok-clause-runs = functions.run_number-returns-in-Ok-clause-runs
+
+pub run_named-run_more_args-requires : goal.run_named-run_more_args-requires
+run_named-run_more_args-requires = functions.run_named-run_more_args-requires
+
+pub run_named-call_on_variable-result-requires : goal.run_named-call_on_variable-result-requires
+run_named-call_on_variable-result-requires = functions.run_named-call_on_variable-result-requires
 
 pub run_named-returns-in_err-track_operation-in-Some-clause-runs : goal.run_named-returns-in_err-track_operation-in-Some-clause-runs
 run_named-returns-in_err-track_operation-in-Some-clause-runs = functions.run_named-returns-in_err-track_operation-in-Some-clause-runs
@@ -552,20 +579,38 @@ run_named-returns-in-Ok-clause-runs = functions.run_named-returns-in-Ok-clause-r
 pub run_named-returns-in-Err-clause-runs : goal.run_named-returns-in-Err-clause-runs
 run_named-returns-in-Err-clause-runs = functions.run_named-returns-in-Err-clause-runs
 
-pub run_args-run_arg-requires : goal.run_args-run_arg-requires
-run_args-run_arg-requires = functions.run_args-run_arg-requires
+pub run_args-run_next_arg-requires : goal.run_args-run_next_arg-requires
+run_args-run_next_arg-requires = functions.run_args-run_next_arg-requires
 
-pub run_args-each_arg-init : goal.run_args-each_arg-init
-run_args-each_arg-init = functions.run_args-each_arg-init
+pub run_args-run_more_args-requires : goal.run_args-run_more_args-requires
+run_args-run_more_args-requires = functions.run_args-run_more_args-requires
 
-pub run_args-each_arg-preserved : goal.run_args-each_arg-preserved
-run_args-each_arg-preserved = functions.run_args-each_arg-preserved
+pub run_args-returns-in-None-clause-collects : goal.run_args-returns-in-None-clause-collects
+run_args-returns-in-None-clause-collects = functions.run_args-returns-in-None-clause-collects
 
-pub run_args-returns-in-Err-kept-clause-collects : goal.run_args-returns-in-Err-kept-clause-collects
-run_args-returns-in-Err-kept-clause-collects = functions.run_args-returns-in-Err-kept-clause-collects
+pub run_args-returns-in-Ok-clause-collects : goal.run_args-returns-in-Ok-clause-collects
+run_args-returns-in-Ok-clause-collects = functions.run_args-returns-in-Ok-clause-collects
 
 pub run_args-returns-in-Err-clause-collects : goal.run_args-returns-in-Err-clause-collects
 run_args-returns-in-Err-clause-collects = functions.run_args-returns-in-Err-clause-collects
 
-pub run_args-returns-clause-collects : goal.run_args-returns-clause-collects
-run_args-returns-clause-collects = functions.run_args-returns-clause-collects
+pub run_more_args-run_next_arg-requires : goal.run_more_args-run_next_arg-requires
+run_more_args-run_next_arg-requires = functions.run_more_args-run_next_arg-requires
+
+pub run_more_args-each_arg-init : goal.run_more_args-each_arg-init
+run_more_args-each_arg-init = functions.run_more_args-each_arg-init
+
+pub run_more_args-each_arg-preserved : goal.run_more_args-each_arg-preserved
+run_more_args-each_arg-preserved = functions.run_more_args-each_arg-preserved
+
+pub run_more_args-returns-in-Err-clause-collects : goal.run_more_args-returns-in-Err-clause-collects
+run_more_args-returns-in-Err-clause-collects = functions.run_more_args-returns-in-Err-clause-collects
+
+pub run_more_args-returns-clause-collects : goal.run_more_args-returns-clause-collects
+run_more_args-returns-clause-collects = functions.run_more_args-returns-clause-collects
+
+pub run_next_arg-returns-in_err-value-clause-takes : goal.run_next_arg-returns-in_err-value-clause-takes
+run_next_arg-returns-in_err-value-clause-takes = functions.run_next_arg-returns-in_err-value-clause-takes
+
+pub run_next_arg-returns-clause-takes : goal.run_next_arg-returns-clause-takes
+run_next_arg-returns-clause-takes = functions.run_next_arg-returns-clause-takes

@@ -54,28 +54,43 @@ abbrev pub decreases-run_operator : goal.decreases-run_operator
 decreases-run_operator g l = 16 * left l.self.now l.run.now + 4
 
 abbrev pub decreases-run_fn_call_expr : goal.decreases-run_fn_call_expr
-decreases-run_fn_call_expr g l = 16 * left l.self.now l.run.now + 8
+decreases-run_fn_call_expr g l = 16 * left l.self.now l.run.now + 12
 
 abbrev pub decreases-run_function : goal.decreases-run_function
-decreases-run_function g l = 16 * left l.self.now l.run.now + 7
+decreases-run_function g l = 16 * left l.self.now l.run.now + 11
 
 abbrev pub decreases-run_keyword : goal.decreases-run_keyword
-decreases-run_keyword g l = 16 * left l.self.now l.run.now + 6
+decreases-run_keyword g l = 16 * left l.self.now l.run.now + 8
 
 abbrev pub decreases-run_word : goal.decreases-run_word
-decreases-run_word g l = 16 * left l.self.now l.run.now + 5
+decreases-run_word g l = 16 * left l.self.now l.run.now + 7
 
 abbrev pub decreases-run_curry : goal.decreases-run_curry
-decreases-run_curry g l = 16 * left l.self.now l.run.now + 3
+decreases-run_curry g l = 16 * left l.self.now l.run.now + 4
 
 abbrev pub decreases-run_pointer : goal.decreases-run_pointer
-decreases-run_pointer g l = 16 * left l.self.now l.run.now + 4
+decreases-run_pointer g l = 16 * left l.self.now l.run.now + 6
 
 abbrev pub decreases-run_named : goal.decreases-run_named
-decreases-run_named g l = 16 * left l.self.now l.run.now + 3
+decreases-run_named g l = 16 * left l.self.now l.run.now + 5
 
 abbrev pub decreases-run_args : goal.decreases-run_args
-decreases-run_args g l = 16 * left l.self.now l.run.now + 2
+decreases-run_args g l = 16 * left l.self.now l.run.now + 4
+
+abbrev pub decreases-run_call : goal.decreases-run_call
+decreases-run_call g l = 16 * left l.self.now l.run.now + 10
+
+abbrev pub decreases-run_called : goal.decreases-run_called
+decreases-run_called g l = 16 * left l.self.now l.run.now + 9
+
+abbrev pub decreases-run_number : goal.decreases-run_number
+decreases-run_number g l = 16 * left l.self.now l.run.now + 4
+
+abbrev pub decreases-run_more_args : goal.decreases-run_more_args
+decreases-run_more_args g l = 16 * left l.self.now l.run.now + 3
+
+abbrev pub decreases-run_next_arg : goal.decreases-run_next_arg
+decreases-run_next_arg g l = 16 * left l.self.now l.run.now + 2
 
 abbrev pub decreases-run_test : goal.decreases-run_test
 decreases-run_test g l = 16 * left l.self.now l.run.now + 1
@@ -183,16 +198,16 @@ invariant-run_coalesce-each_part g l = record {
       (state_in (g.T.NativeTable.state l.table) l.run));
 }
 
-abbrev pub invariant-run_args-each_arg : goal.invariant-run_args-each_arg
-invariant-run_args-each_arg g l = record {
+abbrev pub invariant-run_more_args-each_arg : goal.invariant-run_more_args-each_arg
+invariant-run_more_args-each_arg g l = record {
   counts : l.fn.run.global.num_operations ≤ l.run.global.num_operations;
   names : names l.run ≡ names l.fn.run;
   steps : (purpose : Purpose g.row.H.Denot) → flattens purpose ≡ l.flattened → (k : List (Frame g.row.H.Denot)) →
       Goes (under g.H.Host.name_of l.self g.T.NativeTable.natives)
-      (with_core (arguments_core (under g.H.Host.name_of l.self g.T.NativeTable.natives).setting purpose [] l.args k
+      (with_core (arguments_core (under g.H.Host.name_of l.self g.T.NativeTable.natives).setting purpose l.fn.made l.args k
       (state_in (g.T.NativeTable.state l.fn.table) l.fn.run).local)
       (state_in (g.T.NativeTable.state l.fn.table) l.fn.run))
-      (with_core (arguments_core (under g.H.Host.name_of l.self g.T.NativeTable.natives).setting purpose l.made (drop l.arg-index l.args) k
+      (with_core (arguments_core (under g.H.Host.name_of l.self g.T.NativeTable.natives).setting purpose l.values (drop l.arg-index l.args) k
       (state_in (g.T.NativeTable.state l.table) l.run).local)
       (state_in (g.T.NativeTable.state l.table) l.run));
 }

@@ -1,4 +1,5 @@
 use Rattle.std.proofs.Common.{[], ◌∷◌, refl, sym, ap, ◌∙◌, arith, is_some}
+use Rattle.rhai_steps.specs.States.{holding}
 use Rattle.rhai_machine.specs.machine.Machine.{Go}
 use Rattle.rhai_machine.specs.machine.Point.{after}
 use Rattle.rhai_machine.specs.machine.Memory.{here, next, ◌⨾◌}
@@ -28,7 +29,7 @@ run_fn_call_expr-run_operator-requires g t c =
 
 pub run_operator-returns-in-Some-clause-runs : goal.run_operator-returns-in-Some-clause-runs
 run_operator-returns-in-Some-clause-runs g t c =
-    c.in-Some.ensures.runs (offer_of c.args.self.now) c.args.run.now.this c.requires.fast
+    c.in-Some.ensures.runs (offer_of c.args.self.now) (holding c.args.run.now.this) c.requires.fast
 
 pub run_operator-returns-in-None-clause-runs : goal.run_operator-returns-in-None-clause-runs
 run_operator-returns-in-None-clause-runs g t c =
@@ -36,7 +37,7 @@ run_operator-returns-in-None-clause-runs g t c =
 
 pub run_arg-returns-in-Some-clause-runs : goal.run_arg-returns-in-Some-clause-runs
 run_arg-returns-in-Some-clause-runs g t c =
-    c.in-Some.ensures.runs (offer_of c.args.self.now) c.args.run.now.scope c.args.run.now.this
+    c.in-Some.ensures.runs (offer_of c.args.self.now) c.args.run.now.scope (holding c.args.run.now.this)
 
 pub run_arg-returns-in-None-clause-runs : goal.run_arg-returns-in-None-clause-runs
 unfolding Steps
@@ -71,7 +72,8 @@ run_unary-returns-clause-runs g t c k =
     opens_unary rules c.args.call.now c.args.token c.args.operand.now c.args.pos k _ c.requires.fast c.requires.token c.requires.args
     ⨾ c.in_ok-value.ensures.runs (UnaryOperand _ _ ∷ k)
     ⨾ next (rw (← c.position.ensures, ← (c.in_ok-value-2.ensures.exact tt))
-    (c.operate_one.ensures.runs (offer_of c.args.self.now) c.run_arg.new.run.scope c.run_arg.new.run.this k))
+    ((rw (c.as_str.ensures, c.get.ensures) at (c.operate_one.ensures.runs (offer_of c.args.self.now) c.run_arg.new.run.scope
+    (holding c.run_arg.new.run.this))) k))
 
 pub run_binary-returns-in_err-first-clause-runs : goal.run_binary-returns-in_err-first-clause-runs
 unfolding after Steps
@@ -124,4 +126,5 @@ run_binary-returns-in-Ok-flatten-clause-runs g t c k =
     ⨾ next (rw (← c.position.ensures, ← (c.in_ok-first-2.ensures.exact tt)) ((rw c.in-Ok.is at c.run_arg-2.ensures.runs) (RightOperand
     _ _ _ ∷ k)
     ⨾ next (rw (← c.position-in-Ok.ensures, ← ((rw c.in-Ok-flatten.is at c.flatten-in-Ok.ensures.exact) tt))
-    (c.operate_two.ensures.runs (offer_of c.args.self.now) c.run_arg-2.new.run.scope c.run_arg-2.new.run.this k))))
+    ((rw (c.as_str.ensures, c.get.ensures) at (c.operate_two.ensures.runs (offer_of c.args.self.now) c.run_arg-2.new.run.scope
+    (holding c.run_arg-2.new.run.this))) k))))

@@ -1,4 +1,5 @@
 use Rattle.std.proofs.Common.{◌∷◌, map, refl, ◌∙◌, arith}
+use Rattle.rhai_steps.specs.States.{holding}
 use Rattle.rhai_check.specs.Keys.{key_of}
 use Rattle.rhai_machine.specs.machine.Point.{after}
 use Rattle.rhai_machine.specs.machine.Memory.{here, next, ◌⨾◌}
@@ -147,7 +148,7 @@ run_interpolated-each_part-preserved g t c =
       names = c.in_ok-value.ensures.names ∙ c.each_part.invariant.names;
       steps = λ k. c.each_part.invariant.steps k ⨾ rw (drop_item _ _ _ c.each_part-test.true c.part-item.is)
           (c.in_ok-value.ensures.runs (TextPart _ _ _ ∷ k) ⨾ rw (← c.position.ensures)
-          (c.in_ok-join.ensures.runs (offer_of c.args.self.now) c.run_expr.new.run.scope c.run_expr.new.run.this _ k));
+          (c.in_ok-join.ensures.runs (offer_of c.args.self.now) c.run_expr.new.run.scope (holding c.run_expr.new.run.this) _ k));
     }
 
 pub run_interpolated-returns-in_err-value-clause-runs : goal.run_interpolated-returns-in_err-value-clause-runs

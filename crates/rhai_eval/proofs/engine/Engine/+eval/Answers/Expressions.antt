@@ -1,4 +1,5 @@
 use Rattle.std.proofs.Common.{refl}
+use Rattle.rhai_steps.specs.States.{holding}
 use Rattle.rhai_tree.specs.declared.expr.Expr.TheOpen as layer
 use Rattle.rhai_tree.specs.declared.expr.Expr.TheVariants as exprs
 use Rattle.rhai_machine.specs.machine.Point.{after}
@@ -151,7 +152,7 @@ run_expr-returns-in-Coalesce-clause-runs g t c =
 
 pub run_condition-returns-in-Some-clause-runs : goal.run_condition-returns-in-Some-clause-runs
 run_condition-returns-in-Some-clause-runs g t c =
-    c.in-Some.ensures.runs (offer_of c.args.self.now) c.args.run.now.this c.if-not-is_fast.false
+    c.in-Some.ensures.runs (offer_of c.args.self.now) (holding c.args.run.now.this) c.if-not-is_fast.false
 
 pub run_condition-returns-in-None-clause-runs : goal.run_condition-returns-in-None-clause-runs
 run_condition-returns-in-None-clause-runs g t c =

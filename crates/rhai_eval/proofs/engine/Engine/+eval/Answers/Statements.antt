@@ -1,4 +1,5 @@
 use Rattle.std.proofs.Common.{◌≡◌, ◌+◌, ◌∷◌, drop, map, None, refl, sym, ap, ◌∙◌, arith, rules as common_rules}
+use Rattle.rhai_steps.specs.States.{holding}
 use Rattle.rhai_tree.specs.declared.expr.Stmt.{out-Stmt}
 use Rattle.rhai_tree.specs.declared.expr.Expr.TheOpen as layer
 use Rattle.rhai_tree.specs.declared.expr.Expr.TheVariants as exprs
@@ -158,7 +159,7 @@ run_if-returns-clause-runs g t c k =
 
 pub run_assignment-returns-in-Some-clause-runs : goal.run_assignment-returns-in-Some-clause-runs
 run_assignment-returns-in-Some-clause-runs g t c =
-    c.in-Some.ensures.runs (offer_of c.args.self.now) c.args.run.now.this c.args.restoring c.if-not-is_fast.false
+    c.in-Some.ensures.runs (offer_of c.args.self.now) (holding c.args.run.now.this) c.args.restoring c.if-not-is_fast.false
 
 pub run_assignment-returns-in-None-clause-runs : goal.run_assignment-returns-in-None-clause-runs
 run_assignment-returns-in-None-clause-runs g t c =
@@ -205,7 +206,7 @@ assign_value-returns-clause-runs g t c k =
     (plain_target c.args.lhs.now c.in-Variable.offset c.in-Variable.name c.in-Variable.namespace c.in-Variable.pos _
     (rw (c.in-Variable.is, exprs.outs-Variable) refl) c.requires.resolves_target) ⨾ c.in_ok-value.ensures.runs (AssignValue _ _ ∷ k)
     ⨾ next (rw (← c.position.ensures, ← (c.in_ok-value-2.ensures.exact tt)) (c.assign_variable.ensures.runs (offer_of c.args.self.now)
-    c.run_expr.new.run.this refl k))
+    (holding c.run_expr.new.run.this) refl k))
 
 pub run_var-returns-in_err-may_declare-clause-runs : goal.run_var-returns-in_err-may_declare-clause-runs
 unfolding after Steps
