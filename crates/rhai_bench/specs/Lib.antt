@@ -1,3 +1,4 @@
+pub mod Settings
 pub mod Tables
 pub mod Outcome
 pub mod Arguments

@@ -1,11 +1,12 @@
 //! Scripts with what is set for their runs.
 
-ghost use Rattle.std.specs.Prelude.{◌≡◌, ◌≢◌, ◌≤◌, [], IfOk, length};
+ghost use Rattle.std.specs.Prelude.{◌≡◌, ◌≢◌, ◌≤◌, [], false, IfOk, length};
 ghost use Rattle.rhai_check.specs.WellFormed.{IsFormedTree};
 ghost use Rattle.rhai_check.specs.declared.check.CheckFault.TheVariants.{NoMemory};
 ghost use Rattle.rhai_state.specs.Scope.{entries_of, names_in};
 ghost use Rattle.rhai_state.specs.Limits.{limit_of};
 ghost use Rattle.rhai_bench.specs.Outcome.{IfRefused};
+ghost use Rattle.rhai_bench.specs.Settings.{under_array_size, under_operations, usual};
 
 use crate::host::Pair;
 use crate::outcome::{Ending, Outcome};
@@ -31,7 +32,7 @@ impl Script {
     pub fn new(alloc: Global, statements: Items<Stmt>) -> Script
         ensures statements { result.statements ≡ statements }
         ensures functions { result.functions ≡ [] }
-        ensures operations { result.settings.limits.max_operations ≡ 0 }
+        ensures settings { result.settings ≡ usual }
     {
         Script::with_settings(alloc, statements, Settings::USUAL)
     }
@@ -40,7 +41,7 @@ impl Script {
     pub fn with_max_operations(alloc: Global, statements: Items<Stmt>, count: u64) -> Script
         ensures statements { result.statements ≡ statements }
         ensures functions { result.functions ≡ [] }
-        ensures operations { result.settings.limits.max_operations ≡ count }
+        ensures settings { result.settings ≡ under_operations count }
     {
         Script::with_settings(alloc, statements, Settings::with_max_operations(count))
     }
@@ -49,7 +50,7 @@ impl Script {
     pub fn with_max_array_size(alloc: Global, statements: Items<Stmt>, size: usize) -> Script
         ensures statements { result.statements ≡ statements }
         ensures functions { result.functions ≡ [] }
-        ensures arrays { result.settings.limits.max_array_size ≡ size }
+        ensures settings { result.settings ≡ under_array_size size }
     {
         Script::with_settings(alloc, statements, Settings::with_max_array_size(size))
     }
@@ -58,7 +59,7 @@ impl Script {
     pub fn without_fast_operators(alloc: Global, statements: Items<Stmt>) -> Script
         ensures statements { result.statements ≡ statements }
         ensures functions { result.functions ≡ [] }
-        ensures operations { result.settings.limits.max_operations ≡ 0 }
+        ensures settings { result.settings ≡ record usual { fast_operators = false } }
     {
         Script::with_settings(alloc, statements, Settings::without_fast_operators())
     }

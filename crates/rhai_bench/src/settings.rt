@@ -1,7 +1,8 @@
 //! What is set for a run.
 
-ghost use Rattle.std.specs.Prelude.{◌≡◌, []};
+ghost use Rattle.std.specs.Prelude.{◌≡◌, [], false};
 ghost use Rattle.rhai_state.specs.Caches.{depth_of, is_on};
+ghost use Rattle.rhai_bench.specs.Settings.{under_array_size, under_operations, usual};
 
 use crate::host::Pair;
 use rhai_eval::engine::Engine;
@@ -38,7 +39,7 @@ impl Settings {
 
     /// The usual settings, but for the limit of operations.
     pub fn with_max_operations(count: u64) -> Settings
-        ensures { result.limits.max_operations ≡ count }
+        ensures { result ≡ under_operations count }
     {
         let mut settings = Settings::USUAL;
         settings.limits.max_operations = count;
@@ -47,7 +48,7 @@ impl Settings {
 
     /// The usual settings, but for the limit of an array's items.
     pub fn with_max_array_size(size: usize) -> Settings
-        ensures { result.limits.max_array_size ≡ size }
+        ensures { result ≡ under_array_size size }
     {
         let mut settings = Settings::USUAL;
         settings.limits.max_array_size = size;
@@ -56,7 +57,7 @@ impl Settings {
 
     /// The usual settings, but without fast operators.
     pub fn without_fast_operators() -> Settings
-        ensures { result.limits.max_operations ≡ 0 }
+        ensures { result ≡ record usual { fast_operators = false } }
     {
         let mut settings = Settings::USUAL;
         settings.fast_operators = false;

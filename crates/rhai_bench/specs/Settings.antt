@@ -1,0 +1,32 @@
+-- What a script runs with.
+use Rattle.std.specs.Prelude.{ℕ, true, false}
+use Rattle.rhai_state.specs.declared.limits.Limits.{Limits}
+use Rattle.rhai_bench.specs.declared.settings.Settings.{Settings}
+
+-- no limits of operations and of data, and fast operators
+abbrev pub usual_limits : Limits
+usual_limits = record {
+  max_operations = 0;
+  max_variables = 1000;
+  max_modules = 100;
+  max_call_levels = 64;
+  max_array_size = 0;
+  max_map_size = 0;
+  max_string_size = 0;
+}
+
+abbrev pub usual : Settings
+usual = record {
+  limits = usual_limits;
+  fast_operators = true;
+  allow_shadowing = true;
+  fail_on_invalid_map_property = false;
+  map_exit_to_return_value = false;
+}
+
+-- but for the limit of operations, or of an array's items
+abbrev pub under_operations : (count : ℕ) → Settings
+under_operations count = record usual { limits = record usual_limits { max_operations = count } }
+
+abbrev pub under_array_size : (size : ℕ) → Settings
+under_array_size size = record usual { limits = record usual_limits { max_array_size = size } }
