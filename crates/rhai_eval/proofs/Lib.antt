@@ -8,3 +8,4 @@ mod NameLemmas
 mod Public
 mod Scripts
 mod Turns
+mod InPlace

@@ -1,18 +1,28 @@
--- How a part of a tree ends: as the machine does, over any stack, or up to where memory ran out.
-use Rattle.std.specs.Prelude.{List, Result}
+-- How a part of a tree, or a call, ends: as the machine does, over any stack, or up to where memory ran out.
+use Rattle.std.specs.Prelude.{Bool, List, Result}
 use Rattle.rhai_values.specs.declared.base.value.Dynamic.{Dynamic}
 use Rattle.rhai_state.specs.declared.error.EvalAltResult.{EvalAltResult}
 use Rattle.rhai_machine.specs.machine.Point.{Reaches}
 use Rattle.rhai_machine.specs.language.Setting.{Rules, cut}
-use Rattle.rhai_machine.specs.language.State.{State, HasMemory}
-use Rattle.rhai_machine.specs.language.Frames.{Control, Frame, ended}
+use Rattle.rhai_machine.specs.language.State.{Local, State, HasMemory}
+use Rattle.rhai_machine.specs.language.Frames.{Control, Frame, Core, core, ended, marked}
 use Rattle.rhai_machine.specs.language.Language.{machine}
 use Rattle.rhai_machine.specs.language.Memory.{UpToMemory}
-use Rattle.rhai_machine.specs.language.Runs.{at}
+use Rattle.rhai_machine.specs.language.Runs.{at, with_core}
 
--- Over any stack the machine runs from a control to the value or error that came of it, where memory was not wanting. In any
--- case it does up to where memory ran out.
-pub record EndsAs {S H : Type 0} (rules : Rules S H) (c : Control H) (old : State S H) (result : Result (Dynamic H) (EvalAltResult H))
-    (new : State S H) : Type 0 where
-  pub runs : HasMemory result → (k : List (Frame H)) → Reaches (machine rules) (cut rules) (at c k old) (at (ended result) k new)
-  pub up_to : (k : List (Frame H)) → UpToMemory rules (at c k old) (at (ended result) k new)
+module _ {S H : Type 0} (rules : Rules S H) where
+  -- Over any stack the machine runs from where a part begins to how it ended, where memory was not wanting. In any case it does up to
+  -- where memory ran out.
+  pub record Ends (begins : List (Frame H) → Local H → Core H) (old : State S H) (memory : Type 0) (end : Control H) (new : State S H) :
+      Type 0 where
+    pub runs : memory → (k : List (Frame H)) → Reaches (machine rules) (cut rules) (with_core (begins k old.local) old) (at end k new)
+    pub up_to : (k : List (Frame H)) → UpToMemory rules (with_core (begins k old.local) old) (at end k new)
+
+  -- from a control to the value or error that came of it
+  abbrev pub EndsAs : Control H → State S H → Result (Dynamic H) (EvalAltResult H) → State S H → Type 0
+  EndsAs c old result new = Ends (λ k l. core c k l) old (HasMemory result) (ended result) new
+
+  -- from where a call begins to its error, or its value with the mark whether the first argument may have changed
+  abbrev pub EndsMarked : (begins : List (Frame H) → Local H → Core H) → State S H → Result (Dynamic H × Bool) (EvalAltResult H) →
+      State S H → Type 0
+  EndsMarked begins old result new = Ends begins old (HasMemory result) (marked result) new

@@ -6,3 +6,4 @@ pub mod Memory
 pub mod Plain
 pub mod Search
 pub mod States
+pub mod Places

@@ -2,3 +2,4 @@
 
 mod arguments;
 pub mod call;
+pub mod native;

@@ -1,0 +1,131 @@
+use Rattle.std.proofs.Common.{◌≡◌, ◌||◌, Option, Some, None, MutBor, ap, refl, sym, subst}
+use Rattle.std.specs.Option.{option_copied}
+use Rattle.rhai_values.specs.declared.base.value.Dynamic.{Dynamic}
+use Rattle.rhai_state.specs.declared.scope.Scope.{Scope}
+use Rattle.rhai_state.specs.Native.{left_by, was}
+use Rattle.rhai_machine.specs.language.Frames.{Operation, FromFocus}
+use Rattle.rhai_machine.specs.language.Setting.{Rules}
+use Rattle.rhai_machine.specs.language.State.{State}
+use Rattle.rhai_steps.specs.States.{state_of}
+use Rattle.rhai_eval.specs.States.{offer_of, under}
+use Rattle.rhai_eval.specs.Places.{left_of, on_place, was_of, with_place}
+use Rattle.rhai_eval.proofs.InPlace.{call_alone, call_ends, call_in_place, call_kept}
+use Rattle.rhai_eval.proofs.engine.Engine.exec_fn_call.Given.{Over}
+use Rattle.rhai_eval.proofs.engine.Engine.exec_fn_call.Lts.{ps, r, xs}
+use denote.Triple.Clauses.{at_exit}
+use denote.Triple.Entry.{Args}
+use borrow.Fn.Enter.{lasts_p}
+use borrow.Fn.Kinds.{ended_of}
+use Rattle.rhai_eval.proofs.engine.Engine.exec_fn_call.Goals as goal
+
+-- what stands in the place of the first argument as its loan ends, were this the place
+abbrev after : (g : Over) → goal.After-global-1 g → Option (MutBor (Dynamic g.row.H.Denot)) → Option (Dynamic g.row.H.Denot)
+after g c place =
+    let kinds = ps g.row.H g.row.T g.H.laws g.T.laws g.H.Host-dict g.H.Destruct-dict g.T.NativeTable-dict in
+    let answer = r g.row.H g.row.T g.H.laws g.T.laws g.H.Host-dict g.H.Destruct-dict g.T.NativeTable-dict in
+    let types = xs g.row.H g.row.T g.H.laws g.T.laws g.H.Host-dict g.H.Destruct-dict g.T.NativeTable-dict in
+    let given : Args (ended_of 11 kinds answer).signature c.lifetimes = (c.args.self, (c.args.alloc, (c.args.global, (c.args._caches, (c.args.table, (c.args._scope, (c.args.name, (c.args.op_token, (place, (c.args.rest, (c.args.is_ref_mut, (c.args.is_method_call, (c.args.position, tt))))))))))))) in
+    left_by (at_exit (ended_of 11 kinds answer) c.lifetimes given (lasts_p c.lifetimes 4 kinds types given (c.args.self, (tt, (c.args.global, (c.args._caches, (c.args.table, (c.args._scope, (c.args.name, (c.args.op_token, (Some (record c.in-Some.first { now = c.pass_call-result.new.first }), (c.args.rest, (tt, (tt, (tt, (tt, (tt, (tt, (tt, (tt, (tt, (tt, (tt, (tt, (tt, (tt, (tt, (tt, (tt, (tt, (tt, (tt, tt)))))))))))))))))))))))))))))))).1.1.1.1.1.1.1.1.0
+
+first_is : (g : Over) (c : goal.After-global-1 g) → after g c c.args.first ≡ Some c.pass_call-result.new.first
+first_is g c = subst (λ place. after g c place ≡ Some c.pass_call-result.new.first) (sym c.in-Some.is) refl
+
+-- and in that of the scope, which nothing writes to
+abbrev scope_after : (g : Over) → goal.After-global-1 g → Option (MutBor (Scope g.row.H.Denot)) → Option (Scope g.row.H.Denot)
+scope_after g c place =
+    let kinds = ps g.row.H g.row.T g.H.laws g.T.laws g.H.Host-dict g.H.Destruct-dict g.T.NativeTable-dict in
+    let answer = r g.row.H g.row.T g.H.laws g.T.laws g.H.Host-dict g.H.Destruct-dict g.T.NativeTable-dict in
+    let types = xs g.row.H g.row.T g.H.laws g.T.laws g.H.Host-dict g.H.Destruct-dict g.T.NativeTable-dict in
+    let given : Args (ended_of 11 kinds answer).signature c.lifetimes = (c.args.self, (c.args.alloc, (c.args.global, (c.args._caches, (c.args.table, (place, (c.args.name, (c.args.op_token, (c.args.first, (c.args.rest, (c.args.is_ref_mut, (c.args.is_method_call, (c.args.position, tt))))))))))))) in
+    left_of (at_exit (ended_of 11 kinds answer) c.lifetimes given (lasts_p c.lifetimes 4 kinds types given (c.args.self, (tt, (c.args.global, (c.args._caches, (c.args.table, (place, (c.args.name, (c.args.op_token, (Some (record c.in-Some.first { now = c.pass_call-result.new.first }), (c.args.rest, (tt, (tt, (tt, (tt, (tt, (tt, (tt, (tt, (tt, (tt, (tt, (tt, (tt, (tt, (tt, (tt, (tt, (tt, (tt, (tt, tt)))))))))))))))))))))))))))))))).1.1.1.1.1.0
+
+scope_is : (g : Over) (c : goal.After-global-1 g) (place : Option (MutBor (Scope g.row.H.Denot))) → scope_after g c place ≡ was_of place
+scope_is g c None = refl
+scope_is g c (Some place) = refl
+
+abbrev after_none : (g : Over) → goal.After-global-in-None-1 g → Option (MutBor (Dynamic g.row.H.Denot)) → Option (Dynamic g.row.H.Denot)
+after_none g c place =
+    let kinds = ps g.row.H g.row.T g.H.laws g.T.laws g.H.Host-dict g.H.Destruct-dict g.T.NativeTable-dict in
+    let answer = r g.row.H g.row.T g.H.laws g.T.laws g.H.Host-dict g.H.Destruct-dict g.T.NativeTable-dict in
+    let types = xs g.row.H g.row.T g.H.laws g.T.laws g.H.Host-dict g.H.Destruct-dict g.T.NativeTable-dict in
+    let given : Args (ended_of 11 kinds answer).signature c.lifetimes = (c.args.self, (c.args.alloc, (c.args.global, (c.args._caches, (c.args.table, (c.args._scope, (c.args.name, (c.args.op_token, (place, (c.args.rest, (c.args.is_ref_mut, (c.args.is_method_call, (c.args.position, tt))))))))))))) in
+    left_by (at_exit (ended_of 11 kinds answer) c.lifetimes given (lasts_p c.lifetimes 4 kinds types given (c.args.self, (tt, (c.args.global, (c.args._caches, (c.args.table, (c.args._scope, (c.args.name, (c.args.op_token, (place, (c.args.rest, (tt, (tt, (tt, (tt, (tt, (tt, (tt, (tt, (tt, (tt, (tt, (tt, (tt, (tt, (tt, (tt, (tt, (tt, (tt, (tt, tt)))))))))))))))))))))))))))))))).1.1.1.1.1.1.1.1.0
+
+none_is : (g : Over) (c : goal.After-global-in-None-1 g) → after_none g c c.args.first ≡ None
+none_is g c = subst (λ place. after_none g c place ≡ None) (sym c.in-None.is) refl
+
+abbrev scope_after_none : (g : Over) → goal.After-global-in-None-1 g → Option (MutBor (Scope g.row.H.Denot)) → Option (Scope g.row.H.Denot)
+scope_after_none g c place =
+    let kinds = ps g.row.H g.row.T g.H.laws g.T.laws g.H.Host-dict g.H.Destruct-dict g.T.NativeTable-dict in
+    let answer = r g.row.H g.row.T g.H.laws g.T.laws g.H.Host-dict g.H.Destruct-dict g.T.NativeTable-dict in
+    let types = xs g.row.H g.row.T g.H.laws g.T.laws g.H.Host-dict g.H.Destruct-dict g.T.NativeTable-dict in
+    let given : Args (ended_of 11 kinds answer).signature c.lifetimes = (c.args.self, (c.args.alloc, (c.args.global, (c.args._caches, (c.args.table, (place, (c.args.name, (c.args.op_token, (c.args.first, (c.args.rest, (c.args.is_ref_mut, (c.args.is_method_call, (c.args.position, tt))))))))))))) in
+    left_of (at_exit (ended_of 11 kinds answer) c.lifetimes given (lasts_p c.lifetimes 4 kinds types given (c.args.self, (tt, (c.args.global, (c.args._caches, (c.args.table, (place, (c.args.name, (c.args.op_token, (c.args.first, (c.args.rest, (tt, (tt, (tt, (tt, (tt, (tt, (tt, (tt, (tt, (tt, (tt, (tt, (tt, (tt, (tt, (tt, (tt, (tt, (tt, (tt, tt)))))))))))))))))))))))))))))))).1.1.1.1.1.0
+
+scope_is_none : (g : Over) (c : goal.After-global-in-None-1 g) (place : Option (MutBor (Scope g.row.H.Denot))) → scope_after_none g c place ≡ was_of place
+scope_is_none g c None = refl
+scope_is_none g c (Some place) = refl
+
+pub returns-in-Some-clause-ends : goal.returns-in-Some-clause-ends
+returns-in-Some-clause-ends g c scope this =
+    let rules : Rules _ _ = under g.H.Host.name_of c.args.self.now g.T.NativeTable.natives in
+    let operation : Operation = record { name = c.args.name.now; token = option_copied c.args.op_token; at = c.args.position } in
+    let call = on_place operation (c.args.is_ref_mut || c.args.is_method_call) (was c.args.first) c.args.rest.now in
+    let old : State _ _ = state_of (g.T.NativeTable.state c.args.table.now) c.args.global.now scope (with_place this (was c.args.first)) in
+    let new : State _ _ = state_of (g.T.NativeTable.state c.pass_call-result.new.table) c.pass_call-result.new.global scope
+    (with_place this (after g c c.args.first)) in
+    call_ends rules old new c.pass_call-result.result call
+    (call_in_place rules operation (c.args.is_ref_mut || c.args.is_method_call) c.args.rest.now (g.T.NativeTable.state c.args.table.now)
+    (g.T.NativeTable.state c.pass_call-result.new.table) c.args.global.now c.pass_call-result.new.global scope this
+    c.pass_call-result.result (was c.args.first) (after g c c.args.first) c.in-Some.first.now c.pass_call-result.new.first (ap was c.in-Some.is) (first_is g c)
+    (rw (c.copied-token.ensures, c.is_guarded-guarded.ensures) at
+    (c.pass_call-result.ensures.runs (offer_of c.args.self.now) scope (with_place this (Some c.in-Some.first.now)) (Some FromFocus) refl)))
+
+pub returns-in-Some-clause-kept : goal.returns-in-Some-clause-kept
+returns-in-Some-clause-kept g c scope this =
+    let rules : Rules _ _ = under g.H.Host.name_of c.args.self.now g.T.NativeTable.natives in
+    let operation : Operation = record { name = c.args.name.now; token = option_copied c.args.op_token; at = c.args.position } in
+    let call = on_place operation (c.args.is_ref_mut || c.args.is_method_call) (was c.args.first) c.args.rest.now in
+    let old : State _ _ = state_of (g.T.NativeTable.state c.args.table.now) c.args.global.now scope (with_place this (was c.args.first)) in
+    let new : State _ _ = state_of (g.T.NativeTable.state c.pass_call-result.new.table) c.pass_call-result.new.global scope
+    (with_place this (after g c c.args.first)) in
+    call_kept rules old new c.pass_call-result.result call
+    (call_in_place rules operation (c.args.is_ref_mut || c.args.is_method_call) c.args.rest.now (g.T.NativeTable.state c.args.table.now)
+    (g.T.NativeTable.state c.pass_call-result.new.table) c.args.global.now c.pass_call-result.new.global scope this
+    c.pass_call-result.result (was c.args.first) (after g c c.args.first) c.in-Some.first.now c.pass_call-result.new.first (ap was c.in-Some.is) (first_is g c)
+    (rw (c.copied-token.ensures, c.is_guarded-guarded.ensures) at
+    (c.pass_call-result.ensures.runs (offer_of c.args.self.now) scope (with_place this (Some c.in-Some.first.now)) (Some FromFocus) refl)))
+
+pub returns-in-Some-clause-scope : goal.returns-in-Some-clause-scope
+returns-in-Some-clause-scope g c = scope_is g c c.args._scope
+
+pub returns-in-None-clause-ends : goal.returns-in-None-clause-ends
+returns-in-None-clause-ends g c scope this =
+    let rules : Rules _ _ = under g.H.Host.name_of c.args.self.now g.T.NativeTable.natives in
+    let operation : Operation = record { name = c.args.name.now; token = option_copied c.args.op_token; at = c.args.position } in
+    let call = on_place operation (c.args.is_ref_mut || c.args.is_method_call) (was c.args.first) c.args.rest.now in
+    let old : State _ _ = state_of (g.T.NativeTable.state c.args.table.now) c.args.global.now scope (with_place this (was c.args.first)) in
+    let new : State _ _ = state_of (g.T.NativeTable.state c.pass_native_alone-result.new.table) c.pass_native_alone-result.new.global scope
+    (with_place this (after_none g c c.args.first)) in
+    call_ends rules old new c.pass_native_alone-result.result call
+    (call_alone rules operation (c.args.is_ref_mut || c.args.is_method_call) c.args.rest.now (g.T.NativeTable.state c.args.table.now)
+    (g.T.NativeTable.state c.pass_native_alone-result.new.table) c.args.global.now c.pass_native_alone-result.new.global scope this
+    c.pass_native_alone-result.result (was c.args.first) (after_none g c c.args.first) (ap was c.in-None.is) (none_is g c)
+    (rw c.copied-token.ensures at (c.pass_native_alone-result.ensures.runs (offer_of c.args.self.now) scope (with_place this None))))
+
+pub returns-in-None-clause-kept : goal.returns-in-None-clause-kept
+returns-in-None-clause-kept g c scope this =
+    let rules : Rules _ _ = under g.H.Host.name_of c.args.self.now g.T.NativeTable.natives in
+    let operation : Operation = record { name = c.args.name.now; token = option_copied c.args.op_token; at = c.args.position } in
+    let call = on_place operation (c.args.is_ref_mut || c.args.is_method_call) (was c.args.first) c.args.rest.now in
+    let old : State _ _ = state_of (g.T.NativeTable.state c.args.table.now) c.args.global.now scope (with_place this (was c.args.first)) in
+    let new : State _ _ = state_of (g.T.NativeTable.state c.pass_native_alone-result.new.table) c.pass_native_alone-result.new.global scope
+    (with_place this (after_none g c c.args.first)) in
+    call_kept rules old new c.pass_native_alone-result.result call
+    (call_alone rules operation (c.args.is_ref_mut || c.args.is_method_call) c.args.rest.now (g.T.NativeTable.state c.args.table.now)
+    (g.T.NativeTable.state c.pass_native_alone-result.new.table) c.args.global.now c.pass_native_alone-result.new.global scope this
+    c.pass_native_alone-result.result (was c.args.first) (after_none g c c.args.first) (ap was c.in-None.is) (none_is g c)
+    (rw c.copied-token.ensures at (c.pass_native_alone-result.ensures.runs (offer_of c.args.self.now) scope (with_place this None))))
+
+pub returns-in-None-clause-scope : goal.returns-in-None-clause-scope
+returns-in-None-clause-scope g c = scope_is_none g c c.args._scope

@@ -1,0 +1,28 @@
+-- Calls whose first argument stands in a place of the caller, which the machine has as the value that a chain works on.
+use Rattle.std.proofs.Common.{inl, inr}
+use Rattle.std.specs.Borrow.{MutBor}
+use Rattle.std.specs.Prelude.{◌⊎◌, Bool, true, false, List, [], ◌∷◌, Option, Some, None}
+use Rattle.rhai_values.specs.declared.base.value.Dynamic.{Dynamic}
+use Rattle.rhai_machine.specs.language.State.{Held}
+use Rattle.rhai_machine.specs.language.Frames.{Operation, FromFocus, Call}
+use Rattle.rhai_calls.specs.Lending.{passed_call}
+
+-- what an optional place of the caller has, and what it has as its loan ends
+abbrev pub was_of : {A : Type 0} → Option (MutBor A) → Option A
+was_of None = None
+was_of (Some place) = Some place.now
+
+abbrev pub left_of : {A : Type 0} → Unit {0} ⊎ ((MutBor A × Unit {0}) ⊎ ⊥) → Option A
+left_of (inl _) = None
+left_of (inr (inl place)) = Some place.0.now
+left_of (inr (inr never)) = None
+
+module _ {H : Type 0} where
+  -- `this` in hand, and a value at which the call works
+  abbrev pub with_place : (this place : Option (Dynamic H)) → Held H
+  with_place this place = record { this = this; focus = place }
+
+  -- a call that marks its answer, on a value in such a place or without arguments
+  abbrev pub on_place : Operation → (guarded : Bool) → (first : Option (Dynamic H)) → (rest : List (Dynamic H)) → Call H
+  on_place operation guarded (Some v) rest = passed_call operation (Some FromFocus) guarded true (v ∷ rest)
+  on_place operation guarded None rest = passed_call operation None false true []
