@@ -7,6 +7,7 @@ pub mod Frames
 pub mod Expressions
 pub mod Calls
 pub mod Arguments
+pub mod Methods
 pub mod Data
 pub mod Assignment
 pub mod Loops

@@ -1,0 +1,172 @@
+-- The rules of methods: what a name means on the value that it is called on, which is the focus.
+use Rattle.std.specs.Prelude.{ℕ, Bool, true, false, ◌&&◌, List, [], ◌∷◌, ◌++◌, map, Option, Some, None, Result, Ok, Err}
+use Rattle.std.specs.Prelude.{codes, length, nat_eq, unwrap_or, if◌then◌else◌}
+use Rattle.std.specs.Str.{bytes_eq}
+use Rattle.rhai_items.specs.Lookup.{value_of}
+use Rattle.rhai_machine.specs.Types.{Dynamic, EvalAltResult, FnPtr, Position}
+use Rattle.rhai_values.specs.declared.base.value.FnPtr.{out-FnPtr, roll-FnPtr}
+use Rattle.rhai_values.specs.declared.base.value.FnPtrKind.{FnPtrKind}
+use Rattle.rhai_values.specs.declared.base.value.FnPtrKind.TheOpen as union
+use Rattle.rhai_values.specs.declared.base.value.FnPtrKind.TheVariants as kind
+use Rattle.rhai_values.specs.declared.base.value.Union.TheVariants as value
+use Rattle.rhai_values.specs.Copy.{copy_of, plain}
+use Rattle.rhai_values.specs.Layers.{UnionLayer, layer_of}
+use Rattle.rhai_values.specs.TypeNames.{type_name_of}
+use Rattle.rhai_state.specs.declared.error.EvalAltResult.TheVariants as error
+use Rattle.rhai_machine.specs.language.Setting.{Setting}
+use Rattle.rhai_machine.specs.language.State.{Local}
+use Rattle.rhai_machine.specs.language.Values.{Cells, bool_value, is_handle, mismatch, through}
+use Rattle.rhai_machine.specs.language.Frames.{Operation, FromFocus, Call, Frame, Core, core, on_value, Question, Back, Fail}
+use Rattle.rhai_machine.specs.language.Calls.{call_of, dispatch_core, races}
+use Rattle.rhai_machine.specs.language.Arguments.{numbered_core, operation_named, pointer_wanted}
+
+-- a method as it is called: its name, where it stands, where its first argument starts, and whether a constant is kept from a native
+-- that is not pure
+pub record Method : Type 0 where
+  pub name : List ℕ
+  pub at : Position
+  pub first_at : Option Position
+  pub guarded : Bool
+
+-- the words by which a method is no function's, and any other name
+pub data MethodWord : Type 0 where
+  CallWord : MethodWord
+  CurryWord : MethodWord
+  SharedWord : MethodWord
+  PlainWord : MethodWord
+
+-- a word by its name and the number of arguments
+abbrev pub word_of : List ℕ → (count : ℕ) → MethodWord
+word_of name count =
+    if bytes_eq name (codes "call") then CallWord
+    else if bytes_eq name (codes "curry") then CurryWord
+    else if bytes_eq name (codes "is_shared") && nat_eq count 0 then SharedWord
+    else PlainWord
+
+-- where the first argument of a method is looked at
+abbrev pub argument_at : Method → Position
+argument_at method = unwrap_or method.first_at method.at
+
+module _ {H : Type 0} where
+  -- a call by name with the focus before its arguments, which is lent; the answer says whether it may have changed
+  abbrev pub on_focus : Operation → (guarded : Bool) → (args : List (Dynamic H)) → (focus : Dynamic H) → Call H
+  on_focus operation guarded args focus = record {
+    operation = operation;
+    number = None;
+    args = focus ∷ args;
+    lender = Some FromFocus;
+    guarded = guarded;
+    marks = true;
+  }
+
+  -- of the native of a number, from which a constant is always kept, the answer says nothing of the focus
+  abbrev pub number_on_focus : (number : ℕ) → Operation → (args : List (Dynamic H)) → (focus : Dynamic H) → Call H
+  number_on_focus number operation args focus =
+      record (on_focus operation true args focus) { number = Some number; marks = false }
+
+  -- copies of what a pointer has already stand before the arguments
+  abbrev pub copied_before : FnPtr H → List (Dynamic H) → List (Dynamic H)
+  copied_before pointer args = map copy_of (out-FnPtr H pointer).curry ++ args
+
+  -- a copy of a pointer, with more arguments
+  abbrev pub pointer_with : FnPtr H → List (Dynamic H) → Dynamic H
+  pointer_with pointer args = plain (value.FnPtr {X1 = H} (roll-FnPtr H (record (out-FnPtr H pointer) {
+    curry = copied_before pointer args;
+  })))
+
+  -- ---- a map's own pointer
+
+  -- the value of a key, where there is a map
+  abbrev pub entry_in : List ℕ → UnionLayer H → Option (Dynamic H)
+  entry_in name (union.Map entries) = value_of name entries
+  entry_in name _ = None
+
+  -- a handle of a held cell is nobody's to look into, and then there is none
+  abbrev pub entry_seen : List ℕ → Result (Dynamic H) (EvalAltResult H) → Option (Dynamic H)
+  entry_seen name (Ok v) = entry_in name (layer_of v)
+  entry_seen name (Err e) = None
+
+  abbrev pub pointer_there : UnionLayer H → Option (FnPtr H)
+  pointer_there (union.FnPtr pointer) = Some pointer
+  pointer_there _ = None
+
+  abbrev pub own_seen : Result (Dynamic H) (EvalAltResult H) → Result (Option (FnPtr H)) (EvalAltResult H)
+  own_seen (Ok v) = Ok (pointer_there (layer_of v))
+  own_seen (Err e) = Err e
+
+  abbrev pub own_in : Cells H → Option (Dynamic H) → Position → Result (Option (FnPtr H)) (EvalAltResult H)
+  own_in cells (Some v) at = own_seen (through cells v at)
+  own_in cells None at = Ok None
+
+  -- the pointer that a map has for a method's name, map and pointer seen through their handles
+  abbrev pub own_entry : Cells H → Method → (focus : Dynamic H) → Result (Option (FnPtr H)) (EvalAltResult H)
+  own_entry cells method focus = own_in cells (entry_seen method.name (through cells focus method.at)) method.at
+
+  -- ---- pointers
+
+  -- the native of a number is called on the focus at once; of the others, none may be a handle of a cell that is held
+  abbrev pub numbered_on : (number : ℕ) → Operation → (args : List (Dynamic H)) → (focus : Dynamic H) → List (Frame H) → Local H → Core H
+  numbered_on number operation args focus k l =
+      if races l.around.cells args then core (Fail (error.ErrorDataRace operation.name operation.at)) k l
+      else core (Question (number_on_focus number operation args focus)) k l
+
+  module _ (s : Setting H) where
+    -- a pointer is called on the focus with all its arguments: a number's native under this name, anything else by the pointer's name
+    abbrev pub pointer_on : FnPtrKind H → FnPtr H → Method → (called : List ℕ) → (args : List (Dynamic H)) → (focus : Dynamic H) →
+        List (Frame H) → Local H → Core H
+    pointer_on (kind.Native id) pointer method called args focus k l =
+        numbered_on id.number (operation_named called method.at) args focus k l
+    pointer_on _ pointer method called args focus k l =
+        dispatch_core s (on_focus (operation_named (out-FnPtr H pointer).name method.at) method.guarded args focus) k l
+
+    -- the pointer that the method works on is called itself, with all its arguments, and gets nothing lent
+    abbrev pub pointer_alone : FnPtrKind H → FnPtr H → Position → (args : List (Dynamic H)) → List (Frame H) → Local H → Core H
+    pointer_alone (kind.Native id) pointer at args k l =
+        numbered_core (record (call_of (operation_named (codes "call") at) args) { number = Some id.number }) k l
+    pointer_alone _ pointer at args k l =
+        dispatch_core s (record (call_of (operation_named (out-FnPtr H pointer).name at) args) { marks = true }) k l
+
+    -- ---- words
+
+    -- `call` on what is no pointer calls its first argument on the focus, with what that has already
+    abbrev pub call_argument : Method → (args : List (Dynamic H)) → (seen focus : Dynamic H) → List (Frame H) → Local H → Core H
+    call_argument method [] seen focus k l =
+        core (Fail (mismatch (codes "Fn") (type_name_of s.host_type l.around.cells seen) method.at)) k l
+    call_argument method (first ∷ rest) seen focus k l =
+        on_value (pointer_wanted s.host_type l.around.cells first (argument_at method))
+        (λ pointer. pointer_on (out-FnPtr H pointer).kind pointer method (codes "call") ((out-FnPtr H pointer).curry ++ rest) focus k l) k l
+
+    abbrev pub call_core : UnionLayer H → Method → (args : List (Dynamic H)) → (seen focus : Dynamic H) → List (Frame H) → Local H →
+        Core H
+    call_core (union.FnPtr pointer) method args seen focus k l =
+        pointer_alone (out-FnPtr H pointer).kind pointer method.at (copied_before pointer args) k l
+    call_core _ method args seen focus k l = call_argument method args seen focus k l
+
+    -- `curry` wants a pointer
+    abbrev pub curry_core : UnionLayer H → Position → (args : List (Dynamic H)) → (seen : Dynamic H) → List (Frame H) → Local H → Core H
+    curry_core (union.FnPtr pointer) at args seen k l = core (Back (pointer_with pointer args)) k l
+    curry_core _ at args seen k l =
+        core (Fail (mismatch (codes "Fn") (type_name_of s.host_type l.around.cells seen) at)) k l
+
+    -- a map's own pointer is called on it, and else the method is a call by its name
+    abbrev pub entry_core : Option (FnPtr H) → Method → (args : List (Dynamic H)) → (focus : Dynamic H) → List (Frame H) → Local H → Core H
+    entry_core (Some pointer) method args focus k l = pointer_on (out-FnPtr H pointer).kind pointer method (out-FnPtr H pointer).name
+        (copied_before pointer args) focus k l
+    entry_core None method args focus k l =
+        dispatch_core s (on_focus (operation_named method.name method.at) method.guarded args focus) k l
+
+    abbrev pub own_core : Method → (args : List (Dynamic H)) → (focus : Dynamic H) → List (Frame H) → Local H → Core H
+    own_core method args focus k l =
+        on_value (own_entry l.around.cells method focus) (λ own. entry_core own method args focus k l) k l
+
+    abbrev pub word_core : MethodWord → Method → (args : List (Dynamic H)) → (focus : Dynamic H) → List (Frame H) → Local H → Core H
+    word_core CallWord method args focus k l = on_value (through l.around.cells focus method.at)
+        (λ seen. call_core (layer_of seen) method args seen focus k l) k l
+    word_core CurryWord method args focus k l = on_value (through l.around.cells focus method.at)
+        (λ seen. curry_core (layer_of seen) method.at args seen k l) k l
+    word_core SharedWord method args focus k l = core (Back (bool_value (is_handle focus.value))) k l
+    word_core PlainWord method args focus k l = own_core method args focus k l
+
+    -- a method is called on the focus, once its arguments are there
+    abbrev pub method_core : Method → (args : List (Dynamic H)) → (focus : Dynamic H) → List (Frame H) → Local H → Core H
+    method_core method args focus k l = word_core (word_of method.name (length args)) method args focus k l
