@@ -59,11 +59,13 @@ use Rattle.rhai_machine.specs.language.Calls.{answered, asks_function, replied, 
 use Rattle.rhai_machine.specs.language.Arguments.{call_on, flattens, taken, numbered_core, arguments_there, arguments_core, on_variable}
 use Rattle.rhai_machine.specs.language.Arguments.{captured_move, named_move, operation_named, pointer_of, pointer_wanted, text_wanted}
 use Rattle.rhai_machine.specs.language.Arguments.{pointer_core, keyword_core, keyword_of, function_core, function_of, variable_in}
+use Rattle.rhai_machine.specs.language.Methods.{Method, method_core}
 use Rattle.rhai_machine.specs.language.Statements.{enter_core, run_core, chosen_core, defined_core, define_core, break_core, return_move}
 use Rattle.rhai_machine.specs.language.Statements.{has_option, stmt_move}
 use Rattle.rhai_machine.specs.language.Unwinding.{up_core, down_core, topped, operated}
 use Rattle.rhai_machine.specs.language.Language.{move_at, move}
 use Rattle.rhai_machine.specs.language.Runs.{at}
+use Rattle.rhai_machine.proofs.MethodLaws.{method_both}
 
 module _ {H : Type 0} where
   -- How many moves without a charge a control can lead to at most, the frames below aside. A list that is not empty leads to a
@@ -435,6 +437,16 @@ module _ {H : Type 0} where
     keyword_falls IsShared at start args captures v k l = omega arith
     keyword_falls IsDefinedVariable at start args captures v k l =
         wider_falls (text_wanted s.host_type l.around.cells v start) _ k l (λ name. omega arith)
+
+    -- a method on the focus leads at most to the question whether a native is pure
+    method_falls : (method : Method) (args : List (Dynamic H)) (focus : Dynamic H) (k : List (Frame H)) (l : Local H) →
+        size (method_core s method args focus k l) ≤ 12 + stack_size k
+    method_falls method args focus k l = method_both s l.this k l (λ c d. size d ≤ 12 + stack_size k) (record {
+      fails = λ e. omega arith;
+      backs = λ v. omega arith;
+      questions = λ call. omega arith;
+      asks = λ call. omega arith;
+    }) method args focus
 
     part_falls : (text part : List ℕ) (at : Position) (rest : List Expr) (k : List (Frame H)) (l : Local H) →
         size (part_core s text part at rest k l) < 11 + stack_size k

@@ -3,6 +3,7 @@ pub mod Runs
 pub mod Limits
 pub mod Ends
 pub mod Places
+pub mod MethodLaws
 mod Falls
 pub mod LanguageLaws
 pub mod ThisLaws
@@ -11,3 +12,4 @@ mod LoopRuns
 mod AssignmentRuns
 mod DataRuns
 mod CallRuns
+mod MethodRuns

@@ -40,7 +40,7 @@ use Rattle.rhai_values.specs.declared.base.value.AccessMode.TheVariants.{ReadWri
 use Rattle.rhai_values.specs.Modes.{with_mode}
 use Rattle.rhai_state.specs.Native.{Reply, Missing, Gives, Faults, Named, OfName, purity_of, request}
 use Rattle.rhai_machine.specs.language.Frames.{Operation, Call, Attempt, InPlace, AsValue, Assignment, Update, Control, Frame, Core, core}
-use Rattle.rhai_machine.specs.language.Frames.{where_there, on_value, ended, Eval, Exec, Ask, Assign, AskUpdate}
+use Rattle.rhai_machine.specs.language.Frames.{where_there, on_value, Eval, Exec, Ask, Assign, AskUpdate}
 use Rattle.rhai_machine.specs.language.Frames.{Argument, CallNamed, Question, Fire, QuestionUpdate, FireUpdate}
 use Rattle.rhai_machine.specs.language.Frames.{OpenExpr, OpenStmt, Enter, Run, Store, WhileTurn, DoTurn, Back, Changed, Fail, StatementValue}
 use Rattle.rhai_machine.specs.language.Frames.{DefineValue, IfCondition, RestOfList, RestoreList, Top, UnaryOperand, LeftOperand}
@@ -64,11 +64,13 @@ use Rattle.rhai_machine.specs.language.Calls.{answered, question_move, call_nati
 use Rattle.rhai_machine.specs.language.Arguments.{call_on, flattens, taken, numbered_core, arguments_there, arguments_core, on_variable}
 use Rattle.rhai_machine.specs.language.Arguments.{captured_move, named_move, operation_named, pointer_wanted, text_wanted}
 use Rattle.rhai_machine.specs.language.Arguments.{pointer_core, keyword_core, keyword_of, function_core, variable_in}
+use Rattle.rhai_machine.specs.language.Methods.{Method, method_core}
 use Rattle.rhai_machine.specs.language.Statements.{has_option, enter_core, run_core, chosen_core, define_core, stmt_move}
 use Rattle.rhai_machine.specs.language.Statements.{break_core, return_move}
 use Rattle.rhai_machine.specs.language.Unwinding.{up_core, down_core, operated}
 use Rattle.rhai_machine.specs.language.Language.{move_at, move, machine}
 use Rattle.rhai_machine.specs.language.Runs.{at, Steps}
+use Rattle.rhai_machine.proofs.MethodLaws.{method_both}
 
 module _ {H : Type 0} (t : Option (Dynamic H)) where
   abbrev with_local : Local H → Local H
@@ -475,6 +477,16 @@ module _ {H : Type 0} (t : Option (Dynamic H)) where
     keyword_same IsShared pos start args captures v k l = refl
     keyword_same IsDefinedVariable pos start args captures v k l =
         on_same (text_wanted s.host_type l.around.cells v start) _ _ k l (λ name. refl)
+
+    -- a method on the focus
+    method_same : (method : Method) (args : List (Dynamic H)) (focus : Dynamic H) (k : List (Frame H)) (l : Local H) →
+        method_core s method args focus k (with_local l) ≡ in_core (method_core s method args focus k l)
+    method_same method args focus k l = method_both s t k l (λ c d. c ≡ in_core d) (record {
+      fails = λ e. refl;
+      backs = λ v. refl;
+      questions = λ call. refl;
+      asks = λ call. refl;
+    }) method args focus
 
     operated_same : (operation : Operation) (args : List (Dynamic H)) (k : List (Frame H)) (l : Local H) →
         operated s operation args k (with_local l) ≡ in_core (operated s operation args k l)

@@ -10,3 +10,4 @@ pub mod Choices
 pub mod Assignments
 pub mod Data
 pub mod Calls
+pub mod Methods

@@ -18,6 +18,7 @@ ghost use Rattle.rhai_machine.specs.samples.Choices.{Choices};
 ghost use Rattle.rhai_machine.specs.samples.Assignments.{Assignments, Updates};
 ghost use Rattle.rhai_machine.specs.samples.Data.{Arrays, Maps, Texts};
 ghost use Rattle.rhai_machine.specs.samples.Calls.{Calls, Keywords, Pointers};
+ghost use Rattle.rhai_machine.specs.samples.Methods.{Methods};
 
 use crate::laws::{Language, always_ends};
 use rhai_state::table::NativeTable;
@@ -133,4 +134,9 @@ pub fn sample_keywords<H, S>(of: PhantomData<(H, S)>)
 /// Pointers that are made and called.
 pub fn sample_pointers<H, S>(of: PhantomData<(H, S)>)
     ensures { (table : Table S H) (host : H → List ℕ) → Pointers table host }
+{}
+
+/// Methods: what a native leaves of the value, and the words that are no function's.
+pub fn sample_methods<H, S>(of: PhantomData<(H, S)>)
+    ensures { (table : Table S H) (host : H → List ℕ) → Methods table host }
 {}
