@@ -40,7 +40,7 @@ use Rattle.rhai_values.specs.declared.base.value.AccessMode.TheVariants.{ReadWri
 use Rattle.rhai_values.specs.Modes.{with_mode}
 use Rattle.rhai_state.specs.Native.{Reply, Missing, Gives, Faults, Named, OfName, purity_of, request}
 use Rattle.rhai_machine.specs.language.Frames.{Operation, Call, Attempt, InPlace, AsValue, Assignment, Update, Control, Frame, Core, core}
-use Rattle.rhai_machine.specs.language.Frames.{where_there, on_value, Eval, Exec, Ask, Assign, AskUpdate}
+use Rattle.rhai_machine.specs.language.Frames.{where_there, on_value, ended, Eval, Exec, Ask, Assign, AskUpdate}
 use Rattle.rhai_machine.specs.language.Frames.{Argument, CallNamed, Question, Fire, QuestionUpdate, FireUpdate}
 use Rattle.rhai_machine.specs.language.Frames.{OpenExpr, OpenStmt, Enter, Run, Store, WhileTurn, DoTurn, Back, Changed, Fail, StatementValue}
 use Rattle.rhai_machine.specs.language.Frames.{DefineValue, IfCondition, RestOfList, RestoreList, Top, UnaryOperand, LeftOperand}

@@ -81,11 +81,12 @@ module _ {H : Type 0} where
   entry_in name (union.Map entries) = value_of name entries
   entry_in name _ = None
 
-  -- a handle of a held cell is nobody's to look into, and then there is none
+  -- a held cell is nobody's to look into, and so has no such value
   abbrev pub entry_seen : List ℕ → Result (Dynamic H) (EvalAltResult H) → Option (Dynamic H)
   entry_seen name (Ok v) = entry_in name (layer_of v)
   entry_seen name (Err e) = None
 
+  -- what is no pointer is no method's, and a pointer in a held cell is another's
   abbrev pub pointer_there : UnionLayer H → Option (FnPtr H)
   pointer_there (union.FnPtr pointer) = Some pointer
   pointer_there _ = None
@@ -136,13 +137,14 @@ module _ {H : Type 0} where
         on_value (pointer_wanted s.host_type l.around.cells first (argument_at method))
         (λ pointer. pointer_on (out-FnPtr H pointer).kind pointer method (codes "call") ((out-FnPtr H pointer).curry ++ rest) focus k l) k l
 
+    -- `call` on a pointer calls that pointer, with copies of what it has already
     abbrev pub call_core : UnionLayer H → Method → (args : List (Dynamic H)) → (seen focus : Dynamic H) → List (Frame H) → Local H →
         Core H
     call_core (union.FnPtr pointer) method args seen focus k l =
         pointer_alone (out-FnPtr H pointer).kind pointer method.at (copied_before pointer args) k l
     call_core _ method args seen focus k l = call_argument method args seen focus k l
 
-    -- `curry` wants a pointer
+    -- `curry` gives a copy of a pointer, and refuses anything else
     abbrev pub curry_core : UnionLayer H → Position → (args : List (Dynamic H)) → (seen : Dynamic H) → List (Frame H) → Local H → Core H
     curry_core (union.FnPtr pointer) at args seen k l = core (Back (pointer_with pointer args)) k l
     curry_core _ at args seen k l =
@@ -159,6 +161,7 @@ module _ {H : Type 0} where
     own_core method args focus k l =
         on_value (own_entry l.around.cells method focus) (λ own. entry_core own method args focus k l) k l
 
+    -- what the words mean: pointers are seen through a handle, and whether there is a handle is no use of its cell
     abbrev pub word_core : MethodWord → Method → (args : List (Dynamic H)) → (focus : Dynamic H) → List (Frame H) → Local H → Core H
     word_core CallWord method args focus k l = on_value (through l.around.cells focus method.at)
         (λ seen. call_core (layer_of seen) method args seen focus k l) k l
