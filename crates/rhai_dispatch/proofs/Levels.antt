@@ -1,5 +1,5 @@
 -- Where a call goes on once its arguments are there, the stack and the state stay: so memory may as well run out there.
-use Rattle.std.proofs.Common.{◌≡◌, ◌&&◌, Bool, true, false, List, [], ◌∷◌, ◌++◌, Some, Result, Ok, Err, refl}
+use Rattle.std.proofs.Common.{◌≡◌, ◌&&◌, Bool, true, false, List, [], ◌∷◌, ◌++◌, Some, None, Result, Ok, Err, refl}
 use Rattle.std.specs.Prelude.{codes, if◌then◌else◌}
 use Rattle.std.specs.Str.{bytes_eq}
 use Rattle.rhai_tree.specs.declared.position.Position.{Position}
@@ -10,7 +10,8 @@ use Rattle.rhai_machine.specs.machine.Memory.{here, wanting}
 use Rattle.rhai_machine.specs.language.Setting.{Setting, Rules}
 use Rattle.rhai_machine.specs.language.State.{Local, State}
 use Rattle.rhai_machine.specs.language.Values.{through}
-use Rattle.rhai_machine.specs.language.Frames.{Call, Purpose, ToCall, ToCallOn, ToCallNumber, ToCurry, Frame, Core, core, on_value, Question, Fail}
+use Rattle.rhai_machine.specs.language.Frames.{Call, Purpose, ToCall, ToCallOn, ToCallNumber, ToCurry, ToChain, Frame, Core, core}
+use Rattle.rhai_machine.specs.language.Frames.{on_value, Question, Fail}
 use Rattle.rhai_machine.specs.language.Calls.{asks_function, call_of, dispatch_core, named_core, races}
 use Rattle.rhai_machine.specs.language.Arguments.{arguments_there, call_on, numbered_core}
 use Rattle.rhai_machine.specs.language.Runs.{at, with_core, Goes}
@@ -59,6 +60,8 @@ module _ {H : Type 0} (k : List (Frame H)) (l : Local H) where
     there_level (ToCallNumber number operation curried) args =
         number_level (record (call_of operation (curried ++ args)) { number = Some number })
     there_level (ToCurry pointer) args = record { stack = refl; local = refl }
+    there_level (ToChain chain (Some rest)) args = record { stack = refl; local = refl }
+    there_level (ToChain chain None) args = record { stack = refl; local = refl }
 
 -- memory may run out at such a core
 pub wants_at : {S H : Type 0} (rules : Rules S H) (k : List (Frame H)) (s : State S H) (c : Core H) → IsLevel k s.local c →

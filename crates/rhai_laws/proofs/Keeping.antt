@@ -3,20 +3,23 @@ use Rattle.std.proofs.Common.{refl, sym, ap, ◌∙◌}
 use Rattle.std.proofs.Math.Seq.{take-append_seam, take-length}
 use Rattle.std.proofs.lemmas.List.{take-map, length-map, append-nil}
 use Rattle.std.proofs.Common.{append_assoc}
-use Rattle.std.specs.Option.{option_flatten}
+use Rattle.std.specs.Option.{option_flatten, unwrap_or}
 use Rattle.std.specs.Prelude.{◌≡◌, ℕ, zero, suc, Bool, true, false, List, [], ◌∷◌, ◌++◌, map, take, length, nat_le, Some, None, Result, Ok}
 use Rattle.std.specs.Prelude.{Err}
 use Rattle.std.specs.Prelude.{is_some, slice_get, slice_set}
 use Rattle.rhai_check.specs.Names.{Name, Begins}
 use Rattle.rhai_values.specs.declared.base.value.Dynamic.{Dynamic}
+use Rattle.rhai_values.specs.Cells.{value_of_cell, with_held, with_value}
+use Rattle.rhai_paths.specs.Paths.{Step, ToPlace, ToCell}
 use Rattle.rhai_state.specs.declared.error.EvalAltResult.{EvalAltResult}
 use Rattle.rhai_state.specs.Scope.{name_of}
 use Rattle.rhai_machine.specs.language.State.{Surroundings, Local}
 use Rattle.rhai_machine.specs.language.Values.{Cells, unit_value}
 use Rattle.rhai_machine.specs.language.Places.{Place, InEntry, InCell, InFocus, put}
 use Rattle.rhai_machine.specs.language.Frames.{Saved, Control, Frame, Core, core, ended, Exec, OpenStmt, Enter, Run, Back, DefineValue}
-use Rattle.rhai_machine.specs.language.Frames.{RestOfList, RestoreList}
+use Rattle.rhai_machine.specs.language.Frames.{RestOfList, RestoreList, StepDown}
 use Rattle.rhai_machine.specs.language.Statements.{saved_by, restored_by, deeper}
+use Rattle.rhai_machine.specs.language.Unwinding.{restored}
 use Rattle.rhai_machine.proofs.Places.{put_names}
 use Rattle.rhai_laws.specs.Kept.{forgotten_cell, forgotten, Stands, Sound, names_of}
 
@@ -57,10 +60,15 @@ module _ {H : Type 0} where
         bound = o.bound;
       }
 
+  -- what the end of a step to a cell makes of it: the cell, held till then, is free again
+  abbrev pub freed : ℕ → Outline H → Outline H
+  freed n o = record o { around = record o.around { cells = with_value o.around.cells n unit_value } }
+
   -- what is left of it once the whole stack has been unwound
   abbrev pub unwound : List (Frame H) → Outline H → Outline H
   unwound [] o = o
   unwound (RestoreList saved ∷ k) o = unwound k (given_back saved o)
+  unwound (StepDown above (ToCell n) ∷ k) o = unwound k (freed n o)
   unwound (_ ∷ k) o = unwound k o
 
   -- a control over a stack that adds no names, and one that may add some
@@ -87,6 +95,30 @@ module _ {H : Type 0} where
   free_cell (Some w ∷ cells) zero v is = refl
   free_cell (None ∷ cells) zero v is = cc
   free_cell (cell ∷ cells) (suc n) v is = ap (λ rest. forgotten_cell cell ∷ rest) (free_cell cells n v is)
+
+  -- a cell that gets a value is free
+  set_forgotten : (cells : Cells H) (n : ℕ) (v : Dynamic H) →
+      map forgotten_cell (slice_set cells n (Some v)) ≡ slice_set (map forgotten_cell cells) n (Some unit_value)
+  set_forgotten [] n v = refl
+  set_forgotten (cell ∷ cells) zero v = refl
+  set_forgotten (cell ∷ cells) (suc n) v = ap (λ rest. forgotten_cell cell ∷ rest) (set_forgotten cells n v)
+
+  -- a free cell that is held, and free again
+  free_again : (cells : Cells H) (n : ℕ) → is_some (option_flatten (slice_get cells n)) ≡ true →
+      slice_set (map forgotten_cell (slice_set cells n None)) n (Some unit_value) ≡ map forgotten_cell cells
+  free_again [] n is = refl
+  free_again (Some v ∷ cells) zero is = refl
+  free_again (None ∷ cells) zero is = cc
+  free_again (cell ∷ cells) (suc n) is = ap (λ rest. forgotten_cell cell ∷ rest) (free_again cells n is)
+
+  -- the end of a step to a cell frees it
+  pub left_cell : (above : Dynamic H) (n : ℕ) (l : Local H) → outline (restored (StepDown above (ToCell n)) l) ≡ freed n (outline l)
+  left_cell above n l = rw (set_forgotten l.around.cells n (unwrap_or l.focus unit_value)) refl
+
+  -- and gives back what its start had
+  pub entered_cell : (n : ℕ) (inner : Dynamic H) (l : Local H) → is_some (value_of_cell l.around.cells n) ≡ true →
+      freed n (outline (record l { focus = Some inner; around = record l.around { cells = with_held l.around.cells n } })) ≡ outline l
+  entered_cell n inner l is = rw (free_again l.around.cells n is) refl
 
   put_outline : (place : Place) (v : Dynamic H) (l : Local H) → Stands place l → outline (put place v l) ≡ outline l
   put_outline (InEntry index) v l is = refl
@@ -168,6 +200,12 @@ module _ {H : Type 0} where
     pub left_names : (saved : Saved) (k : List (Frame H)) (l : Local H) → Held (calm (RestoreList saved ∷ k) l) →
         Held (calm k (restored_by saved l))
     left_names saved k l t = rw (← take-map name_of saved.scope_length l.scope) t.1
+
+    -- a step down is left
+    pub step_left : (above : Dynamic H) (step : Step) (k : List (Frame H)) (l : Local H) →
+        Keeps (calm (StepDown above step ∷ k) l) (calm k (restored (StepDown above step) l))
+    step_left above (ToPlace at) k l = quiet tt refl (λ t. t)
+    step_left above (ToCell n) k l = quiet tt (ap (unwound k) (left_cell above n l)) (λ t. t)
 
     -- a value is written to a place
     put_names_held : (place : Place) (v : Dynamic H) (k : List (Frame H)) (l : Local H) → Held (calm k l) → Held (calm k (put place v l))

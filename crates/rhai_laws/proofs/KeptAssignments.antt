@@ -1,5 +1,5 @@
 -- What the rules of assignment keep: they write to places that stand, and add no names.
-use Rattle.std.proofs.Common.{refl, ap, subst}
+use Rattle.std.proofs.Common.{refl, ap, subst, ◌∙◌}
 use Rattle.std.specs.Prelude.{◌≡◌, Bool, true, false, ◌||◌, ℕ, List, [], ◌∷◌, Option, Some, None, Result, Ok, Err, is_some}
 use Rattle.rhai_tree.specs.declared.position.Position.{Position}
 use Rattle.rhai_tree.specs.declared.token.Token.{Token}
@@ -8,7 +8,7 @@ use Rattle.rhai_tree.specs.declared.expr.Expr.{Expr}
 use Rattle.rhai_tree.specs.declared.expr.Expr.TheOpen as layer
 use Rattle.rhai_tree.specs.Layers.{ExprLayer}
 use Rattle.rhai_values.specs.declared.base.value.AccessMode.{AccessMode}
-use Rattle.rhai_values.specs.declared.base.value.AccessMode.TheVariants.{ReadWrite}
+use Rattle.rhai_values.specs.declared.base.value.AccessMode.TheVariants.{ReadWrite, ReadOnly}
 use Rattle.rhai_check.specs.Forms.{is_unqualified}
 use Rattle.rhai_values.specs.declared.base.value.Dynamic.{Dynamic}
 use Rattle.rhai_values.specs.declared.base.value.Union.{Union}
@@ -21,8 +21,9 @@ use Rattle.rhai_state.specs.Scope.{index_of, found}
 use Rattle.rhai_operators.specs.Answers.{Answer, op_assign_of}
 use Rattle.rhai_machine.specs.language.Setting.{Setting}
 use Rattle.rhai_machine.specs.language.State.{Local}
-use Rattle.rhai_machine.specs.language.Places.{Place, InEntry, InCell, Target, target, is_constant, unless_constant, target_in_cell}
-use Rattle.rhai_machine.specs.language.Places.{target_at, target_found, target_of, put}
+use Rattle.rhai_machine.specs.language.Places.{Place, InEntry, InCell, InFocus, Target, target, is_constant, unless_constant}
+use Rattle.rhai_machine.specs.language.Places.{target_in_cell, target_at, target_found, target_of, focus_in_cell, focus_at}
+use Rattle.rhai_machine.specs.language.Places.{focus_target, put}
 use Rattle.rhai_machine.specs.language.Frames.{Attempt, InPlace, AsValue, Assignment, Update, Frame}
 use Rattle.rhai_machine.specs.language.Frames.{Core, core, where_there, QuestionUpdate}
 use Rattle.rhai_machine.specs.language.Frames.{FireUpdate}
@@ -62,6 +63,25 @@ module _ {H : Type 0} where
       Stands t.place l
   target_stands name pos t l is = found_stands name pos (index_of name l.scope) (found name l.scope) t l is
 
+  -- and so does the focus of a chain that is assigned to
+  focus_cell_stands : (name : List ℕ) (pos : Position) (mode : AccessMode) (n : ℕ) (there : Option (Dynamic H)) (t : Target H)
+      (l : Local H) →
+      value_of_cell l.around.cells n ≡ there → focus_in_cell name pos mode n there ≡ Ok t → Stands t.place l
+  focus_cell_stands name pos mode n (Some v) t l there is =
+      constant_stands (is_constant mode || is_constant v.mode) name pos (target (InCell n) v) t l (ap is_some there) is
+  focus_cell_stands name pos ReadOnly n None t l there is = cc
+  focus_cell_stands name pos ReadWrite n None t l there is = cc
+
+  focus_at_stands : (name : List ℕ) (pos : Position) (u : Union H) (v : Dynamic H) (t : Target H) (l : Local H) →
+      focus_at l.around.cells name pos u v ≡ Ok t → Stands t.place l
+  focus_at_stands name pos (value.Cell id) v t l is =
+      focus_cell_stands name pos v.mode id.number (value_of_cell l.around.cells id.number) t l refl is
+  focus_at_stands name pos _ v t l is = constant_stands (is_constant v.mode) name pos (target InFocus v) t l tt is
+
+  pub focus_stands : (name : List ℕ) (pos : Position) (v : Dynamic H) (t : Target H) (l : Local H) →
+      focus_target l.around.cells name pos v ≡ Ok t → Stands t.place l
+  focus_stands name pos v t l is = focus_at_stands name pos v.value v t l is
+
 module _ {H : Type 0} (a : Asked) where
   -- a form that may not be there
   pub there_keeps : (there : Bool) (c d : Core H) → Keeps a c d → Moves (Keeps a) c (where_there there d)
@@ -72,6 +92,8 @@ module _ {H : Type 0} (a : Asked) where
       Keeps a c (calm k l) → Moves (Keeps a) c (assignment_move form op rhs k l)
   assignment_keeps (layer.Variable offset name namespace pos) op rhs c k l h =
       there_keeps (is_unqualified namespace.path) c _ (through a h (quiet a tt refl (λ t. t)))
+  assignment_keeps (layer.Index lhs rest options pos) op rhs c k l h = through a h (quiet a tt refl (λ t. t))
+  assignment_keeps (layer.Dot lhs rest options pos) op rhs c k l h = through a h (quiet a tt refl (λ t. t))
   assignment_keeps _ op rhs c k l h = tt
 
   written_keeps : (r : Result (Dynamic H) (EvalAltResult H)) (place : Place) (k : List (Frame H)) (l : Local H) → Stands place l →
@@ -106,12 +128,19 @@ module _ {H : Type 0} (a : Asked) where
         })
         k l stands
 
+    -- a value is assigned to a target, where one is found and stands
+    pub stored_keeps : (r : Result (Target H) (EvalAltResult H)) (assignment : Assignment) (v : Dynamic H)
+        (k : List (Frame H)) (l : Local H) →
+        ((t : Target H) → r ≡ Ok t → Stands t.place l) → Keeps a (calm k l) (store_core s r assignment v k l)
+    stored_keeps (Ok there) assignment v k l stands =
+        assign_keeps assignment.op.op assignment there v k l (stands there refl)
+    stored_keeps (Err e) assignment v k l stands = quiet a tt refl (λ t. t)
+
     pub store_keeps : (r : Result (Target H) (EvalAltResult H)) (assignment : Assignment) (v : Dynamic H)
         (k : List (Frame H)) (l : Local H) →
         target_of l.around.cells assignment.name assignment.at l.scope ≡ r → Keeps a (calm k l) (store_core s r assignment v k l)
-    store_keeps (Ok there) assignment v k l is =
-        assign_keeps assignment.op.op assignment there v k l (target_stands assignment.name assignment.at there l is)
-    store_keeps (Err e) assignment v k l is = quiet a tt refl (λ t. t)
+    store_keeps r assignment v k l is =
+        stored_keeps r assignment v k l (λ t ok. target_stands assignment.name assignment.at t l (is ∙ ok))
 
     changed_keeps : (r : Result (Dynamic H) (EvalAltResult H)) (u : Update H) (k : List (Frame H)) (l : Local H) →
         Keeps a (calm k l) (changed_core s r u k l)

@@ -21,14 +21,14 @@ use Rattle.rhai_state.specs.declared.error.EvalAltResult.{EvalAltResult}
 use Rattle.rhai_machine.specs.language.Setting.{Setting}
 use Rattle.rhai_machine.specs.language.State.{Local}
 use Rattle.rhai_machine.specs.language.Values.{through as seen_through}
-use Rattle.rhai_machine.specs.language.Places.{Place, InEntry, InCell, is_barred}
+use Rattle.rhai_machine.specs.language.Places.{Place, InCell, is_barred}
 use Rattle.rhai_machine.specs.language.Frames.{Operation, Lender, FromEntry, FromFocus, Call, Frame, Core, core, changed, on_value, CallNamed, Question, Fire, OpenExpr}
 use Rattle.rhai_state.specs.Native.{Reply, Missing, Gives, Faults}
-use Rattle.rhai_machine.specs.language.Frames.{Purpose, ToCall, ToCallOn, ToCallNumber, ToCurry}
+use Rattle.rhai_machine.specs.language.Frames.{Purpose, ToCall, ToCallOn, ToCallNumber, ToCurry, ToChain}
 use Rattle.rhai_machine.specs.language.Frames.{Keyword, CallPointer, MakePointer, Curry, IsShared, IsDefinedVariable}
 use Rattle.rhai_machine.specs.language.Expressions.{call_move}
-use Rattle.rhai_machine.specs.language.Calls.{First, first_of, first_in, in_cell, lendable, place_of, while_from, put_left, call_native, fire_first}
-use Rattle.rhai_machine.specs.language.Calls.{fire_move, barred_call, question_first, question_move, call_of, races, named_core}
+use Rattle.rhai_machine.specs.language.Calls.{First, first_of, first_in, in_cell, lendable, place_of, while_from, put_left, call_native}
+use Rattle.rhai_machine.specs.language.Calls.{fire_first, fire_move, barred_call, question_first, question_move, call_of, races, named_core}
 use Rattle.rhai_machine.specs.language.Calls.{answered, dispatch_core, operator_core, asks_function, replied, applied}
 use Rattle.rhai_machine.specs.language.Arguments.{call_on, numbered_core, arguments_there, arguments_core, on_variable, captured_move}
 use Rattle.rhai_machine.specs.language.Arguments.{named_move, operation_named, pointer_of, pointer_wanted, text_wanted, pointer_core}
@@ -82,7 +82,7 @@ module _ {H : Type 0} (a : Asked) where
   on_keeps (Err e) go k l h = quiet a tt refl (λ t. t)
 
   -- a call that was not written as an operator
-  function_keeps : (keyword : Option Keyword) (operation : Operation) (args : List Expr) (captures : Bool) (k : List (Frame H))
+  pub function_keeps : (keyword : Option Keyword) (operation : Operation) (args : List Expr) (captures : Bool) (k : List (Frame H))
       (l : Local H) →
       Keeps a (calm k l) (function_core keyword operation args captures k l)
   function_keeps (Some keyword) operation (arg ∷ args) captures k l = quiet a tt refl (λ t. t)
@@ -159,7 +159,7 @@ module _ {H : Type 0} (a : Asked) where
     question_keeps call (x ∷ rest) k l = question_first_keeps call rest (first_of l.around.cells call x) k l
 
     -- a call whose arguments are there
-    if_keeps : (b : Bool) (c d : Core H) (k : List (Frame H)) (l : Local H) → Keeps a (calm k l) c → Keeps a (calm k l) d →
+    pub if_keeps : (b : Bool) (c d : Core H) (k : List (Frame H)) (l : Local H) → Keeps a (calm k l) c → Keeps a (calm k l) d →
         Keeps a (calm k l) (if b then c else d)
     if_keeps true c d k l keeps other = keeps
     if_keeps false c d k l keeps other = other
@@ -174,7 +174,7 @@ module _ {H : Type 0} (a : Asked) where
         (quiet a tt refl (λ t. t)) (quiet a tt refl (λ t. t))
     named_core_keeps (v ∷ w ∷ x ∷ args) call k l = quiet a tt refl (λ t. t)
 
-    dispatch_keeps : (call : Call H) (k : List (Frame H)) (l : Local H) → Keeps a (calm k l) (dispatch_core s call k l)
+    pub dispatch_keeps : (call : Call H) (k : List (Frame H)) (l : Local H) → Keeps a (calm k l) (dispatch_core s call k l)
     dispatch_keeps call k l =
         if_keeps (races l.around.cells call.args) _ _ k l (quiet a tt refl (λ t. t)) (named_core_keeps call.args call k l)
 
@@ -184,7 +184,7 @@ module _ {H : Type 0} (a : Asked) where
     operator_keeps None call k l = dispatch_keeps call k l
 
     -- the arguments of a call, and what is done once they are there
-    numbered_keeps : (call : Call H) (k : List (Frame H)) (l : Local H) → Keeps a (calm k l) (numbered_core call k l)
+    pub numbered_keeps : (call : Call H) (k : List (Frame H)) (l : Local H) → Keeps a (calm k l) (numbered_core call k l)
     numbered_keeps call k l =
         if_keeps (races l.around.cells call.args) _ _ k l (quiet a tt refl (λ t. t)) (quiet a tt refl (λ t. t))
 
@@ -196,6 +196,8 @@ module _ {H : Type 0} (a : Asked) where
     arguments_there_keep (ToCallNumber number operation curried) args k l =
         numbered_keeps (record (call_of operation (curried ++ args)) { number = Some number }) k l
     arguments_there_keep (ToCurry pointer) args k l = quiet a tt refl (λ t. t)
+    arguments_there_keep (ToChain chain (Some rest)) args k l = quiet a tt refl (λ t. t)
+    arguments_there_keep (ToChain chain None) args k l = quiet a tt refl (λ t. t)
 
     pub arguments_keep : (purpose : Purpose H) (made : List (Dynamic H)) (args : List Expr) (k : List (Frame H)) (l : Local H) →
         Keeps a (calm k l) (arguments_core s purpose made args k l)

@@ -11,11 +11,11 @@ use Rattle.rhai_machine.specs.language.Setting.{Rules, cut, limit_under}
 use Rattle.rhai_machine.specs.language.State.{State}
 use Rattle.rhai_machine.specs.language.Frames.{Control, Frame, Core, core, Exec, OpenStmt, Enter, Run, Fail}
 use Rattle.rhai_machine.specs.language.Language.{machine}
-use Rattle.rhai_machine.specs.language.Runs.{Steps}
+use Rattle.rhai_machine.specs.language.Runs.{at, with_core, Goes, Steps}
 use Rattle.rhai_laws.specs.Kept.{Sound, names_of, AddsNone, Kept}
 use Rattle.rhai_laws.specs.Steady.{Moves, Steady}
 use Rattle.rhai_laws.proofs.MemoryLaws.{keeps, counts, within}
-use Rattle.rhai_laws.proofs.Keeping.{Outline, Asked, Grows, begins_self, Tight, Free, TightAt, Held, Keeps, quiet, through}
+use Rattle.rhai_laws.proofs.Keeping.{Outline, Asked, Grows, begins_self, calm, Tight, Free, TightAt, Held, Keeps, quiet, through}
 use Rattle.rhai_laws.proofs.KeptRules.{move_keeps}
 
 module _ {H : Type 0} (a : Asked) where
@@ -80,6 +80,11 @@ module _ {S H : Type 0} (rules : Rules S H) where
     unfolding Steps
     run_keeps c d old new h steps = keeps (machine rules) (cut rules) (Stays a) steady (steps []) h
 
+    -- and so does a run from a core to which a rule led
+    pub goes_keep : (b c : Core H) (d : Control H) (old new : State S H) → Keeps a b c → Goes rules (with_core c old) (at d [] new) →
+        Keeps a b (core d [] new.local)
+    goes_keep b c d old new led goes = through a led (keeps (machine rules) (cut rules) (Stays a) steady goes led.sound)
+
     -- what is asked of the names at the end
     at_end : (c d : Control H) (old new : State S H) → Sound c old.local → Steps rules c old d new →
         a.along (names_of old.local) → TightAt a c [] (names_of old.local) → a.along (names_of new.local) × a.last (names_of new.local)
@@ -124,6 +129,28 @@ module _ {S H : Type 0} (rules : Rules S H) where
   names_stay c d old new none h steps =
       (at_end (exactly (names_of old.local)) (λ n name w is. tt) c d old new h steps tt
       (started_none (exactly (names_of old.local)) c [] (names_of old.local) none refl)).1
+
+  -- the same of a run from a core to which a rule led, whatever is asked of the names
+  module _ (c : Core H) (d : Control H) (old new : State S H) (led : (a : Asked) → Keeps a (calm [] old.local) c)
+      (goes : Goes rules (with_core c old) (at d [] new)) where
+    pub kept_from : Kept rules old new
+    kept_from =
+        let same = (goes_keep nothing (λ n name w is. tt) (calm [] old.local) c d old new (led nothing) goes).around in
+        record {
+          counts = counts (machine rules) (cut rules) goes;
+          within = within (machine rules) (limit_under rules) goes;
+          around = ap (λ (o : Outline H). o.around) same;
+          scope_level = ap (λ (o : Outline H). o.scope_level) same;
+          bound = ap (λ (o : Outline H). o.bound) same;
+        }
+
+    -- such a core adds no variable, so the names are as they were
+    pub names_stay_from : names_of new.local ≡ names_of old.local
+    names_stay_from =
+        let a = exactly (names_of old.local) in
+        let end : Held a (core d [] new.local) =
+        (goes_keep a (λ n name w is. tt) (calm [] old.local) c d old new (led a) goes).names (tt, refl) in
+        stopped a d [] (names_of new.local) end.0 end.1
 
   -- at the end the names begin with these
   abbrev beginning : List Name → Asked

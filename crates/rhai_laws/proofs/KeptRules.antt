@@ -23,6 +23,7 @@ use Rattle.rhai_state.specs.declared.error.EvalAltResult.{EvalAltResult}
 use Rattle.rhai_state.specs.declared.error.EvalAltResult.TheVariants as error
 use Rattle.rhai_state.specs.Errors.{is_system}
 use Rattle.rhai_state.specs.Scope.{name_of, index_of, new_entry}
+use Rattle.rhai_places.specs.PutBack.{put_back}
 use Rattle.rhai_machine.specs.language.Setting.{Setting}
 use Rattle.rhai_machine.specs.language.State.{Local}
 use Rattle.rhai_machine.specs.language.Values.{flat, through as seen_through, truth, unit_value}
@@ -30,8 +31,8 @@ use Rattle.rhai_machine.specs.language.Names.{read}
 use Rattle.rhai_machine.specs.language.Frames.{on_value}
 use Rattle.rhai_machine.specs.language.Frames.{Operation, Control, Frame, Core, core, Eval, Exec, Ask, Assign, AskUpdate, Argument}
 use Rattle.rhai_machine.specs.language.Frames.{Question, Fire, QuestionUpdate, FireUpdate, OpenExpr, OpenStmt, Enter, Run, Store, WhileTurn}
-use Rattle.rhai_machine.specs.language.Frames.{DoTurn, Back, Changed, Fail, StatementValue, DefineValue, IfCondition, RestOfList, RestoreList, Top}
-use Rattle.rhai_machine.specs.language.Frames.{UnaryOperand, LeftOperand, RightOperand, AndPart, OrPart, CoalescePart, AssignValue}
+use Rattle.rhai_machine.specs.language.Frames.{DoTurn, Back, Changed, Fail, StatementValue, DefineValue, IfCondition, RestOfList}
+use Rattle.rhai_machine.specs.language.Frames.{RestoreList, Top, UnaryOperand, LeftOperand, RightOperand, AndPart, OrPart, CoalescePart, AssignValue}
 use Rattle.rhai_machine.specs.language.Frames.{WhileCondition, WhileBody, DoCondition, DoBody, BreakValue, ReturnValue}
 use Rattle.rhai_machine.specs.language.Frames.{ArrayItem, EntryValue, TextPart, PrintedPart, CallNamed, CallArgument, KeywordArgument}
 use Rattle.rhai_machine.specs.language.Data.{with_item, with_value, with_part, items_core, entries_core, parts_core, part_core}
@@ -40,20 +41,28 @@ use Rattle.rhai_machine.specs.language.Places.{is_barred, target_of}
 use Rattle.rhai_machine.specs.language.Loops.{is_endless, goes_on, while_move, while_core, if_goes_on, do_control, caught}
 use Rattle.rhai_machine.specs.language.Expressions.{literal_of, argument_move, expr_move, and_core, and_next, or_core}
 use Rattle.rhai_machine.specs.language.Expressions.{or_next, coalesce_core, coalesce_seen, coalesce_next}
-use Rattle.rhai_machine.specs.language.Calls.{builtin_of, call_of}
+use Rattle.rhai_machine.specs.language.Calls.{builtin_of, call_of, sized}
 use Rattle.rhai_machine.specs.language.Arguments.{flattens, taken}
 use Rattle.rhai_machine.specs.language.Statements.{has_option, mode_of, enter_core, run_core, chosen_core, defined_core, define_core}
 use Rattle.rhai_machine.specs.language.Statements.{stmt_move, break_core, return_move}
-use Rattle.rhai_machine.specs.language.Unwinding.{up_core, down_core, topped, operated}
+use Rattle.rhai_machine.specs.language.Links.{link_of}
+use Rattle.rhai_machine.specs.language.Frames.{AssignChain, AssignedChain, OpenChain, ChainArguments, ChainRoot, ReadRoot, Walk, Locate}
+use Rattle.rhai_machine.specs.language.Frames.{RootValue, ChainEnd, StepDown, Temporary, PartMethod, PartAssigned, Measured, MethodLink}
+use Rattle.rhai_machine.specs.language.Frames.{MemberLink, MemberGot, MemberOperated, GetterTried, SetterTried, IndexerTried, MemberSet}
+use Rattle.rhai_machine.specs.language.Members.{focus_of, focused_on, lacks_property, lacks_indexer}
+use Rattle.rhai_machine.specs.language.Unwinding.{up_core, down_core, marked_core, topped, operated, looked_at}
 use Rattle.rhai_machine.specs.language.Language.{move_at}
 use Rattle.rhai_laws.specs.Kept.{Sound, names_of}
 use Rattle.rhai_laws.specs.Steady.{Moves}
 use Rattle.rhai_laws.proofs.Keeping.{Asked, Grows, Free, Held, begins_through, unwound, Keeps, quiet, through, after, calm, eager, held}
-use Rattle.rhai_laws.proofs.Keeping.{ended_keeps}
+use Rattle.rhai_laws.proofs.Keeping.{ended_keeps, step_left}
 use Rattle.rhai_laws.proofs.Keeping.{entered_around, entered_names, left_names}
 use Rattle.rhai_laws.proofs.KeptAssignments.{there_keeps, assignment_keeps, store_keeps, barred_keeps, fire_update_keeps}
 use Rattle.rhai_laws.proofs.KeptCalls.{on_keeps, call_keeps, fire_keeps, question_keeps, operator_keeps, arguments_keep, named_keeps}
 use Rattle.rhai_laws.proofs.KeptCalls.{keyword_keeps}
+use Rattle.rhai_laws.proofs.KeptChains.{open_keeps, asked_keeps, root_keeps, read_root_keeps, walk_keeps, locate_keeps, chain_left}
+use Rattle.rhai_laws.proofs.KeptChains.{assign_focus_keeps, operated_on_keeps, part_assigned_keeps, part_changed_keeps, temporary_keeps}
+use Rattle.rhai_laws.proofs.KeptChains.{got_none_keeps, getter_missing_keeps, setter_missing_keeps, indexer_missing_keeps}
 
 module _ {H : Type 0} (a : Asked) where
   -- lists
@@ -141,6 +150,8 @@ module _ {H : Type 0} (a : Asked) where
   expr_keeps fast (layer.And parts pos) k l = after a (calm k l) refl (λ t. t) (and_keeps parts k l)
   expr_keeps fast (layer.Or parts pos) k l = after a (calm k l) refl (λ t. t) (or_keeps parts k l)
   expr_keeps fast (layer.Coalesce parts pos) k l = after a (calm k l) refl (λ t. t) (coalesce_keeps unit_value parts k l)
+  expr_keeps fast (layer.Index lhs rhs options pos) k l = quiet a tt refl (λ t. t)
+  expr_keeps fast (layer.Dot lhs rhs options pos) k l = quiet a tt refl (λ t. t)
   expr_keeps fast _ k l = tt
 
   -- loops, and the ways out of them
@@ -284,6 +295,28 @@ module _ {H : Type 0} (a : Asked) where
     up_keeps (BreakValue is_break pos) v k l = quiet a tt refl (λ t. t)
     up_keeps (ReturnValue value_at pos) v k l =
         after a (calm k l) refl (λ t. t) (on_keeps a (flat l.around.cells v value_at) _ k l (λ x. quiet a tt refl (λ t. t)))
+    up_keeps (AssignChain root chain op value_at) v k l =
+        after a (calm k l) refl (λ t. t) (on_keeps a (flat l.around.cells v value_at) _ k l (λ x. quiet a tt refl (λ t. t)))
+    up_keeps AssignedChain v k l = quiet a tt refl (λ t. t)
+    up_keeps (RootValue chain) v k l = after a (calm k l) refl (λ t. t)
+        (on_keeps a (flat l.around.cells v (position_of chain.root)) _ k l (λ x. quiet a tt refl (λ t. t)))
+    up_keeps (ChainEnd entry outer) v k l = after a (calm (ChainEnd entry outer ∷ k) l) refl (λ t. t)
+        (through a (chain_left a entry outer k l) (quiet a tt refl (λ t. t)))
+    up_keeps (StepDown above step) v k l = after a (calm (StepDown above step ∷ k) l) refl (λ t. t)
+        (through a (step_left a above step k l) (quiet a tt refl (λ t. t)))
+    up_keeps (PartAssigned above at op_at) v k l =
+        after a (calm k l) refl (λ t. t) (part_assigned_keeps a s (put_back above at (focus_of l)) above at op_at k l)
+    up_keeps (Measured op_at) v k l = after a (calm k l) refl (λ t. t)
+        (on_keeps a (sized s.limits (looked_at l.around.cells (focus_of l)) op_at) _ k l (λ x. quiet a tt refl (λ t. t)))
+    up_keeps (MethodLink chain) v k l = quiet a tt refl (λ t. t)
+    up_keeps (MemberLink access chain) v k l = quiet a tt refl (λ t. t)
+    up_keeps (MemberGot access root new) v k l =
+        after a (calm (MemberOperated access l.focus new.op.position ∷ k) (focused_on (Some v) l)) refl (λ t. t)
+        (assign_focus_keeps a s root new _ (focused_on (Some v) l))
+    up_keeps (MemberOperated access above op_at) v k l = after a (calm k (focused_on above l)) refl (λ t. t)
+        (operated_on_keeps a s access.member access (focus_of l) op_at k (focused_on above l))
+    up_keeps (MemberSet value) v k l = quiet a tt refl (λ t. t)
+    up_keeps _ v k l = quiet a tt refl (λ t. t)
 
     down_keeps : (frame : Frame H) (e : EvalAltResult H) (k : List (Frame H)) (l : Local H) →
         Keeps a (core (Fail e) (frame ∷ k) l) (down_core s frame e k l)
@@ -297,7 +330,33 @@ module _ {H : Type 0} (a : Asked) where
     down_keeps (RestOfList rest restoring) e k l = quiet a tt refl (held a k l)
     down_keeps (DefineValue ident options value_at) e k l = quiet a tt refl (λ t. held a k l (t.0, t.1.1))
     down_keeps (RestoreList saved) e k l = quiet a tt refl (left_names a saved k l)
+    down_keeps (ChainEnd entry outer) e k l = after a (calm (ChainEnd entry outer ∷ k) l) refl (λ t. t)
+        (through a (chain_left a entry outer k l) (quiet a tt refl (λ t. t)))
+    down_keeps (StepDown above step) e k l = after a (calm (StepDown above step ∷ k) l) refl (λ t. t)
+        (through a (step_left a above step k l) (quiet a tt refl (λ t. t)))
+    down_keeps (MemberGot access root new) e k l =
+        after a (calm k l) refl (λ t. t) (got_none_keeps a s (lacks_indexer e) access.member e access new k l)
+    down_keeps (GetterTried access name) e k l =
+        after a (calm k l) refl (λ t. t) (getter_missing_keeps a (lacks_property e) e access name k l)
+    down_keeps (SetterTried access name v ignores) e k l =
+        after a (calm k l) refl (λ t. t) (setter_missing_keeps a (lacks_property e) e access name v ignores k l)
+    down_keeps (IndexerTried otherwise) e k l =
+        after a (calm k l) refl (λ t. t) (indexer_missing_keeps a (lacks_indexer e) e otherwise k l)
     down_keeps _ e k l = quiet a tt refl (λ t. t)
+
+    -- a value comes up that is marked
+    marked_keeps : (frame : Frame H) (v : Dynamic H) (k : List (Frame H)) (l : Local H) →
+        Keeps a (core (Changed v) (frame ∷ k) l) (marked_core s frame v k l)
+    marked_keeps (StepDown above step) v k l = after a (calm (StepDown above step ∷ k) l) refl (λ t. t)
+        (through a (step_left a above step k l) (quiet a tt refl (λ t. t)))
+    marked_keeps (Temporary above back) v k l = after a (calm k (focused_on above l)) refl (λ t. t)
+        (temporary_keeps a s back (focus_of l) v k (focused_on above l))
+    marked_keeps (PartMethod above at pos) v k l =
+        after a (calm k l) refl (λ t. t) (part_changed_keeps a s (put_back above at (focus_of l)) above at pos v k l)
+    marked_keeps (GetterTried access name) v k l = quiet a tt refl (λ t. t)
+    marked_keeps (SetterTried access name value ignores) v k l = quiet a tt refl (λ t. t)
+    marked_keeps (IndexerTried otherwise) v k l = quiet a tt refl (λ t. t)
+    marked_keeps _ v k l = quiet a tt refl (λ t. t)
 
     module _ (grows : Grows a s.limits.max_variables) where
       -- a `let` is tried only where there is room for one more variable
@@ -357,7 +416,14 @@ module _ {H : Type 0} (a : Asked) where
           (store_keeps a s (target_of l.around.cells assignment.name assignment.at l.scope) assignment v k l refl)
       move_keeps (WhileTurn test body) k l h = while_keeps (is_endless (out-Expr test)) body.statements test body k l
       move_keeps (DoTurn test body options) k l h = quiet a tt refl (λ t. t)
-      move_keeps (Changed v) k l h = quiet a tt refl (λ t. t)
+      move_keeps (OpenChain chain) k l h = open_keeps a (link_of chain.rest) chain k l
+      move_keeps (ChainArguments chain rest made) k l h = asked_keeps a s (link_of rest) chain rest made k l
+      move_keeps (ChainRoot chain) k l h = root_keeps a (out-Expr chain.root) chain k l
+      move_keeps (ReadRoot name pos chain) k l h = read_root_keeps a name pos chain k l
+      move_keeps (Walk chain) k l h = walk_keeps a s (link_of chain.rest) chain k l
+      move_keeps (Locate link chain) k l h = locate_keeps a s link chain k l
+      move_keeps (Changed v) [] l h = quiet a tt refl (λ t. t)
+      move_keeps (Changed v) (frame ∷ k) l h = marked_keeps frame v k l
       move_keeps (Back v) [] l h = tt
       move_keeps (Back v) (frame ∷ k) l h = up_keeps frame v k l
       move_keeps (Fail e) [] l h = tt

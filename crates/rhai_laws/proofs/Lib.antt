@@ -4,5 +4,6 @@ pub mod Keeping
 pub mod KeptAssignments
 pub mod KeptCalls
 pub mod KeptMethods
+pub mod KeptChains
 pub mod KeptRules
 pub mod KeptLaws

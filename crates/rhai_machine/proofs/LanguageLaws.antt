@@ -11,8 +11,9 @@ use Rattle.rhai_machine.specs.machine.Point.{Point, Reaches}
 use Rattle.rhai_machine.specs.machine.Settling.{Settles}
 use Rattle.rhai_machine.specs.language.Setting.{Rules, cut, limit_under}
 use Rattle.rhai_machine.specs.language.State.{Local, State}
-use Rattle.rhai_machine.specs.language.Frames.{Control, Frame, Core, ended, Fail, Top}
-use Rattle.rhai_machine.specs.language.Unwinding.{down_core}
+use Rattle.rhai_machine.specs.language.Frames.{Control, Frame, Core, NewValue, Member, Property, Item, MemberAccess, MemberGot, ended, Fail}
+use Rattle.rhai_machine.specs.language.Frames.{Top}
+use Rattle.rhai_machine.specs.language.Unwinding.{down_core, got_none}
 use Rattle.rhai_machine.specs.language.Language.{move_at, machine}
 use Rattle.rhai_machine.specs.language.Limits.{IsRefused}
 use Rattle.rhai_machine.specs.language.Runs.{at}
@@ -20,15 +21,23 @@ use Rattle.rhai_machine.specs.language.Laws.{IsNeverCaught, CutFollows, CutOrSam
 use Rattle.rhai_machine.specs.machine.Laws.{OneEnd, LimitsAgree}
 use Rattle.rhai_machine.proofs.Runs.{one_end_law}
 use Rattle.rhai_machine.proofs.Limits.{only_unwinds, follows_law, without_limit_law}
-use Rattle.rhai_machine.proofs.Falls.{size, falls}
+use Rattle.rhai_machine.proofs.Sizes.{size}
+use Rattle.rhai_machine.proofs.Falls.{falls}
 use Rattle.rhai_machine.proofs.Ends.{settles_by, ends, two_limits_law, limits_agree}
 
 module _ {S H : Type 0} (rules : Rules S H) where
+  -- a refused charge is no absence of an indexer
+  member_passes : (member : Member H) (access : MemberAccess H) (new : NewValue H) (at : Position) (k : List (Frame H)) (l : Local H) →
+      IsRefused (got_none rules.setting false member (error.ErrorTooManyOperations at) access new k l)
+  member_passes (Property name pos) access new at k l = (at, refl)
+  member_passes (Item index) access new at k l = (at, refl)
+
   -- the error of a refused charge passes each frame
   frame_passes : (frame : Frame H) (at : Position) (k : List (Frame H)) (l : Local H) →
       IsRefused (down_core rules.setting frame (error.ErrorTooManyOperations at) k l)
   frame_passes (Top true) at k l = (at, refl)
   frame_passes (Top false) at k l = (at, refl)
+  frame_passes (MemberGot access root new) at k l = member_passes access.member access new at k l
   frame_passes _ at k l = (at, refl)
 
   passes : (at : Position) (k : List (Frame H)) (l : Local H) →

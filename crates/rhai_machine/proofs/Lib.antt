@@ -4,8 +4,16 @@ pub mod Limits
 pub mod Ends
 pub mod Places
 pub mod MethodLaws
+pub mod WritesAtOnce
+mod ChainLinks
+mod Sizes
+mod CallFalls
+mod AssignmentFalls
+mod ChainFalls
 mod Falls
 pub mod LanguageLaws
+pub mod ThisParts
+pub mod ThisChains
 pub mod ThisLaws
 pub mod SampleRuns
 mod LoopRuns

@@ -69,7 +69,7 @@ module _ {H : Type 0} (s : Setting H) (t : Option (Dynamic H)) (k : List (Frame 
   pointer_on_both (kind.Native id) pointer method called args focus =
       numbered_on_both id.number (operation_named called method.at) args focus
   pointer_on_both _ pointer method called args focus =
-      dispatch_both (on_focus (operation_named (out-FnPtr H pointer).name method.at) method.guarded args focus)
+      dispatch_both (on_focus (operation_named (out-FnPtr H pointer).name method.at) args focus)
 
   pointer_alone_both : (of : FnPtrKind H) (pointer : FnPtr H) (at : Position) (args : List (Dynamic H)) →
       R (pointer_alone s of pointer at args k other) (pointer_alone s of pointer at args k l)
@@ -102,7 +102,7 @@ module _ {H : Type 0} (s : Setting H) (t : Option (Dynamic H)) (k : List (Frame 
   entry_both (Some pointer) method args focus = pointer_on_both (out-FnPtr H pointer).kind pointer method (out-FnPtr H pointer).name
       (copied_before pointer args) focus
   entry_both None method args focus =
-      dispatch_both (on_focus (operation_named method.name method.at) method.guarded args focus)
+      dispatch_both (on_focus (operation_named method.name method.at) args focus)
 
   word_both : (word : MethodWord) (method : Method) (args : List (Dynamic H)) (focus : Dynamic H) →
       R (word_core s word method args focus k other) (word_core s word method args focus k l)

@@ -3,6 +3,7 @@ pub mod State
 pub mod Values
 pub mod Names
 pub mod Places
+pub mod Links
 pub mod Frames
 pub mod Expressions
 pub mod Calls
@@ -10,6 +11,9 @@ pub mod Arguments
 pub mod Methods
 pub mod Data
 pub mod Assignment
+pub mod Members
+pub mod Located
+pub mod Chains
 pub mod Loops
 pub mod Statements
 pub mod Unwinding
@@ -19,3 +23,4 @@ pub mod Memory
 pub mod Script
 pub mod Limits
 pub mod Laws
+pub mod Descents

@@ -6,6 +6,7 @@ ghost use Rattle.rhai_machine.specs.language.Setting.{Setting, over};
 ghost use Rattle.rhai_machine.specs.language.Language.{machine};
 ghost use Rattle.rhai_machine.specs.language.Laws.{IsNeverCaught, CutFollows, CutOrSame, CutEnds};
 ghost use Rattle.rhai_machine.specs.language.Laws.{HigherLimit, HigherLimitOfSteps};
+ghost use Rattle.rhai_machine.specs.language.Descents.{DescentLaws};
 
 use rhai_state::table::NativeTable;
 use rhai_values::base::value::Host;
@@ -49,4 +50,10 @@ pub fn script_higher_limit<H: Host, T: NativeTable<H>>(of: PhantomData<(H, T)>)
 /// how it ended.
 pub fn script_higher_limit_of_steps<H: Host, T: NativeTable<H>>(of: PhantomData<(H, T)>)
     ensures { (setting : Setting H) → HigherLimitOfSteps (over setting T.natives) }
+{}
+
+/// What a chain writes back step by step, as it leaves the frames of a path with a value, a marked
+/// value or an error, is one write at the path, and the walk down pushes these frames.
+pub fn chain_writes_at_once<H: Host, T: NativeTable<H>>(of: PhantomData<(H, T)>)
+    ensures { (setting : Setting H) → DescentLaws (over setting T.natives) }
 {}

@@ -27,7 +27,7 @@ use Rattle.rhai_machine.specs.language.Values.{Cells, bool_value, flat, is_handl
 use Rattle.rhai_machine.specs.language.Names.{variable_of}
 use Rattle.rhai_machine.specs.language.Places.{is_constant}
 use Rattle.rhai_machine.specs.language.Frames.{Operation, FromEntry, Call, Keyword, CallPointer, MakePointer, Curry, IsShared, IsDefinedVariable}
-use Rattle.rhai_machine.specs.language.Frames.{Purpose, ToCall, ToCallOn, ToCallNumber, ToCurry}
+use Rattle.rhai_machine.specs.language.Frames.{Purpose, ToCall, ToCallOn, ToCallNumber, ToCurry, ToChain, ChainArguments, ChainRoot}
 use Rattle.rhai_machine.specs.language.Frames.{Frame, Core, core, on_value, ended, Argument, CallNamed, Question, Back, Fail}
 use Rattle.rhai_machine.specs.language.Frames.{CallArgument, KeywordArgument}
 use Rattle.rhai_machine.specs.language.Calls.{call_of, dispatch_core, races, signature}
@@ -154,10 +154,11 @@ module _ {H : Type 0} where
 
   -- ---- arguments
 
-  -- an argument of a function is flattened, one that a pointer keeps or that a number's native gets is not
+  -- an argument of a function or a chain is flattened, one that a pointer keeps or that a number's native gets is not
   abbrev pub flattens : Purpose H → Bool
   flattens (ToCall operation curried) = true
   flattens (ToCallOn operation variable variable_at) = true
+  flattens (ToChain chain behind) = true
   flattens _ = false
 
   abbrev pub taken : (flattened : Bool) → Cells H → Dynamic H → Position → Result (Dynamic H) (EvalAltResult H)
@@ -179,6 +180,8 @@ module _ {H : Type 0} where
     arguments_there (ToCallNumber number operation curried) args k l =
         numbered_core (record (call_of operation (curried ++ args)) { number = Some number }) k l
     arguments_there (ToCurry pointer) args k l = core (Back (with_curried pointer args)) k l
+    arguments_there (ToChain chain (Some rest)) args k l = core (ChainArguments chain rest args) k l
+    arguments_there (ToChain chain None) args k l = core (ChainRoot (record chain { args = args })) k l
 
     -- the arguments after those that are there, from left to right
     abbrev pub arguments_core : Purpose H → (made : List (Dynamic H)) → List Expr → List (Frame H) → Local H → Core H

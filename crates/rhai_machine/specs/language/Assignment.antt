@@ -21,7 +21,7 @@ use Rattle.rhai_machine.specs.language.Values.{unit_value}
 use Rattle.rhai_machine.specs.language.Places.{Place, Target, is_barred, put, while_lent}
 use Rattle.rhai_machine.specs.language.Frames.{Operation, Attempt, InPlace, AsValue, Assignment, Update}
 use Rattle.rhai_machine.specs.language.Frames.{Frame, Control, Core, core, on_value, where_there}
-use Rattle.rhai_machine.specs.language.Frames.{Eval, AskUpdate, FireUpdate, Back, Fail, AssignValue}
+use Rattle.rhai_machine.specs.language.Frames.{Eval, AskUpdate, FireUpdate, Back, Fail, AssignValue, AssignChain}
 use Rattle.rhai_machine.specs.language.Calls.{operation_at, placed_if_none, sized, applied, replied}
 
 -- the native of an attempt: in `x += y` first the one named `+=`, and then the one named `+`
@@ -30,10 +30,14 @@ native_of InPlace token = syntax_of token ++ codes "="
 native_of AsValue token = syntax_of token
 
 module _ {H : Type 0} where
-  -- the right side comes first; an assignment to anything but a variable without a path has no step
+  -- the right side comes first; an assignment to anything but a variable without a path or a chain has no step
   abbrev pub assignment_move : ExprLayer → OpAssignment → Expr → List (Frame H) → Local H → Move H (Core H)
   assignment_move (layer.Variable offset name namespace pos) op rhs k l = where_there (is_unqualified namespace.path)
       (core (Eval rhs) (AssignValue (record { name = name; at = pos; op = op }) (position_of rhs) ∷ k) l)
+  assignment_move (layer.Index lhs rest options pos) op rhs k l =
+      Go (core (Eval rhs) (AssignChain lhs (layer.Index lhs rest options pos) op (position_of rhs) ∷ k) l)
+  assignment_move (layer.Dot lhs rest options pos) op rhs k l =
+      Go (core (Eval rhs) (AssignChain lhs (layer.Dot lhs rest options pos) op (position_of rhs) ∷ k) l)
   assignment_move _ op rhs k l = Halt
 
   -- a result is written to a place; an error leaves the place as it is

@@ -14,7 +14,7 @@ use Rattle.rhai_machine.specs.machine.Machine.{Move, Halt, Go, Charge}
 use Rattle.rhai_machine.specs.language.State.{Local}
 use Rattle.rhai_machine.specs.language.Values.{unit_value, bool_value}
 use Rattle.rhai_machine.specs.language.Names.{read}
-use Rattle.rhai_machine.specs.language.Frames.{Frame, Core, core, on_value, where_there, ended, Eval, Argument, Enter, Back}
+use Rattle.rhai_machine.specs.language.Frames.{Frame, Core, core, chain_on, on_value, where_there, ended, Eval, Argument, Enter, OpenChain, Back}
 use Rattle.rhai_machine.specs.language.Frames.{UnaryOperand, LeftOperand, AndPart, OrPart, CoalescePart}
 use Rattle.rhai_machine.specs.language.Arguments.{function_of}
 use Rattle.rhai_machine.specs.language.Data.{entries_core, items_core, parts_core}
@@ -89,6 +89,8 @@ module _ {H : Type 0} where
       where_there (is_unqualified namespace.path) (core (ended (read l.around.cells name pos l.scope)) k l)
   expr_move fast (layer.Expr::FnCall call pos) k l = call_move fast call.op_token call call.args pos k l
   expr_move fast (layer.Stmt block) k l = Go (core (Enter block.statements true) k l)
+  expr_move fast (layer.Index lhs rhs options pos) k l = Go (core (OpenChain (chain_on lhs (layer.Index lhs rhs options pos) None)) k l)
+  expr_move fast (layer.Dot lhs rhs options pos) k l = Go (core (OpenChain (chain_on lhs (layer.Dot lhs rhs options pos) None)) k l)
   expr_move fast (layer.And parts pos) k l = Go (and_core parts k l)
   expr_move fast (layer.Or parts pos) k l = Go (or_core parts k l)
   expr_move fast (layer.Coalesce parts pos) k l = Go (coalesce_core unit_value parts k l)

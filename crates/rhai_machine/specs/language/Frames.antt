@@ -1,11 +1,14 @@
 -- The machine's controls and frames: what it does next, and what waits for the value or the error that comes of it.
-use Rattle.std.specs.Prelude.{ℕ, Bool, true, false, List, Option, Result, Ok, Err}
+use Rattle.std.specs.Prelude.{ℕ, Bool, true, false, List, [], Option, Result, Ok, Err}
 use Rattle.rhai_machine.specs.Types.{ASTFlags, Dynamic, EvalAltResult, Expr, FnPtr, Ident, OpAssignment, Position, Stmt, StmtBlock, Token}
 use Rattle.rhai_tree.specs.declared.expr.MapEntry.{MapEntry}
 use Rattle.rhai_tree.specs.Layers.{ExprLayer, StmtLayer}
 use Rattle.rhai_machine.specs.machine.Machine.{Move, Halt, Go}
+use Rattle.rhai_places.specs.declared.spot.Spot.{Spot}
+use Rattle.rhai_paths.specs.Paths.{Step}
 use Rattle.rhai_machine.specs.language.State.{Local}
 use Rattle.rhai_machine.specs.language.Places.{Place}
+use Rattle.rhai_machine.specs.language.Links.{Link}
 
 -- what a call is of: its name, its operator where it was written as one, and where it stands
 pub record Operation : Type 0 where
@@ -37,6 +40,31 @@ pub data Keyword : Type 0 where
   IsShared : Keyword
   IsDefinedVariable : Keyword
 
+-- what an assignment gives: by an operator or not, and the value on the right
+pub record NewValue (H : Type 0) : Type 0 where
+  pub op : OpAssignment
+  pub value : Dynamic H
+
+-- A chain on its way: its root, what it assigns if it does, what is left of it, the arguments that are left, and whether its focus is
+-- somebody's place, and no temporary.
+pub record Chain (H : Type 0) : Type 0 where
+  pub root : Expr
+  pub new : Option (NewValue H)
+  pub rest : ExprLayer
+  pub args : List (Dynamic H)
+  pub in_place : Bool
+
+-- what natives get and set in a value: a property by its name, or an item by an index of any type
+pub data Member (H : Type 0) : Type 0 where
+  Property : (name : List ℕ) → (at : Position) → Member H
+  Item : (index : Dynamic H) → Member H
+
+-- how it is got and set: where the operator stands, and whether a constant is kept from a native that is not pure
+pub record MemberAccess (H : Type 0) : Type 0 where
+  pub member : Member H
+  pub at : Position
+  pub guarded : Bool
+
 -- what the arguments of a call are for, once all of them are there
 pub data Purpose (H : Type 0) : Type 0 where
   -- a call by name, with the values that a pointer has already
@@ -47,6 +75,8 @@ pub data Purpose (H : Type 0) : Type 0 where
   ToCallNumber : (number : ℕ) → Operation → (curried : List (Dynamic H)) → Purpose H
   -- a pointer that gets them
   ToCurry : FnPtr H → Purpose H
+  -- a chain, with what is left of it behind the link that asks for them
+  ToChain : Chain H → (behind : Option ExprLayer) → Purpose H
 
 -- an assignment to a variable: its name, where it stands, and how the value is assigned
 pub record Assignment : Type 0 where
@@ -103,6 +133,14 @@ pub data Control (H : Type 0) : Type 0 where
   Store : Assignment → Dynamic H → Control H
   WhileTurn : (test : Expr) → (body : StmtBlock) → Control H
   DoTurn : (test : Expr) → (body : StmtBlock) → (options : ASTFlags) → Control H
+  -- a chain is entered; the arguments of its links are evaluated, after those that are there; its root is, and as a variable is read
+  OpenChain : Chain H → Control H
+  ChainArguments : Chain H → (rest : ExprLayer) → (made : List (Dynamic H)) → Control H
+  ChainRoot : Chain H → Control H
+  ReadRoot : (name : List ℕ) → (at : Position) → Chain H → Control H
+  -- the next link of a chain works on the focus, and finds there what its index or its key leads to
+  Walk : Chain H → Control H
+  Locate : Link → Chain H → Control H
   -- a value comes up, also one of a native that may have changed its first argument; or an error comes down
   Back : Dynamic H → Control H
   Changed : Dynamic H → Control H
@@ -151,6 +189,33 @@ pub data Frame (H : Type 0) : Type 0 where
   -- the value of a `break` or a `continue`, and of a `return`
   BreakValue : (is_break : Bool) → (at : Position) → Frame H
   ReturnValue : (value_at at : Position) → Frame H
+  -- the value that is assigned to a chain, and the end of that assignment
+  AssignChain : (root : Expr) → (chain : ExprLayer) → (op : OpAssignment) → (value_at : Position) → Frame H
+  AssignedChain : Frame H
+  -- the root of a chain that is no variable; the end of a chain, whose focus goes back to its variable, and one before it comes back
+  RootValue : Chain H → Frame H
+  ChainEnd : (entry : Option ℕ) → (outer : Option (Dynamic H)) → Frame H
+  -- the focus is where a step leads from the value above, and goes back there
+  StepDown : (above : Dynamic H) → (step : Step) → Frame H
+  -- the focus is a temporary of the value above, where natives set it if it may have been changed and has a way back
+  Temporary : (above : Option (Dynamic H)) → (back : Option (MemberAccess H)) → Frame H
+  -- the focus is a part of the value above: a method may have changed it, or it is assigned to
+  PartMethod : (above : Dynamic H) → (spot : Spot) → (at : Position) → Frame H
+  PartAssigned : (above : Dynamic H) → (spot : Spot) → (at : Position) → Frame H
+  -- the focus has been assigned to, and is measured
+  Measured : (at : Position) → Frame H
+  -- the value that a native gave is the next focus of a chain: a method's, or what was got of a member
+  MethodLink : Chain H → Frame H
+  MemberLink : MemberAccess H → Chain H → Frame H
+  -- the value that was got is assigned to by an operator, and set then
+  MemberGot : MemberAccess H → (root : Expr) → NewValue H → Frame H
+  MemberOperated : MemberAccess H → (above : Option (Dynamic H)) → (at : Position) → Frame H
+  -- a getter or a setter, after which the indexer is tried, whose absence may be ignored; and the indexer, with what stands for its absence
+  GetterTried : MemberAccess H → (name : List ℕ) → Frame H
+  SetterTried : MemberAccess H → (name : List ℕ) → (value : Dynamic H) → (ignores : Bool) → Frame H
+  IndexerTried : (otherwise : Result (Dynamic H) (EvalAltResult H)) → Frame H
+  -- a value was set, and this one comes back, marked
+  MemberSet : (value : Dynamic H) → Frame H
 
 -- what the language adds to a configuration
 pub record Core (H : Type 0) : Type 0 where
@@ -161,6 +226,10 @@ pub record Core (H : Type 0) : Type 0 where
 module _ {H : Type 0} where
   abbrev pub core : Control H → List (Frame H) → Local H → Core H
   core control stack local = record { control = control; stack = stack; local = local }
+
+  -- a chain over its root, before anything of it is done
+  abbrev pub chain_on : (root : Expr) → ExprLayer → Option (NewValue H) → Chain H
+  chain_on root chain new = record { root = root; new = new; rest = chain; args = []; in_place = false }
 
   -- a form that is there only where this is so has no step elsewhere
   abbrev pub where_there : Bool → Core H → Move H (Core H)

@@ -9,7 +9,9 @@ use Rattle.rhai_machine.specs.language.Setting.{Setting, Rules}
 use Rattle.rhai_machine.specs.language.State.{Local}
 use Rattle.rhai_machine.specs.language.Frames.{Control, Frame, Core, core, Eval, Exec, Ask, Assign, AskUpdate, Argument, Question, Fire}
 use Rattle.rhai_machine.specs.language.Frames.{QuestionUpdate, FireUpdate, OpenExpr, OpenStmt, Enter, Run, Store, WhileTurn, DoTurn, Back, Changed}
-use Rattle.rhai_machine.specs.language.Frames.{Fail, DoBody, CallNamed}
+use Rattle.rhai_machine.specs.language.Frames.{Fail, DoBody, CallNamed, OpenChain, ChainArguments, ChainRoot, ReadRoot, Walk, Locate}
+use Rattle.rhai_machine.specs.language.Links.{link_of}
+use Rattle.rhai_machine.specs.language.Chains.{asked_move, locate_core, open_move, read_root_core, root_move, walk_move}
 use Rattle.rhai_machine.specs.language.Expressions.{literal_of, argument_move, expr_move}
 use Rattle.rhai_machine.specs.language.Calls.{question_move, fire_move}
 use Rattle.rhai_machine.specs.language.Arguments.{named_move}
@@ -17,7 +19,7 @@ use Rattle.rhai_machine.specs.language.Places.{target_of}
 use Rattle.rhai_machine.specs.language.Assignment.{store_core, question_update, fire_update}
 use Rattle.rhai_machine.specs.language.Loops.{is_endless, while_move}
 use Rattle.rhai_machine.specs.language.Statements.{enter_core, run_core, stmt_move}
-use Rattle.rhai_machine.specs.language.Unwinding.{up_core, down_core}
+use Rattle.rhai_machine.specs.language.Unwinding.{up_core, down_core, marked_core}
 
 module _ {H : Type 0} (s : Setting H) where
   -- one move: a charge stands at its position before anything else of a form
@@ -40,9 +42,16 @@ module _ {H : Type 0} (s : Setting H) where
   move_at (Store assignment v) k l = Go (store_core s (target_of l.around.cells assignment.name assignment.at l.scope) assignment v k l)
   move_at (WhileTurn test body) k l = while_move (is_endless (out-Expr test)) body.statements test body k l
   move_at (DoTurn test body options) k l = Go (core (Enter body.statements true) (DoBody test body options ∷ k) l)
+  move_at (OpenChain chain) k l = open_move (link_of chain.rest) chain k l
+  move_at (ChainArguments chain rest made) k l = asked_move s (link_of rest) chain made k l
+  move_at (ChainRoot chain) k l = root_move (out-Expr chain.root) chain k l
+  move_at (ReadRoot name at chain) k l = Go (read_root_core name at chain k l)
+  move_at (Walk chain) k l = walk_move s (link_of chain.rest) chain k l
+  move_at (Locate link chain) k l = Go (locate_core s link chain k l)
   move_at (Back v) [] l = Halt
   move_at (Back v) (frame ∷ k) l = Go (up_core s frame v k l)
-  move_at (Changed v) k l = Go (core (Back v) k l)
+  move_at (Changed v) [] l = Go (core (Back v) [] l)
+  move_at (Changed v) (frame ∷ k) l = Go (marked_core s frame v k l)
   move_at (Fail e) [] l = Halt
   move_at (Fail e) (frame ∷ k) l = Go (down_core s frame e k l)
 

@@ -20,13 +20,11 @@ use Rattle.rhai_machine.specs.language.Frames.{Operation, FromFocus, Call, Frame
 use Rattle.rhai_machine.specs.language.Calls.{call_of, dispatch_core, races}
 use Rattle.rhai_machine.specs.language.Arguments.{numbered_core, operation_named, pointer_wanted}
 
--- a method as it is called: its name, where it stands, where its first argument starts, and whether a constant is kept from a native
--- that is not pure
+-- a method as it is called: its name, where it stands, and where its first argument starts
 pub record Method : Type 0 where
   pub name : List ℕ
   pub at : Position
   pub first_at : Option Position
-  pub guarded : Bool
 
 -- the words by which a method is no function's, and any other name
 pub data MethodWord : Type 0 where
@@ -48,21 +46,22 @@ abbrev pub argument_at : Method → Position
 argument_at method = unwrap_or method.first_at method.at
 
 module _ {H : Type 0} where
-  -- a call by name with the focus before its arguments, which is lent; the answer says whether it may have changed
-  abbrev pub on_focus : Operation → (guarded : Bool) → (args : List (Dynamic H)) → (focus : Dynamic H) → Call H
-  on_focus operation guarded args focus = record {
+  -- a call by name with the focus before its arguments, which is lent, and a constant kept from a native that is not pure; the answer says
+  -- whether it may have changed
+  abbrev pub on_focus : Operation → (args : List (Dynamic H)) → (focus : Dynamic H) → Call H
+  on_focus operation args focus = record {
     operation = operation;
     number = None;
     args = focus ∷ args;
     lender = Some FromFocus;
-    guarded = guarded;
+    guarded = true;
     marks = true;
   }
 
-  -- of the native of a number, from which a constant is always kept, the answer says nothing of the focus
+  -- of the native of a number the answer says nothing of the focus
   abbrev pub number_on_focus : (number : ℕ) → Operation → (args : List (Dynamic H)) → (focus : Dynamic H) → Call H
   number_on_focus number operation args focus =
-      record (on_focus operation true args focus) { number = Some number; marks = false }
+      record (on_focus operation args focus) { number = Some number; marks = false }
 
   -- copies of what a pointer has already stand before the arguments
   abbrev pub copied_before : FnPtr H → List (Dynamic H) → List (Dynamic H)
@@ -118,7 +117,7 @@ module _ {H : Type 0} where
     pointer_on (kind.Native id) pointer method called args focus k l =
         numbered_on id.number (operation_named called method.at) args focus k l
     pointer_on _ pointer method called args focus k l =
-        dispatch_core s (on_focus (operation_named (out-FnPtr H pointer).name method.at) method.guarded args focus) k l
+        dispatch_core s (on_focus (operation_named (out-FnPtr H pointer).name method.at) args focus) k l
 
     -- the pointer that the method works on is called itself, with all its arguments, and gets nothing lent
     abbrev pub pointer_alone : FnPtrKind H → FnPtr H → Position → (args : List (Dynamic H)) → List (Frame H) → Local H → Core H
@@ -155,7 +154,7 @@ module _ {H : Type 0} where
     entry_core (Some pointer) method args focus k l = pointer_on (out-FnPtr H pointer).kind pointer method (out-FnPtr H pointer).name
         (copied_before pointer args) focus k l
     entry_core None method args focus k l =
-        dispatch_core s (on_focus (operation_named method.name method.at) method.guarded args focus) k l
+        dispatch_core s (on_focus (operation_named method.name method.at) args focus) k l
 
     abbrev pub own_core : Method → (args : List (Dynamic H)) → (focus : Dynamic H) → List (Frame H) → Local H → Core H
     own_core method args focus k l =

@@ -1,5 +1,5 @@
 -- Where a variable's value stands, as it is assigned to.
-use Rattle.std.specs.Prelude.{ℕ, Bool, true, false, not, ◌&&◌, ◌||◌, List, Option, Some, None, Result, Ok, Err, slice_get}
+use Rattle.std.specs.Prelude.{ℕ, Bool, true, false, not, ◌&&◌, ◌||◌, List, [], Option, Some, None, Result, Ok, Err, slice_get}
 use Rattle.rhai_machine.specs.Types.{AccessMode, Dynamic, EvalAltResult, Position, ScopeEntry, Union}
 use Rattle.rhai_values.specs.declared.base.value.AccessMode.TheVariants.{ReadWrite, ReadOnly}
 use Rattle.rhai_values.specs.declared.base.value.Union.TheVariants as value
@@ -53,6 +53,19 @@ module _ {H : Type 0} where
   -- the variable of a name, as it is assigned to
   abbrev pub target_of : Cells H → List ℕ → Position → List (ScopeEntry H) → Result (Target H) (EvalAltResult H)
   target_of cells name at entries = target_found cells name at (index_of name entries) (found name entries)
+
+  -- The focus of a chain, as it is assigned to: the name of the chain's root tells which constant it is. A handle leads to its cell.
+  abbrev pub focus_in_cell : List ℕ → Position → AccessMode → ℕ → Option (Dynamic H) → Result (Target H) (EvalAltResult H)
+  focus_in_cell name at mode number (Some v) = unless_constant (is_constant mode || is_constant v.mode) name at (target (InCell number) v)
+  focus_in_cell name at ReadOnly number None = Err (error.ErrorAssignmentToConstant name at)
+  focus_in_cell name at ReadWrite number None = Err (error.ErrorDataRace [] at)
+
+  abbrev pub focus_at : Cells H → List ℕ → Position → Union H → Dynamic H → Result (Target H) (EvalAltResult H)
+  focus_at cells name at (value.Cell id) v = focus_in_cell name at v.mode id.number (value_of_cell cells id.number)
+  focus_at cells name at _ v = unless_constant (is_constant v.mode) name at (target InFocus v)
+
+  abbrev pub focus_target : Cells H → List ℕ → Position → Dynamic H → Result (Target H) (EvalAltResult H)
+  focus_target cells name at v = focus_at cells name at v.value v
 
   -- a value is written to a place
   abbrev pub put : Place → Dynamic H → Local H → Local H

@@ -1,37 +1,111 @@
 -- What a frame does with a value that comes up, and with an error that comes down.
-use Rattle.std.specs.Prelude.{Bool, true, List, [], ◌∷◌, ◌++◌, Result, Ok, Err}
-use Rattle.rhai_machine.specs.Types.{Dynamic, EvalAltResult}
+use Rattle.std.specs.Prelude.{ℕ, Bool, true, false, List, [], ◌∷◌, ◌++◌, Option, Some, None, Result, Ok, Err}
+use Rattle.std.specs.Option.{unwrap_or}
+use Rattle.rhai_machine.specs.Types.{Dynamic, EvalAltResult, Position, Union}
 use Rattle.rhai_tree.specs.Positions.{position_of}
+use Rattle.rhai_values.specs.declared.base.value.Union.TheVariants as value
+use Rattle.rhai_values.specs.Cells.{value_of_cell}
+use Rattle.rhai_values.specs.TypeNames.{own_type_name}
+use Rattle.rhai_places.specs.declared.spot.Spot.{Spot}
+use Rattle.rhai_places.specs.PutBack.{put_back, wanted}
+use Rattle.rhai_paths.specs.Paths.{Rooted, gone_back}
 use Rattle.rhai_state.specs.declared.error.EvalAltResult.TheVariants as error
 use Rattle.rhai_state.specs.Errors.{is_system}
 use Rattle.rhai_machine.specs.language.Setting.{Setting}
 use Rattle.rhai_machine.specs.language.State.{Local}
-use Rattle.rhai_machine.specs.language.Values.{flat, through, truth}
-use Rattle.rhai_machine.specs.language.Frames.{Operation, Frame, Core, core, on_value, ended, Assign, Eval, Argument, Run}
-use Rattle.rhai_machine.specs.language.Frames.{WhileTurn, DoTurn, Back}
+use Rattle.rhai_machine.specs.language.Values.{Cells, flat, mismatch, through, truth, unit_value}
+use Rattle.rhai_machine.specs.language.Places.{InEntry, put}
+use Rattle.rhai_machine.specs.language.Frames.{Operation, NewValue, Member, Property, Item, MemberAccess, Control, Frame, Core, core, chain_on}
+use Rattle.rhai_machine.specs.language.Frames.{on_value, ended, Assign, Eval, Argument, Run}
+use Rattle.rhai_machine.specs.language.Frames.{WhileTurn, DoTurn, OpenChain, Walk, Back, Changed}
 use Rattle.rhai_machine.specs.language.Frames.{Fail, StatementValue, DefineValue, IfCondition, RestOfList, RestoreList, Top, UnaryOperand}
 use Rattle.rhai_machine.specs.language.Frames.{LeftOperand, RightOperand, AndPart, OrPart, CoalescePart, AssignValue, WhileCondition}
 use Rattle.rhai_machine.specs.language.Frames.{WhileBody, DoCondition, DoBody, BreakValue, ReturnValue, ArrayItem, EntryValue}
-use Rattle.rhai_machine.specs.language.Frames.{TextPart, PrintedPart, CallArgument, KeywordArgument}
+use Rattle.rhai_machine.specs.language.Frames.{TextPart, PrintedPart, CallArgument, KeywordArgument, AssignChain, AssignedChain, RootValue}
+use Rattle.rhai_machine.specs.language.Frames.{ChainEnd, StepDown, Temporary, PartMethod, PartAssigned, Measured, MethodLink, MemberLink}
+use Rattle.rhai_machine.specs.language.Frames.{MemberGot, MemberOperated, GetterTried, SetterTried, IndexerTried, MemberSet}
 use Rattle.rhai_machine.specs.language.Data.{with_item, with_value, items_core, entries_core, joined_core, part_core, printed}
 use Rattle.rhai_machine.specs.language.Data.{unprinted_core}
 use Rattle.rhai_machine.specs.language.Expressions.{and_next, or_next, coalesce_next}
-use Rattle.rhai_machine.specs.language.Calls.{builtin_of, call_of, operator_core}
+use Rattle.rhai_machine.specs.language.Calls.{builtin_of, call_of, operator_core, sized}
 use Rattle.rhai_machine.specs.language.Arguments.{arguments_core, flattens, keyword_core, taken}
 use Rattle.rhai_machine.specs.language.Statements.{has_option, chosen_core, defined_core, restored_by}
 use Rattle.rhai_machine.specs.language.Loops.{while_core, do_control, caught}
+use Rattle.rhai_machine.specs.language.Members.{focus_of, focused_on, set_core, lacks_property, lacks_indexer, getter_missing, setter_missing}
+use Rattle.rhai_machine.specs.language.Members.{indexer_missing}
+use Rattle.rhai_machine.specs.language.Chains.{assign_focus, begun_core}
 
 module _ {H : Type 0} where
+  -- ---- what a frame takes back as it is left
+
+  -- the value above a step, with the focus where the step leads
+  abbrev pub gone_up : Rooted H → Local H → Local H
+  gone_up root l = record l { focus = Some root.value; around = record l.around { cells = root.cells } }
+
+  -- a chain's focus goes back to its variable
+  abbrev pub ended_chain : (entry : Option ℕ) → (outer : Option (Dynamic H)) → Local H → Local H
+  ended_chain None outer l = focused_on outer l
+  ended_chain (Some index) outer l = focused_on outer (put (InEntry index) (focus_of l) l)
+
+  abbrev pub restored : Frame H → Local H → Local H
+  restored (RestoreList saved) l = restored_by saved l
+  restored (ChainEnd entry outer) l = ended_chain entry outer l
+  restored (StepDown above step) l = gone_up (gone_back above step (record { value = focus_of l; cells = l.around.cells })) l
+  restored (Temporary above back) l = focused_on above l
+  restored (PartMethod above at pos) l = focused_on (Some above) l
+  restored (PartAssigned above at op_at) l = focused_on (Some above) l
+  restored (MemberOperated access above op_at) l = focused_on above l
+  restored _ l = l
+
+  -- a value as it is measured, through a handle
+  abbrev pub looked_at_in : Cells H → Union H → Dynamic H → Dynamic H
+  looked_at_in cells (value.Cell id) v = unwrap_or (value_of_cell cells id.number) v
+  looked_at_in cells _ v = v
+
+  abbrev pub looked_at : Cells H → Dynamic H → Dynamic H
+  looked_at cells v = looked_at_in cells v.value v
+
   -- what a script's end makes of an error: a `return` gives its value, and so does an exit where that is asked
   abbrev pub topped : (map_exit : Bool) → EvalAltResult H → Result (Dynamic H) (EvalAltResult H)
   topped map_exit (error.Return v at) = Ok v
   topped true (error.Exit v at) = Ok v
   topped map_exit e = Err e
 
+  -- an assignment ends marked, once what was assigned to is measured
+  abbrev pub measured_part : Result (Dynamic H) (EvalAltResult H) → Control H
+  measured_part (Ok v) = Changed unit_value
+  measured_part (Err e) = Fail e
+
 module _ {H : Type 0} (s : Setting H) where
   -- the operands of an operator are there
   abbrev pub operated : Operation → List (Dynamic H) → List (Frame H) → Local H → Core H
   operated operation args k l = operator_core s (builtin_of operation.token args) (call_of operation args) k l
+
+  -- a changed part is put back into the value above, where it is of the type that was read
+  abbrev pub not_put : Spot → (part : Dynamic H) → Position → EvalAltResult H
+  not_put at part pos = mismatch (wanted at) (own_type_name s.host_type part.value) pos
+
+  -- an assigned part, and it is measured then
+  abbrev pub part_assigned : Option (Dynamic H) → (above : Dynamic H) → Spot → (op_at : Position) → List (Frame H) → Local H → Core H
+  part_assigned (Some whole) above at op_at k l =
+      core (measured_part (sized s.limits (focus_of l) op_at)) k (focused_on (Some whole) l)
+  part_assigned None above at op_at k l = core (Fail (not_put at (focus_of l) op_at)) k (focused_on (Some above) l)
+
+  -- a part that a method may have changed
+  abbrev pub part_changed : Option (Dynamic H) → (above : Dynamic H) → Spot → Position → Dynamic H → List (Frame H) → Local H → Core H
+  part_changed (Some whole) above at pos v k l = core (Changed v) k (focused_on (Some whole) l)
+  part_changed None above at pos v k l = core (Fail (not_put at (focus_of l) pos)) k (focused_on (Some above) l)
+
+  -- a member that was operated on is set, an item once it is measured
+  abbrev pub operated_core : Member H → MemberAccess H → Dynamic H → (op_at : Position) → List (Frame H) → Local H → Core H
+  operated_core (Property name at) access v op_at k l = set_core false access v k l
+  operated_core (Item index) access v op_at k l =
+      on_value (sized s.limits v op_at) (λ x. set_core false access x (MemberSet unit_value ∷ k) l) k l
+
+  -- where there is no indexer an item is set to the right side as it is
+  abbrev pub got_none : (lacks : Bool) → Member H → EvalAltResult H → MemberAccess H → NewValue H → List (Frame H) → Local H → Core H
+  got_none true (Item index) e access new k l = set_core false access new.value (MemberSet unit_value ∷ k) l
+  got_none _ member e access new k l = core (Fail e) k l
 
   -- a value comes up to a frame; a left operand is flattened before the right one is evaluated
   abbrev pub up_core : Frame H → Dynamic H → List (Frame H) → Local H → Core H
@@ -40,8 +114,6 @@ module _ {H : Type 0} (s : Setting H) where
   up_core (IfCondition test_at body branch) v k l =
       on_value (truth s.host_type l.around.cells v test_at) (λ holds. chosen_core holds body branch k l) k l
   up_core (RestOfList rest restoring) v k l = core (Run rest restoring v) k l
-  up_core (RestoreList saved) v k l = core (Back v) k (restored_by saved l)
-  up_core (Top map_exit) v k l = core (Back v) k l
   up_core (UnaryOperand operation operand_at) v k l = on_value (flat l.around.cells v operand_at) (λ x. operated operation (x ∷ []) k l) k l
   up_core (LeftOperand operation left_at right) v k l = on_value (flat l.around.cells v left_at)
       (λ x. core (Argument right) (RightOperand operation x (position_of right) ∷ k) l) k l
@@ -69,11 +141,20 @@ module _ {H : Type 0} (s : Setting H) where
   up_core (DoBody test body options) v k l = core (Eval test) (DoCondition test body options ∷ k) l
   up_core (BreakValue is_break at) v k l = core (Fail (error.LoopBreak v is_break at)) k l
   up_core (ReturnValue value_at at) v k l = on_value (flat l.around.cells v value_at) (λ x. core (Fail (error.Return x at)) k l) k l
-
-  -- what a frame takes back as it is left
-  abbrev pub restored : Frame H → Local H → Local H
-  restored (RestoreList saved) l = restored_by saved l
-  restored _ l = l
+  up_core (AssignChain root chain op value_at) v k l = on_value (flat l.around.cells v value_at)
+      (λ x. core (OpenChain (chain_on root chain (Some (record { op = op; value = x })))) (AssignedChain ∷ k) l) k l
+  up_core AssignedChain v k l = core (Back unit_value) k l
+  up_core (RootValue chain) v k l =
+      on_value (flat l.around.cells v (position_of chain.root)) (λ x. begun_core false None x chain k l) k l
+  up_core (PartAssigned above at op_at) v k l = part_assigned (put_back above at (focus_of l)) above at op_at k l
+  up_core (Measured op_at) v k l = on_value (sized s.limits (looked_at l.around.cells (focus_of l)) op_at) (λ x. core (Changed unit_value) k l) k l
+  up_core (MethodLink chain) v k l = core (Walk chain) (Temporary l.focus None ∷ k) (focused_on (Some v) l)
+  up_core (MemberLink access chain) v k l = core (Walk chain) (Temporary l.focus (Some access) ∷ k) (focused_on (Some v) l)
+  up_core (MemberGot access root new) v k l =
+      assign_focus s root new (MemberOperated access l.focus new.op.position ∷ k) (focused_on (Some v) l)
+  up_core (MemberOperated access above op_at) v k l = operated_core access.member access (focus_of l) op_at k (focused_on above l)
+  up_core (MemberSet value) v k l = core (Changed value) k l
+  up_core frame v k l = core (Back v) k (restored frame l)
 
   -- an error comes down to a frame: but for a script's end, a loop's body and what a native prints each takes back what it has to, and
   -- passes it on
@@ -82,4 +163,24 @@ module _ {H : Type 0} (s : Setting H) where
   down_core (WhileBody test body) e k l = core (caught (WhileTurn test body) e) k l
   down_core (DoBody test body options) e k l = core (caught (DoTurn test body options) e) k l
   down_core (PrintedPart text type part_at rest) e k l = unprinted_core s (is_system e) e text type part_at rest k l
+  down_core (MemberGot access root new) e k l = got_none (lacks_indexer e) access.member e access new k l
+  down_core (GetterTried access name) e k l = getter_missing (lacks_property e) e access name k l
+  down_core (SetterTried access name v ignores) e k l = setter_missing (lacks_property e) e access name v ignores k l
+  down_core (IndexerTried otherwise) e k l = indexer_missing (lacks_indexer e) e otherwise k l
   down_core frame e k l = core (Fail e) k (restored frame l)
+
+  -- a temporary that may have changed is set in the value above, where it has a way back
+  abbrev pub temporary_changed : Option (MemberAccess H) → (temporary v : Dynamic H) → List (Frame H) → Local H → Core H
+  temporary_changed None temporary v k l = core (Changed v) k l
+  temporary_changed (Some access) temporary v k l = set_core true access temporary (MemberSet v ∷ k) l
+
+  -- a value comes up that is marked: where the focus goes back to a place the mark goes on, and to a part or a temporary it is what makes
+  -- it go back; what waits for a value alone forgets it
+  abbrev pub marked_core : Frame H → Dynamic H → List (Frame H) → Local H → Core H
+  marked_core (StepDown above step) v k l = core (Changed v) k (restored (StepDown above step) l)
+  marked_core (Temporary above back) v k l = temporary_changed back (focus_of l) v k (focused_on above l)
+  marked_core (PartMethod above at pos) v k l = part_changed (put_back above at (focus_of l)) above at pos v k l
+  marked_core (GetterTried access name) v k l = core (Changed v) k l
+  marked_core (SetterTried access name value ignores) v k l = core (Changed v) k l
+  marked_core (IndexerTried otherwise) v k l = core (Changed v) k l
+  marked_core frame v k l = core (Back v) (frame ∷ k) l

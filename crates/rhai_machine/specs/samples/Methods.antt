@@ -22,9 +22,9 @@ use Rattle.rhai_machine.specs.samples.Data.{word}
 use Rattle.rhai_machine.specs.samples.Handles.{handle}
 use Rattle.rhai_machine.specs.samples.Calls.{number_pointer}
 
--- a method after a variable of one letter, on a place
+-- a method after a variable of one letter
 abbrev pub method : List ℕ → Method
-method name = record { name = name; at = column 3; first_at = Some (column 8); guarded = true }
+method name = record { name = name; at = column 3; first_at = Some (column 8) }
 
 module _ {H : Type 0} where
   -- the value that a method is called on, where the only cell is held

@@ -1,0 +1,251 @@
+-- The rules of chains: first the arguments of all links, then the root, and then the walk from link to link.
+use Rattle.std.specs.Prelude.{ℕ, Bool, true, false, ◌&&◌, ◌||◌, List, [], ◌∷◌, length, take, Option, Some, None, option_map, is_some, is_none}
+use Rattle.std.specs.Prelude.{Result, Ok, Err, if◌then◌else◌}
+use Rattle.rhai_machine.specs.Types.{Dynamic, EvalAltResult, Expr, out-Expr, Position, ScopeEntry, Token, Union}
+use Rattle.rhai_tree.specs.declared.expr.Expr.TheOpen as layer
+use Rattle.rhai_tree.specs.Layers.{ExprLayer}
+use Rattle.rhai_tree.specs.Position.{none}
+use Rattle.rhai_tree.specs.Positions.{position_of, start_of}
+use Rattle.rhai_check.specs.Forms.{is_unqualified}
+use Rattle.rhai_values.specs.declared.base.value.Union.TheVariants as value
+use Rattle.rhai_values.specs.Cells.{value_of_cell, with_held}
+use Rattle.rhai_values.specs.Copy.{copy_of}
+use Rattle.rhai_values.specs.Layers.{layer_of}
+use Rattle.rhai_state.specs.declared.error.EvalAltResult.TheVariants as error
+use Rattle.rhai_state.specs.Scope.{found, index_of}
+use Rattle.rhai_places.specs.declared.spot.Spot.{Spot}
+use Rattle.rhai_places.specs.declared.spot.Spot.TheVariants as spot
+use Rattle.rhai_places.specs.Parts.{part_of, value_at}
+use Rattle.rhai_paths.specs.Paths.{ToPlace, ToCell}
+use Rattle.rhai_machine.specs.machine.Machine.{Move, Halt, Go, Charge}
+use Rattle.rhai_machine.specs.language.Setting.{Setting}
+use Rattle.rhai_machine.specs.language.State.{Local}
+use Rattle.rhai_machine.specs.language.Values.{Cells, unit_value, through}
+use Rattle.rhai_machine.specs.language.Names.{variable_of}
+use Rattle.rhai_machine.specs.language.Places.{focus_target}
+use Rattle.rhai_machine.specs.language.Links.{Link, LinkForm, AtIndex, AtProperty, AtMethod, asked_by, first_position, link_of, name_in}
+use Rattle.rhai_machine.specs.language.Frames.{NewValue, Chain, Member, Property, Item, MemberAccess, ToChain, Frame, Core, core, on_value, where_there}
+use Rattle.rhai_machine.specs.language.Frames.{Eval, ChainArguments, ChainRoot, ReadRoot, Walk, Locate, Back, Fail, RootValue, ChainEnd}
+use Rattle.rhai_machine.specs.language.Frames.{StepDown, Temporary, PartMethod, PartAssigned, Measured, MethodLink, MemberLink, MemberGot}
+use Rattle.rhai_machine.specs.language.Frames.{MemberSet}
+use Rattle.rhai_machine.specs.language.Arguments.{arguments_core}
+use Rattle.rhai_machine.specs.language.Expressions.{literal_of}
+use Rattle.rhai_machine.specs.language.Assignment.{assign_core}
+use Rattle.rhai_machine.specs.language.Members.{focus_of, focused_on, get_core, set_core}
+use Rattle.rhai_machine.specs.language.Methods.{method_core}
+use Rattle.rhai_machine.specs.language.Located.{args_behind, bars_key, index_by, is_indexed, is_map, is_place_spot, is_unit}
+use Rattle.rhai_machine.specs.language.Located.{spot_of, taken_at}
+
+module _ {H : Type 0} where
+  -- ---- the arguments
+
+  -- what a link asks for that needs no step: a property and a method without arguments nothing, and a literal index its value
+  abbrev pub ready : LinkForm → Option (List (Dynamic H))
+  ready (AtIndex index) = option_map (λ v. v ∷ []) (literal_of (out-Expr index))
+  ready (AtProperty name at) = Some []
+  ready (AtMethod name [] at) = Some []
+  ready (AtMethod name (arg ∷ args) at) = None
+
+  -- a chain of one link that needs no step goes to its root at once
+  abbrev pub opened_core : (behind : Option ExprLayer) → Option (List (Dynamic H)) → Chain H → List (Frame H) → Local H → Core H
+  opened_core None (Some args) chain k l = core (ChainRoot (record chain { args = args })) k l
+  opened_core _ _ chain k l = core (ChainArguments chain chain.rest []) k l
+
+  abbrev pub open_move : Option Link → Chain H → List (Frame H) → Local H → Move H (Core H)
+  open_move (Some link) chain k l = Go (opened_core link.behind (ready link.form) chain k l)
+  open_move None chain k l = Halt
+
+  -- else what stands behind each operator is charged, and then come the arguments there
+  abbrev pub asked_move : Setting H → Option Link → Chain H → (made : List (Dynamic H)) → List (Frame H) → Local H → Move H (Core H)
+  asked_move s (Some link) chain made k l =
+      Charge link.rest_at (arguments_core s (ToChain chain link.behind) made (asked_by link.form) k l)
+  asked_move s None chain made k l = Halt
+
+  -- ---- the root
+
+  -- a variable is charged, and read after that; any other root is evaluated, and is not assigned to
+  abbrev pub root_move : ExprLayer → Chain H → List (Frame H) → Local H → Move H (Core H)
+  root_move (layer.Variable offset name namespace pos) chain k l =
+      if is_unqualified namespace.path then Charge pos (core (ReadRoot name pos chain) k l) else Halt
+  root_move (layer.ThisPtr pos) chain k l = Halt
+  root_move _ chain k l = where_there (is_none chain.new) (core (Eval chain.root) (RootValue chain ∷ k) l)
+
+  -- the walk begins on a copy of the variable, or on a temporary
+  abbrev pub begun_core : (in_place : Bool) → (entry : Option ℕ) → Dynamic H → Chain H → List (Frame H) → Local H → Core H
+  begun_core in_place entry v chain k l =
+      core (Walk (record chain { in_place = in_place })) (ChainEnd entry l.focus ∷ k) (focused_on (Some v) l)
+
+  abbrev pub read_root_core : (name : List ℕ) → Position → Chain H → List (Frame H) → Local H → Core H
+  read_root_core name at chain k l = on_value (variable_of l.around.cells name at (found name l.scope))
+      (λ v. begun_core true (index_of name l.scope) v chain k l) k l
+
+  -- ---- handles
+
+  -- a focus that is a handle is entered: its cell's value is the focus, and the cell is held meanwhile
+  abbrev pub entered_by : Union H → (inner : Dynamic H) → (List (Frame H) → Local H → Core H) → List (Frame H) → Local H → Core H
+  entered_by (value.Cell id) inner go k l = go (StepDown (focus_of l) (ToCell id.number) ∷ k)
+      (record l { focus = Some inner; around = record l.around { cells = with_held l.around.cells id.number } })
+  entered_by _ inner go k l = go k l
+
+  abbrev pub entered : (inner : Dynamic H) → (List (Frame H) → Local H → Core H) → List (Frame H) → Local H → Core H
+  entered inner go k l = entered_by (focus_of l).value inner go k l
+
+  -- ---- what is behind a link
+
+  -- the chain behind a link, on a focus that is somebody's place or a temporary
+  abbrev pub behind_link : Link → (rest : ExprLayer) → (in_place : Bool) → Chain H → Chain H
+  behind_link link rest in_place chain =
+      record chain { rest = rest; args = args_behind link.form chain.args; in_place = in_place }
+
+  -- it goes on with the value of a method, or ends with it
+  abbrev pub after_method : (behind : Option ExprLayer) → Link → Chain H → List (Frame H) → List (Frame H)
+  after_method None link chain k = k
+  after_method (Some rest) link chain k = MethodLink (behind_link link rest false chain) ∷ k
+
+  -- how a temporary item goes back: of an index by the indexer, of a property not at all
+  abbrev pub way_back : LinkForm → Link → (index : Dynamic H) → Chain H → Option (MemberAccess H)
+  way_back (AtIndex expr) link index chain = Some (record { member = Item (copy_of index); at = link.at; guarded = chain.in_place })
+  way_back _ link index chain = None
+
+  -- the index of an item is copied for the way back
+  abbrev pub kept_member : Member H → Member H
+  kept_member (Item index) = Item (copy_of index)
+  kept_member member = member
+
+  abbrev pub kept_access : MemberAccess H → MemberAccess H
+  kept_access access = record access { member = kept_member access.member }
+
+  abbrev pub is_property : Member H → Bool
+  is_property (Property name at) = true
+  is_property (Item index) = false
+
+  -- what a setter of a property gives comes back, and after that of an item `()`, marked
+  abbrev pub after_set : Member H → List (Frame H) → List (Frame H)
+  after_set (Property name at) k = k
+  after_set (Item index) k = MemberSet unit_value ∷ k
+
+  -- a map that may not be changed gets no new key
+  abbrev pub unless_barred_by : {A : Type 0} → (barred : Bool) → (root : Expr) → Result A (EvalAltResult H) → Result A (EvalAltResult H)
+  unless_barred_by true root r = Err (error.ErrorAssignmentToConstant (name_in (out-Expr root)) (start_of root))
+  unless_barred_by false root r = r
+
+  abbrev pub unless_barred : {A : Type 0} → (root : Expr) → (source index : Dynamic H) → Result A (EvalAltResult H) →
+      Result A (EvalAltResult H)
+  unless_barred root source index r = unless_barred_by (bars_key source index) root r
+
+  module _ (s : Setting H) where
+    -- ---- methods
+
+    -- a method of the focus, over what waits for its value
+    abbrev pub method_of : (name : List ℕ) → (args : List Expr) → Position → Chain H → List (Frame H) → Local H → Core H
+    method_of name args at chain k l = method_core s (record { name = name; at = at; first_at = first_position args })
+        (take (length args) chain.args) (focus_of l) k l
+
+    -- ---- members by natives
+
+    -- a member is assigned to, at once or by an operator once it was got
+    abbrev pub assign_member : Option Token → MemberAccess H → (root : Expr) → NewValue H → List (Frame H) → Local H → Core H
+    assign_member None access root new k l = set_core false access new.value (after_set access.member k) l
+    assign_member (Some token) access root new k l = get_core access (MemberGot access root new ∷ k) l
+
+    -- what a link does with a member: the chain goes on from its value, reads it, or assigns to it
+    abbrev pub member_core : (behind : Option ExprLayer) → Option (NewValue H) → Link → MemberAccess H → Chain H → List (Frame H) →
+        Local H → Core H
+    member_core (Some rest) new link access chain k l =
+        get_core access (MemberLink (kept_access access) (behind_link link rest (is_property access.member) chain) ∷ k) l
+    member_core None None link access chain k l = get_core access k l
+    member_core None (Some new) link access chain k l = assign_member new.op.op access chain.root new k l
+
+    -- ---- places and parts
+
+    -- what is assigned to is in the focus
+    abbrev pub assign_focus : (root : Expr) → NewValue H → List (Frame H) → Local H → Core H
+    assign_focus root new k l =
+        on_value (focus_target l.around.cells (name_in (out-Expr root)) (start_of root) (focus_of l))
+        (λ target. assign_core s new.op.op (record { name = name_in (out-Expr root); at = position_of root; op = new.op }) target new.value k l)
+        k l
+
+    -- the focus is a place of the value above: an item is measured before it goes back, and of a property the map once it has
+    abbrev pub measured_place : LinkForm → (source : Dynamic H) → Spot → (op_at : Position) → List (Frame H) → List (Frame H)
+    measured_place (AtProperty name pos) source at op_at k = StepDown source (ToPlace at) ∷ Measured op_at ∷ k
+    measured_place form source at op_at k = Measured op_at ∷ StepDown source (ToPlace at) ∷ k
+
+    -- a place or a part is assigned to
+    abbrev pub assign_spot : (is_place : Bool) → Spot → Link → (root : Expr) → NewValue H → (source : Dynamic H) → List (Frame H) →
+        Local H → Core H
+    assign_spot true at link root new source k l =
+        assign_focus root new (measured_place link.form source at new.op.position k) (focused_on (value_at source at) l)
+    assign_spot false at link root new source k l =
+        assign_focus root new (PartAssigned source at new.op.position ∷ k) (focused_on (Some (part_of source at)) l)
+
+    -- a method of a part may change it, and for any other link it is a temporary
+    abbrev pub part_form : LinkForm → Link → Spot → Chain H → (source : Dynamic H) → List (Frame H) → Local H → Core H
+    part_form (AtMethod name args pos) link at chain source k l =
+        method_of name args pos chain (PartMethod source at pos ∷ after_method link.behind link chain k)
+        (focused_on (Some (part_of source at)) l)
+    part_form form link at chain source k l = core (Walk chain) (Temporary (Some source) None ∷ k) (focused_on (Some (part_of source at)) l)
+
+    abbrev pub part_core : Option Link → Spot → Chain H → (source : Dynamic H) → List (Frame H) → Local H → Core H
+    part_core (Some link) at chain source k l = part_form link.form link at chain source k l
+    part_core None at chain source k l = core (Walk chain) (Temporary (Some source) None ∷ k) (focused_on (Some (part_of source at)) l)
+
+    -- the chain goes on below: on a place, on a temporary `()` in the place of a key that is missing, or on a part
+    abbrev pub descend : (is_place : Bool) → Spot → Link → (rest : ExprLayer) → (index : Dynamic H) → Chain H → (source : Dynamic H) →
+        List (Frame H) → Local H → Core H
+    descend true at link rest index chain source k l =
+        core (Walk (behind_link link rest true chain)) (StepDown source (ToPlace at) ∷ k) (focused_on (value_at source at) l)
+    descend false spot.Missing link rest index chain source k l =
+        core (Walk (behind_link link rest false chain)) (Temporary (Some source) (way_back link.form link index chain) ∷ k)
+        (focused_on (Some unit_value) l)
+    descend false at link rest index chain source k l = part_core (link_of rest) at (behind_link link rest false chain) source k l
+
+    -- what a link does with what an index or a key leads to: the chain goes on there, a copy is taken, or it is assigned to, where a map
+    -- that may not be changed gets no new key
+    abbrev pub spot_core : (behind : Option ExprLayer) → Option (NewValue H) → Link → (index : Dynamic H) → Chain H → (source : Dynamic H) →
+        List (Frame H) → Local H → Core H
+    spot_core (Some rest) new link index chain source k l = on_value (spot_of s false link l.around.cells source index)
+        (λ spot. descend (is_place_spot spot.1) spot.1 link rest index chain spot.0 k l) k l
+    spot_core None None link index chain source k l = on_value (spot_of s false link l.around.cells source index)
+        (λ spot. core (Back (taken_at spot.0 spot.1)) k l) k l
+    spot_core None (Some new) link index chain source k l = on_value (unless_barred chain.root source index
+        (spot_of s true link l.around.cells source index)) (λ spot. assign_spot (is_place_spot spot.1) spot.1 link chain.root new spot.0 k l) k l
+
+    -- ---- the walk
+
+    -- a value that is not indexed by itself has its items by natives
+    abbrev pub indexed_core : (indexed : Bool) → Link → (index : Dynamic H) → Chain H → (source : Dynamic H) → List (Frame H) → Local H →
+        Core H
+    indexed_core true link index chain source k l = spot_core link.behind chain.new link index chain source k l
+    indexed_core false link index chain source k l =
+        member_core link.behind chain.new link (record { member = Item index; at = link.at; guarded = chain.in_place }) chain k l
+
+    abbrev pub locate_core : Link → Chain H → List (Frame H) → Local H → Core H
+    locate_core link chain k l = on_value (through l.around.cells (focus_of l) link.at)
+        (λ inner. entered inner (λ k l. indexed_core (is_indexed (layer_of inner)) link (index_by link.form chain.args) chain inner k l) k l) k l
+
+    -- a property of a map is an entry, of any other value a member
+    abbrev pub property_move : (of_map : Bool) → (name : List ℕ) → Position → Link → (inner : Dynamic H) → Chain H → List (Frame H) →
+        Local H → Move H (Core H)
+    property_move true name at link inner chain k l = Charge none (core (Locate link chain) k l)
+    property_move false name at link inner chain k l = Go (entered inner (member_core link.behind chain.new link
+        (record { member = Property name at; at = link.at; guarded = chain.in_place }) chain) k l)
+
+    -- a link by its form; a chain that is assigned to does not end in a method
+    abbrev pub form_move : LinkForm → Link → (inner : Dynamic H) → Chain H → List (Frame H) → Local H → Move H (Core H)
+    form_move (AtIndex index) link inner chain k l = Charge none (core (Locate link chain) k l)
+    form_move (AtProperty name at) link inner chain k l = property_move (is_map (layer_of inner)) name at link inner chain k l
+    form_move (AtMethod name args at) link inner chain k l = where_there (is_some link.behind || is_none chain.new)
+        (method_of name args at chain (after_method link.behind link chain k) l)
+
+    -- a null conditional stops at `()`, seen through a handle
+    abbrev pub stop_move : (stopped : Bool) → Link → (inner : Dynamic H) → Chain H → List (Frame H) → Local H → Move H (Core H)
+    stop_move true link inner chain k l = Go (core (Back unit_value) k l)
+    stop_move false link inner chain k l = form_move link.form link inner chain k l
+
+    abbrev pub seen_move : Link → Result (Dynamic H) (EvalAltResult H) → Chain H → List (Frame H) → Local H → Move H (Core H)
+    seen_move link (Ok inner) chain k l = stop_move (link.stops_at_unit && is_unit inner.value) link inner chain k l
+    seen_move link (Err e) chain k l = Go (core (Fail e) k l)
+
+    abbrev pub walk_move : Option Link → Chain H → List (Frame H) → Local H → Move H (Core H)
+    walk_move (Some link) chain k l = seen_move link (through l.around.cells (focus_of l) link.at) chain k l
+    walk_move None chain k l = Halt
