@@ -1,3 +1,4 @@
+mod Begun
 mod CallSteps
 mod Chain
 mod ChoiceSteps

@@ -22,6 +22,11 @@ module _ {S H : Type 0} (rules : Rules S H) where
   abbrev pub EndsAs : Control H → State S H → Result (Dynamic H) (EvalAltResult H) → State S H → Type 0
   EndsAs c old result new = Ends (λ k l. core c k l) old (HasMemory result) (ended result) new
 
+  -- from where a call begins to its value or error
+  abbrev pub EndsFrom : (begins : List (Frame H) → Local H → Core H) → State S H → Result (Dynamic H) (EvalAltResult H) → State S H →
+      Type 0
+  EndsFrom begins old result new = Ends begins old (HasMemory result) (ended result) new
+
   -- from where a call begins to its error, or its value with the mark whether the first argument may have changed
   abbrev pub EndsMarked : (begins : List (Frame H) → Local H → Core H) → State S H → Result (Dynamic H × Bool) (EvalAltResult H) →
       State S H → Type 0

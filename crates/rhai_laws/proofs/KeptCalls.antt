@@ -22,7 +22,8 @@ use Rattle.rhai_machine.specs.language.Setting.{Setting}
 use Rattle.rhai_machine.specs.language.State.{Local}
 use Rattle.rhai_machine.specs.language.Values.{through as seen_through}
 use Rattle.rhai_machine.specs.language.Places.{Place, InCell, is_barred}
-use Rattle.rhai_machine.specs.language.Frames.{Operation, Lender, FromEntry, FromFocus, Call, Frame, Core, core, changed, on_value, CallNamed, Question, Fire, OpenExpr}
+use Rattle.rhai_machine.specs.language.Frames.{Operation, Lender, FromEntry, FromFocus, Call, Frame, Core, core, changed, on_value}
+use Rattle.rhai_machine.specs.language.Frames.{CallNamed, Question, Fire, OpenExpr}
 use Rattle.rhai_state.specs.Native.{Reply, Missing, Gives, Faults}
 use Rattle.rhai_machine.specs.language.Frames.{Purpose, ToCall, ToCallOn, ToCallNumber, ToCurry, ToChain}
 use Rattle.rhai_machine.specs.language.Frames.{Keyword, CallPointer, MakePointer, Curry, IsShared, IsDefinedVariable}

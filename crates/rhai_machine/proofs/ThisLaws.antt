@@ -27,7 +27,7 @@ use Rattle.rhai_machine.specs.language.Expressions.{literal_of}
 use Rattle.rhai_machine.specs.language.Calls.{sized}
 use Rattle.rhai_machine.specs.language.Arguments.{flattens, taken}
 use Rattle.rhai_machine.specs.language.Language.{move_at, move, machine}
-use Rattle.rhai_machine.specs.language.Runs.{at, Steps}
+use Rattle.rhai_machine.specs.language.Runs.{at, with_core, Goes, Steps}
 use Rattle.rhai_places.specs.PutBack.{put_back}
 use Rattle.rhai_machine.specs.language.Links.{link_of}
 use Rattle.rhai_machine.specs.language.Frames.{OpenChain, ChainArguments, ChainRoot, ReadRoot, Walk, Locate, AssignChain, RootValue}
@@ -189,3 +189,10 @@ module _ {S H : Type 0} (t : Option (Dynamic H)) (rules : Rules S H) where
       Steps rules c (record old { local = record old.local { this = t } }) d (record new { local = record new.local { this = t } })
   unfolding Steps
   steps_with c d old new steps k = goes_same (cut rules) (steps k)
+
+  -- and so from a core that is the same but for `this`
+  pub goes_with : (b c : Core H) (d : Control H) (k : List (Frame H)) (old new : State S H) → c ≡ in_core t b →
+      Goes rules (with_core b old) (at d k new) →
+      Goes rules (with_core c (record old { local = record old.local { this = t } }))
+      (at d k (record new { local = record new.local { this = t } }))
+  goes_with b c d k old new is goes = rw is (goes_same (cut rules) goes)

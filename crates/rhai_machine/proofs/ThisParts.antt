@@ -174,7 +174,7 @@ module _ {H : Type 0} (t : Option (Dynamic H)) where
     there_same false c d is = refl
 
     -- a call that was not written as an operator
-    function_same : (keyword : Option Keyword) (operation : Operation) (args : List Expr) (captures : Bool) (k : List (Frame H))
+    pub function_same : (keyword : Option Keyword) (operation : Operation) (args : List Expr) (captures : Bool) (k : List (Frame H))
         (l : Local H) →
         function_core keyword operation args captures k (with_local l) ≡ in_core (function_core keyword operation args captures k l)
     function_same (Some keyword) operation (arg ∷ args) captures k l = refl

@@ -14,7 +14,7 @@ ghost use Rattle.rhai_state.specs.Native.{was};
 ghost use Rattle.rhai_state.specs.Scope.{names_in};
 ghost use Rattle.rhai_steps.specs.States.{holding, state_of};
 ghost use Rattle.rhai_laws.specs.Kept.{Kept};
-ghost use Rattle.rhai_eval.specs.Ends.{EndsAs};
+ghost use Rattle.rhai_eval.specs.Ends.{EndsAs, EndsFrom};
 ghost use Rattle.rhai_eval.specs.Plain.{Plain};
 ghost use Rattle.rhai_pointers.specs.Forms.{is_operator_form};
 ghost use Rattle.rhai_pointers.specs.Keywords.{word_of};
@@ -132,6 +132,60 @@ impl<H: Host> Engine<H> {
         let result = self.run_arg(alloc, &mut run, table, arg_expr);
         give_back(run, global, scope);
         starting_at(result, arg_expr.start_position())
+    }
+
+    /// What a call of a function comes to, whose charge is made already: a keyword, or a native by its name.
+    /// Its first argument stands apart; where there is none the others are not read. Ports upstream's
+    /// `make_function_call`.
+    ///
+    /// The arguments are parts of a checked tree, above the variables that the scope has there. No form that
+    /// is there reads or writes `this`, so it is left alone. Asked besides: no modules, libraries or imports,
+    /// of which the machine has no rule yet (`Plain`).
+    pub fn make_function_call<T: NativeTable<H>>(
+        &self,
+        alloc: Global,
+        global: &mut GlobalRuntimeState<H>,
+        _caches: &mut Caches<H>,
+        table: &mut T,
+        scope: &mut Scope<H>,
+        _this: Option<&mut Dynamic<H>>,
+        fn_name: &str,
+        op_token: Option<&Token>,
+        first_arg: Option<&Expr>,
+        args_expr: &[Expr],
+        capture_parent_scope: bool,
+        pos: Position,
+    ) -> Result<Dynamic<H>, EvalAltResult<H>>
+        requires resolves { IsTrue (all_resolve_exprs (map tests_of
+            (all_args (option_copied first_arg) args_expr.now)) (names_in scope.old)) }
+        requires plain { Plain self.now global.old }
+        ensures ends { EndsFrom (under H.name_of self.now T.natives)
+            (called (record { name = fn_name.now; token = option_copied op_token.entry; at = pos })
+            (all_args (option_copied first_arg.entry) args_expr.now) capture_parent_scope)
+            (state_of (T.state table.old) global.old scope.old (holding (was _this.entry))) result
+            (state_of (T.state table.new) global.new scope.new (holding (was _this.entry))) }
+        ensures kept { Kept (under H.name_of self.now T.natives)
+            (state_of (T.state table.old) global.old scope.old (holding (was _this.entry)))
+            (state_of (T.state table.new) global.new scope.new (holding (was _this.entry))) }
+        ensures names { names_in scope.new ≡ names_in scope.old }
+        ensures caches { _caches.new ≡ _caches.old }
+        ensures search { global.new.always_search_scope ≡ global.old.always_search_scope }
+    {
+        let token = op_token.copied();
+        let mut run = take(alloc, global, scope);
+        let result = self.run_call(
+            alloc,
+            &mut run,
+            table,
+            fn_name,
+            token,
+            first_arg,
+            args_expr,
+            capture_parent_scope,
+            pos,
+        );
+        give_back(run, global, scope);
+        result
     }
 
     /// A call: an operator on its operands, or of a function.

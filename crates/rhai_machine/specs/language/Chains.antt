@@ -1,14 +1,14 @@
 -- The rules of chains: first the arguments of all links, then the root, and then the walk from link to link.
 use Rattle.std.specs.Prelude.{ℕ, Bool, true, false, ◌&&◌, ◌||◌, List, [], ◌∷◌, length, take, Option, Some, None, option_map, is_some, is_none}
 use Rattle.std.specs.Prelude.{Result, Ok, Err, if◌then◌else◌}
-use Rattle.rhai_machine.specs.Types.{Dynamic, EvalAltResult, Expr, out-Expr, Position, ScopeEntry, Token, Union}
+use Rattle.rhai_machine.specs.Types.{Dynamic, EvalAltResult, Expr, out-Expr, Position, Token, Union}
 use Rattle.rhai_tree.specs.declared.expr.Expr.TheOpen as layer
 use Rattle.rhai_tree.specs.Layers.{ExprLayer}
 use Rattle.rhai_tree.specs.Position.{none}
 use Rattle.rhai_tree.specs.Positions.{position_of, start_of}
 use Rattle.rhai_check.specs.Forms.{is_unqualified}
 use Rattle.rhai_values.specs.declared.base.value.Union.TheVariants as value
-use Rattle.rhai_values.specs.Cells.{value_of_cell, with_held}
+use Rattle.rhai_values.specs.Cells.{with_held}
 use Rattle.rhai_values.specs.Copy.{copy_of}
 use Rattle.rhai_values.specs.Layers.{layer_of}
 use Rattle.rhai_state.specs.declared.error.EvalAltResult.TheVariants as error
@@ -20,7 +20,7 @@ use Rattle.rhai_paths.specs.Paths.{ToPlace, ToCell}
 use Rattle.rhai_machine.specs.machine.Machine.{Move, Halt, Go, Charge}
 use Rattle.rhai_machine.specs.language.Setting.{Setting}
 use Rattle.rhai_machine.specs.language.State.{Local}
-use Rattle.rhai_machine.specs.language.Values.{Cells, unit_value, through}
+use Rattle.rhai_machine.specs.language.Values.{unit_value, through}
 use Rattle.rhai_machine.specs.language.Names.{variable_of}
 use Rattle.rhai_machine.specs.language.Places.{focus_target}
 use Rattle.rhai_machine.specs.language.Links.{Link, LinkForm, AtIndex, AtProperty, AtMethod, asked_by, first_position, link_of, name_in}

@@ -1,6 +1,6 @@
 -- The links of a chain as they stand in the tree: a chain is an index or a dot over its root, and behind its operator stands a link, or
 -- a chain that goes on from one.
-use Rattle.std.specs.Prelude.{Bool, true, false, ◌&&◌, ℕ, List, [], ◌∷◌, Option, Some, None, nat_eq, bit_and, if◌then◌else◌}
+use Rattle.std.specs.Prelude.{Bool, true, false, ℕ, List, [], ◌∷◌, Option, Some, None, nat_eq, bit_and, if◌then◌else◌}
 use Rattle.rhai_machine.specs.Types.{ASTFlags, Expr, out-Expr, Position}
 use Rattle.rhai_tree.specs.declared.expr.Expr.TheOpen as layer
 use Rattle.rhai_tree.specs.Layers.{ExprLayer}

@@ -1,5 +1,5 @@
 -- What a link finds in the focus: the place or the part that an index or a key leads to.
-use Rattle.std.specs.Prelude.{ℕ, Bool, true, false, not, ◌&&◌, List, [], ◌∷◌, drop, length, Option, Some, None, Result, Ok, Err, is_some}
+use Rattle.std.specs.Prelude.{Bool, true, false, not, ◌&&◌, List, [], ◌∷◌, drop, length, Result, is_some}
 use Rattle.std.specs.Option.{unwrap_or}
 use Rattle.rhai_machine.specs.Types.{Dynamic, EvalAltResult, Union}
 use Rattle.rhai_items.specs.Lookup.{place_of}
@@ -15,7 +15,7 @@ use Rattle.rhai_places.specs.Targets.{part_at, place_at, taken as taken_of}
 use Rattle.rhai_machine.specs.language.Setting.{Setting}
 use Rattle.rhai_machine.specs.language.Values.{Cells, unit_value}
 use Rattle.rhai_machine.specs.language.Places.{is_constant}
-use Rattle.rhai_machine.specs.language.Links.{Link, LinkForm, AtIndex, AtProperty, AtMethod, asked_by, place_in_text}
+use Rattle.rhai_machine.specs.language.Links.{Link, LinkForm, AtProperty, asked_by, place_in_text}
 
 -- a spot where a value stands
 abbrev pub is_place_spot : Spot → Bool
