@@ -21,3 +21,5 @@ mod AssignmentRuns
 mod DataRuns
 mod CallRuns
 mod MethodRuns
+mod ChainRuns
+mod ItemRuns

@@ -11,3 +11,4 @@ pub mod Assignments
 pub mod Data
 pub mod Calls
 pub mod Methods
+pub mod Items

@@ -19,6 +19,7 @@ ghost use Rattle.rhai_machine.specs.samples.Assignments.{Assignments, Updates};
 ghost use Rattle.rhai_machine.specs.samples.Data.{Arrays, Maps, Texts};
 ghost use Rattle.rhai_machine.specs.samples.Calls.{Calls, Keywords, Pointers};
 ghost use Rattle.rhai_machine.specs.samples.Methods.{Methods};
+ghost use Rattle.rhai_machine.specs.samples.Items.{Items, Entries, SharedItems};
 
 use crate::laws::{Language, always_ends};
 use rhai_state::table::NativeTable;
@@ -139,4 +140,19 @@ pub fn sample_pointers<H, S>(of: PhantomData<(H, S)>)
 /// Methods: what a native leaves of the value, and the words that are no function's.
 pub fn sample_methods<H, S>(of: PhantomData<(H, S)>)
     ensures { (table : Table S H) (host : H → List ℕ) → Methods table host }
+{}
+
+/// Items of arrays, read and assigned to.
+pub fn sample_items<H, S>(of: PhantomData<(H, S)>)
+    ensures { (table : Table S H) (host : H → List ℕ) → Items table host }
+{}
+
+/// Entries of maps, read and assigned to, and where a chain stops.
+pub fn sample_entries<H, S>(of: PhantomData<(H, S)>)
+    ensures { (table : Table S H) (host : H → List ℕ) → Entries table host }
+{}
+
+/// Items and roots that are handles.
+pub fn sample_shared_items<H, S>(of: PhantomData<(H, S)>)
+    ensures { (table : Table S H) (host : H → List ℕ) → SharedItems table host }
 {}

@@ -1,0 +1,222 @@
+-- Samples of chains: the items of arrays and the entries of maps, read and assigned to.
+use Rattle.std.specs.Prelude.{ℕ, true, List, [], ◌∷◌, Option, Some, None, Result, Ok, Err, codes, pos, negsuc}
+use Rattle.rhai_machine.specs.Types.{Dynamic, EvalAltResult, Expr, Stmt}
+use Rattle.rhai_tree.specs.declared.expr.Expr.TheVariants as expr
+use Rattle.rhai_tree.specs.declared.token.Token.TheVariants.{Plus}
+use Rattle.rhai_values.specs.declared.base.value.AccessMode.TheVariants.{ReadOnly}
+use Rattle.rhai_values.specs.declared.base.value.Union.TheVariants as kind
+use Rattle.rhai_values.specs.Copy.{plain}
+use Rattle.rhai_state.specs.declared.error.EvalAltResult.TheVariants.{ErrorArrayBounds, ErrorAssignmentToConstant, ErrorDataRace}
+use Rattle.rhai_state.specs.declared.error.EvalAltResult.TheVariants.{ErrorMismatchDataType, ErrorPropertyNotFound}
+use Rattle.rhai_state.specs.declared.error.EvalAltResult.TheVariants.{ErrorTooManyOperations, ErrorVariableNotFound}
+use Rattle.rhai_tree.specs.Position.{none}
+use Rattle.rhai_machine.specs.language.Setting.{Setting}
+use Rattle.rhai_machine.specs.samples.Trees.{column, int, var, value, assign}
+use Rattle.rhai_machine.specs.samples.Runs.{Table, Ends, Fails, Returns, usual, limited, nothing_but, entry, integer, fixed, unit}
+use Rattle.rhai_machine.specs.samples.Data.{text}
+use Rattle.rhai_machine.specs.samples.Handles.{handle, one_cell, EndsOver}
+
+-- an index and a dot at their own columns, and a dot that stops at `()`
+abbrev pub index : (at : ℕ) → (left right : Expr) → Expr
+index c left right = expr.Index left right (record { 0 = 0 }) (column c)
+
+abbrev pub dot : (at : ℕ) → (left right : Expr) → Expr
+dot c left right = expr.Dot left right (record { 0 = 0 }) (column c)
+
+abbrev pub safe_dot : (at : ℕ) → (left right : Expr) → Expr
+safe_dot c left right = expr.Dot left right (record { 0 = 1 }) (column c)
+
+abbrev pub property : (at : ℕ) → List ℕ → Expr
+property c name = expr.Property name (column c)
+
+-- ---- items
+
+-- `a[..]`
+abbrev pub item_by : Expr → Expr
+item_by at = index 2 (var 1 (codes "a")) at
+
+-- `a[1]`
+abbrev pub second_item : List Stmt
+second_item = value (item_by (int 3 1)) ∷ []
+
+-- `a[0][1]`
+abbrev pub item_of_item : Expr
+item_of_item = item_by (index 5 (int 3 0) (int 6 1))
+
+-- `a[-1]`
+abbrev pub last_item : List Stmt
+last_item = value (item_by (expr.IntegerConstant (negsuc 0) (column 3))) ∷ []
+
+-- `a[3]`
+abbrev pub no_item : List Stmt
+no_item = value (item_by (int 3 3)) ∷ []
+
+-- `a["x"]`
+abbrev pub item_by_text : List Stmt
+item_by_text = value (item_by (text 3 (codes "x"))) ∷ []
+
+-- `a[0] = 5`
+abbrev pub first_set : List Stmt
+first_set = assign 6 None (item_by (int 3 0)) (int 8 5) ∷ []
+
+-- `a[0][1] = 5`
+abbrev pub inner_set : List Stmt
+inner_set = assign 9 None item_of_item (int 11 5) ∷ []
+
+-- `a[0] += 1`
+abbrev pub first_raised : List Stmt
+first_raised = assign 6 (Some Plus) (item_by (int 3 0)) (int 9 1) ∷ []
+
+-- `h[0]`, and `h[0] = 7`
+abbrev pub first_of_handle : Expr
+first_of_handle = index 2 (var 1 (codes "h")) (int 3 0)
+
+abbrev pub handle_read : List Stmt
+handle_read = value first_of_handle ∷ []
+
+abbrev pub handle_set : List Stmt
+handle_set = assign 6 None first_of_handle (int 8 7) ∷ []
+
+-- `[4, 2][1]`
+abbrev pub of_literal : List Stmt
+of_literal = value (index 7 (expr.Array (int 2 4 ∷ int 5 2 ∷ []) (column 1)) (int 8 1)) ∷ []
+
+-- ---- entries
+
+-- `m.k`, and `m.j`
+abbrev pub entry_named : List ℕ → Expr
+entry_named name = dot 2 (var 1 (codes "m")) (property 3 name)
+
+abbrev pub entry_read : List ℕ → List Stmt
+entry_read name = value (entry_named name) ∷ []
+
+-- `m["k"]`
+abbrev pub entry_by_text : List Stmt
+entry_by_text = value (index 2 (var 1 (codes "m")) (text 3 (codes "k"))) ∷ []
+
+-- `m.k.j`
+abbrev pub inner_entry : Expr
+inner_entry = dot 2 (var 1 (codes "m")) (dot 4 (property 3 (codes "k")) (property 5 (codes "j")))
+
+abbrev pub entry_of_entry : List Stmt
+entry_of_entry = value inner_entry ∷ []
+
+-- `m.j = 5`
+abbrev pub entry_set : List Stmt
+entry_set = assign 5 None (entry_named (codes "j")) (int 7 5) ∷ []
+
+-- `m.k += 1`
+abbrev pub entry_raised : List Stmt
+entry_raised = assign 5 (Some Plus) (entry_named (codes "k")) (int 8 1) ∷ []
+
+-- `m?.k`, and `m?.k = 5`
+abbrev pub safe_entry : Expr
+safe_entry = safe_dot 2 (var 1 (codes "m")) (property 4 (codes "k"))
+
+abbrev pub safe_read : List Stmt
+safe_read = value safe_entry ∷ []
+
+abbrev pub safe_set : List Stmt
+safe_set = assign 6 None safe_entry (int 8 5) ∷ []
+
+module _ {H : Type 0} where
+  abbrev pub array : List (Dynamic H) → Dynamic H
+  array items = plain (kind.Array items)
+
+  abbrev pub three : Dynamic H
+  three = array (integer 1 ∷ integer 2 ∷ integer 3 ∷ [])
+
+  -- `[1]` in an array
+  abbrev pub nested : Dynamic H
+  nested = array (array (integer 1 ∷ integer 2 ∷ []) ∷ [])
+
+  -- an array that may not be changed, nor may its item
+  abbrev pub fixed_array : Dynamic H
+  fixed_array = record { value = kind.Array (fixed 1 ∷ []); mode = ReadOnly }
+
+  -- a map that has this under `k`
+  abbrev pub k_map : Dynamic H → Dynamic H
+  k_map v = plain (kind.Map (codes "k" ∷ [], v ∷ []))
+
+  abbrev pub fixed_map : Dynamic H
+  fixed_map = record { value = kind.Map (codes "k" ∷ [], fixed 1 ∷ []); mode = ReadOnly }
+
+module _ {S H : Type 0} (table : Table S H) (host : H → List ℕ) where
+  -- over this variable the script comes to this result, and leaves this count and the variable so
+  abbrev pub Over : Setting H → List ℕ → Dynamic H → List Stmt → Result (Dynamic H) (EvalAltResult H) → (count : ℕ) → Dynamic H → Type 0
+  Over s name before script result count after =
+      Ends table s (nothing_but (entry name before ∷ [])) script result count (nothing_but (entry name after ∷ []))
+
+  -- it returns this value, or fails with this error, and leaves the variable as it was
+  abbrev pub Reads : List ℕ → Dynamic H → List Stmt → Dynamic H → (count : ℕ) → Type 0
+  Reads name before script v count = Over (usual host) name before script (Ok v) count before
+
+  abbrev pub Refuses : List ℕ → Dynamic H → List Stmt → EvalAltResult H → (count : ℕ) → Type 0
+  Refuses name before script e count = Over (usual host) name before script (Err e) count before
+
+  -- it assigns, and leaves the variable so
+  abbrev pub Sets : List ℕ → Dynamic H → List Stmt → (count : ℕ) → Dynamic H → Type 0
+  Sets name before script count after = Over (usual host) name before script (Ok unit) count after
+
+  pub record Items : Type 0 where
+    -- the root and the link are charged, and a literal index is not; in a longer chain what stands behind each operator is charged, and
+    -- the index too
+    pub read : Reads (codes "a") three second_item (integer 2) 4
+    pub inner : Reads (codes "a") nested (value item_of_item ∷ []) (integer 2) 9
+    -- an index may count from the end
+    pub last : Reads (codes "a") three last_item (integer 3) 4
+    -- what leads to no item is refused where the index starts
+    pub outside : Refuses (codes "a") three no_item (ErrorArrayBounds (record { length = 3; index = pos 3 }) (column 3)) 4
+    pub mismatch : Refuses (codes "a") three item_by_text
+        (ErrorMismatchDataType (record { wanted = codes "i64"; found = codes "string" }) (column 3)) 4
+    -- an assignment gives `()`, and its right side is charged before the root
+    pub set : Sets (codes "a") three first_set 4 (array (integer 5 ∷ integer 2 ∷ integer 3 ∷ []))
+    pub inner_item : Sets (codes "a") nested inner_set 9 (array (array (integer 1 ∷ integer 5 ∷ []) ∷ []))
+    pub raised : Sets (codes "a") three first_raised 4 (array (integer 2 ∷ integer 2 ∷ integer 3 ∷ []))
+    -- a constant's item is refused by the name of the root, where the root starts
+    pub constant : Refuses (codes "a") fixed_array first_set (ErrorAssignmentToConstant (codes "a") (column 1)) 4
+    -- a charge that is refused on the way leaves all in its place
+    pub cut : Over (limited host 8) (codes "a") nested inner_set (Err (ErrorTooManyOperations none)) 8 nested
+    -- a root that is no variable is evaluated after the arguments
+    pub of_value : Returns table (usual host) of_literal (integer 2) 6 []
+    pub unknown : Fails table (usual host) second_item (ErrorVariableNotFound (codes "a") (column 1)) 3 []
+
+  pub record Entries : Type 0 where
+    pub read : Reads (codes "m") (k_map (integer 1)) (entry_read (codes "k")) (integer 1) 4
+    pub by_text : Reads (codes "m") (k_map (integer 1)) entry_by_text (integer 1) 4
+    pub inner : Reads (codes "m") (k_map (plain (kind.Map (codes "j" ∷ [], integer 2 ∷ [])))) entry_of_entry (integer 2) 7
+    -- a key that is missing reads as `()`, unless the engine fails on it
+    pub missing : Reads (codes "m") (k_map (integer 1)) (entry_read (codes "j")) unit 4
+    pub fails : Over (record (usual host) { offer = record (usual host).offer { fail_on_invalid_map_property = true } }) (codes "m")
+        (k_map (integer 1)) (entry_read (codes "j")) (Err (ErrorPropertyNotFound (codes "j") (column 3))) 4 (k_map (integer 1))
+    -- an assignment inserts it
+    pub inserted : Sets (codes "m") (k_map (integer 1)) entry_set 4
+        (plain (kind.Map (codes "j" ∷ codes "k" ∷ [], integer 5 ∷ integer 1 ∷ [])))
+    pub raised : Sets (codes "m") (k_map (integer 1)) entry_raised 4 (k_map (integer 2))
+    -- a constant gets no new key
+    pub constant : Refuses (codes "m") fixed_map entry_set (ErrorAssignmentToConstant (codes "m") (column 1)) 4
+    -- a null conditional stops at `()`, and what would be assigned is dropped
+    pub safe : Reads (codes "m") (k_map (integer 1)) safe_read (integer 1) 4
+    pub stops : Reads (codes "m") unit safe_read unit 3
+    pub drops : Sets (codes "m") unit safe_set 3 unit
+
+  -- over the one cell, and the variable `a` beside its handle, the script comes to this result and leaves the cell so
+  abbrev pub CellOver : Option (Dynamic H) → Dynamic H → List Stmt → Result (Dynamic H) (EvalAltResult H) → (count : ℕ) →
+      Option (Dynamic H) → Type 0
+  CellOver before a script result count after = Ends table (usual host) (one_cell table host before (entry (codes "a") a ∷ [])) script
+      result count (one_cell table host after (entry (codes "a") a ∷ []))
+
+  pub record SharedItems : Type 0 where
+    -- an item that is a handle is read and written through it
+    pub item_read : CellOver (Some (integer 5)) (array (integer 1 ∷ handle ∷ [])) second_item (Ok (integer 5)) 4 (Some (integer 5))
+    pub item_set : CellOver (Some (integer 4)) (array (handle ∷ [])) first_set (Ok unit) 4 (Some (integer 5))
+    pub item_raised : CellOver (Some (integer 4)) (array (handle ∷ [])) first_raised (Ok unit) 4 (Some (integer 5))
+    -- a root that is a handle is entered, and its cell is free again after
+    pub root_read : EndsOver table host (Some (array (integer 5 ∷ []))) handle_read (Ok (integer 5)) 4 []
+    pub root_set : Ends table (usual host) (one_cell table host (Some (array (integer 5 ∷ []))) []) handle_set (Ok unit) 4
+        (one_cell table host (Some (array (integer 7 ∷ []))) [])
+    -- the cell of the root is held meanwhile, so an item that is its handle is not assigned to
+    pub own_handle : Ends table (usual host) (one_cell table host (Some (array (handle ∷ []))) []) handle_set
+        (Err (ErrorDataRace [] (column 1))) 4 (one_cell table host (Some (array (handle ∷ []))) [])
+    -- a held cell is another's
+    pub held : EndsOver table host None handle_read (Err (ErrorDataRace (codes "h") (column 1))) 3 []
