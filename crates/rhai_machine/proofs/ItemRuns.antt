@@ -42,8 +42,8 @@ module _ {S H : Type 0} (table : Table S H) (host : H → List ℕ) where
   items = record {
     read = stretch _ _ 9 _ (reads table (codes "a") three (item_by (int 3 1)) (integer 1 ∷ []) 3) (simp chained)
         (by_steps _ _ 12 (simp chained) refl);
-    inner = stretch _ _ 11 _ (first_index None (below 2)) (simp chained)
-        (stretch _ _ 6 _ (reads table (codes "a") nested item_of_item (integer 0 ∷ integer 1 ∷ []) 7) (simp chained)
+    inner = stretch _ _ 10 _ (first_index None (below 2)) (simp chained)
+        (stretch _ _ 5 _ (reads table (codes "a") nested item_of_item (integer 0 ∷ integer 1 ∷ []) 7) (simp chained)
         (by_steps _ _ 15 (simp chained) refl));
     last = stretch _ _ 9 _ (reads table (codes "a") three (item_by (expr.IntegerConstant (negsuc 0) (column 3)))
          (plain (kind.Int (negsuc 0)) ∷ []) 3) (simp chained)
@@ -54,15 +54,15 @@ module _ {S H : Type 0} (table : Table S H) (host : H → List ℕ) where
         (by_steps _ _ 12 (simp chained) refl);
     set = stretch _ _ 10 _ (sets table (codes "a") three (item_by (int 3 0)) (new_at 6 None (integer 5)) (integer 0 ∷ []) 3)
         (simp chained) (by_steps _ _ 15 (simp chained) refl);
-    inner_item = stretch _ _ 12 _ (first_index (new_at 9 None (integer 5)) assigned) (simp chained)
-        (stretch _ _ 6 _ (sets table (codes "a") nested item_of_item (new_at 9 None (integer 5)) (integer 0 ∷ integer 1 ∷ []) 7)
+    inner_item = stretch _ _ 11 _ (first_index (new_at 9 None (integer 5)) assigned) (simp chained)
+        (stretch _ _ 5 _ (sets table (codes "a") nested item_of_item (new_at 9 None (integer 5)) (integer 0 ∷ integer 1 ∷ []) 7)
         (simp chained) (by_steps _ _ 20 (simp chained) refl));
     raised = stretch _ _ 10 _ (sets table (codes "a") three (item_by (int 3 0)) (new_at 6 (Some Plus) (integer 1)) (integer 0 ∷ []) 3)
         (simp chained) (by_steps _ _ 15 (simp chained) refl);
     constant = stretch _ _ 10 _ (sets table (codes "a") fixed_array (item_by (int 3 0)) (new_at 6 None (integer 5)) (integer 0 ∷ []) 3)
         (simp chained) (by_steps _ _ 15 (simp chained) refl);
-    cut = stretch _ _ 12 _ (first_index (new_at 9 None (integer 5)) assigned) (simp chained)
-        (stretch _ _ 6 _ (sets table (codes "a") nested item_of_item (new_at 9 None (integer 5)) (integer 0 ∷ integer 1 ∷ []) 7)
+    cut = stretch _ _ 11 _ (first_index (new_at 9 None (integer 5)) assigned) (simp chained)
+        (stretch _ _ 5 _ (sets table (codes "a") nested item_of_item (new_at 9 None (integer 5)) (integer 0 ∷ integer 1 ∷ []) 7)
         (simp chained) (by_steps _ _ 20 (simp chained) refl));
     of_value = stretch _ _ 8 _ root_evaluated (simp chained) (stretch _ _ 9 _ literal_walks (simp chained)
         (by_steps _ _ 12 (simp chained) refl));
