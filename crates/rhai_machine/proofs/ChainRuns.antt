@@ -1,8 +1,9 @@
 -- Where the sample runs of chains stand on their way: a long run goes in stretches.
-use Rattle.std.specs.Prelude.{ℕ, Bool, true, false, List, [], ◌∷◌, Option, Some, None}
+use Rattle.std.specs.Prelude.{ℕ, Bool, true, false, List, [], ◌∷◌, ◌++◌, Option, Some, None, codes}
 use Rattle.rhai_tree.specs.declared.expr.Expr.TheVariants as expr
 use Rattle.rhai_values.specs.declared.base.value.Union.TheVariants as kind
 use Rattle.rhai_machine.specs.Types.{Dynamic, Expr, out-Expr, OpAssignment, ScopeEntry, Token}
+use Rattle.rhai_state.specs.Native.{Request}
 use Rattle.rhai_machine.specs.machine.Machine.{Config}
 use Rattle.rhai_machine.specs.language.State.{Local}
 use Rattle.rhai_machine.specs.language.Frames.{NewValue, Chain, Control, Frame, Core, core, ChainArguments, Walk, ChainEnd, AssignedChain, StatementValue}
@@ -16,6 +17,7 @@ pub ruleset chained = (
   placed,
   measured,
   kind.outs-Int,
+  kind.outs-Bool,
   kind.outs-Array,
   kind.outs-Map,
   expr.outs-Array,
@@ -68,6 +70,15 @@ module _ {S H : Type 0} (table : Table S H) where
       Config S H (Core H)
   asks name v chain rest new made k count = standing_at
       (core (ChainArguments (chain_on (var 1 name) (out-Expr chain) new) (out-Expr rest) made) k (nothing_but (entry name v ∷ []))) count
+
+  -- a chain over the variable `x` works on this focus, after these calls
+  abbrev pub on_x : (x focus : Dynamic H) → Control H → List (Frame H) → List (Frame H) → ℕ → List (Request H) → Config S H (Core H)
+  on_x x focus control k below count calls = record {
+    core = core control (k ++ ChainEnd (Some 0) None ∷ below) (focused (entry (codes "x") x ∷ []) focus);
+    table = table.state;
+    count = count;
+    calls = calls;
+  }
 
 module _ {S H : Type 0} (table : Table S H) (host : H → List ℕ) where
   -- a chain over a variable beside the handle of the one cell is at its first link, or one over the handle itself

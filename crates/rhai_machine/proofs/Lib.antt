@@ -23,3 +23,4 @@ mod CallRuns
 mod MethodRuns
 mod ChainRuns
 mod ItemRuns
+mod MemberRuns

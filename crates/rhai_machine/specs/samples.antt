@@ -12,3 +12,4 @@ pub mod Data
 pub mod Calls
 pub mod Methods
 pub mod Items
+pub mod Members

@@ -20,6 +20,7 @@ ghost use Rattle.rhai_machine.specs.samples.Data.{Arrays, Maps, Texts};
 ghost use Rattle.rhai_machine.specs.samples.Calls.{Calls, Keywords, Pointers};
 ghost use Rattle.rhai_machine.specs.samples.Methods.{Methods};
 ghost use Rattle.rhai_machine.specs.samples.Items.{Items, Entries, SharedItems};
+ghost use Rattle.rhai_machine.specs.samples.Members.{Members, SetBack, Indexers};
 
 use crate::laws::{Language, always_ends};
 use rhai_state::table::NativeTable;
@@ -155,4 +156,19 @@ pub fn sample_entries<H, S>(of: PhantomData<(H, S)>)
 /// Items and roots that are handles.
 pub fn sample_shared_items<H, S>(of: PhantomData<(H, S)>)
     ensures { (table : Table S H) (host : H → List ℕ) → SharedItems table host }
+{}
+
+/// Properties that natives get and set.
+pub fn sample_members<H, S>(of: PhantomData<(H, S)>)
+    ensures { (table : Table S H) (host : H → List ℕ) → Members table host }
+{}
+
+/// What a chain changed of a property's value, and the setter.
+pub fn sample_set_back<H, S>(of: PhantomData<(H, S)>)
+    ensures { (table : Table S H) (host : H → List ℕ) → SetBack table host }
+{}
+
+/// Items that natives get and set.
+pub fn sample_indexers<H, S>(of: PhantomData<(H, S)>)
+    ensures { (table : Table S H) (host : H → List ℕ) → Indexers table host }
 {}
