@@ -18,6 +18,7 @@ pub ruleset chained = (
   measured,
   kind.outs-Int,
   kind.outs-Bool,
+  kind.outs-Char,
   kind.outs-Array,
   kind.outs-Map,
   expr.outs-Array,
@@ -25,6 +26,8 @@ pub ruleset chained = (
   expr.outs-Index,
   expr.outs-Dot,
   expr.outs-Property,
+  expr.outs-MethodCall,
+  expr.outs-CharConstant,
 )
 
 module _ {H : Type 0} where

@@ -24,3 +24,4 @@ mod MethodRuns
 mod ChainRuns
 mod ItemRuns
 mod MemberRuns
+mod PartRuns

@@ -13,3 +13,4 @@ pub mod Calls
 pub mod Methods
 pub mod Items
 pub mod Members
+pub mod Parts

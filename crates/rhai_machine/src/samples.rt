@@ -21,6 +21,7 @@ ghost use Rattle.rhai_machine.specs.samples.Calls.{Calls, Keywords, Pointers};
 ghost use Rattle.rhai_machine.specs.samples.Methods.{Methods};
 ghost use Rattle.rhai_machine.specs.samples.Items.{Items, Entries, SharedItems};
 ghost use Rattle.rhai_machine.specs.samples.Members.{Members, SetBack, Indexers};
+ghost use Rattle.rhai_machine.specs.samples.Parts.{MethodChains, Parts};
 
 use crate::laws::{Language, always_ends};
 use rhai_state::table::NativeTable;
@@ -171,4 +172,14 @@ pub fn sample_set_back<H, S>(of: PhantomData<(H, S)>)
 /// Items that natives get and set.
 pub fn sample_indexers<H, S>(of: PhantomData<(H, S)>)
     ensures { (table : Table S H) (host : H → List ℕ) → Indexers table host }
+{}
+
+/// Methods at the end of a chain, and on its way.
+pub fn sample_method_chains<H, S>(of: PhantomData<(H, S)>)
+    ensures { (table : Table S H) (host : H → List ℕ) → MethodChains table host }
+{}
+
+/// Characters and bits that are read and put back.
+pub fn sample_parts<H, S>(of: PhantomData<(H, S)>)
+    ensures { (table : Table S H) (host : H → List ℕ) → Parts table host }
 {}
