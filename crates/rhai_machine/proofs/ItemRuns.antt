@@ -9,11 +9,11 @@ use Rattle.rhai_values.specs.Copy.{plain}
 use Rattle.rhai_machine.specs.Types.{Dynamic, Expr}
 use Rattle.rhai_machine.specs.machine.Machine.{Config}
 use Rattle.rhai_machine.specs.samples.Handles.{handle}
-use Rattle.rhai_machine.specs.language.Frames.{NewValue, Frame, Core, core, Eval, Walk, ChainEnd, RootValue, chain_on}
+use Rattle.rhai_machine.specs.language.Frames.{NewValue, Frame, Core, core, Back, Measured, Eval, Walk, ChainEnd, RootValue, chain_on}
 use Rattle.rhai_machine.specs.samples.Trees.{column, int, var}
 use Rattle.rhai_machine.specs.samples.Runs.{Table, entry, integer, nothing_but, unit}
 use Rattle.rhai_machine.specs.samples.Data.{text, word}
-use Rattle.rhai_machine.specs.samples.Items.{Items, Entries, SharedItems, item_by, item_of_item, entry_named, inner_entry, safe_entry, three, nested}
+use Rattle.rhai_machine.specs.samples.Items.{Items, Entries, SharedItems, item_by, item_of_item, entry_named, inner_entry, safe_entry, safe_inner, three, nested}
 use Rattle.rhai_machine.specs.samples.Items.{fixed_array, fixed_map, k_map, index, array, first_of_handle}
 use Rattle.rhai_machine.proofs.SampleRuns.{by_steps, stretch}
 use Rattle.rhai_machine.proofs.ChainRuns.{chained, asks, reads, sets, walks_in, standing_at, on_its_way, new_at, below, assigned, focused}
@@ -67,7 +67,16 @@ module _ {S H : Type 0} (table : Table S H) (host : H → List ℕ) where
     of_value = stretch _ _ 8 _ root_evaluated (simp chained) (stretch _ _ 9 _ literal_walks (simp chained)
         (by_steps _ _ 12 (simp chained) refl));
     unknown = by_steps _ _ 16 (simp chained) refl;
+    index_first = by_steps _ _ 20 (simp chained) refl;
+    too_long = stretch _ _ 10 _ (sets table (codes "a") (array (integer 1 ∷ [])) (item_by (int 3 0)) (new_at 6 None (word (codes "abc")))
+        (integer 0 ∷ []) 3) (simp chained) (by_steps _ _ 15 (simp chained) refl);
   }
+
+  -- a new entry is assigned to, and the map is to be measured
+  abbrev entry_assigned : Config S H (Core H)
+  entry_assigned = standing_at table (core (Back unit) (Measured (column 5) ∷ ChainEnd (Some 0) None ∷ assigned)
+      (focused (entry (codes "m") (k_map (integer 1)) ∷ [])
+      (plain (kind.Map (codes "j" ∷ codes "k" ∷ [], integer 5 ∷ integer 1 ∷ []))))) 4
 
   pub entries : Entries table host
   entries = record {
@@ -92,6 +101,10 @@ module _ {S H : Type 0} (table : Table S H) (host : H → List ℕ) where
         (by_steps _ _ 12 (simp chained) refl);
     stops = stretch _ _ 9 _ (reads table (codes "m") unit safe_entry [] 3) (simp chained)
         (by_steps _ _ 12 (simp chained) refl);
+    stops_inside = stretch _ _ 11 _ (reads table (codes "m") (k_map (integer 1)) safe_inner [] 5) (simp chained)
+        (by_steps _ _ 15 (simp chained) refl);
+    full = stretch _ _ 10 _ (sets table (codes "m") (k_map (integer 1)) (entry_named (codes "j")) (new_at 5 None (integer 5)) [] 3)
+        (simp chained) (stretch _ _ 3 _ entry_assigned (simp chained) (by_steps _ _ 12 (simp chained) refl));
     drops = stretch _ _ 10 _ (sets table (codes "m") unit safe_entry (new_at 6 None (integer 5)) [] 3)
         (simp chained) (by_steps _ _ 15 (simp chained) refl);
   }

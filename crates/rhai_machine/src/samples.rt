@@ -20,7 +20,7 @@ ghost use Rattle.rhai_machine.specs.samples.Data.{Arrays, Maps, Texts};
 ghost use Rattle.rhai_machine.specs.samples.Calls.{Calls, Keywords, Pointers};
 ghost use Rattle.rhai_machine.specs.samples.Methods.{Methods};
 ghost use Rattle.rhai_machine.specs.samples.Items.{Items, Entries, SharedItems};
-ghost use Rattle.rhai_machine.specs.samples.Members.{Members, SetBack, Indexers};
+ghost use Rattle.rhai_machine.specs.samples.Members.{Members, SetBack, Guards, Indexers};
 ghost use Rattle.rhai_machine.specs.samples.Parts.{MethodChains, Parts};
 
 use crate::laws::{Language, always_ends};
@@ -167,6 +167,11 @@ pub fn sample_members<H, S>(of: PhantomData<(H, S)>)
 /// What a chain changed of a property's value, and the setter.
 pub fn sample_set_back<H, S>(of: PhantomData<(H, S)>)
     ensures { (table : Table S H) (host : H → List ℕ) → SetBack table host }
+{}
+
+/// What natives are kept from, and what goes back of what they left.
+pub fn sample_guards<H, S>(of: PhantomData<(H, S)>)
+    ensures { (table : Table S H) (host : H → List ℕ) → Guards table host }
 {}
 
 /// Items that natives get and set.

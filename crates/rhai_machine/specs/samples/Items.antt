@@ -8,12 +8,12 @@ use Rattle.rhai_values.specs.declared.base.value.Union.TheVariants as kind
 use Rattle.rhai_values.specs.Copy.{plain}
 use Rattle.rhai_state.specs.declared.error.EvalAltResult.TheVariants.{ErrorArrayBounds, ErrorAssignmentToConstant, ErrorDataRace}
 use Rattle.rhai_state.specs.declared.error.EvalAltResult.TheVariants.{ErrorMismatchDataType, ErrorPropertyNotFound}
-use Rattle.rhai_state.specs.declared.error.EvalAltResult.TheVariants.{ErrorTooManyOperations, ErrorVariableNotFound}
+use Rattle.rhai_state.specs.declared.error.EvalAltResult.TheVariants.{ErrorDataTooLarge, ErrorTooManyOperations, ErrorVariableNotFound}
 use Rattle.rhai_tree.specs.Position.{none}
 use Rattle.rhai_machine.specs.language.Setting.{Setting}
 use Rattle.rhai_machine.specs.samples.Trees.{column, int, var, value, assign}
-use Rattle.rhai_machine.specs.samples.Runs.{Table, Ends, Fails, Returns, usual, limited, nothing_but, entry, integer, fixed, unit}
-use Rattle.rhai_machine.specs.samples.Data.{text}
+use Rattle.rhai_machine.specs.samples.Runs.{Table, Ends, Fails, Returns, usual, usual_limits, limited, nothing_but, entry, integer, fixed, unit}
+use Rattle.rhai_machine.specs.samples.Data.{text, word, short_texts}
 use Rattle.rhai_machine.specs.samples.Handles.{handle, one_cell, EndsOver}
 
 -- an index and a dot at their own columns, and a dot that stops at `()`
@@ -67,6 +67,14 @@ inner_set = assign 9 None item_of_item (int 11 5) ∷ []
 abbrev pub first_raised : List Stmt
 first_raised = assign 6 (Some Plus) (item_by (int 3 0)) (int 9 1) ∷ []
 
+-- `a[0] = "abc"`
+abbrev pub text_set : List Stmt
+text_set = assign 6 None (item_by (int 3 0)) (text 8 (codes "abc")) ∷ []
+
+-- `b[y] = 1`
+abbrev pub unknown_set : List Stmt
+unknown_set = assign 6 None (index 2 (var 1 (codes "b")) (var 3 (codes "y"))) (int 8 1) ∷ []
+
 -- `h[0]`, and `h[0] = 7`
 abbrev pub first_of_handle : Expr
 first_of_handle = index 2 (var 1 (codes "h")) (int 3 0)
@@ -100,6 +108,10 @@ inner_entry = dot 2 (var 1 (codes "m")) (dot 4 (property 3 (codes "k")) (propert
 
 abbrev pub entry_of_entry : List Stmt
 entry_of_entry = value inner_entry ∷ []
+
+-- `m.j?.k`
+abbrev pub safe_inner : Expr
+safe_inner = dot 2 (var 1 (codes "m")) (safe_dot 4 (property 3 (codes "j")) (property 6 (codes "k")))
 
 -- `m.j = 5`
 abbrev pub entry_set : List Stmt
@@ -180,6 +192,11 @@ module _ {S H : Type 0} (table : Table S H) (host : H → List ℕ) where
     -- a root that is no variable is evaluated after the arguments
     pub of_value : Returns table (usual host) of_literal (integer 2) 6 []
     pub unknown : Fails table (usual host) second_item (ErrorVariableNotFound (codes "a") (column 1)) 3 []
+    -- the index comes after the right side, and before the root
+    pub index_first : Fails table (usual host) unknown_set (ErrorVariableNotFound (codes "y") (column 3)) 4 []
+    -- what was assigned is measured at the operator, and stays
+    pub too_long : Over (short_texts host 2) (codes "a") (array (integer 1 ∷ [])) text_set
+        (Err (ErrorDataTooLarge (codes "Length of string") (column 6))) 4 (array (word (codes "abc") ∷ []))
 
   pub record Entries : Type 0 where
     pub read : Reads (codes "m") (k_map (integer 1)) (entry_read (codes "k")) (integer 1) 4
@@ -198,7 +215,12 @@ module _ {S H : Type 0} (table : Table S H) (host : H → List ℕ) where
     -- a null conditional stops at `()`, and what would be assigned is dropped
     pub safe : Reads (codes "m") (k_map (integer 1)) safe_read (integer 1) 4
     pub stops : Reads (codes "m") unit safe_read unit 3
+    pub stops_inside : Reads (codes "m") (k_map (integer 1)) (value safe_inner ∷ []) unit 6
     pub drops : Sets (codes "m") unit safe_set 3 unit
+    -- a map is measured with its new entry, which stays
+    pub full : Over (record (usual host) { limits = record usual_limits { max_map_size = 1 } }) (codes "m") (k_map (integer 1)) entry_set
+        (Err (ErrorDataTooLarge (codes "Size of object map") (column 5))) 4
+        (plain (kind.Map (codes "j" ∷ codes "k" ∷ [], integer 5 ∷ integer 1 ∷ [])))
 
   -- over the one cell, and the variable `a` beside its handle, the script comes to this result and leaves the cell so
   abbrev pub CellOver : Option (Dynamic H) → Dynamic H → List Stmt → Result (Dynamic H) (EvalAltResult H) → (count : ℕ) →

@@ -3,17 +3,17 @@ use Rattle.std.specs.Prelude.{◌≡◌, ℕ, true, false, List, [], ◌∷◌, 
 use Rattle.rhai_machine.specs.Types.{Dynamic, EvalAltResult, Expr, Stmt}
 use Rattle.rhai_tree.specs.declared.expr.Expr.TheVariants as expr
 use Rattle.rhai_tree.specs.declared.token.Token.TheVariants.{Plus}
-use Rattle.rhai_state.specs.declared.error.EvalAltResult.TheVariants.{ErrorArithmetic, ErrorDotExpr, ErrorIndexingType}
+use Rattle.rhai_state.specs.declared.error.EvalAltResult.TheVariants.{ErrorArithmetic, ErrorAssignmentToConstant, ErrorDotExpr, ErrorIndexingType}
 use Rattle.rhai_state.specs.declared.error.EvalAltResult.TheVariants.{ErrorNonPureMethodCallOnConstant}
 use Rattle.rhai_state.specs.declared.error.EvalAltResult.TheVariants.{ErrorTooManyOperations}
 use Rattle.rhai_state.specs.Native.{Request, Purity, Missing, Gives, Faults, Named, OfName, request}
 use Rattle.rhai_tree.specs.Position.{none}
 use Rattle.rhai_machine.specs.language.Setting.{Setting}
-use Rattle.rhai_machine.specs.samples.Trees.{column, int, var, value, assign}
+use Rattle.rhai_machine.specs.samples.Trees.{column, int, bool, var, value, assign}
 use Rattle.rhai_machine.specs.samples.Runs.{Table, Answers, Replies, IsImpure, EndsScript, usual, limited, nothing_but, entry}
 use Rattle.rhai_machine.specs.samples.Runs.{integer, fixed, truth, unit}
-use Rattle.rhai_machine.specs.samples.Data.{word}
-use Rattle.rhai_machine.specs.samples.Items.{dot, index, property}
+use Rattle.rhai_machine.specs.samples.Data.{text, word}
+use Rattle.rhai_machine.specs.samples.Items.{array, dot, index, item_by, k_map, property}
 
 -- `x.p`, `x.p.q`, `x[1]` and `x[1].q`
 abbrev pub p_of_x : Expr
@@ -52,6 +52,17 @@ item_set = assign 6 None item_of_x (int 8 5) ∷ []
 abbrev pub item_raised : List Stmt
 item_raised = assign 6 (Some Plus) item_of_x (int 9 5) ∷ []
 
+-- `a[0] += true`
+abbrev pub item_mixed : List Stmt
+item_mixed = assign 6 (Some Plus) (item_by (int 3 0)) (bool 9 true) ∷ []
+
+-- `m["j"].k = 5`
+abbrev pub of_missing : Expr
+of_missing = index 2 (var 1 (codes "m")) (dot 7 (text 3 (codes "j")) (property 8 (codes "k")))
+
+abbrev pub of_missing_set : List Stmt
+of_missing_set = assign 10 None of_missing (int 12 5) ∷ []
+
 -- `x[1].q = 5`
 abbrev pub q_of_item_set : List Stmt
 q_of_item_set = assign 8 None q_of_item (int 10 5) ∷ []
@@ -71,8 +82,21 @@ module _ {H : Type 0} where
   index_set_p v = request [] (Named (codes "index$set$")) (Some (integer 1)) (word (codes "p") ∷ v ∷ []) (column 2)
 
   -- of a property of the value 7, which is set to 5
+  abbrev pub set_q_of : (at : ℕ) → Dynamic H → Request H
+  set_q_of c v = request [] (Named (codes "set$q")) (Some v) (integer 5 ∷ []) (column c)
+
   abbrev pub set_q : (at : ℕ) → Request H
-  set_q c = request [] (Named (codes "set$q")) (Some (integer 7)) (integer 5 ∷ []) (column c)
+  set_q c = set_q_of c (integer 7)
+
+  -- of an operator on an item, and for an entry that is not there
+  abbrev pub plus_item : Request H
+  plus_item = request [] (Named (codes "+=")) (Some (integer 1)) (truth true ∷ []) (column 6)
+
+  abbrev pub set_k : Request H
+  set_k = request [] (Named (codes "set$k")) (Some unit) (integer 5 ∷ []) (column 8)
+
+  abbrev pub set_j : Request H
+  set_j = request [] (Named (codes "index$set$")) (Some (k_map (integer 1))) (word (codes "j") ∷ integer 3 ∷ []) (column 2)
 
   -- for an item of a variable that is true
   abbrev pub get_first : Request H
@@ -157,6 +181,27 @@ module _ {S H : Type 0} (table : Table S H) (host : H → List ℕ) where
     pub cut : Answers table get_p (Gives (integer 7)) (integer 1) → IsImpure table q_setter →
         Answers table (set_q 5) (Gives unit) (integer 8) →
         Calls (limited host 7) (codes "x") (integer 1) q_set (Err (ErrorTooManyOperations (column 3))) 7 (integer 1) (set_q 5 ∷ get_p ∷ [])
+
+  -- what is kept from what is constant, and what goes back
+  pub record Guards : Type 0 where
+    -- a value that a getter gave is kept as a constant's is, and one that an indexer gave is not
+    pub of_getter : Answers table get_p (Gives (fixed 7)) (integer 1) → IsImpure table q_setter →
+        OnX (integer 1) q_set (Err (ErrorNonPureMethodCallOnConstant (codes "set$q") (column 5))) 7 (integer 1) (get_p ∷ [])
+    pub of_indexer : Answers table get_first (Gives (fixed 7)) (truth true) → table.natives.pure table.state q_setter ≡ false →
+        Answers table (set_q_of 6 (fixed 7)) (Gives unit) (integer 8) → IsImpure table item_setter →
+        Answers table (set_first (integer 8)) (Gives unit) (integer 9) →
+        OnX (truth true) q_of_item_set (Ok unit) 10 (integer 9) (set_first (integer 8) ∷ set_q_of 6 (fixed 7) ∷ get_first ∷ [])
+    -- an operator does not work on it, by the name of the root
+    pub of_operator : Answers table get_p (Gives (fixed 7)) (integer 1) →
+        OnX (integer 1) p_raised (Err (ErrorAssignmentToConstant (codes "x") (column 1))) 4 (integer 1) (get_p ∷ [])
+    -- what a native of an operator left of an item stays after its fault
+    pub faults : Answers table plus_item (Faults (ErrorArithmetic (codes "no") none)) (integer 9) →
+        Calls (usual host) (codes "a") (array (integer 1 ∷ [])) item_mixed (Err (ErrorArithmetic (codes "no") (column 6))) 5
+        (array (integer 9 ∷ [])) (plus_item ∷ [])
+    -- a key that is missing is set by the indexer of maps, whose absence is ignored, and is not inserted
+    pub missing_key : IsImpure table (OfName (codes "set$k") (codes "()") 2) → Answers table set_k (Gives unit) (integer 3) →
+        IsImpure table (OfName (codes "index$set$") (codes "map") 3) → Answers table set_j Missing (k_map (integer 1)) →
+        Calls (usual host) (codes "m") (k_map (integer 1)) of_missing_set (Ok unit) 9 (k_map (integer 1)) (set_j ∷ set_k ∷ [])
 
   pub record Indexers : Type 0 where
     -- an item of a value that has none of its own is got and set by the indexer, at the operator
