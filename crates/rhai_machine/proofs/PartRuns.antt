@@ -13,7 +13,7 @@ use Rattle.rhai_machine.specs.samples.Runs.{Table, integer, truth}
 use Rattle.rhai_machine.specs.samples.Data.{word}
 use Rattle.rhai_machine.specs.samples.Handles.{handle}
 use Rattle.rhai_machine.specs.samples.Items.{array, dot}
-use Rattle.rhai_machine.specs.samples.Parts.{MethodChains, Parts, asked, char, fixed_text, m_of, m_of_first, method_call, n_of_m, part_by}
+use Rattle.rhai_machine.specs.samples.Parts.{MethodChains, Parts, asked, char, fixed_text, m_of, m_of_first, method_call, n_of_m, p_of_handle, part_by}
 use Rattle.rhai_machine.proofs.SampleRuns.{by_steps, stretch}
 use Rattle.rhai_machine.proofs.ChainRuns.{chained, asks, reads, sets, walks_in, new_at, below, on_x, on_its_way}
 
@@ -68,6 +68,8 @@ module _ {S H : Type 0} (table : Table S H) (host : H → List ℕ) where
         (method_call 3 (codes "is_shared") [])) None [] (below 2) 3) (simp chained) (by_steps _ _ 12 (simp chained) refl);
     of_handle = λ impure replies. stretch _ _ 9 _ (walks_in table host (Some (integer 1)) [] (codes "h") 0 handle
         (m_of (codes "h") []) None [] (below 2) 3) (simp chained) (by_steps _ _ 20 (simp (impure, replies, chained)) refl);
+    property_of_handle = λ replies. stretch _ _ 9 _ (walks_in table host (Some (integer 1)) [] (codes "h") 0 handle p_of_handle None []
+        (below 2) 3) (simp chained) (by_steps _ _ 20 (simp (replies, chained)) refl);
   }
 
   pub parts : Parts table host

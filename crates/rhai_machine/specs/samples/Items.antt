@@ -47,6 +47,16 @@ item_of_item = item_by (index 5 (int 3 0) (int 6 1))
 abbrev pub last_item : List Stmt
 last_item = value (item_by (expr.IntegerConstant (negsuc 0) (column 3))) ∷ []
 
+-- `a[a[0]]`, whose inner chain is an index by itself; and `a?[0]`
+abbrev pub own_item : Expr
+own_item = index 4 (var 3 (codes "a")) (int 5 0)
+
+abbrev pub by_own_item : Expr
+by_own_item = expr.Index (var 1 (codes "a")) own_item (record { 0 = 2 }) (column 2)
+
+abbrev pub safe_item : Expr
+safe_item = expr.Index (var 1 (codes "a")) (int 4 0) (record { 0 = 1 }) (column 2)
+
 -- `a[3]`
 abbrev pub no_item : List Stmt
 no_item = value (item_by (int 3 3)) ∷ []
@@ -78,6 +88,10 @@ unknown_set = assign 6 None (index 2 (var 1 (codes "b")) (var 3 (codes "y"))) (i
 -- `h[0]`, and `h[0] = 7`
 abbrev pub first_of_handle : Expr
 first_of_handle = index 2 (var 1 (codes "h")) (int 3 0)
+
+-- `h[0][1]`
+abbrev pub item_in_handle : Expr
+item_in_handle = index 2 (var 1 (codes "h")) (index 5 (int 3 0) (int 6 1))
 
 abbrev pub handle_read : List Stmt
 handle_read = value first_of_handle ∷ []
@@ -175,6 +189,9 @@ module _ {S H : Type 0} (table : Table S H) (host : H → List ℕ) where
     -- the index too
     pub read : Reads (codes "a") three second_item (integer 2) 4
     pub inner : Reads (codes "a") nested (value item_of_item ∷ []) (integer 2) 9
+    -- a chain in brackets is evaluated as an index
+    pub by_chain : Reads (codes "a") (array (integer 1 ∷ integer 7 ∷ [])) (value by_own_item ∷ []) (integer 7) 8
+    pub stops : Reads (codes "a") unit (value safe_item ∷ []) unit 3
     -- an index may count from the end
     pub last : Reads (codes "a") three last_item (integer 3) 4
     -- what leads to no item is refused where the index starts
@@ -242,3 +259,11 @@ module _ {S H : Type 0} (table : Table S H) (host : H → List ℕ) where
         (Err (ErrorDataRace [] (column 1))) 4 (one_cell table host (Some (array (handle ∷ []))) [])
     -- a held cell is another's
     pub held : EndsOver table host None handle_read (Err (ErrorDataRace (codes "h") (column 1))) 3 []
+    pub item_held : CellOver None (array (integer 1 ∷ handle ∷ [])) second_item (Err (ErrorDataRace [] (column 2))) 4 None
+    -- a chain goes on through an item's handle, and is refused at the operator behind it where the cell is held
+    pub through_item : CellOver (Some (array (integer 1 ∷ integer 2 ∷ []))) (array (handle ∷ [])) inner_set (Ok unit) 9
+        (Some (array (integer 1 ∷ integer 5 ∷ [])))
+    pub held_inside : CellOver None (array (handle ∷ [])) inner_set (Err (ErrorDataRace [] (column 5))) 8 None
+    -- a charge that is refused inside frees the cell
+    pub cut : Ends table (limited host 8) (one_cell table host (Some nested) []) (value item_in_handle ∷ [])
+        (Err (ErrorTooManyOperations none)) 8 (one_cell table host (Some nested) [])

@@ -13,7 +13,7 @@ use Rattle.rhai_machine.specs.samples.Runs.{Table, Answers, IsImpure, EndsScript
 use Rattle.rhai_machine.specs.samples.Data.{word}
 use Rattle.rhai_machine.specs.samples.Calls.{named}
 use Rattle.rhai_machine.specs.samples.Handles.{one_cell, EndsOver}
-use Rattle.rhai_machine.specs.samples.Items.{Reads, Refuses, Sets, array, dot, index, item_by}
+use Rattle.rhai_machine.specs.samples.Items.{Reads, Refuses, Sets, array, dot, index, property}
 use Rattle.rhai_machine.specs.samples.Members.{Calls, OnX}
 
 -- ---- methods
@@ -36,6 +36,10 @@ m_of_first name = index 2 (var 1 name) (dot 5 (int 3 0) (method_call 6 (codes "m
 -- `h.is_shared()`
 abbrev pub is_shared : List Stmt
 is_shared = value (dot 2 (var 1 (codes "h")) (method_call 3 (codes "is_shared") [])) ∷ []
+
+-- `h.p`
+abbrev pub p_of_handle : Expr
+p_of_handle = dot 2 (var 1 (codes "h")) (property 3 (codes "p"))
 
 -- ---- parts
 
@@ -69,6 +73,9 @@ module _ {H : Type 0} where
   -- on the value of the one cell, which is held meanwhile
   abbrev pub m_in_cell : Request H
   m_in_cell = request (None ∷ []) (Named (codes "m")) (Some (integer 1)) [] (column 3)
+
+  abbrev pub p_in_cell : Request H
+  p_in_cell = request (None ∷ []) (Named (codes "get$p")) (Some (integer 1)) [] (column 3)
 
   -- a text that may not be changed
   abbrev pub fixed_text : Dynamic H
@@ -104,6 +111,11 @@ module _ {S H : Type 0} (table : Table S H) (host : H → List ℕ) where
     pub of_handle : IsImpure table (m_on (codes "i64") 1) → Answers table m_in_cell (Gives (integer 7)) (integer 2) →
         EndsScript table (usual host) false (value (m_of (codes "h") []) ∷ []) 0 (one_cell table host (Some (integer 1)) [])
         (Ok (integer 7)) 4 (one_cell table host (Some (integer 2)) []) (m_in_cell ∷ [])
+
+    -- so is its property got
+    pub property_of_handle : Answers table p_in_cell (Gives (integer 7)) (integer 9) →
+        EndsScript table (usual host) false (value p_of_handle ∷ []) 0 (one_cell table host (Some (integer 1)) [])
+        (Ok (integer 7)) 4 (one_cell table host (Some (integer 9)) []) (p_in_cell ∷ [])
 
   pub record Parts : Type 0 where
     -- a character of a text is read and put back, where it is one
