@@ -2,11 +2,12 @@
 use Rattle.std.specs.Prelude.{ℕ, Bool, true, false, List, [], ◌∷◌, ◌++◌, Option, Some, None, codes}
 use Rattle.rhai_tree.specs.declared.expr.Expr.TheVariants as expr
 use Rattle.rhai_values.specs.declared.base.value.Union.TheVariants as kind
-use Rattle.rhai_machine.specs.Types.{Dynamic, Expr, out-Expr, OpAssignment, ScopeEntry, Token}
+use Rattle.rhai_machine.specs.Types.{Dynamic, Expr, out-Expr, ScopeEntry, Token}
 use Rattle.rhai_state.specs.Native.{Request}
 use Rattle.rhai_machine.specs.machine.Machine.{Config}
 use Rattle.rhai_machine.specs.language.State.{Local}
-use Rattle.rhai_machine.specs.language.Frames.{NewValue, Chain, Control, Frame, Core, core, ChainArguments, Walk, ChainEnd, AssignedChain, StatementValue}
+use Rattle.rhai_machine.specs.language.Frames.{NewValue, Chain, Control, Frame, Core, core, ChainArguments, Walk, ChainEnd, AssignedChain}
+use Rattle.rhai_machine.specs.language.Frames.{StatementValue}
 use Rattle.rhai_machine.specs.language.Frames.{RestOfList, Top, chain_on}
 use Rattle.rhai_machine.specs.samples.Trees.{column, var}
 use Rattle.rhai_machine.specs.samples.Runs.{Table, nothing_but, entry}

@@ -11,11 +11,13 @@ use Rattle.rhai_machine.specs.machine.Machine.{Config}
 use Rattle.rhai_paths.specs.Paths.{ToPlace}
 use Rattle.rhai_places.specs.declared.spot.Spot.TheVariants as spot
 use Rattle.rhai_machine.specs.samples.Handles.{handle, one_cell}
-use Rattle.rhai_machine.specs.language.Frames.{Control, NewValue, Frame, Core, core, StepDown, Argument, Back, CallArgument, ChainArguments, ToChain, Measured, Eval, Walk, ChainEnd, RootValue, chain_on}
+use Rattle.rhai_machine.specs.language.Frames.{Control, NewValue, Frame, Core, core, StepDown, Argument, Back, CallArgument}
+use Rattle.rhai_machine.specs.language.Frames.{ChainArguments, ToChain, Measured, Eval, Walk, ChainEnd, RootValue, chain_on}
 use Rattle.rhai_machine.specs.samples.Trees.{column, int, var}
 use Rattle.rhai_machine.specs.samples.Runs.{Table, entry, integer, nothing_but, unit}
 use Rattle.rhai_machine.specs.samples.Data.{text, word}
-use Rattle.rhai_machine.specs.samples.Items.{Items, Entries, SharedItems, item_by, item_in_handle, item_of_item, own_item, by_own_item, safe_item, entry_named, inner_entry, safe_entry, safe_inner, three, nested}
+use Rattle.rhai_machine.specs.samples.Items.{Items, Entries, SharedItems, item_by, item_in_handle, item_of_item, own_item, by_own_item}
+use Rattle.rhai_machine.specs.samples.Items.{safe_item, entry_named, inner_entry, safe_entry, safe_inner, three, nested}
 use Rattle.rhai_machine.specs.samples.Items.{fixed_array, fixed_map, k_map, index, array, first_of_handle}
 use Rattle.rhai_machine.proofs.SampleRuns.{by_steps, stretch}
 use Rattle.rhai_machine.proofs.ChainRuns.{chained, asks, reads, sets, walks_in, standing_at, on_its_way, new_at, below, assigned, focused}
@@ -63,9 +65,10 @@ module _ {S H : Type 0} (table : Table S H) (host : H → List ℕ) where
         None (integer 0 ∷ []))) 5) (simp chained) (stretch _ _ 2 _ (own_chain (Back (integer 1)) 6) (simp chained)
         (stretch _ _ 4 _ (reads table (codes "a") (array (integer 1 ∷ integer 7 ∷ [])) by_own_item (integer 1 ∷ []) 7) (simp chained)
         (by_steps _ _ 12 (simp chained) refl))));
-    stops = stretch _ _ 9 _ (reads table (codes "a") unit safe_item (integer 0 ∷ []) 3) (simp chained) (by_steps _ _ 12 (simp chained) refl);
+    stops = stretch _ _ 9 _ (reads table (codes "a") unit safe_item (integer 0 ∷ []) 3) (simp chained)
+        (by_steps _ _ 12 (simp chained) refl);
     last = stretch _ _ 9 _ (reads table (codes "a") three (item_by (expr.IntegerConstant (negsuc 0) (column 3)))
-         (plain (kind.Int (negsuc 0)) ∷ []) 3) (simp chained)
+        (plain (kind.Int (negsuc 0)) ∷ []) 3) (simp chained)
         (by_steps _ _ 12 (simp chained) refl);
     outside = stretch _ _ 9 _ (reads table (codes "a") three (item_by (int 3 3)) (integer 3 ∷ []) 3) (simp chained)
         (by_steps _ _ 12 (simp chained) refl);
@@ -102,9 +105,10 @@ module _ {S H : Type 0} (table : Table S H) (host : H → List ℕ) where
     read = stretch _ _ 9 _ (reads table (codes "m") (k_map (integer 1)) (entry_named (codes "k")) [] 3) (simp chained)
         (by_steps _ _ 12 (simp chained) refl);
     by_text = stretch _ _ 9 _ (reads table (codes "m") (k_map (integer 1)) (index 2 (var 1 (codes "m")) (text 3 (codes "k")))
-         (word (codes "k") ∷ []) 3) (simp chained)
+        (word (codes "k") ∷ []) 3) (simp chained)
         (by_steps _ _ 12 (simp chained) refl);
-    inner = stretch _ _ 11 _ (reads table (codes "m") (k_map (plain (kind.Map (codes "j" ∷ [], integer 2 ∷ [])))) inner_entry [] 5) (simp chained)
+    inner = stretch _ _ 11 _ (reads table (codes "m") (k_map (plain (kind.Map (codes "j" ∷ [], integer 2 ∷ [])))) inner_entry [] 5)
+        (simp chained)
         (by_steps _ _ 15 (simp chained) refl);
     missing = stretch _ _ 9 _ (reads table (codes "m") (k_map (integer 1)) (entry_named (codes "j")) [] 3) (simp chained)
         (by_steps _ _ 12 (simp chained) refl);
@@ -138,7 +142,8 @@ module _ {S H : Type 0} (table : Table S H) (host : H → List ℕ) where
 
   -- `a[0][1] = 5` has its first index, and is at its first link, where the item is the handle
   abbrev item_asks : Option (Dynamic H) → Config S H (Core H)
-  item_asks cell = standing_at table (core (ChainArguments (chain_on (var 1 (codes "a")) (out-Expr item_of_item) (new_at 9 None (integer 5)))
+  item_asks cell = standing_at table (core (ChainArguments (chain_on (var 1 (codes "a")) (out-Expr item_of_item)
+      (new_at 9 None (integer 5)))
       (out-Expr (index 5 (int 3 0) (int 6 1))) (integer 0 ∷ [])) assigned
       (one_cell table host cell (entry (codes "a") (array (handle ∷ [])) ∷ []))) 4
 
@@ -149,17 +154,21 @@ module _ {S H : Type 0} (table : Table S H) (host : H → List ℕ) where
   -- the item is the focus
   abbrev inner_walks : Config S H (Core H)
   inner_walks = standing_at table (core (Walk (on_its_way true (var 1 (codes "a")) (index 5 (int 3 0) (int 6 1))
-      (new_at 9 None (integer 5)) (integer 1 ∷ []))) (StepDown (array (handle ∷ [])) (ToPlace (spot.Item 0)) ∷ ChainEnd (Some 1) None ∷ assigned)
+      (new_at 9 None (integer 5)) (integer 1 ∷ []))) (StepDown (array (handle ∷ [])) (ToPlace (spot.Item 0)) ∷ ChainEnd (Some 1) None ∷
+      assigned)
       (record (one_cell table host (Some (array (integer 1 ∷ integer 2 ∷ []))) (entry (codes "a") (array (handle ∷ [])) ∷ []))
       { focus = Some handle })) 8
 
   pub shared_items : SharedItems table host
   shared_items = record {
-    item_read = stretch _ _ 9 _ (a_walks (Some (integer 5)) (array (integer 1 ∷ handle ∷ [])) (item_by (int 3 1)) None (integer 1 ∷ []) (below 2))
+    item_read = stretch _ _ 9 _ (a_walks (Some (integer 5)) (array (integer 1 ∷ handle ∷ [])) (item_by (int 3 1)) None (integer 1 ∷ [])
+        (below 2))
         (simp chained) (by_steps _ _ 15 (simp chained) refl);
-    item_set = stretch _ _ 10 _ (a_walks (Some (integer 4)) (array (handle ∷ [])) (item_by (int 3 0)) (new_at 6 None (integer 5)) (integer 0 ∷ []) assigned)
+    item_set = stretch _ _ 10 _ (a_walks (Some (integer 4)) (array (handle ∷ [])) (item_by (int 3 0)) (new_at 6 None (integer 5))
+        (integer 0 ∷ []) assigned)
         (simp chained) (by_steps _ _ 15 (simp chained) refl);
-    item_raised = stretch _ _ 10 _ (a_walks (Some (integer 4)) (array (handle ∷ [])) (item_by (int 3 0)) (new_at 6 (Some Plus) (integer 1)) (integer 0 ∷ []) assigned)
+    item_raised = stretch _ _ 10 _ (a_walks (Some (integer 4)) (array (handle ∷ [])) (item_by (int 3 0))
+        (new_at 6 (Some Plus) (integer 1)) (integer 0 ∷ []) assigned)
         (simp chained) (by_steps _ _ 15 (simp chained) refl);
     root_read = stretch _ _ 9 _ (h_walks (array (integer 5 ∷ [])) None (below 2)) (simp chained)
         (by_steps _ _ 15 (simp chained) refl);

@@ -6,13 +6,15 @@ use Rattle.rhai_state.specs.declared.error.EvalAltResult.TheVariants.{ErrorDotEx
 use Rattle.rhai_state.specs.Native.{Request}
 use Rattle.rhai_machine.specs.Types.{Dynamic}
 use Rattle.rhai_machine.specs.machine.Machine.{Config}
-use Rattle.rhai_machine.specs.language.Frames.{Core, core, ChainEnd, Frame, Control, MemberAccess, Property, Item, GetterTried, SetterTried, MemberGot, MemberSet}
+use Rattle.rhai_machine.specs.language.Frames.{Core, core, ChainEnd, Frame, Control, MemberAccess, Property, Item, GetterTried}
+use Rattle.rhai_machine.specs.language.Frames.{SetterTried, MemberGot, MemberSet}
 use Rattle.rhai_machine.specs.language.Frames.{Temporary, Walk, Back, Changed, Fail}
 use Rattle.rhai_machine.specs.samples.Trees.{column, int, var}
 use Rattle.rhai_machine.specs.samples.Runs.{Table, entry, integer, fixed, truth, unit}
 use Rattle.rhai_machine.specs.samples.Data.{text, word}
 use Rattle.rhai_machine.specs.samples.Items.{array, dot, item_by, k_map, property}
-use Rattle.rhai_machine.specs.samples.Members.{Members, SetBack, Guards, Indexers, p_of_x, q_of_p, item_of_x, q_of_item, get_p, set_p, set_q}
+use Rattle.rhai_machine.specs.samples.Members.{Members, SetBack, Guards, Indexers, p_of_x, q_of_p, item_of_x, q_of_item, get_p, set_p}
+use Rattle.rhai_machine.specs.samples.Members.{set_q}
 use Rattle.rhai_machine.specs.samples.Members.{get_first, of_missing, set_k, set_q_of}
 use Rattle.rhai_machine.proofs.SampleRuns.{by_steps, stretch}
 use Rattle.rhai_machine.proofs.ChainRuns.{chained, asks, reads, sets, new_at, below, assigned, on_x, on_its_way, standing_at, focused}
@@ -65,13 +67,16 @@ module _ {S H : Type 0} (table : Table S H) (host : H → List ℕ) where
         (by_steps _ _ 20 (simp (replies, chained)) refl));
     set = λ impure sets_it. stretch _ _ 10 _ (sets table (codes "x") (integer 1) p_of_x (new_at 5 None (integer 5)) [] 3) (simp chained)
         (by_steps _ _ 20 (simp (impure, sets_it, chained)) refl);
-    set_by_indexer = λ impure indexer sets_it indexes. stretch _ _ 10 _ (sets table (codes "x") (integer 1) p_of_x (new_at 5 None (integer 5)) [] 3) (simp chained)
+    set_by_indexer = λ impure indexer sets_it indexes. stretch _ _ 10 _
+        (sets table (codes "x") (integer 1) p_of_x (new_at 5 None (integer 5)) [] 3) (simp chained)
         (stretch _ _ 4 _ (setter_done p_missing) (simp (impure, sets_it, chained))
         (by_steps _ _ 20 (simp (indexer, indexes, chained)) refl));
-    set_nowhere = λ impure indexer replies. stretch _ _ 10 _ (sets table (codes "x") (integer 1) p_of_x (new_at 5 None (integer 5)) [] 3) (simp chained)
+    set_nowhere = λ impure indexer replies. stretch _ _ 10 _ (sets table (codes "x") (integer 1) p_of_x (new_at 5 None (integer 5)) [] 3)
+        (simp chained)
         (stretch _ _ 4 _ (setter_done p_missing) (simp (impure, replies, chained))
         (by_steps _ _ 20 (simp (indexer, replies, chained)) refl));
-    raised = λ impure gets sets_it. stretch _ _ 10 _ (sets table (codes "x") (integer 1) p_of_x (new_at 5 (Some Plus) (integer 2)) [] 3) (simp chained)
+    raised = λ impure gets sets_it. stretch _ _ 10 _ (sets table (codes "x") (integer 1) p_of_x (new_at 5 (Some Plus) (integer 2)) [] 3)
+        (simp chained)
         (stretch _ _ 4 _ (getter_done (Back (integer 7)) (MemberGot p_access (var 1 (codes "x"))
         (record { op = record { op = Some Plus; position = column 5 }; value = integer 2 }) ∷ []) assigned) (simp (gets, chained))
         (by_steps _ _ 20 (simp (impure, sets_it, chained)) refl));
@@ -83,22 +88,27 @@ module _ {S H : Type 0} (table : Table S H) (host : H → List ℕ) where
 
   pub set_back : SetBack table host
   set_back = record {
-    back = λ gets q_impure sets_q p_impure sets_p. stretch _ _ 12 _ (sets table (codes "x") (integer 1) q_of_p (new_at 7 None (integer 5)) [] 5) (simp chained)
+    back = λ gets q_impure sets_q p_impure sets_p. stretch _ _ 12 _
+        (sets table (codes "x") (integer 1) q_of_p (new_at 7 None (integer 5)) [] 5) (simp chained)
         (stretch _ _ 6 _ (q_walks (integer 7)) (simp (gets, chained))
         (stretch _ _ 4 _ (q_done (Changed unit)) (simp (q_impure, sets_q, chained))
         (by_steps _ _ 20 (simp (p_impure, sets_p, chained)) refl)));
-    unmarked = λ gets q_pure sets_q. stretch _ _ 12 _ (sets table (codes "x") (integer 1) q_of_p (new_at 7 None (integer 5)) [] 5) (simp chained)
+    unmarked = λ gets q_pure sets_q. stretch _ _ 12 _ (sets table (codes "x") (integer 1) q_of_p (new_at 7 None (integer 5)) [] 5)
+        (simp chained)
         (stretch _ _ 6 _ (q_walks (integer 7)) (simp (gets, chained))
         (by_steps _ _ 20 (simp (q_pure, sets_q, chained)) refl));
-    failed = λ gets q_impure sets_q. stretch _ _ 12 _ (sets table (codes "x") (integer 1) q_of_p (new_at 7 None (integer 5)) [] 5) (simp chained)
+    failed = λ gets q_impure sets_q. stretch _ _ 12 _ (sets table (codes "x") (integer 1) q_of_p (new_at 7 None (integer 5)) [] 5)
+        (simp chained)
         (stretch _ _ 6 _ (q_walks (integer 7)) (simp (gets, chained))
         (by_steps _ _ 20 (simp (q_impure, sets_q, chained)) refl));
-    ignored = λ gets q_impure sets_q p_impure indexer sets_p indexes. stretch _ _ 12 _ (sets table (codes "x") (integer 1) q_of_p (new_at 7 None (integer 5)) [] 5) (simp chained)
+    ignored = λ gets q_impure sets_q p_impure indexer sets_p indexes. stretch _ _ 12 _
+        (sets table (codes "x") (integer 1) q_of_p (new_at 7 None (integer 5)) [] 5) (simp chained)
         (stretch _ _ 6 _ (q_walks (integer 7)) (simp (gets, chained))
         (stretch _ _ 4 _ (q_done (Changed unit)) (simp (q_impure, sets_q, chained))
         (stretch _ _ 5 _ (back_done p_missing) (simp (p_impure, sets_p, chained))
         (by_steps _ _ 20 (simp (indexer, indexes, chained)) refl))));
-    cut = λ gets q_impure sets_q. stretch _ _ 12 _ (sets table (codes "x") (integer 1) q_of_p (new_at 7 None (integer 5)) [] 5) (simp chained)
+    cut = λ gets q_impure sets_q. stretch _ _ 12 _ (sets table (codes "x") (integer 1) q_of_p (new_at 7 None (integer 5)) [] 5)
+        (simp chained)
         (stretch _ _ 6 _ (q_walks (integer 7)) (simp (gets, chained))
         (by_steps _ _ 20 (simp (q_impure, sets_q, chained)) refl));
   }
@@ -106,7 +116,8 @@ module _ {S H : Type 0} (table : Table S H) (host : H → List ℕ) where
   -- no indexer gets the item that an operator works on
   abbrev item_missing : Config S H (Core H)
   item_missing = on_x table (truth true) (truth true) (Fail (ErrorIndexingType (codes "bool [i64]") (column 2))) (MemberGot item_access
-      (var 1 (codes "x")) (record { op = record { op = Some Plus; position = column 6 }; value = integer 5 }) ∷ []) assigned 5 (get_first ∷ [])
+      (var 1 (codes "x")) (record { op = record { op = Some Plus; position = column 6 }; value = integer 5 }) ∷ []) assigned 5
+      (get_first ∷ [])
 
   -- a property of an item is set in it
   abbrev q_of_item_asks : Config S H (Core H)
@@ -128,7 +139,8 @@ module _ {S H : Type 0} (table : Table S H) (host : H → List ℕ) where
         (by_steps _ _ 20 (simp (gets, chained)) refl);
     nowhere = λ replies. stretch _ _ 9 _ (reads table (codes "x") (truth true) item_of_x (integer 1 ∷ []) 3) (simp chained)
         (by_steps _ _ 20 (simp (replies, chained)) refl);
-    set = λ impure sets_it. stretch _ _ 10 _ (sets table (codes "x") (truth true) item_of_x (new_at 6 None (integer 5)) (integer 1 ∷ []) 3) (simp chained)
+    set = λ impure sets_it. stretch _ _ 10 _ (sets table (codes "x") (truth true) item_of_x (new_at 6 None (integer 5)) (integer 1 ∷ [])
+        3) (simp chained)
         (by_steps _ _ 20 (simp (impure, sets_it, chained)) refl);
     raised = λ impure gets sets_it. stretch _ _ 10 _ (sets table (codes "x") (truth true) item_of_x
         (new_at 6 (Some Plus) (integer 5)) (integer 1 ∷ []) 3) (simp chained) (stretch _ _ 5 _ item_missing (simp (gets, chained))
@@ -161,7 +173,8 @@ module _ {S H : Type 0} (table : Table S H) (host : H → List ℕ) where
       (new_at 10 None (integer 5)) [])) (Temporary (Some (k_map (integer 1))) (Some j_access) ∷ []) 7 []
 
   abbrev k_set : Config S H (Core H)
-  k_set = over_m (integer 3) (Changed unit) (SetterTried (record { member = Property (codes "k") (column 8); at = column 7; guarded = false })
+  k_set = over_m (integer 3) (Changed unit) (SetterTried (record
+      { member = Property (codes "k") (column 8); at = column 7; guarded = false })
       (codes "k") (integer 5) false ∷ Temporary (Some (k_map (integer 1))) (Some j_access) ∷ []) 8 (set_k ∷ [])
 
   pub guards : Guards table host
@@ -173,7 +186,8 @@ module _ {S H : Type 0} (table : Table S H) (host : H → List ℕ) where
         (stretch _ _ 6 _ (q_of_item_walks (fixed 7)) (simp (gets, chained))
         (stretch _ _ 4 _ (q_of_item_done (fixed 7)) (simp (q_impure, sets_q, chained))
         (by_steps _ _ 20 (simp (impure, sets_it, chained)) refl))));
-    of_operator = λ gets. stretch _ _ 10 _ (sets table (codes "x") (integer 1) p_of_x (new_at 5 (Some Plus) (integer 2)) [] 3) (simp chained)
+    of_operator = λ gets. stretch _ _ 10 _ (sets table (codes "x") (integer 1) p_of_x (new_at 5 (Some Plus) (integer 2)) [] 3)
+        (simp chained)
         (stretch _ _ 4 _ (getter_done (Back (fixed 7)) (MemberGot p_access (var 1 (codes "x"))
         (record { op = record { op = Some Plus; position = column 5 }; value = integer 2 }) ∷ []) assigned) (simp (gets, chained))
         (by_steps _ _ 20 (simp chained) refl));

@@ -13,7 +13,8 @@ use Rattle.rhai_machine.specs.samples.Runs.{Table, integer, truth}
 use Rattle.rhai_machine.specs.samples.Data.{word}
 use Rattle.rhai_machine.specs.samples.Handles.{handle}
 use Rattle.rhai_machine.specs.samples.Items.{array, dot}
-use Rattle.rhai_machine.specs.samples.Parts.{MethodChains, Parts, asked, char, fixed_text, m_of, m_of_first, method_call, n_of_m, p_of_handle, part_by}
+use Rattle.rhai_machine.specs.samples.Parts.{MethodChains, Parts, asked, char, fixed_text, m_of, m_of_first, method_call, n_of_m}
+use Rattle.rhai_machine.specs.samples.Parts.{p_of_handle, part_by}
 use Rattle.rhai_machine.proofs.SampleRuns.{by_steps, stretch}
 use Rattle.rhai_machine.proofs.ChainRuns.{chained, asks, reads, sets, walks_in, new_at, below, on_x, on_its_way}
 
@@ -54,7 +55,8 @@ module _ {S H : Type 0} (table : Table S H) (host : H → List ℕ) where
   method_chains = record {
     called = λ impure replies. stretch _ _ 9 _ (reads table (codes "x") (integer 1) (m_of (codes "x") []) [] 3) (simp chained)
         (by_steps _ _ 20 (simp (impure, replies, chained)) refl);
-    with_argument = λ impure replies. stretch _ _ 12 _ (reads table (codes "x") (integer 1) (m_of (codes "x") (int 5 4 ∷ [])) (integer 4 ∷ []) 5) (simp chained)
+    with_argument = λ impure replies. stretch _ _ 12 _ (reads table (codes "x") (integer 1) (m_of (codes "x") (int 5 4 ∷ []))
+        (integer 4 ∷ []) 5) (simp chained)
         (by_steps _ _ 20 (simp (impure, replies, chained)) refl);
     goes_on = λ impure n_impure replies n_replies. stretch _ _ 11 _ (reads table (codes "x") (integer 1) n_of_m [] 5) (simp chained)
         (stretch _ _ 6 _ n_walks (simp (impure, replies, chained)) (by_steps _ _ 20 (simp (n_impure, n_replies, chained)) refl));
@@ -76,15 +78,19 @@ module _ {S H : Type 0} (table : Table S H) (host : H → List ℕ) where
   parts = record {
     char_read = stretch _ _ 9 _ (reads table (codes "s") (word (codes "ab")) (part_by (int 3 1)) (integer 1 ∷ []) 3) (simp chained)
         (by_steps _ _ 12 (simp parted) refl);
-    char_set = stretch _ _ 10 _ (sets table (codes "s") (word (codes "ab")) (part_by (int 3 0)) (new_at 6 None (char 120)) (integer 0 ∷ []) 3) (simp chained)
+    char_set = stretch _ _ 10 _ (sets table (codes "s") (word (codes "ab")) (part_by (int 3 0)) (new_at 6 None (char 120))
+        (integer 0 ∷ []) 3) (simp chained)
         (by_steps _ _ 15 (simp parted) refl);
-    no_char = stretch _ _ 10 _ (sets table (codes "s") (word (codes "ab")) (part_by (int 3 0)) (new_at 6 None (integer 5)) (integer 0 ∷ []) 3) (simp chained)
+    no_char = stretch _ _ 10 _ (sets table (codes "s") (word (codes "ab")) (part_by (int 3 0)) (new_at 6 None (integer 5))
+        (integer 0 ∷ []) 3) (simp chained)
         (by_steps _ _ 15 (simp parted) refl);
-    constant = stretch _ _ 10 _ (sets table (codes "s") fixed_text (part_by (int 3 0)) (new_at 6 None (char 120)) (integer 0 ∷ []) 3) (simp chained)
+    constant = stretch _ _ 10 _ (sets table (codes "s") fixed_text (part_by (int 3 0)) (new_at 6 None (char 120)) (integer 0 ∷ []) 3)
+        (simp chained)
         (by_steps _ _ 15 (simp parted) refl);
     bit_read = stretch _ _ 9 _ (reads table (codes "s") (integer 2) (part_by (int 3 1)) (integer 1 ∷ []) 3) (simp chained)
         (by_steps _ _ 12 (simp parted) refl);
-    bit_set = stretch _ _ 10 _ (sets table (codes "s") (integer 0) (part_by (int 3 1)) (new_at 6 None (truth true)) (integer 1 ∷ []) 3) (simp chained)
+    bit_set = stretch _ _ 10 _ (sets table (codes "s") (integer 0) (part_by (int 3 1)) (new_at 6 None (truth true)) (integer 1 ∷ []) 3)
+        (simp chained)
         (by_steps _ _ 15 (simp parted) refl);
     method = λ impure replies. stretch _ _ 10 _ (m_asks (codes "s") (word (codes "ab"))) (simp chained)
         (stretch _ _ 3 _ (m_walks (codes "s") (word (codes "ab"))) (simp chained)

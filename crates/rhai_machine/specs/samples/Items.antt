@@ -12,7 +12,8 @@ use Rattle.rhai_state.specs.declared.error.EvalAltResult.TheVariants.{ErrorDataT
 use Rattle.rhai_tree.specs.Position.{none}
 use Rattle.rhai_machine.specs.language.Setting.{Setting}
 use Rattle.rhai_machine.specs.samples.Trees.{column, int, var, value, assign}
-use Rattle.rhai_machine.specs.samples.Runs.{Table, Ends, Fails, Returns, usual, usual_limits, limited, nothing_but, entry, integer, fixed, unit}
+use Rattle.rhai_machine.specs.samples.Runs.{Table, Ends, Fails, Returns, usual, usual_limits, limited, nothing_but, entry, integer, fixed}
+use Rattle.rhai_machine.specs.samples.Runs.{unit}
 use Rattle.rhai_machine.specs.samples.Data.{text, word, short_texts}
 use Rattle.rhai_machine.specs.samples.Handles.{handle, one_cell, EndsOver}
 

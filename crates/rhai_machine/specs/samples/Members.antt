@@ -1,9 +1,9 @@
 -- Samples of chains: members that natives get and set.
 use Rattle.std.specs.Prelude.{◌≡◌, ℕ, true, false, List, [], ◌∷◌, Some, None, Result, Ok, Err, codes}
 use Rattle.rhai_machine.specs.Types.{Dynamic, EvalAltResult, Expr, Stmt}
-use Rattle.rhai_tree.specs.declared.expr.Expr.TheVariants as expr
 use Rattle.rhai_tree.specs.declared.token.Token.TheVariants.{Plus}
-use Rattle.rhai_state.specs.declared.error.EvalAltResult.TheVariants.{ErrorArithmetic, ErrorAssignmentToConstant, ErrorDotExpr, ErrorIndexingType}
+use Rattle.rhai_state.specs.declared.error.EvalAltResult.TheVariants.{ErrorArithmetic, ErrorAssignmentToConstant, ErrorDotExpr}
+use Rattle.rhai_state.specs.declared.error.EvalAltResult.TheVariants.{ErrorIndexingType}
 use Rattle.rhai_state.specs.declared.error.EvalAltResult.TheVariants.{ErrorNonPureMethodCallOnConstant}
 use Rattle.rhai_state.specs.declared.error.EvalAltResult.TheVariants.{ErrorTooManyOperations}
 use Rattle.rhai_state.specs.Native.{Request, Purity, Missing, Gives, Faults, Named, OfName, request}

@@ -9,7 +9,7 @@ use Rattle.rhai_state.specs.declared.error.EvalAltResult.TheVariants.{ErrorAssig
 use Rattle.rhai_state.specs.declared.error.EvalAltResult.TheVariants.{ErrorTooManyOperations}
 use Rattle.rhai_state.specs.Native.{Request, Purity, Gives, Named, OfName, request}
 use Rattle.rhai_machine.specs.samples.Trees.{column, int, bool, var, value, assign}
-use Rattle.rhai_machine.specs.samples.Runs.{Table, Answers, IsImpure, EndsScript, usual, limited, integer, truth, unit}
+use Rattle.rhai_machine.specs.samples.Runs.{Table, Answers, IsImpure, EndsScript, usual, limited, integer, truth}
 use Rattle.rhai_machine.specs.samples.Data.{word}
 use Rattle.rhai_machine.specs.samples.Calls.{named}
 use Rattle.rhai_machine.specs.samples.Handles.{one_cell, EndsOver}
@@ -111,7 +111,6 @@ module _ {S H : Type 0} (table : Table S H) (host : H → List ℕ) where
     pub of_handle : IsImpure table (m_on (codes "i64") 1) → Answers table m_in_cell (Gives (integer 7)) (integer 2) →
         EndsScript table (usual host) false (value (m_of (codes "h") []) ∷ []) 0 (one_cell table host (Some (integer 1)) [])
         (Ok (integer 7)) 4 (one_cell table host (Some (integer 2)) []) (m_in_cell ∷ [])
-
     -- so is its property got
     pub property_of_handle : Answers table p_in_cell (Gives (integer 7)) (integer 9) →
         EndsScript table (usual host) false (value p_of_handle ∷ []) 0 (one_cell table host (Some (integer 1)) [])
