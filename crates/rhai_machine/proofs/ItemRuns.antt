@@ -3,7 +3,6 @@ use Rattle.std.proofs.Common.{refl}
 use Rattle.std.specs.Prelude.{ℕ, true, false, List, [], ◌∷◌, Option, Some, None, codes, negsuc}
 use Rattle.rhai_tree.specs.declared.expr.Expr.TheVariants as expr
 use Rattle.rhai_tree.specs.declared.token.Token.TheVariants.{Plus}
-use Rattle.rhai_values.specs.declared.base.value.AccessMode.TheVariants.{ReadWrite}
 use Rattle.rhai_values.specs.declared.base.value.Union.TheVariants as kind
 use Rattle.rhai_values.specs.Copy.{plain}
 use Rattle.rhai_machine.specs.Types.{Dynamic, Expr, out-Expr}
@@ -16,9 +15,12 @@ use Rattle.rhai_machine.specs.language.Frames.{ChainArguments, ToChain, Measured
 use Rattle.rhai_machine.specs.samples.Trees.{column, int, var}
 use Rattle.rhai_machine.specs.samples.Runs.{Table, entry, integer, nothing_but, unit}
 use Rattle.rhai_machine.specs.samples.Data.{text, word}
-use Rattle.rhai_machine.specs.samples.Items.{Items, Entries, SharedItems, item_by, item_in_handle, item_of_item, own_item, by_own_item}
-use Rattle.rhai_machine.specs.samples.Items.{safe_item, entry_named, inner_entry, safe_entry, safe_inner, three, nested}
-use Rattle.rhai_machine.specs.samples.Items.{fixed_array, fixed_map, k_map, index, array, first_of_handle}
+use Rattle.rhai_machine.specs.samples.Items.{Items, SharedItems, item_by, item_in_handle, item_of_item, own_item, by_own_item}
+use Rattle.rhai_machine.specs.samples.Entries.{Entries}
+use Rattle.rhai_machine.specs.samples.Items.{safe_item, three, nested}
+use Rattle.rhai_machine.specs.samples.Entries.{entry_named, inner_entry, safe_entry, safe_inner}
+use Rattle.rhai_machine.specs.samples.Items.{fixed_array, index, array, first_of_handle}
+use Rattle.rhai_machine.specs.samples.Entries.{fixed_map, k_map}
 use Rattle.rhai_machine.proofs.SampleRuns.{by_steps, stretch}
 use Rattle.rhai_machine.proofs.ChainRuns.{chained, asks, reads, sets, walks_in, standing_at, on_its_way, new_at, below, assigned, focused}
 

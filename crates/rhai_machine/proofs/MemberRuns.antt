@@ -12,7 +12,8 @@ use Rattle.rhai_machine.specs.language.Frames.{Temporary, Walk, Back, Changed, F
 use Rattle.rhai_machine.specs.samples.Trees.{column, int, var}
 use Rattle.rhai_machine.specs.samples.Runs.{Table, entry, integer, fixed, truth, unit}
 use Rattle.rhai_machine.specs.samples.Data.{text, word}
-use Rattle.rhai_machine.specs.samples.Items.{array, dot, item_by, k_map, property}
+use Rattle.rhai_machine.specs.samples.Items.{array, dot, item_by, property}
+use Rattle.rhai_machine.specs.samples.Entries.{k_map}
 use Rattle.rhai_machine.specs.samples.Members.{Members, SetBack, Guards, Indexers, p_of_x, q_of_p, item_of_x, q_of_item, get_p, set_p}
 use Rattle.rhai_machine.specs.samples.Members.{set_q}
 use Rattle.rhai_machine.specs.samples.Members.{get_first, of_missing, set_k, set_q_of}

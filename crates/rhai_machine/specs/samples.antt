@@ -12,5 +12,6 @@ pub mod Data
 pub mod Calls
 pub mod Methods
 pub mod Items
+pub mod Entries
 pub mod Members
 pub mod Parts

@@ -19,7 +19,8 @@ ghost use Rattle.rhai_machine.specs.samples.Assignments.{Assignments, Updates};
 ghost use Rattle.rhai_machine.specs.samples.Data.{Arrays, Maps, Texts};
 ghost use Rattle.rhai_machine.specs.samples.Calls.{Calls, Keywords, Pointers};
 ghost use Rattle.rhai_machine.specs.samples.Methods.{Methods};
-ghost use Rattle.rhai_machine.specs.samples.Items.{Items, Entries, SharedItems};
+ghost use Rattle.rhai_machine.specs.samples.Items.{Items, SharedItems};
+ghost use Rattle.rhai_machine.specs.samples.Entries.{Entries};
 ghost use Rattle.rhai_machine.specs.samples.Members.{Members, SetBack, Guards, Indexers};
 ghost use Rattle.rhai_machine.specs.samples.Parts.{MethodChains, Parts};
 

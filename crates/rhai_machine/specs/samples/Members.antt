@@ -13,7 +13,8 @@ use Rattle.rhai_machine.specs.samples.Trees.{column, int, bool, var, value, assi
 use Rattle.rhai_machine.specs.samples.Runs.{Table, Answers, Replies, IsImpure, EndsScript, usual, limited, nothing_but, entry}
 use Rattle.rhai_machine.specs.samples.Runs.{integer, fixed, truth, unit}
 use Rattle.rhai_machine.specs.samples.Data.{text, word}
-use Rattle.rhai_machine.specs.samples.Items.{array, dot, index, item_by, k_map, property}
+use Rattle.rhai_machine.specs.samples.Items.{array, dot, index, item_by, property}
+use Rattle.rhai_machine.specs.samples.Entries.{k_map}
 
 -- `x.p`, `x.p.q`, `x[1]` and `x[1].q`
 abbrev pub p_of_x : Expr
