@@ -15,7 +15,8 @@ returns-clause-ends g c =
     let given = all_args (option_copied c.args.first_arg) c.args.args_expr.now in
     let starts = call_lent rules operation given c.args.capture_parent_scope _ _ c.take-run.result c.run_call-result.new.run
     c.args.global.now c.give_back.new.global c.args.scope.now c.give_back.new.scope c.run_call-result.result (was c.args._this)
-    c.take-run.ensures.run c.give_back.ensures.global c.give_back.ensures.scope (rw c.copied-token.ensures at c.run_call-result.ensures.runs) in
+    c.take-run.ensures.run c.give_back.ensures.global c.give_back.ensures.scope
+    (rw c.copied-token.ensures at c.run_call-result.ensures.runs) in
     ends_from rules operation given c.args.capture_parent_scope _ _ c.run_call-result.result starts
 
 pub returns-clause-kept : goal.returns-clause-kept
@@ -25,7 +26,8 @@ returns-clause-kept g c =
     let given = all_args (option_copied c.args.first_arg) c.args.args_expr.now in
     let starts = call_lent rules operation given c.args.capture_parent_scope _ _ c.take-run.result c.run_call-result.new.run
     c.args.global.now c.give_back.new.global c.args.scope.now c.give_back.new.scope c.run_call-result.result (was c.args._this)
-    c.take-run.ensures.run c.give_back.ensures.global c.give_back.ensures.scope (rw c.copied-token.ensures at c.run_call-result.ensures.runs) in
+    c.take-run.ensures.run c.give_back.ensures.global c.give_back.ensures.scope
+    (rw c.copied-token.ensures at c.run_call-result.ensures.runs) in
     call_kept rules operation given c.args.capture_parent_scope _ _ c.run_call-result.result starts
 
 pub returns-clause-names : goal.returns-clause-names
@@ -35,7 +37,8 @@ returns-clause-names g c =
     let given = all_args (option_copied c.args.first_arg) c.args.args_expr.now in
     let starts = call_lent rules operation given c.args.capture_parent_scope _ _ c.take-run.result c.run_call-result.new.run
     c.args.global.now c.give_back.new.global c.args.scope.now c.give_back.new.scope c.run_call-result.result (was c.args._this)
-    c.take-run.ensures.run c.give_back.ensures.global c.give_back.ensures.scope (rw c.copied-token.ensures at c.run_call-result.ensures.runs) in
+    c.take-run.ensures.run c.give_back.ensures.global c.give_back.ensures.scope
+    (rw c.copied-token.ensures at c.run_call-result.ensures.runs) in
     call_names rules operation given c.args.capture_parent_scope _ _ c.run_call-result.result starts
 
 pub returns-clause-search : goal.returns-clause-search
