@@ -40,7 +40,7 @@ pub struct Passing {
 }
 
 /// A result with its mark.
-pub(crate) fn marked<H>(
+pub fn marked<H>(
     answer: Result<Dynamic<H>, EvalAltResult<H>>,
     changed: bool,
 ) -> Result<(Dynamic<H>, bool), EvalAltResult<H>>
@@ -479,6 +479,50 @@ pub fn call_number<H: Host, T: NativeTable<H>>(
         passing,
         pos,
     ))
+}
+
+/// Calls the native of a number on a value that may be lent, and is guarded. Its answer says nothing of
+/// that value.
+///
+/// # Errors
+/// Those of `pass_native` but for the charge.
+pub fn call_number_on<H: Host, T: NativeTable<H>>(
+    limits: &Limits,
+    alloc: Global,
+    global: &mut GlobalRuntimeState<H>,
+    table: &mut T,
+    id: NativeId,
+    name: &str,
+    first: &mut Dynamic<H>,
+    rest: &[Dynamic<H>],
+    pos: Position,
+) -> Result<(Dynamic<H>, bool), EvalAltResult<H>>
+    ensures counts { global.old.num_operations ≤ global.new.num_operations }
+    ensures runs { (offer : _) (scope : _) (held : _) (lender : _) →
+        Stands lender first.old (local_of global.old scope held) →
+        MarkedRuns (rules_of limits.now H.name_of offer T.natives)
+        (Question (native_call (record { name = name.now; token = None; at = pos }) (Some id) lender
+        true false (first.old ∷ rest.now)))
+        (state_of (T.state table.old) global.old scope held)
+        result (back_in lender first.new (state_of (T.state table.new) global.new scope held)) }
+{
+    let passing = Passing {
+        guarded: true,
+        marks: false,
+    };
+    call_first(
+        limits,
+        alloc,
+        global,
+        table,
+        name,
+        Some(id),
+        None,
+        first,
+        rest,
+        passing,
+        pos,
+    )
 }
 
 /// Calls the native of a number without arguments, as `call_number` does.
