@@ -23,11 +23,11 @@ pub record IsLevel {H : Type 0} (k : List (Frame H)) (l : Local H) (c : Core H) 
 
 module _ {H : Type 0} (k : List (Frame H)) (l : Local H) where
   -- one of two
-  either : (b : Bool) (c d : Core H) → IsLevel k l c → IsLevel k l d → IsLevel k l (if b then c else d)
+  pub either : (b : Bool) (c d : Core H) → IsLevel k l c → IsLevel k l d → IsLevel k l (if b then c else d)
   either true c d one other = one
   either false c d one other = other
 
-  on_level : {A : Type 0} (r : Result A (EvalAltResult H)) (go : A → Core H) → ((x : A) → IsLevel k l (go x)) → IsLevel k l (on_value r go k l)
+  pub on_level : {A : Type 0} (r : Result A (EvalAltResult H)) (go : A → Core H) → ((x : A) → IsLevel k l (go x)) → IsLevel k l (on_value r go k l)
   on_level (Ok x) go h = h x
   on_level (Err e) go h = record { stack = refl; local = refl }
 
@@ -47,7 +47,7 @@ module _ {H : Type 0} (k : List (Frame H)) (l : Local H) where
     pub dispatch_level : (call : Call H) → IsLevel k l (dispatch_core s call k l)
     dispatch_level call = either (races l.around.cells call.args) _ _ (record { stack = refl; local = refl }) (named_level call.args call)
 
-    number_level : (call : Call H) → IsLevel k l (numbered_core call k l)
+    pub number_level : (call : Call H) → IsLevel k l (numbered_core call k l)
     number_level call = either (races l.around.cells call.args)
         (core (Fail (error.ErrorDataRace call.operation.name call.operation.at)) k l) (core (Question call) k l)
         (record { stack = refl; local = refl }) (record { stack = refl; local = refl })

@@ -36,7 +36,10 @@ pub fn take_argument<H: Host>(
 
 /// The values that a pointer has already, with the arguments behind them. Where there is no memory both
 /// are let go of.
-pub(crate) fn joined<H: Host>(
+///
+/// # Errors
+/// `ErrorOutOfMemory` at the position alone.
+pub fn joined<H: Host>(
     curried: Items<Dynamic<H>>,
     args: Items<Dynamic<H>>,
     pos: Position,

@@ -140,7 +140,7 @@ pub fn call_on<H: Host, T: NativeTable<H>>(
             limits, alloc, global, table, number, called, name, target, args, pos,
         );
     }
-    let all = taken_behind(curried, args, pos)?;
+    let all = taken_behind(alloc, curried, args, pos)?;
     let result = call_by_on(
         limits,
         alloc,
@@ -279,7 +279,7 @@ pub fn call_alone<H: Host, T: NativeTable<H>>(
         drop(curried);
         return call_by_itself(limits, alloc, global, table, number, name, args, pos);
     }
-    let mut all = taken_behind(curried, args, pos)?;
+    let mut all = taken_behind(alloc, curried, args, pos)?;
     let result = call_by_itself(
         limits,
         alloc,

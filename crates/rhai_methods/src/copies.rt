@@ -11,15 +11,17 @@ ghost use Rattle.rhai_state.specs.Errors.{is_out_of_memory};
 ghost use Rattle.rhai_machine.specs.language.Arguments.{with_curried as curried_with};
 ghost use Rattle.rhai_machine.specs.language.Methods.{entry_in, entry_seen, pointer_there};
 ghost use Rattle.rhai_machine.specs.language.State.{Answers};
+ghost use Rattle.rhai_machine.specs.language.Values.{bool_value as truth_of, is_handle};
 ghost use Rattle.rhai_machine.specs.language.Values.{mismatch as mismatched, through, used};
 ghost use Rattle.rhai_methods.specs.Copies.{copy_seen, curried_seen, own_copy};
 
+use rhai_dispatch::arguments::joined;
 use rhai_items::Items;
 use rhai_pointers::arguments::keep_argument;
 use rhai_pointers::pointers::with_curried;
 use rhai_state::error::EvalAltResult;
 use rhai_steps::errors::{data_race, mismatch};
-use rhai_steps::values::{copy, unit_value};
+use rhai_steps::values::{bool_value, copy, is_bare_handle, unit_value};
 use rhai_tree::position::Position;
 use rhai_values::base::value::{Dynamic, FnPtr, Host, Union};
 use rhai_values::cells::CellStore;
@@ -27,13 +29,20 @@ use std::alloc::Global;
 use std::mem::replace;
 
 /// A value, seen through a handle. None where the handle's cell is held.
-fn seen<'a, H: Host>(cells: &'a CellStore<H>, value: &'a Dynamic<H>) -> Option<&'a Dynamic<H>>
+pub(crate) fn seen<'a, H: Host>(cells: &'a CellStore<H>, value: &'a Dynamic<H>) -> Option<&'a Dynamic<H>>
     ensures { (pos : _) → used [] pos (option_copied result) ≡ through (cells_of cells.now) value.now pos }
 {
     match &value.value {
         Union::Cell(id) => cells.get(*id),
         _ => Some(value),
     }
+}
+
+/// Whether a value is the handle of a cell.
+pub fn is_shared<H: Host>(value: &Dynamic<H>) -> Dynamic<H>
+    ensures { result ≡ truth_of (is_handle value.now.value) }
+{
+    bool_value(is_bare_handle(value))
 }
 
 /// The value that a map has under a name, None where there is no map.
@@ -145,9 +154,31 @@ pub fn no_pointer<H: Host>(
     }
 }
 
+/// All arguments, which are taken out of their places. Where there is no memory those that were taken are
+/// let go of.
+fn taken_out<H: Host>(
+    alloc: Global,
+    args: &mut [Dynamic<H>],
+    pos: Position,
+) -> Result<Items<Dynamic<H>>, EvalAltResult<H>>
+    ensures taken { IfOk result (λ all. all ≡ args.old) }
+    ensures refused { IfErr result (λ e. is_out_of_memory e ≡ true) }
+{
+    let mut all = Items::new(alloc);
+    for i in 0..args.len() {
+        let value = replace(&mut args[i], unit_value());
+        keep_argument(&mut all, value, pos)?;
+    }
+    Ok(all)
+}
+
 /// The values that a pointer has already, with the arguments behind them, which are taken out of their
-/// places. Where there is no memory those that were taken are let go of.
-pub(crate) fn taken_behind<H: Host>(
+/// places.
+///
+/// # Errors
+/// `ErrorOutOfMemory` at the position alone.
+pub fn taken_behind<H: Host>(
+    alloc: Global,
     curried: Items<Dynamic<H>>,
     args: &mut [Dynamic<H>],
     pos: Position,
@@ -155,12 +186,8 @@ pub(crate) fn taken_behind<H: Host>(
     ensures joined { IfOk result (λ all. all ≡ curried ++ args.old) }
     ensures refused { IfErr result (λ e. is_out_of_memory e ≡ true) }
 {
-    let mut all = curried;
-    for i in 0..args.len() {
-        let value = replace(&mut args[i], unit_value());
-        keep_argument(&mut all, value, pos)?;
-    }
-    Ok(all)
+    let taken = taken_out(alloc, args, pos)?;
+    joined(curried, taken, pos)
 }
 
 /// A copy of a pointer with more arguments, which are taken out of their places.
@@ -172,7 +199,7 @@ fn with_more<H: Host>(
 ) -> Result<Dynamic<H>, EvalAltResult<H>>
     ensures { Answers result (Ok (curried_with pointer args.old)) }
 {
-    let more = taken_behind(Items::new(alloc), args, pos)?;
+    let more = taken_out(alloc, args, pos)?;
     with_curried(alloc, pointer, more, pos)
 }
 

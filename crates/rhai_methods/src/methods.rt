@@ -10,7 +10,7 @@ ghost use Rattle.rhai_methods.specs.Methods.{lending, MethodRuns, RunsFrom};
 ghost use Rattle.rhai_methods.specs.Parts.{alone_with, given_on, own_on};
 
 use crate::calls::{call_alone, call_named_on, call_on};
-use crate::copies::{curried, no_pointer, own_pointer, pointer_copy};
+use crate::copies::{curried, is_shared, no_pointer, own_pointer, pointer_copy};
 use crate::words::{MethodWord, word_of};
 use rhai_calls::native::marked;
 use rhai_dispatch::pointer::parts_of;
@@ -19,7 +19,7 @@ use rhai_state::error::EvalAltResult;
 use rhai_state::limits::Limits;
 use rhai_state::state::GlobalRuntimeState;
 use rhai_state::table::NativeTable;
-use rhai_steps::values::{bool_value, is_bare_handle, unit_value};
+use rhai_steps::values::unit_value;
 use rhai_tree::position::Position;
 use rhai_values::base::value::{Dynamic, FnPtr, Host};
 use std::alloc::Global;
@@ -226,7 +226,7 @@ pub fn call_method<H: Host, T: NativeTable<H>>(
             limits, alloc, global, table, target, args, first_arg_pos, pos,
         ),
         MethodWord::Curry => marked(curried(alloc, &global.cells, target, args, pos), false),
-        MethodWord::Shared => Ok((bool_value(is_bare_handle(target)), false)),
+        MethodWord::Shared => Ok((is_shared(target), false)),
         MethodWord::Plain => call_plain(limits, alloc, global, table, name, target, args, pos),
     }
 }
