@@ -1,7 +1,7 @@
 //! The calls that a method makes: of a pointer by itself, and of a pointer on the value that the method
 //! works on.
 
-ghost use Rattle.std.specs.Prelude.{◌≤◌, ◌++◌, false};
+ghost use Rattle.std.specs.Prelude.{◌≡◌, ◌≤◌, ◌++◌, drop, false};
 ghost use Rattle.rhai_machine.specs.language.Arguments.{operation_named};
 ghost use Rattle.rhai_machine.specs.language.Methods.{numbered_on};
 ghost use Rattle.rhai_machine.specs.language.Setting.{rules_of};
@@ -157,6 +157,16 @@ pub fn call_on<H: Host, T: NativeTable<H>>(
     result
 }
 
+/// All arguments but the first.
+fn behind_first<H>(args: &[Dynamic<H>]) -> &[Dynamic<H>]
+    ensures { result.now ≡ drop 1 args.now }
+{
+    match args {
+        [] => args,
+        [_, rest @ ..] => rest,
+    }
+}
+
 /// A native by its number, with nothing lent. It charges nothing.
 ///
 /// # Errors
@@ -184,16 +194,9 @@ fn number_by_itself<H: Host, T: NativeTable<H>>(
         return call_number_alone(limits, alloc, global, table, id, "call", pos);
     }
     let mut first = replace(&mut args[0], unit_value());
+    let rest = behind_first(args);
     let result = call_number(
-        limits,
-        alloc,
-        global,
-        table,
-        id,
-        "call",
-        &mut first,
-        &args[1..],
-        pos,
+        limits, alloc, global, table, id, "call", &mut first, rest, pos,
     );
     let_go(first);
     result
@@ -223,7 +226,7 @@ fn named_by_itself<H: Host, T: NativeTable<H>>(
         marks: true,
     };
     let mut first = replace(&mut args[0], unit_value());
-    let rest = &args[1..];
+    let rest = behind_first(args);
     let result = pass_call(
         limits, alloc, global, table, name, None, &mut first, rest, passing, pos,
     );

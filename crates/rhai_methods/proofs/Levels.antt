@@ -1,0 +1,82 @@
+-- Where a method's call goes on, the stack and the state stay: so memory may as well run out there.
+use Rattle.std.proofs.Common.{List, [], ◌∷◌, ◌++◌, Option, Some, None, refl}
+use Rattle.std.specs.Prelude.{ℕ, codes, true}
+use Rattle.rhai_tree.specs.declared.literal.NativeId.{NativeId}
+use Rattle.rhai_tree.specs.declared.position.Position.{Position}
+use Rattle.rhai_values.specs.declared.base.value.Dynamic.{Dynamic}
+use Rattle.rhai_values.specs.declared.base.value.FnPtr.{FnPtr, out-FnPtr}
+use Rattle.rhai_values.specs.declared.base.value.FnPtrKind.{FnPtrKind}
+use Rattle.rhai_values.specs.declared.base.value.FnPtrKind.TheOpen as union
+use Rattle.rhai_values.specs.declared.base.value.FnPtrKind.TheVariants as kind
+use Rattle.rhai_values.specs.Layers.{UnionLayer, layer_of}
+use Rattle.rhai_machine.specs.language.Setting.{Setting}
+use Rattle.rhai_machine.specs.language.State.{Local}
+use Rattle.rhai_machine.specs.language.Values.{through}
+use Rattle.rhai_machine.specs.language.Frames.{Operation, Frame}
+use Rattle.rhai_machine.specs.language.Calls.{call_of, races}
+use Rattle.rhai_machine.specs.language.Arguments.{operation_named, pointer_wanted}
+use Rattle.rhai_machine.specs.language.Methods.{Method, CallWord, argument_at, call_argument, call_core, copied_before, entry_core, numbered_on}
+use Rattle.rhai_machine.specs.language.Methods.{on_focus, own_core, own_entry, pointer_alone, pointer_on, word_core}
+use Rattle.rhai_dispatch.proofs.Levels.{IsLevel, dispatch_level, either, number_level, on_level}
+use Rattle.rhai_methods.specs.Calls.{alone_by, on_by}
+
+module _ {H : Type 0} (k : List (Frame H)) (l : Local H) where
+  numbered_level : (number : ℕ) (operation : Operation) (args : List (Dynamic H)) (focus : Dynamic H) →
+      IsLevel k l (numbered_on number operation args focus k l)
+  numbered_level number operation args focus =
+      either k l (races l.around.cells args) _ _ (record { stack = refl; local = refl }) (record { stack = refl; local = refl })
+
+  module _ (s : Setting H) where
+    pub on_by_level : (number : Option NativeId) (called name : List ℕ) (at : Position) (args : List (Dynamic H)) (focus : Dynamic H) →
+        IsLevel k l (on_by s number called name at args focus k l)
+    on_by_level (Some id) called name at args focus = numbered_level id.number (operation_named called at) args focus
+    on_by_level None called name at args focus = dispatch_level k l s (on_focus (operation_named name at) args focus)
+
+    pub alone_by_level : (number : Option NativeId) (name : List ℕ) (at : Position) (args : List (Dynamic H)) →
+        IsLevel k l (alone_by s number name at args k l)
+    alone_by_level (Some id) name at args =
+        number_level k l s (record (call_of (operation_named (codes "call") at) args) { number = Some id.number })
+    alone_by_level None name at args = dispatch_level k l s (record (call_of (operation_named name at) args) { marks = true })
+
+    pointer_level : (of : FnPtrKind H) (pointer : FnPtr H) (method : Method) (called : List ℕ) (args : List (Dynamic H))
+        (focus : Dynamic H) → IsLevel k l (pointer_on s of pointer method called args focus k l)
+    pointer_level (kind.Native id) pointer method called args focus =
+        numbered_level id.number (operation_named called method.at) args focus
+    pointer_level _ pointer method called args focus =
+        dispatch_level k l s (on_focus (operation_named (out-FnPtr H pointer).name method.at) args focus)
+
+    alone_level : (of : FnPtrKind H) (pointer : FnPtr H) (at : Position) (args : List (Dynamic H)) →
+        IsLevel k l (pointer_alone s of pointer at args k l)
+    alone_level (kind.Native id) pointer at args =
+        number_level k l s (record (call_of (operation_named (codes "call") at) args) { number = Some id.number })
+    alone_level _ pointer at args =
+        dispatch_level k l s (record (call_of (operation_named (out-FnPtr H pointer).name at) args) { marks = true })
+
+    pub argument_level : (method : Method) (args : List (Dynamic H)) (seen focus : Dynamic H) →
+        IsLevel k l (call_argument s method args seen focus k l)
+    argument_level method [] seen focus = record { stack = refl; local = refl }
+    argument_level method (first ∷ rest) seen focus =
+        on_level k l (pointer_wanted s.host_type l.around.cells first (argument_at method)) _ (λ pointer. pointer_level
+        (out-FnPtr H pointer).kind pointer method (codes "call") ((out-FnPtr H pointer).curry ++ rest) focus)
+
+    call_level : (form : UnionLayer H) (method : Method) (args : List (Dynamic H)) (seen focus : Dynamic H) →
+        IsLevel k l (call_core s form method args seen focus k l)
+    call_level (union.FnPtr pointer) method args seen focus =
+        alone_level (out-FnPtr H pointer).kind pointer method.at (copied_before pointer args)
+    call_level _ method args seen focus = argument_level method args seen focus
+
+    pub call_word_level : (method : Method) (args : List (Dynamic H)) (focus : Dynamic H) →
+        IsLevel k l (word_core s CallWord method args focus k l)
+    call_word_level method args focus =
+        on_level k l (through l.around.cells focus method.at) _ (λ seen. call_level (layer_of seen) method args seen focus)
+
+    entry_level : (own : Option (FnPtr H)) (method : Method) (args : List (Dynamic H)) (focus : Dynamic H) →
+        IsLevel k l (entry_core s own method args focus k l)
+    entry_level (Some pointer) method args focus = pointer_level (out-FnPtr H pointer).kind pointer method (out-FnPtr H pointer).name
+        (copied_before pointer args) focus
+    entry_level None method args focus = dispatch_level k l s (on_focus (operation_named method.name method.at) args focus)
+
+    pub own_level : (method : Method) (args : List (Dynamic H)) (focus : Dynamic H) →
+        IsLevel k l (own_core s method args focus k l)
+    own_level method args focus =
+        on_level k l (own_entry l.around.cells method focus) _ (λ own. entry_level own method args focus)

@@ -1,0 +1,7 @@
+mod CopyLemmas
+mod Cores
+mod Going
+mod Levels
+mod Meanings
+mod Pointed
+mod Taking
