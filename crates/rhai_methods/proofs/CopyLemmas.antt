@@ -1,19 +1,17 @@
 -- Copies of pointers, and copies with more arguments.
-use Rattle.std.proofs.Common.{◌≡◌, false, List, ◌++◌, Option, Some, None, Result, Ok, Err, refl, sym, ap, ◌∙◌}
-use Rattle.std.specs.Prelude.{ℕ, IfOk, codes}
+use Rattle.std.proofs.Common.{◌≡◌, List, ◌++◌, Some, Result, Ok, Err, refl, sym, ap, ◌∙◌}
+use Rattle.std.specs.Prelude.{ℕ}
 use Rattle.std.specs.Option.{option_map}
 use Rattle.rhai_tree.specs.declared.position.Position.{Position}
 use Rattle.rhai_values.specs.declared.base.value.Dynamic.{Dynamic}
-use Rattle.rhai_values.specs.declared.base.value.FnPtr.{FnPtr, out-FnPtr, roll-FnPtr}
+use Rattle.rhai_values.specs.declared.base.value.FnPtr.{FnPtr, roll-FnPtr}
 use Rattle.rhai_values.specs.declared.base.value.FnPtrKind.TheOpen as union
 use Rattle.rhai_values.specs.declared.base.value.Union.TheVariants as value
 use Rattle.rhai_values.specs.Copy.{copy_of, copy_pointer, plain}
 use Rattle.rhai_values.specs.Layers.{UnionLayer, layer_of}
-use Rattle.rhai_values.specs.TypeNames.{type_name_of}
 use Rattle.rhai_values.proofs.CopyLemmas.{copy-FnPtr}
 use Rattle.rhai_state.specs.declared.error.EvalAltResult.{EvalAltResult}
-use Rattle.rhai_state.specs.Errors.{is_out_of_memory}
-use Rattle.rhai_machine.specs.language.Values.{Cells, mismatch}
+use Rattle.rhai_machine.specs.language.Values.{Cells}
 use Rattle.rhai_machine.specs.language.Arguments.{with_curried}
 use Rattle.rhai_machine.specs.language.Methods.{own_seen, pointer_there, pointer_with}
 use Rattle.rhai_methods.specs.Copies.{curried_in, curried_seen, found_copy}
@@ -21,9 +19,16 @@ use Rattle.rhai_methods.proofs.Cores.{copied_out}
 
 module _ {H : Type 0} where
   -- the pointer in a copy of a value
-  pub copied_there : (v : Dynamic H) (p : FnPtr H) → v.value ≡ value.FnPtr p →
+  copied_there : (v : Dynamic H) (p : FnPtr H) → v.value ≡ value.FnPtr p →
       pointer_there (layer_of (copy_of v)) ≡ option_map copy_pointer (pointer_there (layer_of v))
   copied_there v p is = rw (is, copy-FnPtr p, value.outs-FnPtr (copy_pointer p), value.outs-FnPtr p) refl
+
+  -- and so in what a copy gave
+  pub copied_found : (v copied : Dynamic H) (p : FnPtr H) →
+      ◌≡◌ {A = Result (Dynamic H) (EvalAltResult H)} (Ok copied) (Ok (copy_of v)) → v.value ≡ value.FnPtr p →
+      pointer_there (layer_of copied) ≡ option_map copy_pointer (pointer_there (layer_of v))
+  copied_found v copied p gave is =
+      let same : copied ≡ copy_of v = cc in ap (λ (x : Dynamic H). pointer_there (layer_of x)) same ∙ copied_there v p is
 
   with_copied : (q : FnPtr H) (args : List (Dynamic H)) → pointer_with q args ≡ with_curried (copy_pointer q) args
   with_copied q args =
@@ -42,23 +47,3 @@ module _ {H : Type 0} where
     curried_some (Ok v) p is =
         let some : Some p ≡ option_map copy_pointer (pointer_there (layer_of v)) = cc in curried_to (layer_of v) p v some
     curried_some (Err e) p is = cc
-
-    mismatched : (u : UnionLayer H) (seen : Dynamic H) → None ≡ option_map copy_pointer (pointer_there u) →
-        Err (mismatch (codes "Fn") (type_name_of host cells seen) at) ≡ curried_in host cells args at u seen
-    mismatched (union.FnPtr q) seen is = cc
-    mismatched _ seen is = refl
-
-    -- and what is no pointer is refused
-    pub curried_none : (r : Result (Dynamic H) (EvalAltResult H)) → Ok None ≡ found_copy (own_seen r) → (e : EvalAltResult H) →
-        IfOk r (λ v. is_out_of_memory e ≡ false → e ≡ mismatch (codes "Fn") (type_name_of host cells v) at) →
-        is_out_of_memory e ≡ false → Err e ≡ curried_seen host cells args at r
-    curried_none (Ok v) none e is memory =
-        let no : None ≡ option_map copy_pointer (pointer_there (layer_of v)) = cc in
-        ap Err (is memory) ∙ mismatched (layer_of v) v no
-    curried_none (Err x) none e is memory = cc
-
-    -- or was seen to be none for what it is
-    pub curried_fails : (r : Result (Dynamic H) (EvalAltResult H)) (e : EvalAltResult H) → Err e ≡ found_copy (own_seen r) →
-        Err e ≡ curried_seen host cells args at r
-    curried_fails (Ok v) e is = cc
-    curried_fails (Err x) e is = is

@@ -1,23 +1,22 @@
 -- What a pointer is called by, and what its copy is.
-use Rattle.std.proofs.Common.{◌≡◌, List, [], ◌∷◌, ◌++◌, map, Option, Some, None, Result, Ok, Err, refl, sym, ap, ◌∙◌}
+use Rattle.std.proofs.Common.{◌≡◌, List, ◌++◌, map, Option, Some, None, Result, Ok, Err, refl, sym, ap, ◌∙◌}
 use Rattle.std.specs.Prelude.{ℕ, codes}
 use Rattle.std.specs.Option.{option_map}
 use Rattle.rhai_tree.specs.declared.position.Position.{Position}
 use Rattle.rhai_values.specs.declared.base.value.Dynamic.{Dynamic}
-use Rattle.rhai_values.specs.declared.base.value.FnPtr.{FnPtr, out-FnPtr, out-roll-FnPtr, roll-FnPtr}
+use Rattle.rhai_values.specs.declared.base.value.FnPtr.{FnPtr, out-FnPtr, out-roll-FnPtr}
 use Rattle.rhai_values.specs.declared.base.value.FnPtrKind.{FnPtrKind}
 use Rattle.rhai_values.specs.declared.base.value.FnPtrKind.TheOpen as union
 use Rattle.rhai_values.specs.declared.base.value.FnPtrKind.TheVariants as kind
-use Rattle.rhai_values.specs.Copy.{copy_of, copy_pointer, plain}
+use Rattle.rhai_values.specs.Copy.{copy_of, copy_pointer}
 use Rattle.rhai_values.specs.Layers.{UnionLayer, layer_of}
 use Rattle.rhai_values.proofs.CopyLemmas.{copy-pointer}
 use Rattle.rhai_state.specs.declared.error.EvalAltResult.{EvalAltResult}
 use Rattle.rhai_machine.specs.language.Setting.{Setting}
 use Rattle.rhai_machine.specs.language.State.{Local}
 use Rattle.rhai_machine.specs.language.Frames.{Frame, Core, core, on_value, ended, Fail}
-use Rattle.rhai_machine.specs.language.Arguments.{with_curried}
 use Rattle.rhai_machine.specs.language.Methods.{Method, call_argument, call_core, copied_before, curry_core, entry_core, own_seen, pointer_alone}
-use Rattle.rhai_machine.specs.language.Methods.{pointer_on, pointer_there, pointer_with}
+use Rattle.rhai_machine.specs.language.Methods.{pointer_on, pointer_there}
 use Rattle.rhai_dispatch.specs.Pointers.{number_in}
 use Rattle.rhai_methods.specs.Calls.{alone_by, named_on, on_by}
 use Rattle.rhai_methods.specs.Copies.{curried_in, curried_seen, found_copy}

@@ -1,5 +1,5 @@
 -- The parts of a method's call: where they lead.
-use Rattle.std.proofs.Common.{◌≡◌, Bool, true, false, List, [], ◌∷◌, ◌++◌, Option, Some, None, Result, Ok, Err, refl, sym, ap, subst, ◌∙◌}
+use Rattle.std.proofs.Common.{◌≡◌, Bool, true, false, List, [], Some, Result, Ok, Err, refl, sym, ap, subst}
 use Rattle.std.specs.Prelude.{ℕ, codes, if◌then◌else◌}
 use Rattle.std.specs.Result.{IsErr, IsErrAnd}
 use Rattle.rhai_values.specs.declared.base.value.Dynamic.{Dynamic}
@@ -11,13 +11,13 @@ use Rattle.rhai_machine.specs.language.Setting.{Rules}
 use Rattle.rhai_machine.specs.language.State.{Answers, Local, State}
 use Rattle.rhai_machine.specs.language.Frames.{Operation, Call, Frame, Core, core, ended, marked, Ask, Question, Fail}
 use Rattle.rhai_machine.specs.language.Calls.{call_of, dispatch_core, races}
-use Rattle.rhai_machine.specs.language.Arguments.{numbered_core, operation_named}
+use Rattle.rhai_machine.specs.language.Arguments.{operation_named}
 use Rattle.rhai_machine.specs.language.Methods.{number_on_focus, numbered_on}
 use Rattle.rhai_machine.specs.language.Runs.{at, with_core, Goes, Runs, Steps}
 use Rattle.rhai_steps.proofs.Pieces.{faulted, passed, told}
 use Rattle.rhai_calls.specs.Marks.{with_mark, MarkedDispatches, MarkedRuns}
 use Rattle.rhai_dispatch.proofs.Levels.{IsLevel, wants_at}
-use Rattle.rhai_methods.specs.Calls.{number_alone}
+use Rattle.rhai_methods.specs.Calls.{named_alone, number_alone}
 use Rattle.rhai_methods.specs.Methods.{RunsFrom}
 
 -- what changed nothing ends as it would by itself
@@ -74,11 +74,27 @@ module _ {S H : Type 0} (rules : Rules S H) where
   unfolding RunsFrom MarkedDispatches
   dispatched call s new r runs = runs
 
-  -- without arguments it is the native's at once
-  pub alone_asks : (call : Call H) → call.args ≡ [] → (s new : State S H) (r : Result (Dynamic H × Bool) (EvalAltResult H)) →
-      MarkedRuns rules (Ask call) s r new → RunsFrom rules (dispatch_core rules.setting call) s r new
-  unfolding RunsFrom Steps
-  alone_asks call none s new r runs k = rw none (runs k)
+  module _ (name : List ℕ) (position : Position) (args : List (Dynamic H)) (s new : State S H)
+      (r : Result (Dynamic H × Bool) (EvalAltResult H)) where
+    abbrev marking : List (Dynamic H) → Call H
+    marking xs = record (call_of (operation_named name position) xs) { marks = true }
+
+    -- by itself too
+    pub dispatched_alone : (all : List (Dynamic H)) → args ≡ all → MarkedDispatches rules (marking all) s r new →
+        RunsFrom rules (named_alone rules.setting name position args) s r new
+    dispatched_alone all is runs =
+        subst (λ (xs : List (Dynamic H)). RunsFrom rules (named_alone rules.setting name position xs) s r new) (sym is)
+        (dispatched (marking all) s new r runs)
+
+    -- without arguments it is the native's at once
+    none_asks : MarkedRuns rules (Ask (marking [])) s r new → RunsFrom rules (named_alone rules.setting name position []) s r new
+    unfolding RunsFrom Steps
+    none_asks runs k = runs k
+
+    pub alone_asks : args ≡ [] → MarkedRuns rules (Ask (marking [])) s r new →
+        RunsFrom rules (named_alone rules.setting name position args) s r new
+    alone_asks none runs =
+        subst (λ (xs : List (Dynamic H)). RunsFrom rules (named_alone rules.setting name position xs) s r new) (sym none) (none_asks runs)
 
   module _ (number : ℕ) (operation : Operation) (args : List (Dynamic H)) where
     -- a native of a number is asked about on the focus
@@ -101,21 +117,28 @@ module _ {S H : Type 0} (rules : Rules S H) where
         else core (Question (number_on_focus number operation args focus)) k s.local) held) is
 
   module _ (number : ℕ) (position : Position) (args : List (Dynamic H)) (s : State S H) where
-    abbrev called : Call H
-    called = record (call_of (operation_named (codes "call") position) args) { number = Some number }
+    abbrev called : List (Dynamic H) → Call H
+    called xs = record (call_of (operation_named (codes "call") position) xs) { number = Some number }
 
     abbrev race : EvalAltResult H
     race = error.ErrorDataRace (codes "call") position
 
     -- and so it is by itself
-    pub number_asks_alone : (new : State S H) (r : Result (Dynamic H) (EvalAltResult H)) → races s.local.around.cells args ≡ false →
-        Runs rules (Question called) s r new → RunsFrom rules (number_alone number position args) s (with_mark false r) new
+    asks_alone : (new : State S H) (r : Result (Dynamic H) (EvalAltResult H)) → races s.local.around.cells args ≡ false →
+        Runs rules (Question (called args)) s r new → RunsFrom rules (number_alone number position args) s (with_mark false r) new
     unfolding RunsFrom Steps
-    number_asks_alone new r free runs k = rw (unmarked_ends r)
+    asks_alone new r free runs k = rw (unmarked_ends r)
         (subst (λ (b : Bool). Goes rules
-        (with_core (if b then core (Fail race) k s.local else core (Question called) k s.local) s) (at (ended r) k new)) (sym free) (runs k))
+        (with_core (if b then core (Fail race) k s.local else core (Question (called args)) k s.local) s) (at (ended r) k new))
+        (sym free) (runs k))
+
+    pub number_asks_alone : (all : List (Dynamic H)) → args ≡ all → (new : State S H) (r : Result (Dynamic H) (EvalAltResult H)) →
+        races s.local.around.cells args ≡ false →
+        Runs rules (Question (called all)) s r new → RunsFrom rules (number_alone number position args) s (with_mark false r) new
+    number_asks_alone all is new r free runs =
+        asks_alone new r free (subst (λ (xs : List (Dynamic H)). Runs rules (Question (called xs)) s r new) (sym is) runs)
 
     pub number_races_alone : (e : EvalAltResult H) → races s.local.around.cells args ≡ true →
         (is_out_of_memory e ≡ false → e ≡ race) → RunsFrom rules (number_alone number position args) s (Err e) s
     number_races_alone e held is = fails_from (number_alone number position args) s e race
-        (λ k. ap (λ (b : Bool). if b then core (Fail race) k s.local else core (Question called) k s.local) held) is
+        (λ k. ap (λ (b : Bool). if b then core (Fail race) k s.local else core (Question (called args)) k s.local) held) is

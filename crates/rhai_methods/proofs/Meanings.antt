@@ -1,6 +1,6 @@
 -- What a method's name means: how each of its parts runs.
-use Rattle.std.proofs.Common.{◌≡◌, false, List, [], ◌∷◌, Option, Some, None, Result, Ok, Err, length, refl, sym, subst}
-use Rattle.std.specs.Prelude.{Bool, IfOk, codes}
+use Rattle.std.proofs.Common.{◌≡◌, false, List, [], ◌∷◌, Some, None, Result, Ok, Err, length, refl, ap, subst}
+use Rattle.std.specs.Prelude.{Bool, codes}
 use Rattle.rhai_values.specs.declared.base.value.Dynamic.{Dynamic}
 use Rattle.rhai_values.specs.declared.base.value.FnPtr.{FnPtr}
 use Rattle.rhai_values.specs.TypeNames.{type_name_of}
@@ -8,13 +8,13 @@ use Rattle.rhai_state.specs.declared.error.EvalAltResult.{EvalAltResult}
 use Rattle.rhai_state.specs.Errors.{is_out_of_memory}
 use Rattle.rhai_machine.specs.language.Setting.{Rules}
 use Rattle.rhai_machine.specs.language.State.{Answers, State}
-use Rattle.rhai_machine.specs.language.Values.{mismatch, through}
+use Rattle.rhai_machine.specs.language.Values.{bool_value, is_handle, mismatch, through}
 use Rattle.rhai_machine.specs.language.Arguments.{pointer_wanted}
-use Rattle.rhai_machine.specs.language.Methods.{Method, MethodWord, CallWord, CurryWord, argument_at, call_argument, own_core, own_entry, word_core}
+use Rattle.rhai_machine.specs.language.Methods.{Method, MethodWord, CallWord, CurryWord, SharedWord, argument_at, call_argument, own_core, own_entry, word_core}
 use Rattle.rhai_machine.specs.language.Methods.{word_of}
 use Rattle.rhai_calls.specs.Marks.{with_mark}
 use Rattle.rhai_methods.specs.Calls.{named_on}
-use Rattle.rhai_methods.specs.Copies.{copy_seen, curried_seen, found_copy, own_copy}
+use Rattle.rhai_methods.specs.Copies.{copy_seen, curried_seen, own_copy}
 use Rattle.rhai_methods.specs.Methods.{MethodRuns, RunsFrom}
 use Rattle.rhai_methods.specs.Parts.{alone_with, given_on, own_on}
 use Rattle.rhai_methods.proofs.Cores.{argument_fails, argument_is, call_alone_is, call_argument_is, curry_is, named_is, own_fails, own_is, seen_fails}
@@ -96,6 +96,13 @@ module _ {S H : Type 0} (rules : Rules S H) (method : Method) (args : List (Dyna
       (curried_seen rules.setting.host_type old.local.around.cells args method.at (through old.local.around.cells focus method.at))
       answer r
       (λ k. curry_is rules.setting k old.local (through old.local.around.cells focus method.at) method.at args) answers is
+
+  -- ---- `is_shared`
+
+  pub shared_goes : (v : Dynamic H) → v ≡ bool_value (is_handle focus.value) →
+      RunsFrom rules (word_core rules.setting SharedWord method args focus) old (Ok (v, false)) old
+  shared_goes v is = ends_from rules (word_core rules.setting SharedWord method args focus) old (Ok (bool_value (is_handle focus.value)))
+      (Ok v) (Ok (v, false)) (λ k. refl) (λ m. ap Ok is) refl
 
   -- ---- any other name
 

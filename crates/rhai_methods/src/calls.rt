@@ -1,7 +1,7 @@
 //! The calls that a method makes: of a pointer by itself, and of a pointer on the value that the method
 //! works on.
 
-ghost use Rattle.std.specs.Prelude.{◌≡◌, ◌≤◌, ◌++◌, drop, false};
+ghost use Rattle.std.specs.Prelude.{◌≤◌, ◌++◌, false};
 ghost use Rattle.rhai_machine.specs.language.Arguments.{operation_named};
 ghost use Rattle.rhai_machine.specs.language.Methods.{numbered_on};
 ghost use Rattle.rhai_machine.specs.language.Setting.{rules_of};
@@ -12,20 +12,19 @@ ghost use Rattle.rhai_methods.specs.Methods.{lending, RunsFrom};
 
 use crate::copies::taken_behind;
 use rhai_calls::dispatch::{pass_call, races};
-use rhai_calls::native::{Passing, call_number, call_number_alone, call_number_on, marked};
-use rhai_calls::native::pass_native_alone;
+use rhai_calls::native::{
+    Passing, call_number, call_number_alone, call_number_on, marked, pass_native_alone,
+};
 use rhai_items::Items;
 use rhai_state::error::EvalAltResult;
 use rhai_state::limits::Limits;
 use rhai_state::state::GlobalRuntimeState;
 use rhai_state::table::NativeTable;
 use rhai_steps::errors::data_race_by;
-use rhai_steps::values::{let_go, unit_value};
 use rhai_tree::literal::NativeId;
 use rhai_tree::position::Position;
 use rhai_values::base::value::{Dynamic, Host};
 use std::alloc::Global;
-use std::mem::replace;
 
 /// A native by its number on the target, which is lent to it. It charges nothing.
 ///
@@ -52,9 +51,7 @@ fn number_on<H: Host, T: NativeTable<H>>(
     if races(&global.cells, args) {
         return Err(data_race_by(alloc, name, pos));
     }
-    call_number_on(
-        limits, alloc, global, table, id, name, target, args, pos,
-    )
+    call_number_on(limits, alloc, global, table, id, name, target, args, pos)
 }
 
 /// A call by name on the target, which is lent, and kept from a native that is not pure where it is a
@@ -107,9 +104,7 @@ fn call_by_on<H: Host, T: NativeTable<H>>(
         result (state_of (T.state table.new) global.new scope (lending held target.new)) }
 {
     match number {
-        Some(id) => number_on(
-            limits, alloc, global, table, id, called, target, args, pos,
-        ),
+        Some(id) => number_on(limits, alloc, global, table, id, called, target, args, pos),
         None => call_named_on(limits, alloc, global, table, name, target, args, pos),
     }
 }
@@ -157,16 +152,6 @@ pub fn call_on<H: Host, T: NativeTable<H>>(
     result
 }
 
-/// All arguments but the first.
-fn behind_first<H>(args: &[Dynamic<H>]) -> &[Dynamic<H>]
-    ensures { result.now ≡ drop 1 args.now }
-{
-    match args {
-        [] => args,
-        [_, rest @ ..] => rest,
-    }
-}
-
 /// A native by its number, with nothing lent. It charges nothing.
 ///
 /// # Errors
@@ -190,16 +175,10 @@ fn number_by_itself<H: Host, T: NativeTable<H>>(
     if races(&global.cells, args) {
         return Err(data_race_by(alloc, "call", pos));
     }
-    if args.is_empty() {
+    let [first, rest @ ..] = args else {
         return call_number_alone(limits, alloc, global, table, id, "call", pos);
-    }
-    let mut first = replace(&mut args[0], unit_value());
-    let rest = behind_first(args);
-    let result = call_number(
-        limits, alloc, global, table, id, "call", &mut first, rest, pos,
-    );
-    let_go(first);
-    result
+    };
+    call_number(limits, alloc, global, table, id, "call", first, rest, pos)
 }
 
 /// A call by name, with nothing lent. The answer says whether the native is not pure.
@@ -218,20 +197,16 @@ fn named_by_itself<H: Host, T: NativeTable<H>>(
         (state_of (T.state table.old) global.old scope held)
         result (state_of (T.state table.new) global.new scope held) }
 {
-    if args.is_empty() {
-        return pass_native_alone(limits, alloc, global, table, name, None, true, pos);
-    }
     let passing = Passing {
         guarded: false,
         marks: true,
     };
-    let mut first = replace(&mut args[0], unit_value());
-    let rest = behind_first(args);
-    let result = pass_call(
-        limits, alloc, global, table, name, None, &mut first, rest, passing, pos,
-    );
-    let_go(first);
-    result
+    let [first, rest @ ..] = args else {
+        return pass_native_alone(limits, alloc, global, table, name, None, true, pos);
+    };
+    pass_call(
+        limits, alloc, global, table, name, None, first, rest, passing, pos,
+    )
 }
 
 /// A call of a pointer by itself: of a native by its number, or else by the pointer's name.

@@ -29,7 +29,10 @@ use std::alloc::Global;
 use std::mem::replace;
 
 /// A value, seen through a handle. None where the handle's cell is held.
-pub(crate) fn seen<'a, H: Host>(cells: &'a CellStore<H>, value: &'a Dynamic<H>) -> Option<&'a Dynamic<H>>
+pub(crate) fn seen<'a, H: Host>(
+    cells: &'a CellStore<H>,
+    value: &'a Dynamic<H>,
+) -> Option<&'a Dynamic<H>>
     ensures { (pos : _) → used [] pos (option_copied result) ≡ through (cells_of cells.now) value.now pos }
 {
     match &value.value {
@@ -199,8 +202,13 @@ fn with_more<H: Host>(
 ) -> Result<Dynamic<H>, EvalAltResult<H>>
     ensures { Answers result (Ok (curried_with pointer args.old)) }
 {
-    let more = taken_out(alloc, args, pos)?;
-    with_curried(alloc, pointer, more, pos)
+    match taken_out(alloc, args, pos) {
+        Ok(more) => with_curried(alloc, pointer, more, pos),
+        Err(error) => {
+            drop(pointer);
+            Err(error)
+        }
+    }
 }
 
 /// A copy of the pointer that a value is, through a handle, with more arguments.

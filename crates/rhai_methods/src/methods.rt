@@ -96,22 +96,13 @@ fn call_argument<H: Host, T: NativeTable<H>>(
         (state_of (T.state table.old) global.old scope (lending held target.old))
         result (state_of (T.state table.new) global.new scope (lending held target.new)) }
 {
-    if args.is_empty() {
+    let [first, rest @ ..] = args else {
         return Err(no_pointer(alloc, &global.cells, target, pos));
-    }
-    let first = replace(&mut args[0], unit_value());
+    };
+    let first = replace(first, unit_value());
     let first_pos = first_arg_pos.unwrap_or(pos);
     let pointer = pointer_of(alloc, &global.cells, first, first_pos)?;
-    call_given(
-        limits,
-        alloc,
-        global,
-        table,
-        pointer,
-        target,
-        &mut args[1..],
-        pos,
-    )
+    call_given(limits, alloc, global, table, pointer, target, rest, pos)
 }
 
 /// `call` on a value: a pointer is called by itself, and on any other value the first argument is.
@@ -136,7 +127,14 @@ fn call_word<H: Host, T: NativeTable<H>>(
     match pointer_copy(alloc, &global.cells, target, pos)? {
         Some(pointer) => call_pointer(limits, alloc, global, table, pointer, args, pos),
         None => call_argument(
-            limits, alloc, global, table, target, args, first_arg_pos, pos,
+            limits,
+            alloc,
+            global,
+            table,
+            target,
+            args,
+            first_arg_pos,
+            pos,
         ),
     }
 }
@@ -223,7 +221,14 @@ pub fn call_method<H: Host, T: NativeTable<H>>(
 {
     match word_of(name, args.len()) {
         MethodWord::Call => call_word(
-            limits, alloc, global, table, target, args, first_arg_pos, pos,
+            limits,
+            alloc,
+            global,
+            table,
+            target,
+            args,
+            first_arg_pos,
+            pos,
         ),
         MethodWord::Curry => marked(curried(alloc, &global.cells, target, args, pos), false),
         MethodWord::Shared => Ok((is_shared(target), false)),
