@@ -15,8 +15,8 @@ use Rattle.rhai_state.specs.declared.error.EvalAltResult.{EvalAltResult}
 use Rattle.rhai_machine.specs.language.Setting.{Setting}
 use Rattle.rhai_machine.specs.language.State.{Local}
 use Rattle.rhai_machine.specs.language.Frames.{Frame, Core, core, on_value, ended, Fail}
-use Rattle.rhai_machine.specs.language.Methods.{Method, call_argument, call_core, copied_before, curry_core, entry_core, own_seen, pointer_alone}
-use Rattle.rhai_machine.specs.language.Methods.{pointer_on, pointer_there}
+use Rattle.rhai_machine.specs.language.Methods.{Method, call_argument, call_core, copied_before, curry_core, entry_core, own_seen}
+use Rattle.rhai_machine.specs.language.Methods.{pointer_alone, pointer_on, pointer_there}
 use Rattle.rhai_dispatch.specs.Pointers.{number_in}
 use Rattle.rhai_methods.specs.Calls.{alone_by, named_on, on_by}
 use Rattle.rhai_methods.specs.Copies.{curried_in, curried_seen, found_copy}
@@ -139,8 +139,8 @@ module _ {H : Type 0} where
 
     -- ---- an argument that is called
 
-    pub argument_is : (r : Result (FnPtr H) (EvalAltResult H)) (p : FnPtr H) (method : Method) (rest : List (Dynamic H)) (focus : Dynamic H) →
-        Ok p ≡ r →
+    pub argument_is : (r : Result (FnPtr H) (EvalAltResult H)) (p : FnPtr H) (method : Method) (rest : List (Dynamic H))
+        (focus : Dynamic H) → Ok p ≡ r →
         on_value r (λ pointer. pointer_on s (out-FnPtr H pointer).kind pointer method (codes "call")
         ((out-FnPtr H pointer).curry ++ rest) focus k l) k l ≡ given_on s p method.at rest focus k l
     argument_is (Ok q) p method rest focus is =

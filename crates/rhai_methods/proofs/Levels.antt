@@ -15,8 +15,8 @@ use Rattle.rhai_machine.specs.language.Values.{through}
 use Rattle.rhai_machine.specs.language.Frames.{Operation, Frame}
 use Rattle.rhai_machine.specs.language.Calls.{call_of, races}
 use Rattle.rhai_machine.specs.language.Arguments.{operation_named, pointer_wanted}
-use Rattle.rhai_machine.specs.language.Methods.{Method, CallWord, argument_at, call_argument, call_core, copied_before, entry_core, numbered_on}
-use Rattle.rhai_machine.specs.language.Methods.{on_focus, own_core, own_entry, pointer_alone, pointer_on, word_core}
+use Rattle.rhai_machine.specs.language.Methods.{Method, CallWord, argument_at, call_argument, call_core, copied_before, entry_core}
+use Rattle.rhai_machine.specs.language.Methods.{numbered_on, on_focus, own_core, own_entry, pointer_alone, pointer_on, word_core}
 use Rattle.rhai_dispatch.proofs.Levels.{IsLevel, dispatch_level, either, number_level, on_level}
 use Rattle.rhai_methods.specs.Calls.{alone_by, on_by}
 

@@ -10,14 +10,15 @@ use Rattle.rhai_machine.specs.language.Setting.{Rules}
 use Rattle.rhai_machine.specs.language.State.{Answers, State}
 use Rattle.rhai_machine.specs.language.Values.{bool_value, is_handle, mismatch, through}
 use Rattle.rhai_machine.specs.language.Arguments.{pointer_wanted}
-use Rattle.rhai_machine.specs.language.Methods.{Method, MethodWord, CallWord, CurryWord, SharedWord, argument_at, call_argument, own_core, own_entry, word_core}
-use Rattle.rhai_machine.specs.language.Methods.{word_of}
+use Rattle.rhai_machine.specs.language.Methods.{Method, MethodWord, CallWord, CurryWord, SharedWord, argument_at, call_argument}
+use Rattle.rhai_machine.specs.language.Methods.{own_core, own_entry, word_core, word_of}
 use Rattle.rhai_calls.specs.Marks.{with_mark}
 use Rattle.rhai_methods.specs.Calls.{named_on}
 use Rattle.rhai_methods.specs.Copies.{copy_seen, curried_seen, own_copy}
 use Rattle.rhai_methods.specs.Methods.{MethodRuns, RunsFrom}
 use Rattle.rhai_methods.specs.Parts.{alone_with, given_on, own_on}
-use Rattle.rhai_methods.proofs.Cores.{argument_fails, argument_is, call_alone_is, call_argument_is, curry_is, named_is, own_fails, own_is, seen_fails}
+use Rattle.rhai_methods.proofs.Cores.{argument_fails, argument_is, call_alone_is, call_argument_is, curry_is, named_is, own_fails}
+use Rattle.rhai_methods.proofs.Cores.{own_is, seen_fails}
 use Rattle.rhai_methods.proofs.Going.{begins_alike, ends_from, errs_from, fails_from}
 use Rattle.rhai_methods.proofs.Levels.{argument_level, call_word_level, own_level}
 
@@ -30,8 +31,8 @@ module _ {S H : Type 0} (rules : Rules S H) (method : Method) (args : List (Dyna
 
     -- there is none
     pub argument_misses : args ≡ [] → (e : EvalAltResult H) →
-        (is_out_of_memory e ≡ false → e ≡ mismatch (codes "Fn") (type_name_of rules.setting.host_type old.local.around.cells seen) method.at) →
-        argument_runs (Err e) old
+        (is_out_of_memory e ≡ false →
+        e ≡ mismatch (codes "Fn") (type_name_of rules.setting.host_type old.local.around.cells seen) method.at) → argument_runs (Err e) old
     argument_misses none e is = rw none (fails_from rules (call_argument rules.setting method [] seen focus) old e _ (λ k. refl) is)
 
     module _ (first : Dynamic H) (rest : List (Dynamic H)) (parted : args ≡ first ∷ rest) where

@@ -43,7 +43,8 @@ fn number_on<H: Host, T: NativeTable<H>>(
     pos: Position,
 ) -> Result<(Dynamic<H>, bool), EvalAltResult<H>>
     ensures counts { global.old.num_operations ≤ global.new.num_operations }
-    ensures runs { (offer : _) (scope : _) (held : _) → RunsFrom (rules_of limits.now H.name_of offer T.natives)
+    ensures runs { (offer : _) (scope : _) (held : _) →
+        RunsFrom (rules_of limits.now H.name_of offer T.natives)
         (numbered_on id.number (operation_named name.now pos) args.now target.old)
         (state_of (T.state table.old) global.old scope (lending held target.old))
         result (state_of (T.state table.new) global.new scope (lending held target.new)) }
@@ -70,7 +71,8 @@ pub fn call_named_on<H: Host, T: NativeTable<H>>(
     pos: Position,
 ) -> Result<(Dynamic<H>, bool), EvalAltResult<H>>
     ensures counts { global.old.num_operations ≤ global.new.num_operations }
-    ensures runs { (offer : _) (scope : _) (held : _) → let rules = rules_of limits.now H.name_of offer T.natives in
+    ensures runs { (offer : _) (scope : _) (held : _) →
+        let rules = rules_of limits.now H.name_of offer T.natives in
         RunsFrom rules (named_on rules.setting name.now pos args.now target.old)
         (state_of (T.state table.old) global.old scope (lending held target.old))
         result (state_of (T.state table.new) global.new scope (lending held target.new)) }
@@ -98,7 +100,8 @@ fn call_by_on<H: Host, T: NativeTable<H>>(
     pos: Position,
 ) -> Result<(Dynamic<H>, bool), EvalAltResult<H>>
     ensures counts { global.old.num_operations ≤ global.new.num_operations }
-    ensures runs { (offer : _) (scope : _) (held : _) → let rules = rules_of limits.now H.name_of offer T.natives in
+    ensures runs { (offer : _) (scope : _) (held : _) →
+        let rules = rules_of limits.now H.name_of offer T.natives in
         RunsFrom rules (on_by rules.setting number called.now name.now pos args.now target.old)
         (state_of (T.state table.old) global.old scope (lending held target.old))
         result (state_of (T.state table.new) global.new scope (lending held target.new)) }
@@ -124,7 +127,8 @@ pub fn call_on<H: Host, T: NativeTable<H>>(
     pos: Position,
 ) -> Result<(Dynamic<H>, bool), EvalAltResult<H>>
     ensures counts { global.old.num_operations ≤ global.new.num_operations }
-    ensures runs { (offer : _) (scope : _) (held : _) → let rules = rules_of limits.now H.name_of offer T.natives in
+    ensures runs { (offer : _) (scope : _) (held : _) →
+        let rules = rules_of limits.now H.name_of offer T.natives in
         RunsFrom rules (on_by rules.setting number called.now name.now pos (curried ++ args.old) target.old)
         (state_of (T.state table.old) global.old scope (lending held target.old))
         result (state_of (T.state table.new) global.new scope (lending held target.new)) }
@@ -167,7 +171,8 @@ fn number_by_itself<H: Host, T: NativeTable<H>>(
     pos: Position,
 ) -> Result<Dynamic<H>, EvalAltResult<H>>
     ensures counts { global.old.num_operations ≤ global.new.num_operations }
-    ensures runs { (offer : _) (scope : _) (held : _) → RunsFrom (rules_of limits.now H.name_of offer T.natives)
+    ensures runs { (offer : _) (scope : _) (held : _) →
+        RunsFrom (rules_of limits.now H.name_of offer T.natives)
         (number_alone id.number pos args.old)
         (state_of (T.state table.old) global.old scope held)
         (with_mark false result) (state_of (T.state table.new) global.new scope held) }
@@ -192,7 +197,8 @@ fn named_by_itself<H: Host, T: NativeTable<H>>(
     pos: Position,
 ) -> Result<(Dynamic<H>, bool), EvalAltResult<H>>
     ensures counts { global.old.num_operations ≤ global.new.num_operations }
-    ensures runs { (offer : _) (scope : _) (held : _) → let rules = rules_of limits.now H.name_of offer T.natives in
+    ensures runs { (offer : _) (scope : _) (held : _) →
+        let rules = rules_of limits.now H.name_of offer T.natives in
         RunsFrom rules (named_alone rules.setting name.now pos args.old)
         (state_of (T.state table.old) global.old scope held)
         result (state_of (T.state table.new) global.new scope held) }
@@ -221,7 +227,8 @@ fn call_by_itself<H: Host, T: NativeTable<H>>(
     pos: Position,
 ) -> Result<(Dynamic<H>, bool), EvalAltResult<H>>
     ensures counts { global.old.num_operations ≤ global.new.num_operations }
-    ensures runs { (offer : _) (scope : _) (held : _) → let rules = rules_of limits.now H.name_of offer T.natives in
+    ensures runs { (offer : _) (scope : _) (held : _) →
+        let rules = rules_of limits.now H.name_of offer T.natives in
         RunsFrom rules (alone_by rules.setting number name.now pos args.old)
         (state_of (T.state table.old) global.old scope held)
         result (state_of (T.state table.new) global.new scope held) }
@@ -248,7 +255,8 @@ pub fn call_alone<H: Host, T: NativeTable<H>>(
     pos: Position,
 ) -> Result<(Dynamic<H>, bool), EvalAltResult<H>>
     ensures counts { global.old.num_operations ≤ global.new.num_operations }
-    ensures runs { (offer : _) (scope : _) (held : _) → let rules = rules_of limits.now H.name_of offer T.natives in
+    ensures runs { (offer : _) (scope : _) (held : _) →
+        let rules = rules_of limits.now H.name_of offer T.natives in
         RunsFrom rules (alone_by rules.setting number name.now pos (curried ++ args.old))
         (state_of (T.state table.old) global.old scope held)
         result (state_of (T.state table.new) global.new scope held) }

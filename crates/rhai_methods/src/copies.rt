@@ -8,7 +8,6 @@ ghost use Rattle.rhai_values.specs.Copy.{copy_pointer};
 ghost use Rattle.rhai_values.specs.Layers.{layer_of};
 ghost use Rattle.rhai_values.specs.TypeNames.{type_name_of};
 ghost use Rattle.rhai_state.specs.Errors.{is_out_of_memory};
-ghost use Rattle.rhai_machine.specs.language.Arguments.{with_curried as curried_with};
 ghost use Rattle.rhai_machine.specs.language.Methods.{entry_in, entry_seen, pointer_there};
 ghost use Rattle.rhai_machine.specs.language.State.{Answers};
 ghost use Rattle.rhai_machine.specs.language.Values.{bool_value as truth_of, is_handle};
@@ -193,25 +192,31 @@ pub fn taken_behind<H: Host>(
     joined(curried, taken, pos)
 }
 
-/// A copy of a pointer with more arguments, which are taken out of their places.
-fn with_more<H: Host>(
+/// A copy of the pointer that a value is, through a handle, with more arguments.
+fn copied_with<H: Host>(
     alloc: Global,
-    pointer: FnPtr<H>,
-    args: &mut [Dynamic<H>],
+    cells: &CellStore<H>,
+    value: &Dynamic<H>,
+    more: Items<Dynamic<H>>,
     pos: Position,
 ) -> Result<Dynamic<H>, EvalAltResult<H>>
-    ensures { Answers result (Ok (curried_with pointer args.old)) }
+    ensures { Answers result (curried_seen H.name_of (cells_of cells.now) more pos
+        (through (cells_of cells.now) value.now pos)) }
 {
-    match taken_out(alloc, args, pos) {
-        Ok(more) => with_curried(alloc, pointer, more, pos),
+    match pointer_copy(alloc, cells, value, pos) {
+        Ok(Some(pointer)) => with_curried(alloc, pointer, more, pos),
+        Ok(None) => {
+            drop(more);
+            Err(no_pointer(alloc, cells, value, pos))
+        }
         Err(error) => {
-            drop(pointer);
+            drop(more);
             Err(error)
         }
     }
 }
 
-/// A copy of the pointer that a value is, through a handle, with more arguments.
+/// The same with arguments that are taken out of their places.
 ///
 /// # Errors
 /// Both at the position: `ErrorDataRace` for a handle whose cell is held, `ErrorMismatchDataType` for what
@@ -226,8 +231,6 @@ pub fn curried<H: Host>(
     ensures { Answers result (curried_seen H.name_of (cells_of cells.now) args.old pos
         (through (cells_of cells.now) value.now pos)) }
 {
-    match pointer_copy(alloc, cells, value, pos)? {
-        Some(pointer) => with_more(alloc, pointer, args, pos),
-        None => Err(no_pointer(alloc, cells, value, pos)),
-    }
+    let more = taken_out(alloc, args, pos)?;
+    copied_with(alloc, cells, value, more, pos)
 }

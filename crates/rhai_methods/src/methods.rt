@@ -36,7 +36,8 @@ fn call_pointer<H: Host, T: NativeTable<H>>(
     pos: Position,
 ) -> Result<(Dynamic<H>, bool), EvalAltResult<H>>
     ensures counts { global.old.num_operations ≤ global.new.num_operations }
-    ensures runs { (offer : _) (scope : _) (held : _) → let rules = rules_of limits.now H.name_of offer T.natives in
+    ensures runs { (offer : _) (scope : _) (held : _) →
+        let rules = rules_of limits.now H.name_of offer T.natives in
         RunsFrom rules (alone_with rules.setting pointer pos args.old)
         (state_of (T.state table.old) global.old scope held)
         result (state_of (T.state table.new) global.new scope held) }
@@ -62,7 +63,8 @@ fn call_given<H: Host, T: NativeTable<H>>(
     pos: Position,
 ) -> Result<(Dynamic<H>, bool), EvalAltResult<H>>
     ensures counts { global.old.num_operations ≤ global.new.num_operations }
-    ensures runs { (offer : _) (scope : _) (held : _) → let rules = rules_of limits.now H.name_of offer T.natives in
+    ensures runs { (offer : _) (scope : _) (held : _) →
+        let rules = rules_of limits.now H.name_of offer T.natives in
         RunsFrom rules (given_on rules.setting pointer pos args.old target.old)
         (state_of (T.state table.old) global.old scope (lending held target.old))
         result (state_of (T.state table.new) global.new scope (lending held target.new)) }
@@ -151,7 +153,8 @@ fn call_own<H: Host, T: NativeTable<H>>(
     pos: Position,
 ) -> Result<(Dynamic<H>, bool), EvalAltResult<H>>
     ensures counts { global.old.num_operations ≤ global.new.num_operations }
-    ensures runs { (offer : _) (scope : _) (held : _) → let rules = rules_of limits.now H.name_of offer T.natives in
+    ensures runs { (offer : _) (scope : _) (held : _) →
+        let rules = rules_of limits.now H.name_of offer T.natives in
         RunsFrom rules (own_on rules.setting pointer pos args.old target.old)
         (state_of (T.state table.old) global.old scope (lending held target.old))
         result (state_of (T.state table.new) global.new scope (lending held target.new)) }

@@ -19,6 +19,7 @@ returns-clause-runs g c offer scope held =
     let rules : Rules _ _ = rules_of c.args.limits.now g.H.Host.name_of offer g.T.NativeTable.natives in
     number_asks_on rules c.args.id.number (operation_named c.args.name.now c.args.pos) c.args.args.now c.args.target.now
     (state_of (g.T.NativeTable.state c.args.table.now) c.args.global.now scope (lending held c.args.target.now))
-    (state_of (g.T.NativeTable.state c.call_number_on.new.table) c.call_number_on.new.global scope (lending held c.call_number_on.new.first))
+    (state_of (g.T.NativeTable.state c.call_number_on.new.table) c.call_number_on.new.global scope
+    (lending held c.call_number_on.new.first))
     c.call_number_on.result (sym c.races.ensures ∙ c.if-races.false)
     (c.call_number_on.ensures.runs offer scope (lending held c.args.target.now) (Some FromFocus) refl)

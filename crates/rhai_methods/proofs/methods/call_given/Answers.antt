@@ -10,7 +10,9 @@ returns-clause-runs g c offer scope held =
     let rules : Rules _ _ = rules_of c.args.limits.now g.H.Host.name_of offer g.T.NativeTable.natives in
     by_parts_given rules c.args.pointer c.args.pos c.args.args.now
     (state_of (g.T.NativeTable.state c.args.table.now) c.args.global.now scope (lending held c.args.target.now))
-    (state_of (g.T.NativeTable.state c.call_on-result.new.table) c.call_on-result.new.global scope (lending held c.call_on-result.new.target))
+    (state_of (g.T.NativeTable.state c.call_on-result.new.table) c.call_on-result.new.global scope
+    (lending held c.call_on-result.new.target))
     c.call_on-result.result c.parts_of-name.result.2 c.as_str-text.result.now c.parts_of-name.result.1
-    (c.as_str-text.ensures ∙ c.get.ensures ∙ c.parts_of-name.ensures.name) c.parts_of-name.ensures.curried c.parts_of-name.ensures.number c.args.target.now
+    (c.as_str-text.ensures ∙ c.get.ensures ∙ c.parts_of-name.ensures.name)
+    c.parts_of-name.ensures.curried c.parts_of-name.ensures.number c.args.target.now
     (c.call_on-result.ensures.runs offer scope held)
