@@ -1,6 +1,9 @@
 pub mod Places
+pub mod Found
+pub mod Lent
 pub mod Natives
 pub mod Writes
 pub mod Updates
+pub mod Going
 pub mod Prepared
 pub mod Integers

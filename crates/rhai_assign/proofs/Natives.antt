@@ -1,18 +1,19 @@
 -- The native of an update is asked: its charge, its call with the target, and what it leaves.
 use Rattle.std.proofs.Common.{sym, ◌∙◌, ◌≡◌, ◌<◌, ◌≤◌, ◌+◌, ℕ, Bool, true, false, List, [], ◌∷◌, Option, Some, None, IfSome, refl, ap}
+use Rattle.std.proofs.lemmas.Bool.{lt-ltb, le-ltb}
 use Rattle.rhai_tree.specs.declared.position.Position.{Position}
+use Rattle.rhai_values.specs.declared.base.value.CellId.{CellId}
 use Rattle.rhai_values.specs.declared.base.value.Dynamic.{Dynamic}
 use Rattle.rhai_values.specs.declared.base.value.Union.{Union}
 use Rattle.rhai_values.specs.declared.base.value.Union.TheVariants as value
 use Rattle.rhai_state.specs.declared.scope.Scope.{Scope}
-use Rattle.rhai_values.specs.declared.cells.CellStore.{CellStore}
 use Rattle.rhai_values.specs.Cells.{cells_of}
 use Rattle.rhai_state.specs.declared.state.GlobalRuntimeState.{GlobalRuntimeState}
 use Rattle.rhai_state.specs.declared.error.EvalAltResult.{EvalAltResult}
 use Rattle.rhai_state.specs.declared.error.EvalAltResult.TheVariants as error
 use Rattle.rhai_state.specs.Errors.{is_out_of_memory}
 use Rattle.rhai_state.specs.Native.{Natives, Request, Reply, Faults, Named, Obeys, effect, request}
-use Rattle.rhai_machine.specs.machine.Machine.{Go, Native}
+use Rattle.rhai_machine.specs.machine.Machine.{Charge, Go, Native}
 use Rattle.rhai_machine.specs.machine.Point.{Point, after}
 use Rattle.rhai_machine.specs.machine.Memory.{here, next, starved, starved_at, ◌⨾◌}
 use Rattle.rhai_machine.specs.language.Setting.{Setting, Rules, limit_under}
@@ -25,12 +26,11 @@ use Rattle.rhai_machine.specs.language.Assignment.{answered_core, barred_core, c
 use Rattle.rhai_machine.specs.language.Language.{machine, move, want}
 use Rattle.rhai_machine.specs.language.Runs.{at, with_core, Goes, Steps}
 use Rattle.rhai_steps.specs.States.{local_of, state_of}
-use Rattle.rhai_steps.proofs.Pieces.{charged, faulted, refused, step_by}
-use Rattle.rhai_assign.specs.declared.place.Update as code
+use Rattle.rhai_steps.proofs.Pieces.{faulted, step_by}
 use Rattle.rhai_assign.specs.Follows.{Asked, Comes}
-use Rattle.rhai_assign.specs.Targets.{IsPut, lent_request, standing_at}
-use Rattle.rhai_assign.specs.Updates.{is_barred_for, update_of, updating}
-use Rattle.rhai_assign.proofs.Places.{local_put, standing_charged}
+use Rattle.rhai_assign.specs.Lending.{placed, IsFree, IsLentFrom, IsOwnCell}
+use Rattle.rhai_assign.specs.Updates.{is_barred_for}
+use Rattle.rhai_assign.proofs.Lent.{barred_alike, lent_cells, put_twice}
 
 module _ {H : Type 0} (s : Setting H) where
   handle_move : (x : Union H) (u : Update H) (k : List (Frame H)) (l : Local H) → is_handle x ≡ true →
@@ -49,33 +49,46 @@ module _ {H : Type 0} (s : Setting H) where
   wants_answered InPlace pos u k l = refl
   wants_answered AsValue pos u k l = refl
 
--- what is asked of a table about one target is asked about another that is the same, under the same name
-pub asked_alike : {S H : Type 0} (host : H → List ℕ) (natives : Natives S H) (cells : Cells H) (t : S) (shown name : List ℕ)
-    (seen target : Dynamic H) (r b : Bool) → shown ≡ name → target ≡ seen → r ≡ is_barred_for host natives cells t shown seen → r ≡ b →
-    is_barred_for host natives cells t name target ≡ b
-asked_alike host natives cells t shown name seen target r b named same asked is =
-    ap (is_barred_for host natives cells t name) same ∙ ap (λ n. is_barred_for host natives cells t n seen) (sym named) ∙ sym asked ∙ is
+-- what is asked of a table under two names that are the same
+pub asked_alike : {S H : Type 0} (host : H → List ℕ) (natives : Natives S H) (t : S) (shown name : List ℕ) (target : Dynamic H)
+    (r b : Bool) → shown ≡ name → r ≡ is_barred_for host natives t shown target → r ≡ b → is_barred_for host natives t name target ≡ b
+asked_alike host natives t shown name target r b named asked is =
+    ap (λ n. is_barred_for host natives t n target) (sym named) ∙ sym asked ∙ is
 
 module _ {S H : Type 0} (rules : Rules S H) where
   -- the native of an update is barred from its target
-  abbrev barred_in : S → GlobalRuntimeState H → Update H → Bool
-  barred_in t global u = is_barred_for rules.setting.host_type rules.natives (cells_of global.cells) t (native_of u.attempt u.operator)
-      u.target
+  abbrev barred_in : S → Update H → Bool
+  barred_in t u = is_barred_for rules.setting.host_type rules.natives t (native_of u.attempt u.operator) u.target
 
-  -- an update that is charged stands before its native, unless it is barred
+  -- the state of the machine, which has the target at its place
+  abbrev lent : Update H → S → GlobalRuntimeState H → Scope H → Held H → State S H
+  lent u t global scope held = placed u.place u.target (state_of t global scope held)
+
+  -- an update that is charged
+  charges_update : (t : S) (old mid : GlobalRuntimeState H) (scope : Scope H) (held : Held H) (u : Update H) →
+      old.num_operations < limit_under rules → mid ≡ record old { num_operations = old.num_operations + 1 } →
+      (k : List (Frame H)) →
+      Goes rules (at (AskUpdate u) k (lent u t old scope held)) (at (QuestionUpdate u) k (lent u t mid scope held))
+  charges_update t old mid scope held u room counted k =
+      step_by rules _ _ (Charge u.at (core (QuestionUpdate u) k (lent u t old scope held).local)) refl
+      (rw (lt-ltb _ _ room, counted) here)
+
+  -- stands before its native, unless that is barred
   questions_update : (t : S) (old mid : GlobalRuntimeState H) (scope : Scope H) (held : Held H) (u : Update H) (barred : Bool) →
       old.num_operations < limit_under rules → mid ≡ record old { num_operations = old.num_operations + 1 } →
-      barred_in t mid u ≡ barred → (k : List (Frame H)) → Goes rules (at (AskUpdate u) k (state_of t old scope held))
-      (with_core (barred_core rules.setting barred u k (local_of mid scope held)) (state_of t mid scope held))
+      IsFree u.target → barred_in t u ≡ barred → (k : List (Frame H)) → Goes rules (at (AskUpdate u) k (lent u t old scope held))
+      (with_core (barred_core rules.setting barred u k (lent u t mid scope held).local) (lent u t mid scope held))
   unfolding after
-  questions_update t old mid scope held u barred room counted is k =
-      charged rules t old mid scope held (AskUpdate u) (QuestionUpdate u) u.at (λ j. refl) room counted k ⨾ next (rw is here)
+  questions_update t old mid scope held u barred room counted free is k =
+      charges_update t old mid scope held u room counted k
+      ⨾ next (rw (barred_alike rules.setting.host_type rules.natives (lent u t mid scope held).local.around.cells t
+      (native_of u.attempt u.operator) u.target free, is) here)
 
   asks_update : (t : S) (old mid : GlobalRuntimeState H) (scope : Scope H) (held : Held H) (u : Update H) →
       old.num_operations < limit_under rules → mid ≡ record old { num_operations = old.num_operations + 1 } →
-      barred_in t mid u ≡ false →
-      (k : List (Frame H)) → Goes rules (at (AskUpdate u) k (state_of t old scope held)) (at (FireUpdate u) k (state_of t mid scope held))
-  asks_update t old mid scope held u room counted free k = questions_update t old mid scope held u false room counted free k
+      IsFree u.target → barred_in t u ≡ false → (k : List (Frame H)) →
+      Goes rules (at (AskUpdate u) k (lent u t old scope held)) (at (FireUpdate u) k (lent u t mid scope held))
+  asks_update t old mid scope held u room counted free allowed k = questions_update t old mid scope held u false room counted free allowed k
 
   -- a target that is a bare handle is refused
   fires_held : (u : Update H) (k : List (Frame H)) (now : State S H) → is_handle u.target.value ≡ true →
@@ -118,79 +131,71 @@ module _ {S H : Type 0} (rules : Rules S H) where
   pub refuses_update : (t : S) (old new : GlobalRuntimeState H) (scope : Scope H) (held : Held H) (u : Update H)
       (x : EvalAltResult H) →
       limit_under rules ≤ old.num_operations → x ≡ error.ErrorTooManyOperations u.at → new ≡ old →
-      Steps rules (AskUpdate u) (state_of t old scope held) (Fail x) (state_of t new scope held)
+      Steps rules (AskUpdate u) (lent u t old scope held) (Fail x) (lent u t new scope held)
   unfolding Steps
   refuses_update t old new scope held u x full is same k =
-      refused rules t old new scope held (AskUpdate u) (QuestionUpdate u) u.at (λ j. refl) x full is same k
+      step_by rules _ _ (Charge u.at (core (QuestionUpdate u) k (lent u t old scope held).local)) refl
+      (rw (le-ltb _ _ full, is, same) here)
 
-  pub holds_update : (t : S) (old mid : GlobalRuntimeState H) (scope : Scope H) (held : Held H) (u : Update H) (name : List ℕ)
-      (e : EvalAltResult H) →
-      old.num_operations < limit_under rules → mid ≡ record old { num_operations = old.num_operations + 1 } →
-      barred_in t mid u ≡ false → is_handle u.target.value ≡ true →
-      name ≡ native_of u.attempt u.operator → (is_out_of_memory e ≡ false → e ≡ error.ErrorDataRace name u.at) →
-      Steps rules (AskUpdate u) (state_of t old scope held) (Fail e) (state_of t mid scope held)
-  unfolding Steps
-  holds_update t old mid scope held u name e room counted free handle named race k =
-      asks_update t old mid scope held u room counted free k
-      ⨾ fires_held u k (state_of t mid scope held) handle
-      ⨾ faulted rules e (error.ErrorDataRace (native_of u.attempt u.operator) u.at) (rw named at race) k (state_of t mid scope held)
-
-  -- one whose native is barred from its target
-  pub bars_update : (t : S) (old mid : GlobalRuntimeState H) (scope : Scope H) (held : Held H) (u : Update H) (name : List ℕ)
-      (e : EvalAltResult H) →
-      old.num_operations < limit_under rules → mid ≡ record old { num_operations = old.num_operations + 1 } →
-      barred_in t mid u ≡ true →
-      name ≡ native_of u.attempt u.operator → (is_out_of_memory e ≡ false → e ≡ error.ErrorNonPureMethodCallOnConstant name u.at) →
-      Steps rules (AskUpdate u) (state_of t old scope held) (Fail e) (state_of t mid scope held)
-  unfolding Steps
-  bars_update t old mid scope held u name e room counted barred named bars k =
-      questions_update t old mid scope held u true room counted barred k
-      ⨾ faulted rules e (error.ErrorNonPureMethodCallOnConstant (native_of u.attempt u.operator) u.at) (rw named at bars) k
-      (state_of t mid scope held)
-
-  module _ (t called : S) (old mid : GlobalRuntimeState H) (store : CellStore H) (before later : Scope H) (update : code.Update)
-      (w : Dynamic H)
+  module _ (t : S) (old mid : GlobalRuntimeState H) (scope : Scope H) (held : Held H) (u : Update H)
       (room : old.num_operations < limit_under rules) (counted : mid ≡ record old { num_operations = old.num_operations + 1 })
-      (plain : is_handle (standing_at update.place before old.cells).value ≡ false)
-      (wrote : IsPut update.place w before later mid.cells store) where
-    -- the native of a name is not barred from the target
-    abbrev FreeFor : List ℕ → Type 0
-    FreeFor name = is_barred_for rules.setting.host_type rules.natives (cells_of mid.cells) t name (standing_at update.place before
-        old.cells) ≡ false
-
-    answers_update : (answer : Option (Reply H)) (name : List ℕ) (rest : List (Dynamic H)) → FreeFor name →
-        Obeys (rules.natives.gives t (lent_request update.place before mid.cells name rest update.at)) answer (Some w) called →
-        (held : Held H) (attempt : Attempt) (operand : Dynamic H) → name ≡ native_of attempt update.token →
-        rest ≡ operand ∷ [] →
-        IfSome answer (λ reply. Comes rules (AskUpdate (updating update attempt before old operand)) (state_of t old before held)
-        (answered_core rules.setting attempt reply (update_of update attempt w operand))
-        (state_of called (record mid { cells = store }) later held))
-    answers_update None name rest free obeys held attempt operand named only = tt
-    answers_update (Some reply) name rest free obeys held attempt operand named only = λ k.
-        asks_update t old mid before held (updating update attempt before old operand) room counted (rw named at free) k
-        ⨾ fires_update (updating update attempt before old operand) k (state_of t mid before held) reply w called plain
-        (rw (standing_charged update.place before old mid _ counted, named, only) at obeys) _
-        (ap (λ (l : Local H). record {
-          core = answered_core rules.setting attempt reply (update_of update attempt w operand) k l;
-          table = called;
-          count = mid.num_operations;
-        })
-        (local_put update.place w mid store before later held wrote))
-
-    -- an update whose native was called, over any attempt whose native has the name
-    pub asked : (answer : Option (Reply H)) (name : List ℕ) (rest : List (Dynamic H)) → FreeFor name →
-        Obeys (rules.natives.gives t (lent_request update.place before mid.cells name rest update.at)) answer (Some w) called →
-        (held : Held H) (attempt : Attempt) (operand : Dynamic H) → name ≡ native_of attempt update.token →
-        rest ≡ operand ∷ [] →
-        Asked rules (updating update attempt before old operand) (state_of t old before held) answer w
-        (state_of called (record mid { cells = store }) later held)
+      (free : IsFree u.target) where
+    pub holds_update : (name : List ℕ) (e : EvalAltResult H) → barred_in t u ≡ false → is_handle u.target.value ≡ true →
+        name ≡ native_of u.attempt u.operator → (is_out_of_memory e ≡ false → e ≡ error.ErrorDataRace name u.at) →
+        Steps rules (AskUpdate u) (lent u t old scope held) (Fail e) (lent u t mid scope held)
     unfolding Steps
-    asked answer name rest free obeys held attempt operand named only = record {
-      answered = answers_update answer name rest free obeys held attempt operand named only;
-      starved = λ pos k.
-          asks_update t old mid before held (updating update attempt before old operand) room counted (rw named at free) k
-          ⨾ fires_starved (updating update attempt before old operand) k (state_of t mid before held)
-          (state_of called (record mid { cells = store }) later held) w pos plain
-          (ap (λ (l : Local H). record { table = called; count = mid.num_operations; local = l })
-          (local_put update.place w mid store before later held wrote));
-    }
+    holds_update name e allowed handle named race k =
+        asks_update t old mid scope held u room counted free allowed k
+        ⨾ fires_held u k (lent u t mid scope held) handle
+        ⨾ faulted rules e (error.ErrorDataRace (native_of u.attempt u.operator) u.at) (rw named at race) k (lent u t mid scope held)
+
+    -- one whose native is barred from its target
+    pub bars_update : (name : List ℕ) (e : EvalAltResult H) → barred_in t u ≡ true → name ≡ native_of u.attempt u.operator →
+        (is_out_of_memory e ≡ false → e ≡ error.ErrorNonPureMethodCallOnConstant name u.at) →
+        Steps rules (AskUpdate u) (lent u t old scope held) (Fail e) (lent u t mid scope held)
+    unfolding Steps
+    bars_update name e barred named bars k =
+        questions_update t old mid scope held u true room counted free barred k
+        ⨾ faulted rules e (error.ErrorNonPureMethodCallOnConstant (native_of u.attempt u.operator) u.at) (rw named at bars) k
+        (lent u t mid scope held)
+
+    module _ (called : S) (cell : Option CellId) (w : Dynamic H) (plain : is_handle u.target.value ≡ false)
+        (own : IsOwnCell cell (cells_of mid.cells)) (from : IsLentFrom u.place cell) (allowed : barred_in t u ≡ false) where
+      -- the state in which the native has left the target
+      abbrev left : State S H
+      left = placed u.place w (state_of called mid scope held)
+
+      left_is : left ≡ record (lent u t mid scope held) { table = called; local = put u.place w (lent u t mid scope held).local }
+      left_is = ap (λ (l : Local H). record { table = called; count = mid.num_operations; local = l })
+          (sym (put_twice u.place u.target w (local_of mid scope held)))
+
+      answers_update : (answer : Option (Reply H)) (name : List ℕ) (rest : List (Dynamic H)) →
+          Obeys (rules.natives.gives t (request (cells_of mid.cells) (Named name) (Some u.target) rest u.at)) answer (Some w) called →
+          name ≡ native_of u.attempt u.operator → rest ≡ u.operand ∷ [] →
+          IfSome answer (λ reply. Comes rules (AskUpdate u) (lent u t old scope held)
+          (answered_core rules.setting u.attempt reply (record u { target = w })) left)
+      answers_update None name rest obeys named only = tt
+      answers_update (Some reply) name rest obeys named only = λ k.
+          asks_update t old mid scope held u room counted free allowed k
+          ⨾ fires_update u k (lent u t mid scope held) reply w called plain
+          (ap (λ (cells : Cells H). rules.natives.gives t (request cells (Named (native_of u.attempt u.operator)) (Some u.target)
+          (u.operand ∷ []) u.at)) (lent_cells u.place cell u.target (local_of mid scope held) from own) ∙ (rw (named, only) at obeys)) _
+          (ap (λ (l : Local H). record {
+            core = answered_core rules.setting u.attempt reply (record u { target = w }) k l;
+            table = called;
+            count = mid.num_operations;
+          })
+          (sym (put_twice u.place u.target w (local_of mid scope held))))
+
+      -- an update whose native was called
+      pub asked : (answer : Option (Reply H)) (name : List ℕ) (rest : List (Dynamic H)) →
+          Obeys (rules.natives.gives t (request (cells_of mid.cells) (Named name) (Some u.target) rest u.at)) answer (Some w) called →
+          name ≡ native_of u.attempt u.operator → rest ≡ u.operand ∷ [] →
+          Asked rules u (lent u t old scope held) answer w left
+      unfolding Steps
+      asked answer name rest obeys named only = record {
+        answered = answers_update answer name rest obeys named only;
+        starved = λ pos k.
+            asks_update t old mid scope held u room counted free allowed k
+            ⨾ fires_starved u k (lent u t mid scope held) left w pos plain left_is;
+      }

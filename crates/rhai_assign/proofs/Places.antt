@@ -22,7 +22,7 @@ use Rattle.rhai_assign.specs.Targets.{there, stands, standing, IsKnown, IsPut, e
 use Rattle.rhai_assign.specs.Targets.{there_at}
 
 module _ {A : Type 0} where
-  get_set : (xs : List A) (i : ℕ) (x y : A) → slice_get xs i ≡ Some x → slice_get (slice_set xs i y) i ≡ Some y
+  pub get_set : (xs : List A) (i : ℕ) (x y : A) → slice_get xs i ≡ Some x → slice_get (slice_set xs i y) i ≡ Some y
   get_set [] i x y is = cc
   get_set (z ∷ xs) zero x y is = refl
   get_set (z ∷ xs) (suc i) x y is = get_set xs i x y is
@@ -32,14 +32,14 @@ module _ {A : Type 0} where
   none_within (x ∷ xs) zero is within = cc
   none_within (x ∷ xs) (suc i) is within = none_within xs i is (omega arith)
 
-  get_within : (xs : List A) (i : ℕ) (y : A) → i < length xs → slice_get (slice_set xs i y) i ≡ Some y
+  pub get_within : (xs : List A) (i : ℕ) (y : A) → i < length xs → slice_get (slice_set xs i y) i ≡ Some y
   get_within [] i y is = absurd (omega arith)
   get_within (z ∷ xs) zero y is = refl
   get_within (z ∷ xs) (suc i) y is = get_within xs i y (omega arith)
 
 module _ {H : Type 0} where
   -- of two values that are written to a place the last one stays
-  revalued_twice : (entries : List (ScopeEntry H)) (i : ℕ) (entry_at : Option (ScopeEntry H)) (a b : Dynamic H) →
+  pub revalued_twice : (entries : List (ScopeEntry H)) (i : ℕ) (entry_at : Option (ScopeEntry H)) (a b : Dynamic H) →
       slice_get entries i ≡ entry_at →
       revalued (revalued entries i entry_at b) i (slice_get (revalued entries i entry_at b) i) a ≡ revalued entries i entry_at a
   revalued_twice entries i None a b is = rw is refl
@@ -47,39 +47,10 @@ module _ {H : Type 0} where
       rw (get_set entries i entry (record entry { value = b }) is)
       (set-set entries i (record entry { value = b }) (record entry { value = a }))
 
-  entries_twice : (place : Place) (a b : Dynamic H) (entries : List (ScopeEntry H)) →
-      entries_put place a (entries_put place b entries) ≡ entries_put place a entries
-  entries_twice (InEntry i) a b entries = revalued_twice entries i (slice_get entries i) a b refl
-  entries_twice (InCell n) a b entries = refl
-  entries_twice InFocus a b entries = refl
-
-  -- a cell that was lent is there again
-  cells_back : (place : Place) (v : Dynamic H) (cells : Cells H) → cells_put place v (while_lent place cells) ≡ cells_put place v cells
-  cells_back (InEntry i) v cells = refl
-  cells_back (InCell n) v cells = set-set cells n None (Some v)
-  cells_back InFocus v cells = refl
-
-  -- a value that is written stands there
-  entry_put : (entries : List (ScopeEntry H)) (i : ℕ) (v : Dynamic H) (entry_at : Option (ScopeEntry H)) →
-      slice_get entries i ≡ entry_at → i < length entries →
-      option_map value_of (slice_get (revalued entries i entry_at v) i) ≡ Some v
-  entry_put entries i v None is within = absurd (none_within entries i is within)
-  entry_put entries i v (Some entry) is within = ap (option_map value_of) (get_set entries i entry (record entry { value = v }) is)
-
-  there_put : (place : Place) (v : Dynamic H) (entries : List (ScopeEntry H)) (cells : Cells H) → IsKnown place entries cells →
-      there place (entries_put place v entries) (cells_put place v cells) ≡ Some v
-  there_put (InEntry i) v entries cells known = entry_put entries i v (slice_get entries i) refl known
-  there_put (InCell n) v entries cells known = ap option_flatten (get_within cells n (Some v) known)
-  there_put InFocus v entries cells known = absurd known
-
   -- what stands at a place
   pub standing_is : (place : Place) (v : Dynamic H) (entries : List (ScopeEntry H)) (cells : Cells H) → there place entries cells ≡ Some v →
       standing place entries cells ≡ v
   standing_is place v entries cells is = ap (λ (o : Option (Dynamic H)). unwrap_or o unit_value) is
-
-  standing_put : (place : Place) (v : Dynamic H) (entries mid : List (ScopeEntry H)) (cells store : Cells H) → IsKnown place entries cells →
-      mid ≡ entries_put place v entries → store ≡ cells_put place v cells → standing place mid store ≡ v
-  standing_put place v entries mid cells store known e c = standing_is place v mid store (rw (e, c) (there_put place v entries cells known))
 
   -- a place with a value is known
   entry_known : (entries : List (ScopeEntry H)) (i : ℕ) (entry_at : Option (ScopeEntry H)) → slice_get entries i ≡ entry_at →
@@ -87,12 +58,12 @@ module _ {H : Type 0} where
   entry_known entries i None is some = cc
   entry_known entries i (Some entry) is some = slice_get_within entries i entry is
 
-  cell_known : (cells : Cells H) (n : ℕ) (cell_at : Option (Option (Dynamic H))) → slice_get cells n ≡ cell_at →
+  pub cell_known : (cells : Cells H) (n : ℕ) (cell_at : Option (Option (Dynamic H))) → slice_get cells n ≡ cell_at →
       is_some (option_flatten cell_at) ≡ true → n < length cells
   cell_known cells n None is some = cc
   cell_known cells n (Some cell) is some = slice_get_within cells n cell is
 
-  known : (place : Place) (entries : List (ScopeEntry H)) (cells : Cells H) → stands place entries cells ≡ true →
+  pub known : (place : Place) (entries : List (ScopeEntry H)) (cells : Cells H) → stands place entries cells ≡ true →
       IsKnown place entries cells
   known (InEntry i) entries cells some = entry_known entries i (slice_get entries i) refl some
   known (InCell n) entries cells some = cell_known cells n (slice_get cells n) refl some
@@ -110,26 +81,10 @@ module _ {H : Type 0} where
   known_still (InCell n) v entries cells k = rw (length-set cells n None) k
   known_still InFocus v entries cells k = k
 
-  known_lent : (place : Place) (v : Dynamic H) (entries mid : List (ScopeEntry H)) (cells store : Cells H) →
+  pub known_lent : (place : Place) (v : Dynamic H) (entries mid : List (ScopeEntry H)) (cells store : Cells H) →
       stands place entries cells ≡ true →
       mid ≡ entries_put place v entries → store ≡ while_lent place cells → IsKnown place mid store
   known_lent place v entries mid cells store some e c = rw (e, c) (known_still place v entries cells (known place entries cells some))
-
-  -- a value that was lent is written back: that alone has changed, and it stands there
-  pub lent_back : (place : code.Place) (v : Dynamic H) (before mid after : Scope H) (old held new : CellStore H) →
-      stands_at place before old ≡ true →
-      entries_of mid ≡ entries_put (place_in place) unit_value (entries_of before) →
-      cells_of held ≡ while_lent (place_in place) (cells_of old) →
-      IsPut place v mid after held new → IsPut place (standing_at place after new) before after old new
-  lent_back place v before mid later old held new some taken lent given =
-      rw (standing_put (place_in place) v (entries_of mid) (entries_of later) (cells_of held) (cells_of new)
-      (known_lent (place_in place) unit_value (entries_of before) (entries_of mid) (cells_of old) (cells_of held) some taken lent)
-      given.entries given.cells)
-      (record {
-        entries = given.entries ∙ ap (entries_put (place_in place) v) taken
-            ∙ entries_twice (place_in place) v unit_value (entries_of before);
-        cells = given.cells ∙ ap (cells_put (place_in place) v) lent ∙ cells_back (place_in place) v (cells_of old);
-      })
 
   -- the scope keeps its names
   revalued_names : (entries : List (ScopeEntry H)) (i : ℕ) (entry_at : Option (ScopeEntry H)) (v : Dynamic H) →
@@ -139,7 +94,7 @@ module _ {H : Type 0} where
   revalued_names entries i (Some entry) v is =
       map-set_same name_of entries i (record entry { value = v }) entry (sym (ap name_of (get_or_from_slice_get entries i entry entry is)))
 
-  names_put : (place : Place) (v : Dynamic H) (entries : List (ScopeEntry H)) →
+  pub names_put : (place : Place) (v : Dynamic H) (entries : List (ScopeEntry H)) →
       map name_of (entries_put place v entries) ≡ map name_of entries
   names_put (InEntry i) v entries = revalued_names entries i (slice_get entries i) v refl
   names_put (InCell n) v entries = refl
@@ -164,14 +119,3 @@ module _ {H : Type 0} where
       IsPut place v before after g.cells store →
       local_of (record g { cells = store }) after held ≡ put (place_in place) v (local_of g before held)
   local_put place v g store before later held wrote = local_at place v g store before later held wrote.entries wrote.cells
-
-  -- a charge leaves what stands
-  pub standing_charged : (place : code.Place) (scope : Scope H) (old mid : GlobalRuntimeState H) (n : ℕ) →
-      mid ≡ record old { num_operations = n } →
-      standing_at place scope mid.cells ≡ standing_at place scope old.cells
-  standing_charged place scope old mid n charged = ap (λ (g : GlobalRuntimeState H). standing_at place scope g.cells) charged
-
-  pub standing_uncharged : (place : code.Place) (scope : Scope H) (old mid : GlobalRuntimeState H) (v : Dynamic H) (n : ℕ) →
-      mid ≡ record old { num_operations = n } → there_at place scope mid.cells ≡ Some v → standing_at place scope old.cells ≡ v
-  standing_uncharged place scope old mid v n charged is =
-      sym (standing_charged place scope old mid n charged) ∙ standing_is (place_in place) v (entries_of scope) (cells_of mid.cells) is

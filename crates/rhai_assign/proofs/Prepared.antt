@@ -1,6 +1,6 @@
 -- An assignment that is done in place: its value and its target are charged, and what the built-in gave is written.
-use Rattle.std.proofs.Common.{◌≡◌, ◌<◌, ◌≤◌, ◌+◌, Bool, true, IsTrue, List, ◌∷◌, Option, Some, Result}
-use Rattle.std.proofs.Common.{Ok, IfErr, refl, sym, ap, subst, ◌∙◌}
+use Rattle.std.proofs.Common.{◌≡◌, ◌<◌, ◌≤◌, ◌+◌, Bool, true, IsTrue, List, ◌∷◌, Option, Some, None, Result}
+use Rattle.std.proofs.Common.{Ok, Err, IfErr, refl, sym, ap, subst, ◌∙◌}
 use Rattle.std.specs.declared.num.NonZeroUsize.{NonZeroUsize}
 use Rattle.rhai_tree.specs.declared.position.Position.{Position}
 use Rattle.rhai_tree.specs.declared.token.Token.{Token}
@@ -43,7 +43,7 @@ use Rattle.rhai_assign.specs.declared.place.Place as code
 use Rattle.rhai_assign.specs.Follows.{FollowsAssign}
 use Rattle.rhai_assign.specs.Targets.{place_in, standing_at}
 use Rattle.rhai_assign.specs.Updates.{Becomes, update_of}
-use Rattle.rhai_assign.proofs.Updates.{assigns, built, refuses_assignment}
+use Rattle.rhai_assign.proofs.Updates.{assigns, built, follows_alike, refuses_assignment}
 
 module _ {S H : Type 0} (rules : Rules S H) where
   -- an assignment to a variable begins with its value
@@ -116,7 +116,8 @@ module _ {S H : Type 0} (rules : Rules S H) where
           before = standing_at place scope second.cells
 
           abbrev updated : Update H
-          updated = update_of (record { token = token; at = op.position; place = place; target_at = pos }) InPlace before (copy_of y)
+          updated = update_of (record { token = token; at = op.position; cell = None; target_at = pos }) InPlace (place_in place) before
+              (copy_of y)
 
           answers_copy : operators.HasMemory (Some outcome) → Some outcome ≡ op_assign_of token before (copy_of y)
           answers_copy m = subst (λ (cells : CellStore H). Some outcome ≡ op_assign_of token (standing_at place scope cells) y) (sym
@@ -130,12 +131,18 @@ module _ {S H : Type 0} (rules : Rules S H) where
               l) is_token
               ∙ ap (λ (b : Bool). update_core rules.setting (if_fast b (op_assign_of token before (copy_of y))) updated k l) fast
 
+          both_left : (r : Result (Dynamic H) (EvalAltResult H)) → IfErr r (λ _. new ≡ second) → IfErr r (λ _. later ≡ scope) →
+              IfErr r (λ _. local_of new later held ≡ local_of second scope held)
+          both_left (Ok v) g s = tt
+          both_left (Err e) g s = rw (g, s) refl
+
           follows : FollowsAssign rules assignment (target (place_in place) before) (copy_of y) (state_of t second scope held) result
               (state_of t new later held)
-          follows p k go want = built rules t second new scope later held updated (Some outcome) (op_assign_of token before (copy_of y))
-              outcome answers_copy refl counts result written left_global left_scope p k
-              (subst (λ (c : Core H). Goes rules p (with_core c (state_of t second scope held))) (starts k (local_of second scope
-              held)) go) want
+          follows = follows_alike rules _ (update_core rules.setting (op_assign_of token before (copy_of y)) updated)
+              (state_of t second scope held) (state_of t new later held) result (λ k. starts k (local_of second scope held))
+              (built rules updated (Some outcome) (op_assign_of token before (copy_of y)) outcome answers_copy refl t
+              second.num_operations new.num_operations counts (local_of second scope held) (local_of new later held) result written
+              (both_left result left_global left_scope))
 
           -- or what the built-in gave is written
           pub updates_in_place : Runs rules (OpenStmt (layer.Assignment op lhs rhs) restoring) (state_of t old scope held) result

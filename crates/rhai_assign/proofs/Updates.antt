@@ -3,47 +3,55 @@ use Rattle.std.proofs.Common.{◌≡◌, ◌<◌, ◌≤◌, ◌+◌, ℕ, Bool,
 use Rattle.std.proofs.Common.{Err, IfOk, IfErr, get_or, refl, sym, ap, ◌∙◌}
 use Rattle.std.proofs.lemmas.Bool.{false≢true}
 use Rattle.rhai_tree.specs.declared.position.Position.{Position}
+use Rattle.rhai_tree.specs.declared.token.Token.{Token}
+use Rattle.rhai_values.specs.declared.base.value.AccessMode.TheVariants.{ReadWrite}
 use Rattle.rhai_values.specs.declared.base.value.Dynamic.{Dynamic}
+use Rattle.rhai_values.specs.Modes.{with_mode}
 use Rattle.rhai_state.specs.declared.scope.Scope.{Scope}
-use Rattle.rhai_values.specs.declared.cells.CellStore.{CellStore}
 use Rattle.rhai_state.specs.declared.state.GlobalRuntimeState.{GlobalRuntimeState}
 use Rattle.rhai_state.specs.declared.error.EvalAltResult.{EvalAltResult}
 use Rattle.rhai_state.specs.declared.error.EvalAltResult.TheVariants as error
 use Rattle.rhai_values.specs.Cells.{cells_of}
 use Rattle.rhai_state.specs.Errors.{is_out_of_memory}
 use Rattle.rhai_state.specs.Scope.{entries_of}
-use Rattle.rhai_state.specs.Native.{Reply}
+use Rattle.rhai_state.specs.Native.{Reply, Missing}
 use Rattle.rhai_operators.specs.Answers as operators
 use Rattle.rhai_operators.specs.Answers.{Answer, op_assign_of}
 use Rattle.rhai_machine.specs.machine.Point.{Point, after}
 use Rattle.rhai_machine.specs.machine.Memory.{here, next, wanting, ◌⨾◌}
 use Rattle.rhai_machine.specs.language.Setting.{Rules, limit_under}
 use Rattle.rhai_machine.specs.language.State.{Held, State, Local, HasMemory, Answers}
-use Rattle.rhai_machine.specs.language.Places.{Target, target_of, put}
+use Rattle.rhai_machine.specs.language.Values.{unit_value}
+use Rattle.rhai_machine.specs.language.Places.{Place, Target, target_of, put}
 use Rattle.rhai_machine.specs.language.Calls.{applied, operation_at, placed_if_none, replied, sized}
-use Rattle.rhai_machine.specs.language.Frames.{Control, Assignment, AsValue, Update, Frame, Core, core, ended, Assign, Store, AskUpdate}
+use Rattle.rhai_machine.specs.language.Frames.{Control, Assignment, AsValue, InPlace, Update, Frame, Core, core, ended, Assign, Store, AskUpdate}
 use Rattle.rhai_machine.specs.language.Frames.{Fail}
-use Rattle.rhai_machine.specs.language.Assignment.{changed_core, fault_core, if_fast, native_of, store_core, update_core, value_core, written_core}
+use Rattle.rhai_machine.specs.language.Assignment.{assign_core, changed_core, fault_core, if_fast, native_of, store_core, update_core, value_core, written_core}
 use Rattle.rhai_machine.specs.language.Runs.{at, with_core, Goes, Runs, Steps}
 use Rattle.rhai_steps.specs.States.{local_of, state_of}
 use Rattle.rhai_steps.proofs.Pieces.{charged, or_wants, refused, told}
 use Rattle.rhai_assign.specs.declared.place.Update as code
-use Rattle.rhai_assign.specs.Follows.{Asked, Follows, FollowsAssign}
-use Rattle.rhai_assign.specs.Targets.{place_in, standing_at, there_at}
+use Rattle.rhai_assign.specs.Follows.{Asked, Follows, FollowsAssign, FollowsUpdate, Does, Wants}
+use Rattle.rhai_assign.specs.Lending.{placed}
 use Rattle.rhai_assign.specs.Updates.{Becomes, changed_of, finished, unless, update_of}
-use Rattle.rhai_assign.proofs.Places.{standing_is}
+use Rattle.rhai_assign.proofs.Lent.{put_twice}
 use Rattle.rhai_assign.proofs.Writes.{changes, no_function, other, valued, wrote_memory}
 
 -- the only item of a list
 pub first_is : {A : Type 0} (xs : List A) (x y : A) → x ≡ get_or xs 0 x → xs ≡ y ∷ [] → x ≡ y
 first_is {A = A} xs x y is only = is ∙ ap (λ (ys : List A). get_or ys 0 x) only
 
--- a built-in's answer for the operands as the machine has them
-pub built_for : {H : Type 0} (answer : Answer H) (update : code.Update) (scope : Scope H) (cells : CellStore H) (x y w : Dynamic H) →
-    (operators.HasMemory answer → answer ≡ op_assign_of update.token x y) → there_at update.place scope cells ≡ Some x → y ≡ w →
-    operators.HasMemory answer → answer ≡ op_assign_of update.token (standing_at update.place scope cells) w
-built_for answer update scope cells x y w value stands same m =
-    rw (standing_is (place_in update.place) x (entries_of scope) (cells_of cells) stands, ← same) (value m)
+-- a built-in's answer for the operand as the machine has it
+pub built_for : {H : Type 0} (answer : Answer H) (token : Token) (x y w : Dynamic H) →
+    (operators.HasMemory answer → answer ≡ op_assign_of token x y) → y ≡ w →
+    operators.HasMemory answer → answer ≡ op_assign_of token x w
+built_for answer token x y w value same m = value m ∙ ap (λ v. op_assign_of token x v) same
+
+-- a target that an error leaves stays at its place
+pub left_lent : {H : Type 0} (place : Place) (v w : Dynamic H) (l : Local H) (r : Result (Dynamic H) (EvalAltResult H)) →
+    IfErr r (λ _. w ≡ v) → IfErr r (λ _. put place w l ≡ put place v l)
+left_lent place v w l (Ok x) left = tt
+left_lent place v w l (Err e) left = ap (λ x. put place x l) left
 
 -- without fast operators no built-in is tried
 pub not_fast : {H : Type 0} (fast : Bool) (answer : Answer H) → fast ≡ false → if_fast fast answer ≡ None
@@ -57,7 +65,7 @@ module _ {S H : Type 0} (rules : Rules S H) where
   lands c d t u m n e f g = rw (e, f, g) here
 
   -- the same core over a state
-  same_core : (c d : Core H) (now : State S H) → c ≡ d → Goes rules (with_core c now) (with_core d now)
+  pub same_core : (c d : Core H) (now : State S H) → c ≡ d → Goes rules (with_core c now) (with_core d now)
   same_core c d now is = rw is here
 
   module _ (p : Point S (Core H)) (k : List (Frame H)) (now : State S H) (u : Update H) where
@@ -88,73 +96,99 @@ module _ {S H : Type 0} (rules : Rules S H) where
   unfolding Steps
   wants c old pos k = wanting {at = pos} here
 
-  module _ (t : S) (old new : GlobalRuntimeState H) (before later : Scope H) (held : Held H) where
-    -- the native `op` gave a value, which is written and measured, or there is an error
-    pub valued_by : (update : code.Update) (start : State S H) (v w operand : Dynamic H) (answer : Option (Reply H))
-        (outcome result : Result (Dynamic H) (EvalAltResult H)) →
-        Asked rules (update_of update AsValue v operand) start answer w (state_of t old before held) →
-        IfSome answer (λ reply. Answers outcome (replied rules.setting.limits rules.setting.host_type reply (Some w) (operand ∷ [])
-        (operation_at (native_of AsValue update.token) update.token update.at) (cells_of old.cells))) →
-        (HasMemory outcome → is_some answer ≡ true) → new.num_operations ≡ old.num_operations →
-        IfOk outcome (λ x. local_of new later held ≡ put (place_in update.place) x (local_of old before held)) →
-        IfOk outcome (λ x. Answers result (finished (sized rules.setting.limits x update.target_at))) →
-        IfErr outcome (λ e. result ≡ Err e) → IfErr outcome (λ _. new ≡ old) → IfErr outcome (λ _. later ≡ before) →
-        Runs rules (AskUpdate (update_of update AsValue v operand)) start result (state_of t new later held)
-    unfolding Steps
-    valued_by update start v w operand None (Ok x) result asked replies memory counts wrote measured fault left_global left_scope =
-        absurd (false≢true (memory tt))
-    valued_by update start v w operand (Some reply) (Ok x) result asked replies memory counts wrote measured fault left_global
-        left_scope = λ k.
-        asked.answered k
-        ⨾ lands _ _ t t _ _
-        (ap (λ (r : Result (Dynamic H) (EvalAltResult H)). value_core rules.setting r (update_of update AsValue w operand) k
-        (local_of old before held)) (sym (replies tt))
-        ∙ valued rules.setting x (update_of update AsValue w operand) k (local_of old before held)
-        ∙ ap (λ (l : Local H). core (ended (finished (sized rules.setting.limits x update.target_at))) k l) (sym wrote)) refl (sym counts)
-        ⨾ told rules result (finished (sized rules.setting.limits x update.target_at)) measured k (state_of t new later held)
-    valued_by update start v w operand answer (Err (error.ErrorOutOfMemory pos)) result asked replies memory counts wrote measured fault
-        left_global left_scope = λ k.
-        rw (fault, left_global, left_scope) (asked.starved pos k)
-    valued_by update start v w operand None (Err e) result asked replies memory counts wrote measured fault left_global left_scope =
-        absurd (false≢true (memory refl))
-    valued_by update start v w operand (Some reply) (Err e) result asked replies memory counts wrote measured fault left_global
-        left_scope = λ k.
-        rw (fault, left_global, left_scope) (asked.answered k ⨾ same_core _ _ (state_of t old before held)
-        (ap (λ (r : Result (Dynamic H) (EvalAltResult H)). value_core rules.setting r (update_of update AsValue w operand) k
-        (local_of old before held)) (sym (replies refl))))
+  -- the native `op` gave a value, which is written and measured, or there is an error
+  pub valued_by : (update : code.Update) (place : Place) (start s : State S H) (v w later operand : Dynamic H)
+      (answer : Option (Reply H)) (outcome result : Result (Dynamic H) (EvalAltResult H)) →
+      Asked rules (update_of update AsValue place v operand) start answer w (placed place w s) →
+      IfSome answer (λ reply. Answers outcome (replied rules.setting.limits rules.setting.host_type reply (Some w) (operand ∷ [])
+      (operation_at (native_of AsValue update.token) update.token update.at) (put place w s.local).around.cells)) →
+      (HasMemory outcome → is_some answer ≡ true) → IfOk outcome (λ x. later ≡ x) →
+      IfOk outcome (λ x. Answers result (finished (sized rules.setting.limits x update.target_at))) →
+      IfErr outcome (λ e. result ≡ Err e) → IfErr outcome (λ _. later ≡ w) →
+      Runs rules (AskUpdate (update_of update AsValue place v operand)) start result (placed place later s)
+  unfolding Steps
+  valued_by update place start s v w later operand None (Ok x) result asked replies memory wrote measured fault left =
+      absurd (false≢true (memory tt))
+  valued_by update place start s v w later operand (Some reply) (Ok x) result asked replies memory wrote measured fault left = λ k.
+      rw wrote (asked.answered k
+      ⨾ same_core _ _ (placed place w s)
+      (ap (λ (r : Result (Dynamic H) (EvalAltResult H)). value_core rules.setting r (update_of update AsValue place w operand) k
+      (put place w s.local)) (sym (replies tt))
+      ∙ valued rules.setting x (update_of update AsValue place w operand) k (put place w s.local)
+      ∙ ap (λ (l : Local H). core (ended (finished (sized rules.setting.limits x update.target_at))) k l) (put_twice place w x s.local))
+      ⨾ told rules result (finished (sized rules.setting.limits x update.target_at)) measured k (placed place x s))
+  valued_by update place start s v w later operand answer (Err (error.ErrorOutOfMemory pos)) result asked replies memory wrote measured
+      fault left = λ k.
+      rw (fault, left) (asked.starved pos k)
+  valued_by update place start s v w later operand None (Err e) result asked replies memory wrote measured fault left =
+      absurd (false≢true (memory refl))
+  valued_by update place start s v w later operand (Some reply) (Err e) result asked replies memory wrote measured fault left = λ k.
+      rw (fault, left) (asked.answered k ⨾ same_core _ _ (placed place w s)
+      (ap (λ (r : Result (Dynamic H) (EvalAltResult H)). value_core rules.setting r (update_of update AsValue place w operand) k
+      (put place w s.local)) (sym (replies refl))))
 
-    module _ (u : Update H) (answer wanted : Answer H) (outcome : Result (Dynamic H) (EvalAltResult H))
-        (value : operators.HasMemory answer → answer ≡ wanted) (is : answer ≡ Some outcome)
-        (counts : new.num_operations ≡ old.num_operations) where
-      built_told : (result : Result (Dynamic H) (EvalAltResult H)) → HasMemory result →
-          Becomes (written_core (applied rules.setting.limits outcome u.at) u.place) (local_of old before held) result
-          (local_of new later held) →
-          Follows rules (update_core rules.setting wanted u) (state_of t old before held) result (state_of t new later held)
-      built_told result m written p k go want =
-          let had = wrote_memory rules.setting.limits outcome result u.at u.place k
-          (local_of old before held) (local_of new later held) m (written m k) in
-          let e : wanted ≡ Some outcome = sym (value (rw is had)) ∙ is in
-          go
-          ⨾ lands _ _ t t _ _ (ap (λ (a : Answer H). update_core rules.setting a u k (local_of old before held)) e ∙ written m k)
-          refl (sym counts)
+  -- where the native `op=` is missing the update goes on with what it left
+  pub missing_by : (update : code.Update) (place : Place) (v w operand : Dynamic H) (start now new : State S H)
+      (result : Result (Dynamic H) (EvalAltResult H)) → Asked rules (update_of update InPlace place v operand) start (Some Missing) w now →
+      FollowsUpdate rules (update_of update AsValue place w operand) now result new →
+      Runs rules (AskUpdate (update_of update InPlace place v operand)) start result new
+  unfolding Steps
+  missing_by update place v w operand start now new result asked (Does go) = λ k. asked.answered k ⨾ go k
+  missing_by update place v w operand start now new result asked (Wants pos is same) = λ k. rw (is, same) (asked.starved pos k)
 
-      -- a built-in has the answer, or wanted memory, and then nothing is written
-      pub built : (result : Result (Dynamic H) (EvalAltResult H)) →
-          Becomes (written_core (applied rules.setting.limits outcome u.at) u.place) (local_of old before held) result
-          (local_of new later held) →
-          IfErr result (λ _. new ≡ old) → IfErr result (λ _. later ≡ before) →
-          Follows rules (update_core rules.setting wanted u) (state_of t old before held) result (state_of t new later held)
-      built (Ok x) written left_global left_scope = built_told (Ok x) tt written
-      built (Err (error.ErrorOutOfMemory pos)) written left_global left_scope = λ p k go want. rw (left_global, left_scope) (want pos)
-      built (Err e) written left_global left_scope = built_told (Err e) refl written
+  -- a part that begins as another one goes on as that one does
+  pub follows_alike : (start other : List (Frame H) → Local H → Core H) (old new : State S H)
+      (result : Result (Dynamic H) (EvalAltResult H)) → ((k : List (Frame H)) → start k old.local ≡ other k old.local) →
+      Follows rules other old result new → Follows rules start old result new
+  follows_alike start other old new result alike (Does go) = Does (λ k. same_core _ _ old (alike k) ⨾ go k)
+  follows_alike start other old new result alike (Wants pos is same) = Wants pos is same
+
+  -- an assignment without an operator writes its value
+  pub writes : (assignment : Assignment) (target : Target H) (v : Dynamic H) (old new : State S H) → assignment.op.op ≡ None →
+      new ≡ record old { local = put target.place (with_mode ReadWrite v) old.local } →
+      FollowsAssign rules assignment target v old (Ok unit_value) new
+  writes assignment target v old new none is = Does (λ k. rw is (same_core _ _ old
+      (ap (λ (o : Option Token). assign_core rules.setting o assignment target v k old.local) none)))
+
+  -- one by an operator is an update
+  pub updates : (assignment : Assignment) (target : Target H) (v : Dynamic H) (old new : State S H)
+      (result : Result (Dynamic H) (EvalAltResult H)) (token : Token) → assignment.op.op ≡ Some token →
+      Follows rules (assign_core rules.setting (Some token) assignment target v) old result new →
+      FollowsAssign rules assignment target v old result new
+  updates assignment target v old new result token is follows = follows_alike _ _ old new result
+      (λ k. ap (λ (o : Option Token). assign_core rules.setting o assignment target v k old.local) is) follows
+
+  module _ (u : Update H) (answer wanted : Answer H) (outcome : Result (Dynamic H) (EvalAltResult H))
+      (value : operators.HasMemory answer → answer ≡ wanted) (is : answer ≡ Some outcome) (t : S) (n m : ℕ) (counts : m ≡ n)
+      (before after : Local H) where
+    abbrev now : ℕ → Local H → State S H
+    now count l = record { table = t; count = count; local = l }
+
+    built_told : (result : Result (Dynamic H) (EvalAltResult H)) → HasMemory result →
+        Becomes (written_core (applied rules.setting.limits outcome u.at) u.place) before result after →
+        Follows rules (update_core rules.setting wanted u) (now n before) result (now m after)
+    built_told result memory written = Does (λ k.
+        let had = wrote_memory rules.setting.limits outcome result u.at u.place k before after memory (written memory k) in
+        let e : wanted ≡ Some outcome = sym (value (rw is had)) ∙ is in
+        lands _ _ t t _ _ (ap (λ (a : Answer H). update_core rules.setting a u k before) e ∙ written memory k) refl (sym counts))
+
+    -- a built-in has the answer, or wanted memory, and then nothing is written
+    pub built : (result : Result (Dynamic H) (EvalAltResult H)) →
+        Becomes (written_core (applied rules.setting.limits outcome u.at) u.place) before result after →
+        IfErr result (λ _. after ≡ before) →
+        Follows rules (update_core rules.setting wanted u) (now n before) result (now m after)
+    built (Ok x) written left = built_told (Ok x) tt written
+    built (Err (error.ErrorOutOfMemory pos)) written left = Wants pos refl (rw (left, counts) refl)
+    built (Err e) written left = built_told (Err e) refl written
 
   -- there is no built-in, and the native is asked
   pub not_built : (answer wanted : Answer H) (result : Result (Dynamic H) (EvalAltResult H)) (u : Update H) (old new : State S H) →
       (operators.HasMemory answer → answer ≡ wanted) → answer ≡ None → Runs rules (AskUpdate u) old result new →
       Follows rules (update_core rules.setting wanted u) old result new
   unfolding Steps
-  not_built answer wanted result u old new value is runs p k go want =
-      let e : wanted ≡ None = sym (value (rw is tt)) ∙ is in (rw e at go) ⨾ runs k
+  not_built answer wanted result u old new value is runs =
+      let e : wanted ≡ None = sym (value (rw is tt)) ∙ is in
+      Does (λ k. same_core _ _ old (ap (λ (a : Answer H). update_core rules.setting a u k old.local) e) ⨾ runs k)
 
   -- where the target of a charged assignment is found, or is not
   store_step : (assignment : Assignment) (v : Dynamic H) (k : List (Frame H)) (now : State S H)
@@ -191,7 +225,9 @@ module _ {S H : Type 0} (rules : Rules S H) where
           FollowsAssign rules assignment target v (state_of t mid scope held) result new →
           Runs rules (Assign assignment v) (state_of t old scope held) result new
       unfolding Steps
-      assigns target result new is follows k =
+      assigns target result new is (Does go) k =
           charged rules t old mid scope held (Assign assignment v) (Store assignment v) assignment.at (λ j. refl) room counted k
-          ⨾ follows (at (Store assignment v) k (state_of t mid scope held)) k
-          (store_step assignment v k (state_of t mid scope held) (Ok target) is) (λ pos. wanting {at = pos} here)
+          ⨾ store_step assignment v k (state_of t mid scope held) (Ok target) is ⨾ go k
+      assigns target result new is (Wants pos same left) k = rw (same, left)
+          (charged rules t old mid scope held (Assign assignment v) (Store assignment v) assignment.at (λ j. refl) room counted k
+          ⨾ wanting {at = pos} here)

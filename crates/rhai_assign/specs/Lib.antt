@@ -1,5 +1,7 @@
+pub mod Chains
 pub mod Follows
 pub mod InPlace
 pub mod Keeps
+pub mod Lending
 pub mod Targets
 pub mod Updates

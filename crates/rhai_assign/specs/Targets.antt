@@ -1,7 +1,7 @@
 -- Where the value of a variable stands in the code, and what is written there.
 use Rattle.std.specs.Prelude.{◌≡◌, ◌<◌, ℕ, Bool, true, false, List, length, Option, Some, None, is_some, unwrap_or, slice_get}
 use Rattle.std.specs.Prelude.{Result, Ok, Err, is_ok}
-use Rattle.rhai_tree.specs.declared.position.Position.{Position}
+use Rattle.rhai_values.specs.declared.base.value.CellId.{CellId}
 use Rattle.rhai_values.specs.declared.base.value.Dynamic.{Dynamic}
 use Rattle.rhai_state.specs.declared.scope.Scope.{Scope}
 use Rattle.rhai_state.specs.declared.scope.ScopeEntry.{ScopeEntry}
@@ -9,16 +9,20 @@ use Rattle.rhai_state.specs.declared.error.EvalAltResult.{EvalAltResult}
 use Rattle.rhai_values.specs.declared.cells.CellStore.{CellStore}
 use Rattle.rhai_values.specs.Cells.{cells_of, value_of_cell, with_value}
 use Rattle.rhai_state.specs.Errors.{is_out_of_memory}
-use Rattle.rhai_state.specs.Native.{Request, Named, request}
 use Rattle.rhai_state.specs.Scope.{entries_of, value_in, revalued}
 use Rattle.rhai_machine.specs.language.Values.{Cells, unit_value}
-use Rattle.rhai_machine.specs.language.Places.{Place, InEntry, InCell, InFocus, Target, target, while_lent}
+use Rattle.rhai_machine.specs.language.Places.{Place, InEntry, InCell, InFocus, Target, target}
 use Rattle.rhai_assign.specs.declared.place.Place as code
 use Rattle.rhai_assign.specs.declared.place.Place.TheVariants as place
 
 abbrev pub place_in : code.Place → Place
 place_in (place.InEntry index) = InEntry index
 place_in (place.InCell id) = InCell id.number
+
+-- the cell of a place, if it is one
+abbrev pub own_cell : code.Place → Option CellId
+own_cell (place.InEntry index) = None
+own_cell (place.InCell id) = Some id
 
 module _ {H : Type 0} where
   -- the value at a place of a variable, None where there is none
@@ -69,11 +73,6 @@ module _ {H : Type 0} where
   pub record IsPut (place : code.Place) (v : Dynamic H) (before after : Scope H) (old new : CellStore H) : Type 0 where
     pub entries : entries_of after ≡ entries_put (place_in place) v (entries_of before)
     pub cells : cells_of new ≡ cells_put (place_in place) v (cells_of old)
-
-  -- the call of a native with the value of a place as its first argument, while that is lent to it
-  abbrev pub lent_request : code.Place → Scope H → CellStore H → (name : List ℕ) → (rest : List (Dynamic H)) → Position → Request H
-  lent_request place scope cells name rest at =
-      request (while_lent (place_in place) (cells_of cells)) (Named name) (Some (standing_at place scope cells)) rest at
 
   -- a place that was found has the target's value; else there is none, and the error is the machine's, want of memory aside
   abbrev pub Finds : Result code.Place (EvalAltResult H) → List (ScopeEntry H) → Cells H → Result (Target H) (EvalAltResult H) → Type 0

@@ -2,37 +2,30 @@
 use Rattle.std.specs.Prelude.{◌≡◌, ℕ, Bool, true, false, List, Option, Some, None, Result, Ok, Err}
 use Rattle.rhai_tree.specs.declared.position.Position.{Position}
 use Rattle.rhai_values.specs.declared.base.value.Dynamic.{Dynamic}
-use Rattle.rhai_state.specs.declared.scope.Scope.{Scope}
 use Rattle.rhai_state.specs.declared.error.EvalAltResult.{EvalAltResult}
 use Rattle.rhai_state.specs.declared.limits.Limits.{Limits}
-use Rattle.rhai_state.specs.declared.state.GlobalRuntimeState.{GlobalRuntimeState}
 use Rattle.rhai_machine.specs.language.State.{Local, HasMemory}
 use Rattle.rhai_state.specs.Native.{Natives, OfName}
-use Rattle.rhai_values.specs.TypeNames.{type_name_of}
-use Rattle.rhai_machine.specs.language.Values.{Cells, unit_value}
-use Rattle.rhai_machine.specs.language.Places.{is_barred}
+use Rattle.rhai_values.specs.TypeNames.{own_type_name}
+use Rattle.rhai_machine.specs.language.Values.{unit_value}
+use Rattle.rhai_machine.specs.language.Places.{Place, is_barred}
 use Rattle.rhai_machine.specs.language.Frames.{Attempt, Update, Frame, Core, core, ended}
 use Rattle.rhai_machine.specs.language.Calls.{sized}
 use Rattle.rhai_machine.specs.language.Assignment.{says_missing}
 use Rattle.rhai_assign.specs.declared.place.Update as code
-use Rattle.rhai_assign.specs.Targets.{place_in, standing_at}
 
 module _ {H : Type 0} where
-  -- an update of the code as the machine has it, with an attempt, the target's value and the operand
-  abbrev pub update_of : code.Update → Attempt → Dynamic H → Dynamic H → Update H
-  update_of update attempt target operand = record {
+  -- an update of the code as the machine has it, with an attempt, the place and the value of the target, and the operand
+  abbrev pub update_of : code.Update → Attempt → Place → (target operand : Dynamic H) → Update H
+  update_of update attempt place target operand = record {
     attempt = attempt;
     operator = update.token;
     at = update.at;
-    place = place_in update.place;
+    place = place;
     target = target;
     operand = operand;
     target_at = update.target_at;
   }
-
-  -- the same with the value that stands at its place
-  abbrev pub updating : code.Update → Attempt → Scope H → GlobalRuntimeState H → Dynamic H → Update H
-  updating update attempt scope global operand = update_of update attempt (standing_at update.place scope global.cells) operand
 
   -- an assignment ends with `()`, where its last measurement went well
   abbrev pub finished : {A : Type 0} → Result A (EvalAltResult H) → Result (Dynamic H) (EvalAltResult H)
@@ -53,9 +46,9 @@ module _ {H : Type 0} where
   abbrev pub other_fault : List ℕ → EvalAltResult H → Option (EvalAltResult H)
   other_fault name e = unless (says_missing name e) e
 
-  -- the native of a name is barred from a target, as the table answers in a state
-  abbrev pub is_barred_for : {S : Type 0} → (H → List ℕ) → Natives S H → Cells H → S → (name : List ℕ) → Dynamic H → Bool
-  is_barred_for host natives cells t name target = is_barred (natives.pure t (OfName name (type_name_of host cells target) 2)) target
+  -- the native of a name is barred from a target that is no handle where it is a constant
+  abbrev pub is_barred_for : {S : Type 0} → (H → List ℕ) → Natives S H → S → (name : List ℕ) → Dynamic H → Bool
+  is_barred_for host natives t name target = is_barred (natives.pure t (OfName name (own_type_name host target.value) 2)) target
 
   -- a core over any stack is the end of a part, want of memory aside
   abbrev pub Becomes : (List (Frame H) → Local H → Core H) → Local H → Result (Dynamic H) (EvalAltResult H) → Local H → Type 0

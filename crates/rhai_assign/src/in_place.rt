@@ -18,7 +18,7 @@ ghost use Rattle.rhai_operands.specs.Standing.{standing};
 ghost use Rattle.rhai_assign.specs.InPlace.{IsReady, assigned, assigned_by, assigned_known, writable_in};
 ghost use Rattle.rhai_assign.specs.Keeps.{Keeps};
 
-use crate::place::{Place, Update, find_target, value_at};
+use crate::place::{Place, find_target, value_at};
 use crate::write::write_outcome;
 use rhai_items::{Shared, Text};
 use rhai_operands::operands::{integer_at, integer_in_place, operand_in_place};
@@ -189,14 +189,9 @@ fn assign_prepared<H: Host, T: NativeTable<H>>(
         drop(ready);
         return Some(Err(error));
     }
-    let update = Update {
-        token,
-        at: op.position,
-        place: ready.place,
-        target_at: *pos,
-    };
+    let place = ready.place;
     let outcome = ready.outcome;
-    Some(write_outcome(limits, alloc, global, scope, update, outcome))
+    Some(write_outcome(limits, alloc, global, scope, place, op.position, outcome))
 }
 
 /// An assignment by a built-in operator, whose value is an operand as it stands, charged at the value

@@ -1,9 +1,11 @@
-//! Assignment to a variable: of a value as it is, or by an operator, for which the built-in is
-//! tried first, then the native `op=` on the target, then the native `op` for a new value. Ports
-//! upstream's `eval_op_assignment` for variables. The contracts cite the machine's specs/language,
-//! Places and Assignment, and the crate's own specs/.
+//! Assignment to a variable, and to what a chain works on: of a value as it is, or by an operator,
+//! for which the built-in is tried first, then the native `op=` on the target, then the native `op`
+//! for a new value. The target is lent to an update wherever it stands. Ports upstream's
+//! `eval_op_assignment`. The contracts cite the machine's specs/language, Places, Chains and
+//! Assignment, and the crate's own specs/.
 #![tactic(auto)]
 
+pub mod focus;
 pub mod in_place;
 mod native;
 mod place;

@@ -1,59 +1,53 @@
-//! The natives of an update: their names, and the call with the target, which is lent to the
-//! native and written back.
+//! The natives of an update: their names, the call on the target, and what an answer comes to.
 
-ghost use Rattle.std.specs.Prelude.{◌≡◌, ◌∷◌, [], Some, true, IfOk, IfErr};
+ghost use Rattle.std.specs.Prelude.{◌≡◌, ◌∷◌, [], Some, true, is_some, IfSome, IfOk, IfErr};
 ghost use Rattle.rhai_values.specs.Cells.{IsNoHandle, cells_of};
-ghost use Rattle.rhai_state.specs.Native.{Obeys, reply_of};
+ghost use Rattle.rhai_state.specs.Native.{Named, Obeys, reply_of, request};
 ghost use Rattle.rhai_machine.specs.language.Setting.{rules_of};
+ghost use Rattle.rhai_machine.specs.language.State.{Answers, HasMemory};
+ghost use Rattle.rhai_machine.specs.language.Calls.{replied as replied_at};
 ghost use Rattle.rhai_machine.specs.language.Frames.{AskUpdate, Fail, InPlace};
 ghost use Rattle.rhai_machine.specs.language.Assignment.{native_of, says_missing as missing_said};
 ghost use Rattle.rhai_machine.specs.language.Runs.{Steps};
 ghost use Rattle.rhai_steps.specs.States.{state_of};
 ghost use Rattle.rhai_assign.specs.Follows.{Asked};
-ghost use Rattle.rhai_assign.specs.Keeps.{Keeps};
-ghost use Rattle.rhai_assign.specs.Targets.{IsPut, lent_request, standing_at, stands_at};
-ghost use Rattle.rhai_assign.specs.Updates.{is_barred_for, other_fault, updating};
+ghost use Rattle.rhai_assign.specs.Keeps.{Charges};
+ghost use Rattle.rhai_assign.specs.Lending.{cells_seen, placed, IsFree, IsLentFrom, IsOwnCell};
+ghost use Rattle.rhai_assign.specs.Updates.{is_barred_for, other_fault, update_of};
 
-use crate::place::{Place, Update, put, take, value_at};
+use crate::place::Update;
 use rhai_items::{Shared, Text};
 use rhai_state::error::EvalAltResult;
 use rhai_state::limits::Limits;
-use rhai_state::scope::Scope;
 use rhai_state::state::GlobalRuntimeState;
 use rhai_state::table::{Answer, NativeTable};
 use rhai_steps::charges::track_operation;
 use rhai_steps::errors::{data_race_of, non_pure_of};
-use rhai_steps::values::is_bare_handle;
+use rhai_steps::replies::replied;
+use rhai_steps::values::{is_bare_handle, let_go, unit_value};
 use rhai_tree::position::Position;
 use rhai_tree::token::Token;
 use rhai_values::base::value::{AccessMode, Dynamic, Host};
 use rhai_values::cells::CellStore;
 use std::alloc::{AllocError, Global};
+use std::mem::replace;
 
-/// Calls a native with the value of a place as its first argument, which is lent to it and back at
-/// its place whatever the answer.
-fn call_in_place<H: Host, T: NativeTable<H>>(
-    cells: &mut CellStore<H>,
-    scope: &mut Scope<H>,
+/// Calls a native on a target, which is lent to it.
+fn call_on<H: Host, T: NativeTable<H>>(
+    cells: &CellStore<H>,
     table: &mut T,
-    place: Place,
+    target: &mut Dynamic<H>,
     name: &str,
     rest: &[Dynamic<H>],
     pos: Position,
 ) -> Answer<H>
-    requires stands { stands_at place scope.old cells.old ≡ true }
-    requires plain { IsNoHandle (standing_at place scope.old cells.old).value }
+    requires { IsNoHandle target.old.value }
     ensures obeys { Obeys (T.natives.gives (T.state table.old)
-        (lent_request place scope.old cells.old name.now rest.now pos))
-        (reply_of result) (Some (standing_at place scope.new cells.new)) (T.state table.new) }
-    ensures stands { stands_at place scope.new cells.new ≡ true }
-    ensures put { IsPut place (standing_at place scope.new cells.new)
-        scope.old scope.new cells.old cells.new }
+        (request (cells_of cells.now) (Named name.now) (Some target.old) rest.now pos))
+        (reply_of result) (Some target.new) (T.state table.new) }
+    ensures plain { IsNoHandle target.new.value }
 {
-    let mut target = take(cells, scope, place);
-    let answer = table.call(cells, name, Some(&mut target), rest, pos);
-    put(cells, scope, place, target);
-    answer
+    table.call(cells, name, Some(&mut *target), rest, pos)
 }
 
 /// The name of the native that changes a target: the operator's text with `=` behind it.
@@ -92,64 +86,90 @@ pub(crate) fn unless_missing<H: Host>(
     }
 }
 
-/// Whether a native is barred from the target of an update: it is not pure, and the target is a
-/// constant.
-fn is_barred<H: Host, T: NativeTable<H>>(
-    cells: &CellStore<H>,
-    table: &T,
-    name: &str,
-    target: &Dynamic<H>,
-) -> bool
-    ensures { result ≡ is_barred_for H.name_of T.natives (cells_of cells.now) (T.state table.now)
-        name.now target.now }
+/// Whether a native is barred from a target, which is no handle where it is a constant: it is one, and
+/// the native is not pure.
+fn is_barred<H: Host, T: NativeTable<H>>(table: &T, name: &str, target: &Dynamic<H>) -> bool
+    ensures { result ≡ is_barred_for H.name_of T.natives (T.state table.now) name.now target.now }
 {
     matches!(target.access_mode(), AccessMode::ReadOnly)
-        && !table.is_pure(name, target.type_name(cells), 2)
+        && !table.is_pure(name, target.own_type_name(), 2)
 }
 
-/// Charges an update at its operator, and calls a native with the target, unless it is barred from
-/// it.
+/// Charges an update at its operator, and calls a native on the target, unless it is barred from it.
 pub(crate) fn ask_native<H: Host, T: NativeTable<H>>(
     limits: &Limits,
     global: &mut GlobalRuntimeState<H>,
     table: &mut T,
-    scope: &mut Scope<H>,
+    target: &mut Dynamic<H>,
     update: Update,
     name: &Shared<Text>,
     rest: &[Dynamic<H>],
 ) -> Result<Answer<H>, EvalAltResult<H>>
-    requires { stands_at update.place scope.old global.old.cells ≡ true }
-    ensures keeps { Keeps global.old global.new scope.old scope.new }
-    ensures stands { stands_at update.place scope.new global.new.cells ≡ true }
-    ensures refused { IfErr result (λ e. (offer : _) (held : _) (attempt : _) (operand : _) →
-        name.now ≡ native_of attempt update.token →
+    requires own { IsOwnCell update.cell (cells_of global.old.cells) }
+    requires free { IsFree target.old }
+    ensures charges { Charges global.old global.new }
+    ensures left { IfOk result (λ _. IsNoHandle target.new.value) }
+    ensures refused { IfErr result (λ e. (offer : _) (scope : _) (held : _) (place : _) (attempt : _)
+        (operand : _) → name.now ≡ native_of attempt update.token →
         Steps (rules_of limits.now H.name_of offer T.natives)
-        (AskUpdate (updating update attempt scope.old global.old operand))
-        (state_of (T.state table.old) global.old scope.old held)
-        (Fail e) (state_of (T.state table.new) global.new scope.new held)) }
-    ensures asked { IfOk result (λ answer. (offer : _) (held : _) (attempt : _) (operand : _) →
-        name.now ≡ native_of attempt update.token → rest.now ≡ operand ∷ [] →
-        Asked (rules_of limits.now H.name_of offer T.natives)
-        (updating update attempt scope.old global.old operand)
-        (state_of (T.state table.old) global.old scope.old held)
-        (reply_of answer) (standing_at update.place scope.new global.new.cells)
-        (state_of (T.state table.new) global.new scope.new held)) }
+        (AskUpdate (update_of update attempt place target.old operand))
+        (placed place target.old (state_of (T.state table.old) global.old scope held))
+        (Fail e) (placed place target.new (state_of (T.state table.new) global.new scope held))) }
+    ensures asked { IfOk result (λ answer. (offer : _) (scope : _) (held : _) (place : _) (attempt : _)
+        (operand : _) → IsLentFrom place update.cell → name.now ≡ native_of attempt update.token →
+        rest.now ≡ operand ∷ [] → Asked (rules_of limits.now H.name_of offer T.natives)
+        (update_of update attempt place target.old operand)
+        (placed place target.old (state_of (T.state table.old) global.old scope held))
+        (reply_of answer) target.new
+        (placed place target.new (state_of (T.state table.new) global.new scope held))) }
 {
     track_operation(limits, global, update.at)?;
-    let target = value_at(&global.cells, scope, update.place);
-    if is_barred(&global.cells, &*table, name.get().as_str(), target) {
+    if is_barred(&*table, name.get().as_str(), target) {
         return Err(non_pure_of(name, update.at));
     }
     if is_bare_handle(target) {
         return Err(data_race_of(name, update.at));
     }
-    Ok(call_in_place(
-        &mut global.cells,
-        scope,
+    let cells = &global.cells;
+    Ok(call_on(
+        cells,
         table,
-        update.place,
+        target,
         name.get().as_str(),
         rest,
         update.at,
     ))
+}
+
+/// What the answer of the native `op` comes to. It is read while the target is back in its own cell, to
+/// which the operand may lead.
+pub(crate) fn outcome_of<H: Host>(
+    limits: &Limits,
+    alloc: Global,
+    cells: &mut CellStore<H>,
+    answer: Answer<H>,
+    name: &Shared<Text>,
+    target: &mut Dynamic<H>,
+    update: Update,
+    rest: &[Dynamic<H>],
+) -> Result<Dynamic<H>, EvalAltResult<H>>
+    requires { IsOwnCell update.cell (cells_of cells.old) }
+    ensures cells { cells.new ≡ cells.old }
+    ensures target { target.new ≡ target.old }
+    ensures told { IfSome (reply_of answer) (λ reply. Answers result
+        (replied_at limits.now H.name_of reply (Some target.old) rest.now
+        (record { name = name.now; token = Some update.token; at = update.at })
+        (cells_seen update.cell target.old (cells_of cells.old)))) }
+    ensures memory { HasMemory result → is_some (reply_of answer) ≡ true }
+{
+    let name = name.get().as_str();
+    let token = Some(update.token);
+    let Some(id) = update.cell else {
+        return replied(alloc, limits, cells, answer, name, token, target, rest, update.at);
+    };
+    cells.set(id, replace(target, unit_value()));
+    let back = cells.get(id).unwrap();
+    let outcome = replied(alloc, limits, cells, answer, name, token, back, rest, update.at);
+    let_go(replace(target, cells.take(id).unwrap()));
+    outcome
 }

@@ -8,7 +8,7 @@ ghost use Rattle.rhai_state.specs.Scope.{entries_of, names_in};
 ghost use Rattle.rhai_machine.specs.language.Values.{unit_value as unit};
 ghost use Rattle.rhai_machine.specs.language.Places.{is_constant as constant_at, target, target_in_cell};
 ghost use Rattle.rhai_machine.specs.language.Places.{target_of, unless_constant as allowed, while_lent};
-ghost use Rattle.rhai_assign.specs.Targets.{Finds, IsKnownAt, IsPut, entries_put, place_in, stands_at};
+ghost use Rattle.rhai_assign.specs.Targets.{Finds, IsKnownAt, IsPut, entries_put, own_cell, place_in, stands_at};
 ghost use Rattle.rhai_assign.specs.Targets.{there, there_at};
 
 use rhai_items::{Shared, Text};
@@ -31,20 +31,31 @@ pub(crate) enum Place {
     InCell(CellId),
 }
 
-/// An assignment by an operator, its target found.
+/// An assignment by an operator to a target that is lent.
 #[derive(Clone, Copy)]
 pub(crate) struct Update {
     /// The operator without its `=`.
     pub(crate) token: Token,
     /// Where the operator stands.
     pub(crate) at: Position,
-    pub(crate) place: Place,
+    /// The cell that the target was taken from, which is held meanwhile.
+    pub(crate) cell: Option<CellId>,
     /// Where the target stands in the script.
     pub(crate) target_at: Position,
 }
 
-/// Whether a variable is a constant, by its own mode or by that of its cell's value.
-fn is_constant(mode: AccessMode, inner: AccessMode) -> bool
+/// The cell of a place, if it is one.
+pub(crate) fn cell_of(place: Place) -> Option<CellId>
+    ensures { result ≡ own_cell place }
+{
+    match place {
+        Place::InEntry(_) => None,
+        Place::InCell(id) => Some(id),
+    }
+}
+
+/// Whether a target is a constant, by its own mode or by that of its cell's value.
+pub(crate) fn is_constant(mode: AccessMode, inner: AccessMode) -> bool
     ensures { result ≡ (constant_at mode || constant_at inner) }
 {
     matches!(mode, AccessMode::ReadOnly) || matches!(inner, AccessMode::ReadOnly)

@@ -1,20 +1,22 @@
-//! An update goes through its attempts: the built-in, the native `op=`, the native `op`. And an
-//! assignment from where its target is found.
+//! An update of a target that is lent goes through its attempts: the built-in, the native `op=`, the
+//! native `op`. And an assignment from where its target is found: at a place of a variable, or lent.
 
-ghost use Rattle.std.specs.Prelude.{◌≡◌, ◌∷◌, [], length, true};
+ghost use Rattle.std.specs.Prelude.{◌≡◌, ◌∷◌, [], length, true, false};
+ghost use Rattle.rhai_values.specs.Cells.{IsNoHandle, cells_of};
 ghost use Rattle.rhai_machine.specs.language.Setting.{rules_of};
-ghost use Rattle.rhai_machine.specs.language.Places.{target};
+ghost use Rattle.rhai_machine.specs.language.Places.{is_constant, target as target_in};
 ghost use Rattle.rhai_machine.specs.language.Frames.{AskUpdate, AsValue, InPlace};
 ghost use Rattle.rhai_machine.specs.language.Runs.{Runs};
 ghost use Rattle.rhai_steps.specs.States.{state_of};
-ghost use Rattle.rhai_assign.specs.Follows.{FollowsAssign, FollowsUpdate};
-ghost use Rattle.rhai_assign.specs.Keeps.{Keeps};
-ghost use Rattle.rhai_assign.specs.Targets.{place_in, standing_at, stands_at};
-ghost use Rattle.rhai_assign.specs.Updates.{updating};
+ghost use Rattle.rhai_assign.specs.Follows.{FollowsAssign, FollowsTry, FollowsUpdate};
+ghost use Rattle.rhai_assign.specs.Keeps.{Charges, Keeps};
+ghost use Rattle.rhai_assign.specs.Lending.{placed, IsFree, IsLentFrom, IsOwnCell};
+ghost use Rattle.rhai_assign.specs.Targets.{own_cell, place_in, standing_at, stands_at};
+ghost use Rattle.rhai_assign.specs.Updates.{update_of};
 
-use crate::native::{ask_native, assigning_name, unless_missing};
-use crate::place::{Place, Update, put, value_at};
-use crate::write::{changed, write_outcome, write_value};
+use crate::native::{ask_native, assigning_name, outcome_of, unless_missing};
+use crate::place::{Place, Update, cell_of, put, take};
+use crate::write::{changed, write_lent, write_value};
 use rhai_operators::builtin_op_assign;
 use rhai_state::error::EvalAltResult;
 use rhai_state::limits::Limits;
@@ -22,12 +24,13 @@ use rhai_state::scope::Scope;
 use rhai_state::state::GlobalRuntimeState;
 use rhai_state::table::{Answer, NativeTable};
 use rhai_steps::errors::shared_text;
-use rhai_steps::replies::{placed, replied};
+use rhai_steps::replies::placed as at_call;
 use rhai_steps::values::{let_go, list_of, unit_value};
 use rhai_tree::expr::OpAssignment;
 use rhai_tree::position::Position;
-use rhai_values::base::value::{AccessMode, Dynamic, Host};
+use rhai_values::base::value::{AccessMode, CellId, Dynamic, Host};
 use std::alloc::Global;
+use std::mem::replace;
 
 /// The native `op` of an update gives the target's new value.
 fn update_by_value<H: Host, T: NativeTable<H>>(
@@ -35,35 +38,27 @@ fn update_by_value<H: Host, T: NativeTable<H>>(
     alloc: Global,
     global: &mut GlobalRuntimeState<H>,
     table: &mut T,
-    scope: &mut Scope<H>,
+    target: &mut Dynamic<H>,
     update: Update,
     rest: &[Dynamic<H>],
 ) -> Result<Dynamic<H>, EvalAltResult<H>>
-    requires { stands_at update.place scope.old global.old.cells ≡ true }
-    ensures keeps { Keeps global.old global.new scope.old scope.new }
-    ensures runs { (offer : _) (held : _) (operand : _) → rest.now ≡ operand ∷ [] →
+    requires own { IsOwnCell update.cell (cells_of global.old.cells) }
+    requires plain { IsNoHandle target.old.value }
+    ensures keeps { Charges global.old global.new }
+    ensures runs { (offer : _) (scope : _) (held : _) (place : _) (operand : _) →
+        IsLentFrom place update.cell → rest.now ≡ operand ∷ [] →
         Runs (rules_of limits.now H.name_of offer T.natives)
-        (AskUpdate (updating update AsValue scope.old global.old operand))
-        (state_of (T.state table.old) global.old scope.old held)
-        result (state_of (T.state table.new) global.new scope.new held) }
+        (AskUpdate (update_of update AsValue place target.old operand))
+        (placed place target.old (state_of (T.state table.old) global.old scope held))
+        result (placed place target.new (state_of (T.state table.new) global.new scope held)) }
 {
     let Ok(name) = shared_text(alloc, update.token.as_str()) else {
         return Err(EvalAltResult::ErrorOutOfMemory(update.at));
     };
-    let answer = ask_native(limits, global, table, scope, update, &name, rest)?;
-    let target = value_at(&global.cells, scope, update.place);
-    let outcome = replied(
-        alloc,
-        limits,
-        &global.cells,
-        answer,
-        name.get().as_str(),
-        Some(update.token),
-        target,
-        rest,
-        update.at,
-    );
-    write_value(limits, alloc, global, scope, update, outcome)
+    let answer = ask_native(limits, global, table, target, update, &name, rest)?;
+    let cells = &mut global.cells;
+    let outcome = outcome_of(limits, alloc, cells, answer, &name, target, update, rest);
+    write_value(limits, alloc, target, update, outcome)
 }
 
 /// An update whose native `op=` is missing: the built-in on the target as that native left it,
@@ -73,23 +68,24 @@ fn update_again<H: Host, T: NativeTable<H>>(
     alloc: Global,
     global: &mut GlobalRuntimeState<H>,
     table: &mut T,
-    scope: &mut Scope<H>,
+    target: &mut Dynamic<H>,
     update: Update,
     rest: &[Dynamic<H>],
 ) -> Result<Dynamic<H>, EvalAltResult<H>>
-    requires stands { stands_at update.place scope.old global.old.cells ≡ true }
+    requires own { IsOwnCell update.cell (cells_of global.old.cells) }
+    requires plain { IsNoHandle target.old.value }
     requires one { length rest.now ≡ 1 }
-    ensures keeps { Keeps global.old global.new scope.old scope.new }
-    ensures runs { (offer : _) (held : _) (operand : _) → rest.now ≡ operand ∷ [] →
+    ensures keeps { Charges global.old global.new }
+    ensures runs { (offer : _) (scope : _) (held : _) (place : _) (operand : _) →
+        IsLentFrom place update.cell → rest.now ≡ operand ∷ [] →
         FollowsUpdate (rules_of limits.now H.name_of offer T.natives)
-        (updating update AsValue scope.old global.old operand)
-        (state_of (T.state table.old) global.old scope.old held)
-        result (state_of (T.state table.new) global.new scope.new held) }
+        (update_of update AsValue place target.old operand)
+        (placed place target.old (state_of (T.state table.old) global.old scope held))
+        result (placed place target.new (state_of (T.state table.new) global.new scope held)) }
 {
-    let target = value_at(&global.cells, scope, update.place);
     match builtin_op_assign(alloc, update.token, target, &rest[0]) {
-        Some(outcome) => write_outcome(limits, alloc, global, scope, update, outcome),
-        None => update_by_value(limits, alloc, global, table, scope, update, rest),
+        Some(outcome) => write_lent(limits, alloc, target, update.at, outcome),
+        None => update_by_value(limits, alloc, global, table, target, update, rest),
     }
 }
 
@@ -100,31 +96,30 @@ fn update_in_place<H: Host, T: NativeTable<H>>(
     alloc: Global,
     global: &mut GlobalRuntimeState<H>,
     table: &mut T,
-    scope: &mut Scope<H>,
+    target: &mut Dynamic<H>,
     update: Update,
     rest: &[Dynamic<H>],
 ) -> Result<Dynamic<H>, EvalAltResult<H>>
-    requires stands { stands_at update.place scope.old global.old.cells ≡ true }
+    requires own { IsOwnCell update.cell (cells_of global.old.cells) }
+    requires free { IsFree target.old }
     requires one { length rest.now ≡ 1 }
-    ensures keeps { Keeps global.old global.new scope.old scope.new }
-    ensures runs { (offer : _) (held : _) (operand : _) → rest.now ≡ operand ∷ [] →
+    ensures keeps { Charges global.old global.new }
+    ensures runs { (offer : _) (scope : _) (held : _) (place : _) (operand : _) →
+        IsLentFrom place update.cell → rest.now ≡ operand ∷ [] →
         Runs (rules_of limits.now H.name_of offer T.natives)
-        (AskUpdate (updating update InPlace scope.old global.old operand))
-        (state_of (T.state table.old) global.old scope.old held)
-        result (state_of (T.state table.new) global.new scope.new held) }
+        (AskUpdate (update_of update InPlace place target.old operand))
+        (placed place target.old (state_of (T.state table.old) global.old scope held))
+        result (placed place target.new (state_of (T.state table.new) global.new scope held)) }
 {
     let Ok(name) = assigning_name(alloc, update.token) else {
         return Err(EvalAltResult::ErrorOutOfMemory(update.at));
     };
-    match ask_native(limits, global, table, scope, update, &name, rest)? {
-        Answer::Missing => update_again(limits, alloc, global, table, scope, update, rest),
-        Answer::Value(value) => {
-            let target = value_at(&global.cells, scope, update.place);
-            changed(limits, alloc, update, value, target)
-        }
+    match ask_native(limits, global, table, target, update, &name, rest)? {
+        Answer::Missing => update_again(limits, alloc, global, table, target, update, rest),
+        Answer::Value(value) => changed(limits, alloc, update, value, target),
         Answer::Fault(error) => match unless_missing(&name, error) {
-            Some(error) => Err(placed(error, update.at)),
-            None => update_by_value(limits, alloc, global, table, scope, update, rest),
+            Some(error) => Err(at_call(error, update.at)),
+            None => update_by_value(limits, alloc, global, table, target, update, rest),
         },
         Answer::NoMemory => Err(EvalAltResult::ErrorOutOfMemory(update.at)),
     }
@@ -136,21 +131,23 @@ fn update_by_natives<H: Host, T: NativeTable<H>>(
     alloc: Global,
     global: &mut GlobalRuntimeState<H>,
     table: &mut T,
-    scope: &mut Scope<H>,
+    target: &mut Dynamic<H>,
     update: Update,
     operand: Dynamic<H>,
 ) -> Result<Dynamic<H>, EvalAltResult<H>>
-    requires { stands_at update.place scope.old global.old.cells ≡ true }
-    ensures keeps { Keeps global.old global.new scope.old scope.new }
-    ensures runs { (offer : _) (held : _) → Runs (rules_of limits.now H.name_of offer T.natives)
-        (AskUpdate (updating update InPlace scope.old global.old operand))
-        (state_of (T.state table.old) global.old scope.old held)
-        result (state_of (T.state table.new) global.new scope.new held) }
+    requires own { IsOwnCell update.cell (cells_of global.old.cells) }
+    requires free { IsFree target.old }
+    ensures keeps { Charges global.old global.new }
+    ensures runs { (offer : _) (scope : _) (held : _) (place : _) → IsLentFrom place update.cell →
+        Runs (rules_of limits.now H.name_of offer T.natives)
+        (AskUpdate (update_of update InPlace place target.old operand))
+        (placed place target.old (state_of (T.state table.old) global.old scope held))
+        result (placed place target.new (state_of (T.state table.new) global.new scope held)) }
 {
     match list_of(alloc, operand) {
         Ok(rest) => {
             let rest = rest.as_slice();
-            update_in_place(limits, alloc, global, table, scope, update, rest)
+            update_in_place(limits, alloc, global, table, target, update, rest)
         }
         Err(operand) => {
             let_go(operand);
@@ -160,35 +157,132 @@ fn update_by_natives<H: Host, T: NativeTable<H>>(
 }
 
 /// An update: the built-in, or else the natives.
+fn update_by_builtin<H: Host, T: NativeTable<H>>(
+    limits: &Limits,
+    alloc: Global,
+    global: &mut GlobalRuntimeState<H>,
+    table: &mut T,
+    target: &mut Dynamic<H>,
+    update: Update,
+    operand: Dynamic<H>,
+) -> Result<Dynamic<H>, EvalAltResult<H>>
+    requires own { IsOwnCell update.cell (cells_of global.old.cells) }
+    requires free { IsFree target.old }
+    ensures keeps { Charges global.old global.new }
+    ensures runs { (offer : _) (scope : _) (held : _) (place : _) → IsLentFrom place update.cell →
+        FollowsUpdate (rules_of limits.now H.name_of offer T.natives)
+        (update_of update InPlace place target.old operand)
+        (placed place target.old (state_of (T.state table.old) global.old scope held))
+        result (placed place target.new (state_of (T.state table.new) global.new scope held)) }
+{
+    match builtin_op_assign(alloc, update.token, target, &operand) {
+        Some(outcome) => {
+            let_go(operand);
+            write_lent(limits, alloc, target, update.at, outcome)
+        }
+        None => update_by_natives(limits, alloc, global, table, target, update, operand),
+    }
+}
+
+/// An update of a target that is lent. The built-in is tried first under fast operators alone.
 fn update<H: Host, T: NativeTable<H>>(
     limits: &Limits,
     alloc: Global,
     global: &mut GlobalRuntimeState<H>,
     table: &mut T,
-    scope: &mut Scope<H>,
+    target: &mut Dynamic<H>,
     update: Update,
     operand: Dynamic<H>,
+    fast: bool,
 ) -> Result<Dynamic<H>, EvalAltResult<H>>
-    requires { stands_at update.place scope.old global.old.cells ≡ true }
-    ensures keeps { Keeps global.old global.new scope.old scope.new }
-    ensures runs { (offer : _) (held : _) →
-        FollowsUpdate (rules_of limits.now H.name_of offer T.natives)
-        (updating update InPlace scope.old global.old operand)
-        (state_of (T.state table.old) global.old scope.old held)
-        result (state_of (T.state table.new) global.new scope.new held) }
+    requires own { IsOwnCell update.cell (cells_of global.old.cells) }
+    requires free { IsFree target.old }
+    ensures keeps { Charges global.old global.new }
+    ensures runs { (offer : _) (scope : _) (held : _) (place : _) → offer.fast_operators ≡ fast →
+        IsLentFrom place update.cell → FollowsTry (rules_of limits.now H.name_of offer T.natives)
+        (update_of update InPlace place target.old operand)
+        (placed place target.old (state_of (T.state table.old) global.old scope held))
+        result (placed place target.new (state_of (T.state table.new) global.new scope held)) }
 {
-    let target = value_at(&global.cells, scope, update.place);
-    match builtin_op_assign(alloc, update.token, target, &operand) {
-        Some(outcome) => {
-            let_go(operand);
-            write_outcome(limits, alloc, global, scope, update, outcome)
-        }
-        None => update_by_natives(limits, alloc, global, table, scope, update, operand),
+    if fast {
+        update_by_builtin(limits, alloc, global, table, target, update, operand)
+    } else {
+        update_by_natives(limits, alloc, global, table, target, update, operand)
     }
 }
 
-/// Assigns a value to a place that was found, as it is or by an operator. The built-in is tried first
-/// under fast operators alone.
+/// Assigns a value to a target that is lent, as it is or by an operator. Asked: the cell that it was
+/// taken from is held.
+pub(crate) fn assign_lent<H: Host, T: NativeTable<H>>(
+    limits: &Limits,
+    alloc: Global,
+    global: &mut GlobalRuntimeState<H>,
+    table: &mut T,
+    target: &mut Dynamic<H>,
+    cell: Option<CellId>,
+    pos: Position,
+    op: OpAssignment,
+    value: Dynamic<H>,
+    fast: bool,
+) -> Result<Dynamic<H>, EvalAltResult<H>>
+    requires own { IsOwnCell cell (cells_of global.old.cells) }
+    requires free { IsFree target.old }
+    ensures keeps { Charges global.old global.new }
+    ensures runs { (offer : _) (scope : _) (held : _) (name : _) (place : _) →
+        offer.fast_operators ≡ fast → IsLentFrom place cell →
+        FollowsAssign (rules_of limits.now H.name_of offer T.natives)
+        (record { name = name; at = pos; op = op }) (target_in place target.old) value
+        (placed place target.old (state_of (T.state table.old) global.old scope held))
+        result (placed place target.new (state_of (T.state table.new) global.new scope held)) }
+{
+    match op.op {
+        Some(token) => {
+            let by = Update {
+                token,
+                at: op.position,
+                cell,
+                target_at: pos,
+            };
+            update(limits, alloc, global, table, target, by, value, fast)
+        }
+        None => {
+            let mut value = value;
+            value.set_access_mode(AccessMode::ReadWrite);
+            let_go(replace(target, value));
+            Ok(unit_value())
+        }
+    }
+}
+
+/// An update of the value at a place, which is taken from there and goes back whatever comes of it.
+fn update_at<H: Host, T: NativeTable<H>>(
+    limits: &Limits,
+    alloc: Global,
+    global: &mut GlobalRuntimeState<H>,
+    table: &mut T,
+    scope: &mut Scope<H>,
+    place: Place,
+    by: Update,
+    operand: Dynamic<H>,
+    fast: bool,
+) -> Result<Dynamic<H>, EvalAltResult<H>>
+    requires stands { stands_at place scope.old global.old.cells ≡ true }
+    requires writable { is_constant (standing_at place scope.old global.old.cells).mode ≡ false }
+    requires lent { by.cell ≡ own_cell place }
+    ensures keeps { Keeps global.old global.new scope.old scope.new }
+    ensures runs { (offer : _) (held : _) → offer.fast_operators ≡ fast →
+        FollowsTry (rules_of limits.now H.name_of offer T.natives)
+        (update_of by InPlace (place_in place) (standing_at place scope.old global.old.cells) operand)
+        (state_of (T.state table.old) global.old scope.old held)
+        result (state_of (T.state table.new) global.new scope.new held) }
+{
+    let mut target = take(&mut global.cells, scope, place);
+    let result = update(limits, alloc, global, table, &mut target, by, operand, fast);
+    put(&mut global.cells, scope, place, target);
+    result
+}
+
+/// Assigns a value to a place that was found, as it is or by an operator.
 pub(crate) fn store<H: Host, T: NativeTable<H>>(
     limits: &Limits,
     alloc: Global,
@@ -201,12 +295,13 @@ pub(crate) fn store<H: Host, T: NativeTable<H>>(
     value: Dynamic<H>,
     fast: bool,
 ) -> Result<Dynamic<H>, EvalAltResult<H>>
-    requires { stands_at place scope.old global.old.cells ≡ true }
+    requires stands { stands_at place scope.old global.old.cells ≡ true }
+    requires writable { is_constant (standing_at place scope.old global.old.cells).mode ≡ false }
     ensures keeps { Keeps global.old global.new scope.old scope.new }
     ensures runs { (offer : _) (held : _) (name : _) → offer.fast_operators ≡ fast →
         FollowsAssign (rules_of limits.now H.name_of offer T.natives)
         (record { name = name; at = pos; op = op })
-        (target (place_in place) (standing_at place scope.old global.old.cells)) value
+        (target_in (place_in place) (standing_at place scope.old global.old.cells)) value
         (state_of (T.state table.old) global.old scope.old held)
         result (state_of (T.state table.new) global.new scope.new held) }
 {
@@ -215,14 +310,10 @@ pub(crate) fn store<H: Host, T: NativeTable<H>>(
             let by = Update {
                 token,
                 at: op.position,
-                place,
+                cell: cell_of(place),
                 target_at: pos,
             };
-            if fast {
-                update(limits, alloc, global, table, scope, by, value)
-            } else {
-                update_by_natives(limits, alloc, global, table, scope, by, value)
-            }
+            update_at(limits, alloc, global, table, scope, place, by, value, fast)
         }
         None => {
             let mut value = value;

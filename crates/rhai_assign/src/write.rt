@@ -10,7 +10,7 @@ ghost use Rattle.rhai_steps.specs.States.{local_of};
 ghost use Rattle.rhai_assign.specs.Targets.{place_in, stands_at};
 ghost use Rattle.rhai_assign.specs.Updates.{Becomes, changed_of, finished};
 
-use crate::place::{Update, put};
+use crate::place::{Place, Update, put};
 use rhai_state::error::EvalAltResult;
 use rhai_state::limits::Limits;
 use rhai_state::scope::Scope;
@@ -21,6 +21,7 @@ use rhai_steps::values::{let_go, unit_value};
 use rhai_tree::position::Position;
 use rhai_values::base::value::{Dynamic, Host};
 use std::alloc::Global;
+use std::mem::replace;
 
 /// Refuses a value whose data is too large, and leaves it where it is.
 fn measure<H: Host>(
@@ -57,53 +58,65 @@ pub(crate) fn changed<H: Host>(
     measure(limits, alloc, target, update.target_at)
 }
 
-/// Writes what a built-in operator gave, measured at the operator; an error leaves the target.
+/// Writes what a built-in operator gave to a place, measured at the operator; an error leaves the place.
 pub(crate) fn write_outcome<H: Host>(
     limits: &Limits,
     alloc: Global,
     global: &mut GlobalRuntimeState<H>,
     scope: &mut Scope<H>,
-    update: Update,
+    place: Place,
+    at: Position,
     outcome: Result<Dynamic<H>, EvalAltResult<H>>,
 ) -> Result<Dynamic<H>, EvalAltResult<H>>
-    requires { stands_at update.place scope.old global.old.cells ≡ true }
+    requires { stands_at place scope.old global.old.cells ≡ true }
     ensures counts { global.new.num_operations ≡ global.old.num_operations }
     ensures names { names_in scope.new ≡ names_in scope.old }
     ensures written { (held : _) →
-        Becomes (written_core (applied_at limits.now outcome update.at) (place_in update.place))
+        Becomes (written_core (applied_at limits.now outcome at) (place_in place))
         (local_of global.old scope.old held) result (local_of global.new scope.new held) }
     ensures left_global { IfErr result (λ _. global.new ≡ global.old) }
     ensures left_scope { IfErr result (λ _. scope.new ≡ scope.old) }
 {
-    let value = applied(alloc, limits, outcome, update.at)?;
-    put(&mut global.cells, scope, update.place, value);
+    let value = applied(alloc, limits, outcome, at)?;
+    put(&mut global.cells, scope, place, value);
     Ok(unit_value())
 }
 
-/// Writes what the native `op` gave, and measures it where the target stands; an error leaves
-/// the target.
+/// The same to a target that is lent, wherever the machine has it.
+pub(crate) fn write_lent<H: Host>(
+    limits: &Limits,
+    alloc: Global,
+    target: &mut Dynamic<H>,
+    at: Position,
+    outcome: Result<Dynamic<H>, EvalAltResult<H>>,
+) -> Result<Dynamic<H>, EvalAltResult<H>>
+    ensures written { (place : _) (l : _) →
+        Becomes (written_core (applied_at limits.now outcome at) place)
+        (put_at place target.old l) result (put_at place target.new l) }
+    ensures left { IfErr result (λ _. target.new ≡ target.old) }
+{
+    let new = applied(alloc, limits, outcome, at)?;
+    let_go(replace(target, new));
+    Ok(unit_value())
+}
+
+/// Writes what the native `op` gave to a target that is lent, and measures it where that stands; an
+/// error leaves the target.
 pub(crate) fn write_value<H: Host>(
     limits: &Limits,
     alloc: Global,
-    global: &mut GlobalRuntimeState<H>,
-    scope: &mut Scope<H>,
+    target: &mut Dynamic<H>,
     update: Update,
     outcome: Result<Dynamic<H>, EvalAltResult<H>>,
 ) -> Result<Dynamic<H>, EvalAltResult<H>>
-    requires { stands_at update.place scope.old global.old.cells ≡ true }
-    ensures counts { global.new.num_operations ≡ global.old.num_operations }
-    ensures names { names_in scope.new ≡ names_in scope.old }
-    ensures written { (held : _) →
-        IfOk outcome (λ v. local_of global.new scope.new held ≡
-        put_at (place_in update.place) v (local_of global.old scope.old held)) }
+    ensures written { IfOk outcome (λ v. target.new ≡ v) }
     ensures measured { IfOk outcome (λ v.
         Answers result (finished (sized_at limits.now v update.target_at))) }
     ensures fault { IfErr outcome (λ e. result ≡ Err e) }
-    ensures left_global { IfErr outcome (λ _. global.new ≡ global.old) }
-    ensures left_scope { IfErr outcome (λ _. scope.new ≡ scope.old) }
+    ensures left { IfErr outcome (λ _. target.new ≡ target.old) }
 {
     let value = outcome?;
     let measured = measure(limits, alloc, &value, update.target_at);
-    put(&mut global.cells, scope, update.place, value);
+    let_go(replace(target, value));
     measured
 }

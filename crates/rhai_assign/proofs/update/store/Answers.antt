@@ -1,13 +1,14 @@
-use Rattle.std.proofs.Common.{refl, ◌∙◌, arith}
-use Rattle.rhai_operators.specs.Answers.{op_assign_of}
+use Rattle.std.proofs.Common.{arith, ap}
+use Rattle.rhai_values.specs.declared.base.value.AccessMode.TheVariants.{ReadWrite}
+use Rattle.rhai_values.specs.Modes.{with_mode}
 use Rattle.rhai_machine.specs.language.Setting.{Rules, rules_of}
-use Rattle.rhai_machine.specs.language.Assignment.{if_fast}
-use Rattle.rhai_machine.specs.language.Frames.{InPlace, Update}
+use Rattle.rhai_machine.specs.language.Frames.{Assignment}
+use Rattle.rhai_machine.specs.language.Places.{target}
+use Rattle.rhai_machine.specs.language.State.{Local}
 use Rattle.rhai_steps.specs.States.{state_of}
-use Rattle.rhai_assign.specs.declared.place.Update as code
-use Rattle.rhai_assign.specs.Updates.{updating}
-use Rattle.rhai_assign.proofs.Places.{keeps_names}
-use Rattle.rhai_assign.proofs.Updates.{not_built, not_fast}
+use Rattle.rhai_assign.specs.Targets.{place_in, standing_at}
+use Rattle.rhai_assign.proofs.Places.{keeps_names, local_put}
+use Rattle.rhai_assign.proofs.Updates.{updates, writes}
 use Rattle.rhai_assign.proofs.update.store.Goals as goal
 
 pub returns-in-None-clause-keeps : goal.returns-in-None-clause-keeps
@@ -17,18 +18,22 @@ returns-in-None-clause-keeps g c = record {
       c.put.ensures;
 }
 
-pub returns-else-fast-clause-runs : goal.returns-else-fast-clause-runs
-returns-else-fast-clause-runs g c offer held name is =
+pub returns-in-Some-clause-runs : goal.returns-in-Some-clause-runs
+returns-in-Some-clause-runs g c offer held name fast =
     let rules : Rules _ _ = rules_of c.args.limits.now g.H.Host.name_of offer g.T.NativeTable.natives in
-    let by : code.Update = record {
-      token = c.in-Some.token;
-      at = c.args.op.position;
-      place = c.args.place;
-      target_at = c.args.pos;
-    } in
-    let u : Update _ = updating by InPlace c.args.scope.now c.args.global.now c.args.value in
-    rw c.in-Some.is (not_built rules (if_fast offer.fast_operators (op_assign_of u.operator u.target c.args.value))
-    (if_fast offer.fast_operators (op_assign_of u.operator u.target c.args.value)) c.update_by_natives.result u
-    (state_of (g.T.NativeTable.state c.args.table.now) c.args.global.now c.args.scope.now held)
-    (state_of (g.T.NativeTable.state c.update_by_natives.new.table) c.update_by_natives.new.global c.update_by_natives.new.scope held)
-    (λ m. refl) (not_fast offer.fast_operators _ (is ∙ c.if-fast.false)) (c.update_by_natives.ensures.runs offer held))
+    let assignment : Assignment = record { name = name; at = c.args.pos; op = c.args.op } in
+    updates rules assignment (target (place_in c.args.place) (standing_at c.args.place c.args.scope.now c.args.global.now.cells))
+    c.args.value (state_of (g.T.NativeTable.state c.args.table.now) c.args.global.now c.args.scope.now held)
+    (state_of (g.T.NativeTable.state c.update_at.new.table) c.update_at.new.global c.update_at.new.scope held) c.update_at.result
+    c.in-Some.token c.in-Some.is (c.update_at.ensures.runs offer held fast)
+
+pub returns-in-None-clause-runs : goal.returns-in-None-clause-runs
+returns-in-None-clause-runs g c offer held name fast =
+    let rules : Rules _ _ = rules_of c.args.limits.now g.H.Host.name_of offer g.T.NativeTable.natives in
+    let assignment : Assignment = record { name = name; at = c.args.pos; op = c.args.op } in
+    rw c.unit_value.ensures (writes rules assignment
+    (target (place_in c.args.place) (standing_at c.args.place c.args.scope.now c.args.global.now.cells)) c.args.value
+    (state_of (g.T.NativeTable.state c.args.table.now) c.args.global.now c.args.scope.now held) _ c.in-None.is
+    (ap (λ (l : Local _). record { table = g.T.NativeTable.state c.args.table.now; count = c.args.global.now.num_operations; local = l })
+    (local_put c.args.place (with_mode ReadWrite c.args.value) c.args.global.now c.put.new.cells c.args.scope.now c.put.new.scope held
+    (rw c.set_access_mode.ensures at c.put.ensures))))

@@ -1,33 +1,32 @@
-use Rattle.std.proofs.Common.{refl}
+use Rattle.std.proofs.Common.{Bool, ap, refl, ◌∙◌}
 use Rattle.rhai_operators.specs.Answers.{op_assign_of}
 use Rattle.rhai_machine.specs.language.Setting.{Rules, rules_of}
+use Rattle.rhai_machine.specs.language.Assignment.{if_fast, update_core}
 use Rattle.rhai_machine.specs.language.Frames.{InPlace, Update}
+use Rattle.rhai_machine.specs.language.State.{State}
 use Rattle.rhai_steps.specs.States.{state_of}
-use Rattle.rhai_assign.specs.Updates.{updating}
-use Rattle.rhai_assign.proofs.Updates.{built, built_for, not_built}
+use Rattle.rhai_assign.specs.Lending.{placed}
+use Rattle.rhai_assign.specs.Updates.{update_of}
+use Rattle.rhai_assign.proofs.Updates.{follows_alike, not_built, not_fast}
 use Rattle.rhai_assign.proofs.update.update.Goals as goal
 
-pub returns-in-Some-clause-runs : goal.returns-in-Some-clause-runs
-returns-in-Some-clause-runs g c offer held =
+pub returns-then-fast-clause-runs : goal.returns-then-fast-clause-runs
+returns-then-fast-clause-runs g c offer scope held place is from =
     let rules : Rules _ _ = rules_of c.args.limits.now g.H.Host.name_of offer g.T.NativeTable.natives in
-    let u : Update _ = updating c.args.update InPlace c.args.scope.now c.args.global.now c.args.operand in
-    built rules (g.T.NativeTable.state c.args.table.now)
-    c.args.global.now c.write_outcome.new.global c.args.scope.now c.write_outcome.new.scope held u
-    c.builtin_op_assign.result (op_assign_of u.operator u.target c.args.operand) c.in-Some.outcome
-    (built_for c.builtin_op_assign.result c.args.update c.args.scope.now c.args.global.now.cells c.value_at-target.result.now
-    c.args.operand c.args.operand
-    c.builtin_op_assign.ensures.value c.value_at-target.ensures refl)
-    c.in-Some.is c.write_outcome.ensures.counts c.write_outcome.result
-    (c.write_outcome.ensures.written held) c.write_outcome.ensures.left_global c.write_outcome.ensures.left_scope
+    let u : Update _ = update_of c.args.update InPlace place c.args.target.now c.args.operand in
+    let answer = op_assign_of u.operator u.target c.args.operand in
+    let old : State _ _ = placed place c.args.target.now (state_of (g.T.NativeTable.state c.args.table.now) c.args.global.now scope held) in
+    follows_alike rules _ (update_core rules.setting answer u) old _ c.update_by_builtin.result
+    (λ k. ap (λ (b : Bool). update_core rules.setting (if_fast b answer) u k old.local) (is ∙ c.if-fast.true))
+    (c.update_by_builtin.ensures.runs offer scope held place from)
 
-pub returns-in-None-clause-runs : goal.returns-in-None-clause-runs
-returns-in-None-clause-runs g c offer held =
+pub returns-else-fast-clause-runs : goal.returns-else-fast-clause-runs
+returns-else-fast-clause-runs g c offer scope held place is from =
     let rules : Rules _ _ = rules_of c.args.limits.now g.H.Host.name_of offer g.T.NativeTable.natives in
-    let u : Update _ = updating c.args.update InPlace c.args.scope.now c.args.global.now c.args.operand in
-    not_built rules c.builtin_op_assign.result (op_assign_of u.operator u.target c.args.operand) c.update_by_natives.result u
-    (state_of (g.T.NativeTable.state c.args.table.now) c.args.global.now c.args.scope.now held)
-    (state_of (g.T.NativeTable.state c.update_by_natives.new.table) c.update_by_natives.new.global c.update_by_natives.new.scope held)
-    (built_for c.builtin_op_assign.result c.args.update c.args.scope.now c.args.global.now.cells c.value_at-target.result.now
-    c.args.operand c.args.operand
-    c.builtin_op_assign.ensures.value c.value_at-target.ensures refl)
-    c.in-None.is (c.update_by_natives.ensures.runs offer held)
+    let u : Update _ = update_of c.args.update InPlace place c.args.target.now c.args.operand in
+    not_built rules (if_fast offer.fast_operators (op_assign_of u.operator u.target c.args.operand))
+    (if_fast offer.fast_operators (op_assign_of u.operator u.target c.args.operand)) c.update_by_natives.result u
+    (placed place c.args.target.now (state_of (g.T.NativeTable.state c.args.table.now) c.args.global.now scope held))
+    (placed place c.update_by_natives.new.target
+    (state_of (g.T.NativeTable.state c.update_by_natives.new.table) c.update_by_natives.new.global scope held))
+    (λ m. refl) (not_fast offer.fast_operators _ (is ∙ c.if-fast.false)) (c.update_by_natives.ensures.runs offer scope held place from)

@@ -1,0 +1,81 @@
+-- An assignment at a place of the code, which is taken from there and goes back, and one to the focus of a chain.
+use Rattle.std.proofs.Common.{◌≡◌, ℕ, false, List, Option, Some, None, Result, Ok, Err, refl, sym, ap, ◌∙◌}
+use Rattle.rhai_tree.specs.declared.position.Position.{Position}
+use Rattle.rhai_tree.specs.declared.expr.Expr.{Expr, out-Expr}
+use Rattle.rhai_tree.specs.declared.expr.OpAssignment.{OpAssignment}
+use Rattle.rhai_tree.specs.Positions.{position_of, start_of}
+use Rattle.rhai_values.specs.declared.base.value.CellId.{CellId}
+use Rattle.rhai_values.specs.declared.base.value.Dynamic.{Dynamic}
+use Rattle.rhai_values.specs.declared.cells.CellStore.{CellStore}
+use Rattle.rhai_values.specs.Cells.{cells_of}
+use Rattle.rhai_state.specs.declared.scope.Scope.{Scope}
+use Rattle.rhai_state.specs.declared.state.GlobalRuntimeState.{GlobalRuntimeState}
+use Rattle.rhai_state.specs.declared.error.EvalAltResult.{EvalAltResult}
+use Rattle.rhai_state.specs.declared.error.EvalAltResult.TheVariants as error
+use Rattle.rhai_state.specs.Errors.{is_out_of_memory}
+use Rattle.rhai_state.specs.Scope.{entries_of}
+use Rattle.rhai_machine.specs.language.Setting.{Rules}
+use Rattle.rhai_machine.specs.language.State.{Held, Local, State}
+use Rattle.rhai_machine.specs.language.Values.{unit_value}
+use Rattle.rhai_machine.specs.language.Places.{Target, focus_target, put, while_lent}
+use Rattle.rhai_machine.specs.language.Links.{name_in}
+use Rattle.rhai_machine.specs.language.Members.{focus_of}
+use Rattle.rhai_machine.specs.language.Assignment.{assign_core}
+use Rattle.rhai_machine.specs.language.Chains.{assign_focus}
+use Rattle.rhai_machine.specs.language.Frames.{Assignment, NewValue, Core, Frame, on_value}
+use Rattle.rhai_steps.specs.States.{local_of, state_of}
+use Rattle.rhai_assign.specs.declared.place.Place as code
+use Rattle.rhai_assign.specs.Chains.{FollowsFocus}
+use Rattle.rhai_assign.specs.Follows.{Follows, FollowsAssign, Does, Wants}
+use Rattle.rhai_assign.specs.Lending.{placed}
+use Rattle.rhai_assign.specs.Targets.{IsPut, entries_put, place_in, there_at}
+use Rattle.rhai_assign.proofs.Lent.{as_it_was}
+use Rattle.rhai_assign.proofs.Places.{local_put}
+use Rattle.rhai_assign.proofs.Updates.{follows_alike, same_core}
+
+module _ {S H : Type 0} (rules : Rules S H) where
+  -- a part that goes from one state to another
+  between : (start : List (Frame H) → Local H → Core H) (old old_as new new_as : State S H) (r : Result (Dynamic H) (EvalAltResult H)) →
+      old ≡ old_as → new ≡ new_as → Follows rules start old r new → Follows rules start old_as r new_as
+  between start old old_as new new_as r e f go = rw (← e, ← f) go
+
+  -- what was lent from a place of the code has gone back there
+  pub goes_back : (start : List (Frame H) → Local H → Core H) (place : code.Place) (v w : Dynamic H) (t called : S)
+      (old lent : GlobalRuntimeState H) (taken store : CellStore H) (before mid later : Scope H) (held : Held H)
+      (r : Result (Dynamic H) (EvalAltResult H)) → there_at place before old.cells ≡ Some v →
+      entries_of mid ≡ entries_put (place_in place) unit_value (entries_of before) →
+      cells_of taken ≡ while_lent (place_in place) (cells_of old.cells) → IsPut place w mid later lent.cells store →
+      Follows rules start (placed (place_in place) v (state_of t (record old { cells = taken }) mid held)) r
+      (placed (place_in place) w (state_of called lent mid held)) →
+      Follows rules start (state_of t old before held) r (state_of called (record lent { cells = store }) later held)
+  goes_back start place v w t called old lent taken store before mid later held r there e c wrote follows = between start _ _ _ _ r
+      (ap (λ (l : Local H). record { table = t; count = old.num_operations; local = l })
+      (as_it_was place v old taken before mid held there e c))
+      (ap (λ (l : Local H). record { table = called; count = lent.num_operations; local = l })
+      (sym (local_put place w lent store mid later held wrote))) follows
+
+  module _ (root : Expr) (op : OpAssignment) (v : Dynamic H) (old : State S H) where
+    -- where the focus of a chain is assigned to
+    abbrev wanted : Result (Target H) (EvalAltResult H)
+    wanted = focus_target old.local.around.cells (name_in (out-Expr root)) (start_of root) (focus_of old.local)
+
+    abbrev assignment : Position → Assignment
+    assignment at = record { name = name_in (out-Expr root); at = at; op = op }
+
+    starts : (found : Result (Target H) (EvalAltResult H)) → wanted ≡ found → (k : List (Frame H)) →
+        assign_focus rules.setting root (record { op = op; value = v }) k old.local
+        ≡ on_value found (λ target. assign_core rules.setting op.op (assignment (position_of root)) target v k old.local) k old.local
+    starts found is k = ap (λ (r : Result (Target H) (EvalAltResult H)). on_value r
+        (λ target. assign_core rules.setting op.op (assignment (position_of root)) target v k old.local) k old.local) is
+
+    -- its target is found
+    pub focus_found : (new : State S H) (target : Target H) (at : Position) (result : Result (Dynamic H) (EvalAltResult H)) → wanted ≡ Ok target →
+        at ≡ position_of root → FollowsAssign rules (assignment at) target v old result new → FollowsFocus rules root op v old result new
+    focus_found new target at result is stands follows = follows_alike rules _ _ old new result (starts (Ok target) is)
+        (rw stands at follows)
+
+    -- or it may not be assigned to
+    pub focus_fails : (e : EvalAltResult H) → (is_out_of_memory e ≡ false → wanted ≡ Err e) →
+        FollowsFocus rules root op v old (Err e) old
+    focus_fails (error.ErrorOutOfMemory pos) is = Wants pos refl refl
+    focus_fails e is = Does (λ k. same_core rules _ _ old (starts (Err e) (is refl) k))

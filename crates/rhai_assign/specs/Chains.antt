@@ -1,0 +1,45 @@
+-- What a chain works on, as it is assigned to.
+use Rattle.std.specs.Prelude.{◌≡◌, false, List, Option, Some, None, Result, Ok, Err}
+use Rattle.rhai_tree.specs.declared.expr.Expr.{Expr}
+use Rattle.rhai_tree.specs.declared.expr.OpAssignment.{OpAssignment}
+use Rattle.rhai_values.specs.declared.base.value.CellId.{CellId}
+use Rattle.rhai_values.specs.declared.base.value.Dynamic.{Dynamic}
+use Rattle.rhai_values.specs.Cells.{value_of_cell}
+use Rattle.rhai_state.specs.declared.error.EvalAltResult.{EvalAltResult}
+use Rattle.rhai_state.specs.Errors.{is_out_of_memory}
+use Rattle.rhai_machine.specs.language.Setting.{Rules}
+use Rattle.rhai_machine.specs.language.State.{State}
+use Rattle.rhai_machine.specs.language.Values.{Cells, is_handle}
+use Rattle.rhai_machine.specs.language.Places.{InCell, InFocus, Target, is_constant, target}
+use Rattle.rhai_machine.specs.language.Chains.{assign_focus}
+use Rattle.rhai_assign.specs.Follows.{Follows}
+
+module _ {H : Type 0} where
+  -- a value that is there and may be changed
+  abbrev pub IsWritable : Option (Dynamic H) → Type 0
+  IsWritable (Some v) = is_constant v.mode ≡ false
+  IsWritable None = ⊥
+
+  -- the target is a value that may be changed, in a cell that is not held
+  pub record InOwnCell (id : CellId) (cells : Cells H) (wanted : Result (Target H) (EvalAltResult H)) : Type 0 where
+    pub value : Dynamic H
+    pub there : value_of_cell cells id.number ≡ Some value
+    pub is : wanted ≡ Ok (target (InCell id.number) value)
+    pub writable : is_constant value.mode ≡ false
+
+  -- the target is the focus itself, which may be changed and is no handle
+  pub record InItself (focus : Dynamic H) (wanted : Result (Target H) (EvalAltResult H)) : Type 0 where
+    pub plain : is_handle focus.value ≡ false
+    pub is : wanted ≡ Ok (target InFocus focus)
+
+  -- where the target of a focus is: in a cell, or the focus itself; else the error is the machine's, want of memory aside
+  abbrev pub FindsFocus : Result (Option CellId) (EvalAltResult H) → Cells H → (focus : Dynamic H) → Result (Target H) (EvalAltResult H) →
+      Type 0
+  FindsFocus (Ok (Some id)) cells focus wanted = InOwnCell id cells wanted
+  FindsFocus (Ok None) cells focus wanted = InItself focus wanted
+  FindsFocus (Err e) cells focus wanted = is_out_of_memory e ≡ false → wanted ≡ Err e
+
+-- an assignment to the focus, by an operator or as it is
+abbrev pub FollowsFocus : {S H : Type 0} → Rules S H → (root : Expr) → OpAssignment → Dynamic H → State S H →
+    Result (Dynamic H) (EvalAltResult H) → State S H → Type 0
+FollowsFocus rules root op v = Follows rules (assign_focus rules.setting root (record { op = op; value = v }))

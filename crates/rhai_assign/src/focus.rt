@@ -1,0 +1,187 @@
+//! Assignment to what a chain works on. Ports what upstream's chains ask of `eval_op_assignment`.
+
+ghost use Rattle.std.specs.Prelude.{◌≡◌, [], Some, false};
+ghost use Rattle.rhai_tree.specs.declared.expr.Expr.{out-Expr};
+ghost use Rattle.rhai_tree.specs.Positions.{start_of};
+ghost use Rattle.rhai_values.specs.Cells.{cells_of, value_of_cell};
+ghost use Rattle.rhai_state.specs.declared.error.EvalAltResult.TheVariants as error;
+ghost use Rattle.rhai_state.specs.Errors.{is_out_of_memory};
+ghost use Rattle.rhai_machine.specs.language.Links.{name_in};
+ghost use Rattle.rhai_machine.specs.language.Places.{InCell, InFocus, focus_in_cell, target as target_in};
+ghost use Rattle.rhai_machine.specs.language.Places.{focus_target as focus_target_of};
+ghost use Rattle.rhai_machine.specs.language.Setting.{rules_of};
+ghost use Rattle.rhai_steps.specs.States.{state_of};
+ghost use Rattle.rhai_assign.specs.Chains.{FindsFocus, FollowsFocus, IsWritable};
+ghost use Rattle.rhai_assign.specs.Follows.{FollowsAssign};
+ghost use Rattle.rhai_assign.specs.Keeps.{KeepsHeld};
+ghost use Rattle.rhai_assign.specs.Lending.{placed};
+
+use crate::place::is_constant;
+use crate::update::assign_lent;
+use rhai_items::{Shared, Text};
+use rhai_state::error::EvalAltResult;
+use rhai_state::limits::Limits;
+use rhai_state::state::GlobalRuntimeState;
+use rhai_state::table::NativeTable;
+use rhai_steps::errors::{assignment_to_constant, data_race};
+use rhai_steps::values::let_go;
+use rhai_tree::expr::{Expr, OpAssignment};
+use rhai_tree::position::Position;
+use rhai_values::base::value::{CellId, Dynamic, Host, Union};
+use rhai_values::cells::CellStore;
+use std::alloc::Global;
+
+/// A constant without a name that is assigned to.
+#[cold]
+#[inline(never)]
+fn nameless_constant<H>(alloc: Global, pos: Position) -> EvalAltResult<H>
+    ensures { is_out_of_memory result ≡ false → result ≡ error.ErrorAssignmentToConstant [] pos }
+{
+    match Shared::new(alloc, Text::new(alloc)) {
+        Ok(name) => EvalAltResult::ErrorAssignmentToConstant(name, pos),
+        Err(_) => EvalAltResult::ErrorOutOfMemory(pos),
+    }
+}
+
+/// A constant that a chain assigns to, with the name of the chain's root.
+#[cold]
+#[inline(never)]
+fn constant_of<H>(alloc: Global, root: &Expr) -> EvalAltResult<H>
+    ensures { is_out_of_memory result ≡ false → result ≡ error.ErrorAssignmentToConstant
+        (name_in (out-Expr root.now)) (start_of root.now) }
+{
+    let pos = root.start_position();
+    match root {
+        Expr::Variable { name, .. } => assignment_to_constant(name, pos),
+        _ => nameless_constant(alloc, pos),
+    }
+}
+
+/// The target in the cell of a handle, which may make a constant of it too.
+fn target_in_cell<H: Host>(
+    alloc: Global,
+    cells: &CellStore<H>,
+    focus: &Dynamic<H>,
+    id: CellId,
+    root: &Expr,
+) -> Result<Option<CellId>, EvalAltResult<H>>
+    ensures { FindsFocus result (cells_of cells.now) focus.now (focus_in_cell (name_in (out-Expr root.now))
+        (start_of root.now) focus.now.mode id.number (value_of_cell (cells_of cells.now) id.number)) }
+{
+    let mode = focus.access_mode();
+    match cells.get(id) {
+        Some(inner) => {
+            if is_constant(mode, inner.access_mode()) {
+                return Err(constant_of(alloc, root));
+            }
+            Ok(Some(id))
+        }
+        None => {
+            if is_constant(mode, mode) {
+                return Err(constant_of(alloc, root));
+            }
+            Err(data_race(alloc, root.start_position()))
+        }
+    }
+}
+
+/// Where the target of a chain's focus is: in the cell that the focus is a handle of, or None where it
+/// is the focus itself.
+fn focus_target<H: Host>(
+    alloc: Global,
+    cells: &CellStore<H>,
+    focus: &Dynamic<H>,
+    root: &Expr,
+) -> Result<Option<CellId>, EvalAltResult<H>>
+    ensures { FindsFocus result (cells_of cells.now) focus.now (focus_target_of (cells_of cells.now)
+        (name_in (out-Expr root.now)) (start_of root.now) focus.now) }
+{
+    let mode = focus.access_mode();
+    match &focus.value {
+        Union::Cell(id) => target_in_cell(alloc, cells, focus, *id, root),
+        _ => {
+            let constant = is_constant(mode, mode);
+            if constant {
+                return Err(constant_of(alloc, root));
+            }
+            Ok(None)
+        }
+    }
+}
+
+/// Assigns a value to that of a cell, which is taken from there and goes back whatever comes of it.
+fn assign_in_cell<H: Host, T: NativeTable<H>>(
+    limits: &Limits,
+    alloc: Global,
+    global: &mut GlobalRuntimeState<H>,
+    table: &mut T,
+    id: CellId,
+    pos: Position,
+    op: OpAssignment,
+    value: Dynamic<H>,
+    fast: bool,
+) -> Result<Dynamic<H>, EvalAltResult<H>>
+    requires { IsWritable (value_of_cell (cells_of global.old.cells) id.number) }
+    ensures keeps { KeepsHeld global.old global.new }
+    ensures runs { (offer : _) (scope : _) (held : _) (name : _) (inner : _) →
+        offer.fast_operators ≡ fast → value_of_cell (cells_of global.old.cells) id.number ≡ Some inner →
+        FollowsAssign (rules_of limits.now H.name_of offer T.natives)
+        (record { name = name; at = pos; op = op }) (target_in (InCell id.number) inner) value
+        (state_of (T.state table.old) global.old scope held)
+        result (state_of (T.state table.new) global.new scope held) }
+{
+    let mut target = global.cells.take(id).unwrap();
+    let result = assign_lent(
+        limits,
+        alloc,
+        global,
+        table,
+        &mut target,
+        Some(id),
+        pos,
+        op,
+        value,
+        fast,
+    );
+    global.cells.set(id, target);
+    result
+}
+
+/// Assigns a value to what a chain works on: as it is, or by an operator as `assign_variable` does. A
+/// handle stands for the value of its cell, which is held so long. The root of the chain tells which
+/// constant it is that may not be assigned to.
+///
+/// # Errors
+/// At the root's start: `ErrorAssignmentToConstant` for a constant, by its own mode or for a handle by
+/// that of its cell's value, and `ErrorDataRace` for the handle of a cell that is held. At the operator:
+/// what the operator answers, and `ErrorDataTooLarge` for a value above a limit; what a native left in
+/// the target is measured at the root.
+pub fn assign_focus<H: Host, T: NativeTable<H>>(
+    limits: &Limits,
+    alloc: Global,
+    global: &mut GlobalRuntimeState<H>,
+    table: &mut T,
+    target: &mut Dynamic<H>,
+    root: &Expr,
+    op: OpAssignment,
+    value: Dynamic<H>,
+    fast: bool,
+) -> Result<Dynamic<H>, EvalAltResult<H>>
+    ensures keeps { KeepsHeld global.old global.new }
+    ensures runs { (offer : _) (scope : _) (held : _) → offer.fast_operators ≡ fast →
+        FollowsFocus (rules_of limits.now H.name_of offer T.natives) root.now op value
+        (placed InFocus target.old (state_of (T.state table.old) global.old scope held))
+        result (placed InFocus target.new (state_of (T.state table.new) global.new scope held)) }
+{
+    let pos = root.position();
+    match focus_target(alloc, &global.cells, target, root) {
+        Ok(None) => assign_lent(
+            limits, alloc, global, table, target, None, pos, op, value, fast,
+        ),
+        Ok(Some(id)) => assign_in_cell(limits, alloc, global, table, id, pos, op, value, fast),
+        Err(error) => {
+            let_go(value);
+            Err(error)
+        }
+    }
+}
