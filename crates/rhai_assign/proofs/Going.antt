@@ -1,10 +1,9 @@
 -- An assignment at a place of the code, which is taken from there and goes back, and one to the focus of a chain.
-use Rattle.std.proofs.Common.{◌≡◌, ℕ, false, List, Option, Some, None, Result, Ok, Err, refl, sym, ap, ◌∙◌}
+use Rattle.std.proofs.Common.{◌≡◌, false, List, Some, Result, Ok, Err, refl, sym, ap}
 use Rattle.rhai_tree.specs.declared.position.Position.{Position}
 use Rattle.rhai_tree.specs.declared.expr.Expr.{Expr, out-Expr}
 use Rattle.rhai_tree.specs.declared.expr.OpAssignment.{OpAssignment}
 use Rattle.rhai_tree.specs.Positions.{position_of, start_of}
-use Rattle.rhai_values.specs.declared.base.value.CellId.{CellId}
 use Rattle.rhai_values.specs.declared.base.value.Dynamic.{Dynamic}
 use Rattle.rhai_values.specs.declared.cells.CellStore.{CellStore}
 use Rattle.rhai_values.specs.Cells.{cells_of}
@@ -17,13 +16,13 @@ use Rattle.rhai_state.specs.Scope.{entries_of}
 use Rattle.rhai_machine.specs.language.Setting.{Rules}
 use Rattle.rhai_machine.specs.language.State.{Held, Local, State}
 use Rattle.rhai_machine.specs.language.Values.{unit_value}
-use Rattle.rhai_machine.specs.language.Places.{Target, focus_target, put, while_lent}
+use Rattle.rhai_machine.specs.language.Places.{Target, focus_target, while_lent}
 use Rattle.rhai_machine.specs.language.Links.{name_in}
 use Rattle.rhai_machine.specs.language.Members.{focus_of}
 use Rattle.rhai_machine.specs.language.Assignment.{assign_core}
 use Rattle.rhai_machine.specs.language.Chains.{assign_focus}
-use Rattle.rhai_machine.specs.language.Frames.{Assignment, NewValue, Core, Frame, on_value}
-use Rattle.rhai_steps.specs.States.{local_of, state_of}
+use Rattle.rhai_machine.specs.language.Frames.{Assignment, Core, Frame, on_value}
+use Rattle.rhai_steps.specs.States.{state_of}
 use Rattle.rhai_assign.specs.declared.place.Place as code
 use Rattle.rhai_assign.specs.Chains.{FollowsFocus}
 use Rattle.rhai_assign.specs.Follows.{Follows, FollowsAssign, Does, Wants}

@@ -18,8 +18,7 @@ use Rattle.rhai_machine.specs.language.Places.{Place, InEntry, InCell, InFocus, 
 use Rattle.rhai_steps.specs.States.{local_of}
 use Rattle.rhai_assign.specs.declared.place.Place as code
 use Rattle.rhai_assign.specs.declared.place.Place.TheVariants as place
-use Rattle.rhai_assign.specs.Targets.{there, stands, standing, IsKnown, IsPut, entries_put, cells_put, place_in, stands_at, standing_at}
-use Rattle.rhai_assign.specs.Targets.{there_at}
+use Rattle.rhai_assign.specs.Targets.{there, stands, standing, IsKnown, IsPut, entries_put, cells_put, place_in}
 
 module _ {A : Type 0} where
   pub get_set : (xs : List A) (i : ℕ) (x y : A) → slice_get xs i ≡ Some x → slice_get (slice_set xs i y) i ≡ Some y

@@ -31,9 +31,9 @@ use Rattle.rhai_machine.specs.language.State.{Held, Local, State}
 use Rattle.rhai_machine.specs.language.Calls.{applied}
 use Rattle.rhai_machine.specs.language.Places.{target, target_of}
 use Rattle.rhai_machine.specs.language.Assignment.{assign_core, if_fast, update_core, written_core}
-use Rattle.rhai_machine.specs.language.Frames.{Assignment, Core, Frame, InPlace, Update, core, on_value, Assign}
+use Rattle.rhai_machine.specs.language.Frames.{Assignment, Frame, InPlace, Update, core, on_value, Assign}
 use Rattle.rhai_machine.specs.language.Frames.{AssignValue, Eval, Fail, OpenStmt}
-use Rattle.rhai_machine.specs.language.Runs.{at, with_core, Goes, Runs, Steps}
+use Rattle.rhai_machine.specs.language.Runs.{at, Goes, Runs, Steps}
 use Rattle.rhai_steps.specs.States.{local_of, state_of}
 use Rattle.rhai_steps.proofs.Pieces.{step_by}
 use Rattle.rhai_operands.specs.Standing.{standing}

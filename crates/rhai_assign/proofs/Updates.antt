@@ -28,7 +28,7 @@ use Rattle.rhai_machine.specs.language.Frames.{Control, Assignment, AsValue, InP
 use Rattle.rhai_machine.specs.language.Frames.{Fail}
 use Rattle.rhai_machine.specs.language.Assignment.{assign_core, changed_core, fault_core, if_fast, native_of, store_core, update_core, value_core, written_core}
 use Rattle.rhai_machine.specs.language.Runs.{at, with_core, Goes, Runs, Steps}
-use Rattle.rhai_steps.specs.States.{local_of, state_of}
+use Rattle.rhai_steps.specs.States.{state_of}
 use Rattle.rhai_steps.proofs.Pieces.{charged, or_wants, refused, told}
 use Rattle.rhai_assign.specs.declared.place.Update as code
 use Rattle.rhai_assign.specs.Follows.{Asked, Follows, FollowsAssign, FollowsUpdate, Does, Wants}

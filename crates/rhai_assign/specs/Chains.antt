@@ -1,5 +1,5 @@
 -- What a chain works on, as it is assigned to.
-use Rattle.std.specs.Prelude.{◌≡◌, false, List, Option, Some, None, Result, Ok, Err}
+use Rattle.std.specs.Prelude.{◌≡◌, false, Option, Some, None, Result, Ok, Err}
 use Rattle.rhai_tree.specs.declared.expr.Expr.{Expr}
 use Rattle.rhai_tree.specs.declared.expr.OpAssignment.{OpAssignment}
 use Rattle.rhai_values.specs.declared.base.value.CellId.{CellId}

@@ -1,5 +1,5 @@
 -- Where the value of a variable stands in the code, and what is written there.
-use Rattle.std.specs.Prelude.{◌≡◌, ◌<◌, ℕ, Bool, true, false, List, length, Option, Some, None, is_some, unwrap_or, slice_get}
+use Rattle.std.specs.Prelude.{◌≡◌, ◌<◌, Bool, true, false, List, length, Option, Some, None, is_some, unwrap_or, slice_get}
 use Rattle.std.specs.Prelude.{Result, Ok, Err, is_ok}
 use Rattle.rhai_values.specs.declared.base.value.CellId.{CellId}
 use Rattle.rhai_values.specs.declared.base.value.Dynamic.{Dynamic}

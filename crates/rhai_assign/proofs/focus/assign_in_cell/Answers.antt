@@ -1,4 +1,4 @@
-use Rattle.std.proofs.Common.{◌≡◌, refl, sym, ◌∙◌}
+use Rattle.std.proofs.Common.{refl, sym, ◌∙◌}
 use Rattle.rhai_values.specs.Cells.{cells_of, value_of_cell}
 use Rattle.rhai_machine.specs.language.Places.{InCell}
 use Rattle.rhai_machine.specs.language.Setting.{Rules, rules_of}

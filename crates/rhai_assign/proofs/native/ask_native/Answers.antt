@@ -1,5 +1,4 @@
-use Rattle.std.proofs.Common.{sym, ap, ◌∙◌, ◌+◌, arith}
-use Rattle.rhai_state.specs.declared.state.GlobalRuntimeState.{GlobalRuntimeState}
+use Rattle.std.proofs.Common.{sym, ◌∙◌}
 use Rattle.rhai_state.specs.Native.{reply_of}
 use Rattle.rhai_machine.specs.language.Frames.{Update}
 use Rattle.rhai_machine.specs.language.Setting.{Rules, rules_of}

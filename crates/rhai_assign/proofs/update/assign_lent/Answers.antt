@@ -1,9 +1,9 @@
-use Rattle.std.proofs.Common.{ap, sym, ◌∙◌}
+use Rattle.std.proofs.Common.{ap, sym}
 use Rattle.rhai_machine.specs.language.Setting.{Rules, rules_of}
 use Rattle.rhai_machine.specs.language.Frames.{Assignment}
-use Rattle.rhai_machine.specs.language.Places.{put, target}
+use Rattle.rhai_machine.specs.language.Places.{target}
 use Rattle.rhai_machine.specs.language.State.{Local, State}
-use Rattle.rhai_steps.specs.States.{local_of, state_of}
+use Rattle.rhai_steps.specs.States.{state_of}
 use Rattle.rhai_assign.specs.Lending.{placed}
 use Rattle.rhai_assign.proofs.Lent.{put_twice}
 use Rattle.rhai_assign.proofs.Updates.{updates, writes}

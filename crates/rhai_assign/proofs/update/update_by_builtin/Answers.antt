@@ -2,7 +2,6 @@ use Rattle.std.proofs.Common.{refl}
 use Rattle.rhai_operators.specs.Answers.{op_assign_of}
 use Rattle.rhai_machine.specs.language.Setting.{Rules, rules_of}
 use Rattle.rhai_machine.specs.language.Places.{put}
-use Rattle.rhai_machine.specs.language.State.{State}
 use Rattle.rhai_machine.specs.language.Frames.{InPlace, Update}
 use Rattle.rhai_steps.specs.States.{local_of, state_of}
 use Rattle.rhai_assign.specs.Lending.{placed}
