@@ -11,7 +11,7 @@ use Rattle.rhai_values.specs.declared.base.value.Dynamic.{Dynamic}
 use Rattle.rhai_values.specs.declared.base.value.Union.{Union}
 use Rattle.rhai_values.specs.declared.base.value.Union.TheVariants as value
 use Rattle.rhai_values.specs.declared.cells.CellStore.{CellStore}
-use Rattle.rhai_values.specs.Cells.{IsHeld, IsNoHandle, cells_of, value_of_cell, with_held, with_value}
+use Rattle.rhai_values.specs.Cells.{IsHeld, cells_of, value_of_cell, with_held, with_value}
 use Rattle.rhai_values.specs.TypeNames.{own_type_name, type_name_of, union_type_name}
 use Rattle.rhai_state.specs.declared.scope.Scope.{Scope}
 use Rattle.rhai_state.specs.declared.scope.ScopeEntry.{ScopeEntry}
@@ -28,11 +28,10 @@ use Rattle.rhai_steps.specs.States.{local_of, surroundings_of}
 use Rattle.rhai_assign.specs.declared.place.Place as code
 use Rattle.rhai_assign.specs.declared.place.Place.TheVariants as place
 use Rattle.rhai_assign.specs.Targets.{IsPut, entries_put, own_cell, place_in, stands, there_at}
-use Rattle.rhai_assign.specs.Chains.{IsWritable}
 use Rattle.rhai_assign.specs.Keeps.{Charges, KeepsHeld}
 use Rattle.rhai_assign.specs.Lending.{cells_seen, IsFree, IsLentFrom, IsOwnCell}
 use Rattle.rhai_assign.specs.Updates.{is_barred_for}
-use Rattle.rhai_assign.proofs.Places.{cell_known, get_set, get_within, keeps_names, names_put, revalued_twice}
+use Rattle.rhai_assign.proofs.Places.{get_set, keeps_names, names_put, revalued_twice}
 
 -- what is written over itself stays
 pub set_same : {A : Type 0} (xs : List A) (i : ℕ) (x : A) → slice_get xs i ≡ Some x → slice_set xs i x ≡ xs
@@ -103,13 +102,6 @@ module _ {H : Type 0} where
   own_named host cells (value.Cell id) h = cc
   own_named host cells _ h = refl
 
-  no_handle : (u : Union H) → IsNoHandle u → is_handle u ≡ false
-  no_handle (value.Cell id) h = absurd h
-  no_handle _ h = refl
-
-  pub free_plain : (v : Dynamic H) → IsNoHandle v.value → IsFree v
-  free_plain v plain is = no_handle v.value plain
-
   module _ {S : Type 0} (host : H → List ℕ) (natives : Natives S H) (cells : Cells H) (t : S) (name : List ℕ) where
     barred_by : (mode : AccessMode) (u : Union H) → (is_constant mode ≡ true → is_handle u ≡ false) →
         (is_constant mode && not (natives.pure t (OfName name (union_type_name host cells u) 2)))
@@ -158,15 +150,6 @@ module _ {H : Type 0} where
       (ap (λ (cells : Cells H). record (local_of g before held) { around = record (surroundings_of g) { cells = cells } })
       (cell_back (cells_of g.cells) id.number v there))
 
-  -- that cell is held meanwhile
-  pub held_cell : (cells : Cells H) (n : ℕ) → is_some (value_of_cell cells n) ≡ true → IsHeld (with_held cells n) n
-  held_cell cells n some = get_within cells n None (cell_known cells n (slice_get cells n) refl some)
-
-  pub own_held : (place : code.Place) (entries : List (ScopeEntry H)) (cells : Cells H) → stands (place_in place) entries cells ≡ true →
-      IsOwnCell (own_cell place) (while_lent (place_in place) cells)
-  own_held (place.InEntry i) entries cells some = tt
-  own_held (place.InCell id) entries cells some = held_cell cells id.number some
-
   -- the scope keeps its names
   pub names_back : (place : code.Place) (v w : Dynamic H) (before mid later : Scope H) (old new : CellStore H) →
       entries_of mid ≡ entries_put (place_in place) v (entries_of before) → IsPut place w mid later old new →
@@ -196,9 +179,3 @@ module _ {H : Type 0} where
   -- what is in a cell that may be changed
   pub one_value : (o : Option (Dynamic H)) (v w : Dynamic H) → o ≡ Some v → o ≡ Some w → v ≡ w
   one_value o v w is there = let same : Some v ≡ Some w = sym is ∙ there in cc
-
-  pub writable_free : (o : Option (Dynamic H)) (v : Dynamic H) → IsWritable o → o ≡ Some v → IsFree v
-  writable_free (Some w) v writable is constant =
-      let same : w ≡ v = cc in
-      let never : true ≡ false = sym constant ∙ ap (λ (x : Dynamic H). is_constant x.mode) (sym same) ∙ writable in absurd (cc never)
-  writable_free None v writable is constant = absurd writable

@@ -81,8 +81,11 @@ module _ {S H : Type 0} (rules : Rules S H) where
   unfolding after
   questions_update t old mid scope held u barred room counted free is k =
       charges_update t old mid scope held u room counted k
-      ⨾ next (rw (barred_alike rules.setting.host_type rules.natives (lent u t mid scope held).local.around.cells t
-      (native_of u.attempt u.operator) u.target free, is) here)
+      ⨾ next (rw (
+        barred_alike rules.setting.host_type rules.natives (lent u t mid scope held).local.around.cells t
+            (native_of u.attempt u.operator) u.target free,
+        is,
+      ) here)
 
   asks_update : (t : S) (old mid : GlobalRuntimeState H) (scope : Scope H) (held : Held H) (u : Update H) →
       old.num_operations < limit_under rules → mid ≡ record old { num_operations = old.num_operations + 1 } →

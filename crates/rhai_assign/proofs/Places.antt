@@ -1,40 +1,29 @@
 -- What stands at the place of a variable, and what is written there.
-use Rattle.std.proofs.Common.{◌≡◌, ◌<◌, ℕ, zero, suc, true, List, [], ◌∷◌, map, length, Option, Some, None, is_some, unwrap_or, refl, sym}
-use Rattle.std.proofs.Common.{ap, ◌∙◌, slice_get, slice_set, arith}
-use Rattle.std.proofs.lemmas.List.{length-set, set-set}
-use Rattle.std.proofs.lemmas.Option.{slice_get_within, get_or_from_slice_get}
+use Rattle.std.proofs.Common.{◌≡◌, ℕ, zero, suc, List, [], ◌∷◌, map, Option, Some, None, unwrap_or, refl, sym}
+use Rattle.std.proofs.Common.{ap, ◌∙◌, slice_get, slice_set}
+use Rattle.std.proofs.lemmas.List.{set-set}
+use Rattle.std.proofs.lemmas.Option.{get_or_from_slice_get}
 use Rattle.std.proofs.Math.Seq.{map-set_same}
-use Rattle.std.specs.Option.{option_flatten, option_map}
 use Rattle.rhai_values.specs.declared.base.value.Dynamic.{Dynamic}
 use Rattle.rhai_state.specs.declared.scope.Scope.{Scope}
 use Rattle.rhai_state.specs.declared.scope.ScopeEntry.{ScopeEntry}
 use Rattle.rhai_values.specs.declared.cells.CellStore.{CellStore}
 use Rattle.rhai_state.specs.declared.state.GlobalRuntimeState.{GlobalRuntimeState}
 use Rattle.rhai_values.specs.Cells.{cells_of}
-use Rattle.rhai_state.specs.Scope.{name_of, value_of, entries_of, names_in, revalued}
+use Rattle.rhai_state.specs.Scope.{name_of, entries_of, names_in, revalued}
 use Rattle.rhai_machine.specs.language.State.{Held}
 use Rattle.rhai_machine.specs.language.Values.{Cells, unit_value}
-use Rattle.rhai_machine.specs.language.Places.{Place, InEntry, InCell, InFocus, put, while_lent}
+use Rattle.rhai_machine.specs.language.Places.{Place, InEntry, InCell, InFocus, put}
 use Rattle.rhai_steps.specs.States.{local_of}
 use Rattle.rhai_assign.specs.declared.place.Place as code
 use Rattle.rhai_assign.specs.declared.place.Place.TheVariants as place
-use Rattle.rhai_assign.specs.Targets.{there, stands, standing, IsKnown, IsPut, entries_put, cells_put, place_in}
+use Rattle.rhai_assign.specs.Targets.{there, standing, IsPut, entries_put, cells_put, place_in}
 
 module _ {A : Type 0} where
   pub get_set : (xs : List A) (i : ℕ) (x y : A) → slice_get xs i ≡ Some x → slice_get (slice_set xs i y) i ≡ Some y
   get_set [] i x y is = cc
   get_set (z ∷ xs) zero x y is = refl
   get_set (z ∷ xs) (suc i) x y is = get_set xs i x y is
-
-  none_within : (xs : List A) (i : ℕ) → slice_get xs i ≡ None → i < length xs → ⊥
-  none_within [] i is within = omega arith
-  none_within (x ∷ xs) zero is within = cc
-  none_within (x ∷ xs) (suc i) is within = none_within xs i is (omega arith)
-
-  pub get_within : (xs : List A) (i : ℕ) (y : A) → i < length xs → slice_get (slice_set xs i y) i ≡ Some y
-  get_within [] i y is = absurd (omega arith)
-  get_within (z ∷ xs) zero y is = refl
-  get_within (z ∷ xs) (suc i) y is = get_within xs i y (omega arith)
 
 module _ {H : Type 0} where
   -- of two values that are written to a place the last one stays
@@ -50,40 +39,6 @@ module _ {H : Type 0} where
   pub standing_is : (place : Place) (v : Dynamic H) (entries : List (ScopeEntry H)) (cells : Cells H) → there place entries cells ≡ Some v →
       standing place entries cells ≡ v
   standing_is place v entries cells is = ap (λ (o : Option (Dynamic H)). unwrap_or o unit_value) is
-
-  -- a place with a value is known
-  entry_known : (entries : List (ScopeEntry H)) (i : ℕ) (entry_at : Option (ScopeEntry H)) → slice_get entries i ≡ entry_at →
-      is_some (option_map value_of entry_at) ≡ true → i < length entries
-  entry_known entries i None is some = cc
-  entry_known entries i (Some entry) is some = slice_get_within entries i entry is
-
-  pub cell_known : (cells : Cells H) (n : ℕ) (cell_at : Option (Option (Dynamic H))) → slice_get cells n ≡ cell_at →
-      is_some (option_flatten cell_at) ≡ true → n < length cells
-  cell_known cells n None is some = cc
-  cell_known cells n (Some cell) is some = slice_get_within cells n cell is
-
-  pub known : (place : Place) (entries : List (ScopeEntry H)) (cells : Cells H) → stands place entries cells ≡ true →
-      IsKnown place entries cells
-  known (InEntry i) entries cells some = entry_known entries i (slice_get entries i) refl some
-  known (InCell n) entries cells some = cell_known cells n (slice_get cells n) refl some
-  known InFocus entries cells some = cc
-
-  -- a place that is lent stays known
-  revalued_length : (entries : List (ScopeEntry H)) (i : ℕ) (entry_at : Option (ScopeEntry H)) (v : Dynamic H) →
-      length (revalued entries i entry_at v) ≡ length entries
-  revalued_length entries i None v = refl
-  revalued_length entries i (Some entry) v = length-set entries i (record entry { value = v })
-
-  known_still : (place : Place) (v : Dynamic H) (entries : List (ScopeEntry H)) (cells : Cells H) → IsKnown place entries cells →
-      IsKnown place (entries_put place v entries) (while_lent place cells)
-  known_still (InEntry i) v entries cells k = rw (revalued_length entries i (slice_get entries i) v) k
-  known_still (InCell n) v entries cells k = rw (length-set cells n None) k
-  known_still InFocus v entries cells k = k
-
-  pub known_lent : (place : Place) (v : Dynamic H) (entries mid : List (ScopeEntry H)) (cells store : Cells H) →
-      stands place entries cells ≡ true →
-      mid ≡ entries_put place v entries → store ≡ while_lent place cells → IsKnown place mid store
-  known_lent place v entries mid cells store some e c = rw (e, c) (known_still place v entries cells (known place entries cells some))
 
   -- the scope keeps its names
   revalued_names : (entries : List (ScopeEntry H)) (i : ℕ) (entry_at : Option (ScopeEntry H)) (v : Dynamic H) →

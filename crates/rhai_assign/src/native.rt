@@ -131,14 +131,7 @@ pub(crate) fn ask_native<H: Host, T: NativeTable<H>>(
         return Err(data_race_of(name, update.at));
     }
     let cells = &global.cells;
-    Ok(call_on(
-        cells,
-        table,
-        target,
-        name.get().as_str(),
-        rest,
-        update.at,
-    ))
+    Ok(call_on(cells, table, target, name.get().as_str(), rest, update.at))
 }
 
 /// What the answer of the native `op` comes to. It is read while the target is back in its own cell, to
@@ -165,11 +158,15 @@ pub(crate) fn outcome_of<H: Host>(
     let name = name.get().as_str();
     let token = Some(update.token);
     let Some(id) = update.cell else {
-        return replied(alloc, limits, cells, answer, name, token, target, rest, update.at);
+        return replied(
+            alloc, limits, cells, answer, name, token, target, rest, update.at,
+        );
     };
     cells.set(id, replace(target, unit_value()));
     let back = cells.get(id).unwrap();
-    let outcome = replied(alloc, limits, cells, answer, name, token, back, rest, update.at);
+    let outcome = replied(
+        alloc, limits, cells, answer, name, token, back, rest, update.at,
+    );
     let_go(replace(target, cells.take(id).unwrap()));
     outcome
 }
