@@ -68,8 +68,9 @@ module _ {S H : Type 0} (rules : Rules S H) where
         (λ target. assign_core rules.setting op.op (assignment (position_of root)) target v k old.local) k old.local) is
 
     -- its target is found
-    pub focus_found : (new : State S H) (target : Target H) (at : Position) (result : Result (Dynamic H) (EvalAltResult H)) → wanted ≡ Ok target →
-        at ≡ position_of root → FollowsAssign rules (assignment at) target v old result new → FollowsFocus rules root op v old result new
+    pub focus_found : (new : State S H) (target : Target H) (at : Position) (result : Result (Dynamic H) (EvalAltResult H)) →
+        wanted ≡ Ok target → at ≡ position_of root → FollowsAssign rules (assignment at) target v old result new →
+        FollowsFocus rules root op v old result new
     focus_found new target at result is stands follows = follows_alike rules _ _ old new result (starts (Ok target) is)
         (rw stands at follows)
 

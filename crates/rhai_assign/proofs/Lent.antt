@@ -107,7 +107,8 @@ module _ {H : Type 0} where
         (is_constant mode && not (natives.pure t (OfName name (union_type_name host cells u) 2)))
         ≡ (is_constant mode && not (natives.pure t (OfName name (own_type_name host u) 2)))
     barred_by ReadWrite u free = refl
-    barred_by ReadOnly u free = ap (λ (type_name : List ℕ). not (natives.pure t (OfName name type_name 2))) (own_named host cells u (free refl))
+    barred_by ReadOnly u free = ap (λ (type_name : List ℕ). not (natives.pure t (OfName name type_name 2)))
+        (own_named host cells u (free refl))
 
     -- whether a native is barred from a target does not depend on the cells
     pub barred_alike : (v : Dynamic H) → IsFree v → is_barred (natives.pure t (OfName name (type_name_of host cells v) 2)) v

@@ -24,9 +24,10 @@ use Rattle.rhai_machine.specs.language.State.{Held, State, Local, HasMemory, Ans
 use Rattle.rhai_machine.specs.language.Values.{unit_value}
 use Rattle.rhai_machine.specs.language.Places.{Place, Target, target_of, put}
 use Rattle.rhai_machine.specs.language.Calls.{applied, operation_at, placed_if_none, replied, sized}
-use Rattle.rhai_machine.specs.language.Frames.{Control, Assignment, AsValue, InPlace, Update, Frame, Core, core, ended, Assign, Store, AskUpdate}
-use Rattle.rhai_machine.specs.language.Frames.{Fail}
-use Rattle.rhai_machine.specs.language.Assignment.{assign_core, changed_core, fault_core, if_fast, native_of, store_core, update_core, value_core, written_core}
+use Rattle.rhai_machine.specs.language.Frames.{Control, Assignment, AsValue, InPlace, Update, Frame, Core, core, ended}
+use Rattle.rhai_machine.specs.language.Frames.{Assign, Store, AskUpdate, Fail}
+use Rattle.rhai_machine.specs.language.Assignment.{assign_core, changed_core, fault_core, if_fast, native_of, store_core}
+use Rattle.rhai_machine.specs.language.Assignment.{update_core, value_core, written_core}
 use Rattle.rhai_machine.specs.language.Runs.{at, with_core, Goes, Runs, Steps}
 use Rattle.rhai_steps.specs.States.{state_of}
 use Rattle.rhai_steps.proofs.Pieces.{charged, or_wants, refused, told}

@@ -8,8 +8,8 @@ ghost use Rattle.rhai_state.specs.Scope.{entries_of, names_in};
 ghost use Rattle.rhai_machine.specs.language.Values.{unit_value as unit};
 ghost use Rattle.rhai_machine.specs.language.Places.{is_constant as constant_at, target, target_in_cell};
 ghost use Rattle.rhai_machine.specs.language.Places.{target_of, unless_constant as allowed, while_lent};
-ghost use Rattle.rhai_assign.specs.Targets.{Finds, IsKnownAt, IsPut, entries_put, own_cell, place_in, stands_at};
-ghost use Rattle.rhai_assign.specs.Targets.{there, there_at};
+ghost use Rattle.rhai_assign.specs.Targets.{Finds, IsKnownAt, IsPut, entries_put, own_cell, place_in};
+ghost use Rattle.rhai_assign.specs.Targets.{stands_at, there, there_at};
 
 use rhai_items::{Shared, Text};
 use rhai_state::error::EvalAltResult;

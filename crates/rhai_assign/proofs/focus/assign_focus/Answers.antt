@@ -15,7 +15,8 @@ use Rattle.rhai_assign.proofs.focus.assign_focus.Goals as goal
 pub returns-in-Ok-None-clause-runs : goal.returns-in-Ok-None-clause-runs
 returns-in-Ok-None-clause-runs g c offer scope held fast =
     let rules : Rules _ _ = rules_of c.args.limits.now g.H.Host.name_of offer g.T.NativeTable.natives in
-    let old : State _ _ = placed InFocus c.args.target.now (state_of (g.T.NativeTable.state c.args.table.now) c.args.global.now scope held) in
+    let old : State _ _ = placed InFocus c.args.target.now
+    (state_of (g.T.NativeTable.state c.args.table.now) c.args.global.now scope held) in
     let new : State _ _ = placed InFocus c.assign_lent.new.target
     (state_of (g.T.NativeTable.state c.assign_lent.new.table) c.assign_lent.new.global scope held) in
     let name = name_in (out-Expr c.args.root.now) in
@@ -27,7 +28,8 @@ returns-in-Ok-None-clause-runs g c offer scope held fast =
 pub returns-in-Ok-Some-clause-runs : goal.returns-in-Ok-Some-clause-runs
 returns-in-Ok-Some-clause-runs g c offer scope held fast =
     let rules : Rules _ _ = rules_of c.args.limits.now g.H.Host.name_of offer g.T.NativeTable.natives in
-    let old : State _ _ = placed InFocus c.args.target.now (state_of (g.T.NativeTable.state c.args.table.now) c.args.global.now scope held) in
+    let old : State _ _ = placed InFocus c.args.target.now
+    (state_of (g.T.NativeTable.state c.args.table.now) c.args.global.now scope held) in
     let new : State _ _ = placed InFocus c.args.target.now
     (state_of (g.T.NativeTable.state c.assign_in_cell.new.table) c.assign_in_cell.new.global scope held) in
     let name = name_in (out-Expr c.args.root.now) in

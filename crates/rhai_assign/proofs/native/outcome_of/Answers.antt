@@ -16,7 +16,8 @@ returns-clause-target g c = c.replace-2.ensures.after ∙ back_again (cells_of c
 pub returns-clause-told : goal.returns-clause-told
 returns-clause-told g c =
     let back = back_again (cells_of c.args.cells.now) (cells_of c.set.new.self) c.in-Some.id c.replace.result c.unwrap-back.result.now
-    (rw c.in-Some.is at c.requires) c.set.ensures (ap option_copied (sym c.unwrap-back.ensures) ∙ c.get-2.ensures) ∙ c.replace.ensures.value in
+    (rw c.in-Some.is at c.requires) c.set.ensures (ap option_copied (sym c.unwrap-back.ensures) ∙ c.get-2.ensures)
+    ∙ c.replace.ensures.value in
     let seen : cells_of c.set.new.self ≡ with_value (cells_of c.args.cells.now) c.in-Some.id.number c.args.target.now = c.set.ensures
     ∙ ap (λ v. with_value (cells_of c.args.cells.now) c.in-Some.id.number v) c.replace.ensures.value in
     rw c.in-Some.is (rw (c.as_str-name.ensures, c.get.ensures, back, seen) at c.replied-outcome.ensures.told)

@@ -19,7 +19,8 @@ returns-in_default-clause-runs g c offer scope held place operand from only =
 pub returns-clause-runs : goal.returns-clause-runs
 returns-clause-runs g c offer scope held place operand from only =
     let rules : Rules _ _ = rules_of c.args.limits.now g.H.Host.name_of offer g.T.NativeTable.natives in
-    let start : State _ _ = placed place c.args.target.now (state_of (g.T.NativeTable.state c.args.table.now) c.args.global.now scope held) in
+    let start : State _ _ = placed place c.args.target.now
+    (state_of (g.T.NativeTable.state c.args.table.now) c.args.global.now scope held) in
     let s : State _ _ = state_of (g.T.NativeTable.state c.ask_native.new.table) c.ask_native.new.global scope held in
     let named = c.in-Ok.ensures ∙ c.as_str.ensures in
     rw c.outcome_of-outcome.ensures.cells

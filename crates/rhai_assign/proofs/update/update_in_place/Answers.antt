@@ -20,7 +20,8 @@ pub returns-in-Missing-clause-runs : goal.returns-in-Missing-clause-runs
 returns-in-Missing-clause-runs g c offer scope held place operand from only =
     let rules : Rules _ _ = rules_of c.args.limits.now g.H.Host.name_of offer g.T.NativeTable.natives in
     let asked = c.in_ok-ask_native.ensures.asked offer scope held place InPlace operand from c.in-Ok.ensures only in
-    missing_by rules c.args.update place c.args.target.now c.ask_native.new.target operand _ _ _ c.update_again.result (rw c.in-Missing.is at asked) (c.update_again.ensures.runs offer scope held place operand from only)
+    missing_by rules c.args.update place c.args.target.now c.ask_native.new.target operand _ _ _ c.update_again.result
+    (rw c.in-Missing.is at asked) (c.update_again.ensures.runs offer scope held place operand from only)
 
 pub returns-in-Value-clause-runs : goal.returns-in-Value-clause-runs
 unfolding Steps
@@ -28,7 +29,8 @@ returns-in-Value-clause-runs g c offer scope held place operand from only k =
     let rules : Rules _ _ = rules_of c.args.limits.now g.H.Host.name_of offer g.T.NativeTable.natives in
     let asked = c.in_ok-ask_native.ensures.asked offer scope held place InPlace operand from c.in-Ok.ensures only in
     let first : Update _ = update_of c.args.update InPlace place c.args.target.now operand in
-    let start : State _ _ = placed place c.args.target.now (state_of (g.T.NativeTable.state c.args.table.now) c.args.global.now scope held) in
+    let start : State _ _ = placed place c.args.target.now
+    (state_of (g.T.NativeTable.state c.args.table.now) c.args.global.now scope held) in
     let now : State _ _ = placed place c.ask_native.new.target
     (state_of (g.T.NativeTable.state c.ask_native.new.table) c.ask_native.new.global scope held) in
     let u : Update _ = update_of c.args.update InPlace place c.ask_native.new.target operand in
@@ -42,7 +44,8 @@ returns-in-Some-clause-runs g c offer scope held place operand from only k =
     let rules : Rules _ _ = rules_of c.args.limits.now g.H.Host.name_of offer g.T.NativeTable.natives in
     let asked = c.in_ok-ask_native.ensures.asked offer scope held place InPlace operand from c.in-Ok.ensures only in
     let first : Update _ = update_of c.args.update InPlace place c.args.target.now operand in
-    let start : State _ _ = placed place c.args.target.now (state_of (g.T.NativeTable.state c.args.table.now) c.args.global.now scope held) in
+    let start : State _ _ = placed place c.args.target.now
+    (state_of (g.T.NativeTable.state c.args.table.now) c.args.global.now scope held) in
     let now : State _ _ = placed place c.ask_native.new.target
     (state_of (g.T.NativeTable.state c.ask_native.new.table) c.ask_native.new.global scope held) in
     let u : Update _ = update_of c.args.update InPlace place c.ask_native.new.target operand in
@@ -56,7 +59,8 @@ returns-in-Fault-clause-runs g c offer scope held place operand from only k =
     let rules : Rules _ _ = rules_of c.args.limits.now g.H.Host.name_of offer g.T.NativeTable.natives in
     let asked = c.in_ok-ask_native.ensures.asked offer scope held place InPlace operand from c.in-Ok.ensures only in
     let first : Update _ = update_of c.args.update InPlace place c.args.target.now operand in
-    let start : State _ _ = placed place c.args.target.now (state_of (g.T.NativeTable.state c.args.table.now) c.args.global.now scope held) in
+    let start : State _ _ = placed place c.args.target.now
+    (state_of (g.T.NativeTable.state c.args.table.now) c.args.global.now scope held) in
     let now : State _ _ = placed place c.ask_native.new.target
     (state_of (g.T.NativeTable.state c.ask_native.new.table) c.ask_native.new.global scope held) in
     let u : Update _ = update_of c.args.update InPlace place c.ask_native.new.target operand in
