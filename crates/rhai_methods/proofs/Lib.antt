@@ -5,3 +5,4 @@ mod Levels
 mod Meanings
 mod Pointed
 mod Taking
+mod TargetLemmas

@@ -2,4 +2,5 @@ pub mod Calls
 pub mod Copies
 pub mod Methods
 pub mod Parts
+pub mod Targets
 pub mod Words

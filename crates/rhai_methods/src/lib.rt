@@ -6,4 +6,5 @@
 pub mod calls;
 pub mod copies;
 pub mod methods;
+pub mod target;
 pub mod words;
