@@ -1,6 +1,6 @@
 //! A method on a target: a place, a temporary, or a part of what a place holds, which is put back once the
-//! method may have changed it. Ports upstream's `make_method_call` with the put-back that stands behind it
-//! in upstream's `chaining.rs`. The contracts cite specs/Targets.antt.
+//! method may have changed it. Ports what upstream's `make_method_call` does with its `Target`. The
+//! contracts cite specs/Targets.antt.
 
 ghost use Rattle.std.specs.Prelude.{◌≡◌, ◌≤◌};
 ghost use Rattle.rhai_places.specs.Targets.{IsFit, shown};
@@ -79,15 +79,39 @@ pub fn call_method_on<H: Host, T: NativeTable<H>>(
         Part::Whole => {
             let place = &mut *target.at;
             call_method(
-                limits, alloc, global, table, name, place, args, first_arg_pos, pos,
+                limits,
+                alloc,
+                global,
+                table,
+                name,
+                place,
+                args,
+                first_arg_pos,
+                pos,
             )
         }
         Part::Temporary(value) => call_method(
-            limits, alloc, global, table, name, value, args, first_arg_pos, pos,
+            limits,
+            alloc,
+            global,
+            table,
+            name,
+            value,
+            args,
+            first_arg_pos,
+            pos,
         ),
         Part::Of(_, value) => {
             let answer = call_method(
-                limits, alloc, global, table, name, value, args, first_arg_pos, pos,
+                limits,
+                alloc,
+                global,
+                table,
+                name,
+                value,
+                args,
+                first_arg_pos,
+                pos,
             );
             put_back(alloc, target, answer, pos)
         }
