@@ -30,7 +30,8 @@ fn put_back<H: Host>(
     requires fit { IsFit target.old.part target.old.at.now }
     ensures same_reference { target.new.at.ghost_name ≡ target.old.at.ghost_name }
     ensures part { target.new.part ≡ target.old.part }
-    ensures comes { ComesBack H.name_of target.old.part target.old.at.now pos answer result target.new.at.now }
+    ensures comes { ComesBack H.name_of target.old.part target.old.at.now pos answer result
+        target.new.at.now }
 {
     match answer {
         Ok((value, true)) => match target.propagate_changed_value(alloc, pos) {
@@ -68,51 +69,27 @@ pub fn call_method_on<H: Host, T: NativeTable<H>>(
     ensures counts { global.old.num_operations ≤ global.new.num_operations }
     ensures same_reference { target.new.at.ghost_name ≡ target.old.at.ghost_name }
     ensures part { StaysAlike target.old.part target.old.at.now target.new.part target.new.at.now }
-    ensures runs { (offer : _) (scope : _) (held : _) → let rules = rules_of limits.now H.name_of offer T.natives in
-        RunsFrom rules (on_target rules.setting (record { name = name.now; at = pos; first_at = first_arg_pos })
-        args.old target.old.part target.old.at.now)
-        (state_of (T.state table.old) global.old scope (lending held (shown target.old.part target.old.at.now)))
-        result
-        (state_of (T.state table.new) global.new scope (lending held (stands target.new.part target.new.at.now))) }
+    ensures runs { (offer : _) (scope : _) (held : _) →
+        let rules = rules_of limits.now H.name_of offer T.natives in
+        RunsFrom rules (on_target rules.setting
+        (record { name = name.now; at = pos; first_at = first_arg_pos }) args.old
+        target.old.part target.old.at.now)
+        (state_of (T.state table.old) global.old scope
+        (lending held (shown target.old.part target.old.at.now)))
+        result (state_of (T.state table.new) global.new scope
+        (lending held (stands target.new.part target.new.at.now))) }
 {
+    let first = first_arg_pos;
     match &mut target.part {
         Part::Whole => {
             let place = &mut *target.at;
-            call_method(
-                limits,
-                alloc,
-                global,
-                table,
-                name,
-                place,
-                args,
-                first_arg_pos,
-                pos,
-            )
+            call_method(limits, alloc, global, table, name, place, args, first, pos)
         }
         Part::Temporary(value) => call_method(
-            limits,
-            alloc,
-            global,
-            table,
-            name,
-            value,
-            args,
-            first_arg_pos,
-            pos,
+            limits, alloc, global, table, name, value, args, first, pos,
         ),
         Part::Of(_, value) => {
-            let answer = call_method(
-                limits,
-                alloc,
-                global,
-                table,
-                name,
-                value,
-                args,
-                first_arg_pos,
-                pos,
-            );
+            let answer = call_method(limits, alloc, global, table, name, value, args, first, pos);
             put_back(alloc, target, answer, pos)
         }
     }
