@@ -103,7 +103,7 @@ module _ {H : Type 0} where
 
 module _ {S H : Type 0} (rules : Rules S H) (old new : State S H) (r : Result (Dynamic H × Bool) (EvalAltResult H)) where
   -- over any stack, a call that is marked ends as it runs
-  ends_marked : (begins : List (Frame H) → Local H → Core H) →
+  pub ends_marked : (begins : List (Frame H) → Local H → Core H) →
       ((k : List (Frame H)) → Goes rules (with_core (begins k old.local) old) (at (marked r) k new)) → EndsMarked rules begins old r new
   ends_marked begins runs = record {
     runs = λ memory k. straight (machine rules) (cut rules) IsWanting (wants rules) (runs k) (λ is. had_memory r memory is.0 is.1);

@@ -6,6 +6,7 @@ mod Conditions
 mod DataSteps
 mod LoopSteps
 mod NameLemmas
+mod OnTargets
 mod Public
 mod Scripts
 mod Turns

@@ -2,4 +2,5 @@
 
 mod arguments;
 pub mod call;
+pub mod method;
 pub mod native;

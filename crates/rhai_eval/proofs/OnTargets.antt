@@ -1,0 +1,48 @@
+-- A method on a target: how it ends, and what it keeps.
+use Rattle.std.proofs.Common.{Bool, List, [], ◌∷◌, Result, refl}
+use Rattle.rhai_tree.specs.declared.position.Position.{Position}
+use Rattle.rhai_values.specs.declared.base.value.Dynamic.{Dynamic}
+use Rattle.rhai_state.specs.declared.error.EvalAltResult.{EvalAltResult}
+use Rattle.rhai_places.specs.declared.target.Part.{Part}
+use Rattle.rhai_places.specs.declared.target.Part.TheVariants as part
+use Rattle.rhai_places.specs.Targets.{shown}
+use Rattle.rhai_machine.specs.language.Setting.{Setting, Rules}
+use Rattle.rhai_machine.specs.language.State.{Local, State}
+use Rattle.rhai_machine.specs.language.Frames.{Frame, marked}
+use Rattle.rhai_machine.specs.language.Methods.{Method}
+use Rattle.rhai_laws.specs.Kept.{Kept}
+use Rattle.rhai_laws.proofs.Keeping.{Asked, Keeps, calm, quiet, through}
+use Rattle.rhai_laws.proofs.KeptLaws.{kept_from}
+use Rattle.rhai_laws.proofs.KeptMethods.{method_keeps}
+use Rattle.rhai_methods.specs.Methods.{RunsFrom}
+use Rattle.rhai_methods.specs.Targets.{on_target, waiting}
+use Rattle.rhai_eval.specs.Ends.{EndsMarked}
+use Rattle.rhai_eval.proofs.InPlace.{ends_marked}
+
+module _ {H : Type 0} (a : Asked) where
+  -- what waits for a part changes nothing of what is kept
+  waiting_keeps : (what : Part H) (place : Dynamic H) (at : Position) (k : List (Frame H)) (l : Local H) →
+      Keeps a (calm k l) (calm (waiting what place at k) l)
+  waiting_keeps part.Whole place at k l = quiet a tt refl (λ h. h)
+  waiting_keeps (part.Temporary v) place at k l = quiet a tt refl (λ h. h)
+  waiting_keeps (part.Of spot v) place at k l = quiet a tt refl (λ h. h)
+
+  -- nor does where the method begins
+  begin_keeps : (s : Setting H) (method : Method) (args : List (Dynamic H)) (what : Part H) (place : Dynamic H) (k : List (Frame H))
+      (l : Local H) → Keeps a (calm k l) (on_target s method args what place k l)
+  begin_keeps s method args what place k l = through a (waiting_keeps what place method.at k l)
+      (method_keeps a s method args (shown what place) (waiting what place method.at k) l)
+
+module _ {S H : Type 0} (rules : Rules S H) (method : Method) (args : List (Dynamic H)) (what : Part H) (place : Dynamic H)
+    (old new : State S H) (r : Result (Dynamic H × Bool) (EvalAltResult H))
+    (runs : RunsFrom rules (on_target rules.setting method args what place) old r new) where
+  -- over any stack it ends as it runs
+  pub target_ends : EndsMarked rules (on_target rules.setting method args what place) old r new
+  unfolding RunsFrom
+  target_ends = ends_marked rules old new r (on_target rules.setting method args what place) runs
+
+  -- and keeps what every run keeps
+  pub target_kept : Kept rules old new
+  unfolding RunsFrom
+  target_kept = kept_from rules (on_target rules.setting method args what place [] old.local) (marked r) old new
+      (λ a. begin_keeps a rules.setting method args what place [] old.local) (runs [])
