@@ -69,8 +69,11 @@ pub fn get_indexed_mut<'t, H: Host>(
     }
 }
 
-/// An index, or the value of the cell that it is a handle of.
-fn value_of_index<'a, H>(cells: &'a CellStore<H>, index: &'a Dynamic<H>) -> Option<&'a Dynamic<H>>
+/// An index, or the value of the cell that it is a handle of; None where that cell is held.
+pub fn value_of_index<'a, H>(
+    cells: &'a CellStore<H>,
+    index: &'a Dynamic<H>,
+) -> Option<&'a Dynamic<H>>
     ensures { option_copied result ≡ through (cells_of cells.now) index.now }
 {
     match &index.value {
@@ -123,8 +126,9 @@ fn get_added<'t, H: Host>(
     open(source, Spot::Value(at), Part::Whole)
 }
 
-/// Inserts `()` under a key that a map does not have. Answers the place of the key.
-fn add_key<H: Host>(source: &mut Dynamic<H>, index: &Dynamic<H>) -> Result<usize, AllocError>
+/// Inserts `()` under a key that a map does not have. Answers the place of the key. At an error, which
+/// is want of memory, the map stays as it was.
+pub fn add_key<H: Host>(source: &mut Dynamic<H>, index: &Dynamic<H>) -> Result<usize, AllocError>
     requires { IsKeyless (layer_of source.old) (layer_of index.now) }
     ensures ok { IfOk result (λ at. with_key source.old (layer_of source.old) (layer_of index.now)
         ≡ (source.new, spot.Value at)) }
@@ -156,8 +160,8 @@ fn insert_unit<H: Host>(
     }
 }
 
-/// The error of a key that a map does not have.
-fn missing_key<H: Host>(index: &Dynamic<H>, how: Access) -> EvalAltResult<H>
+/// The error of a key that a map does not have: `ErrorPropertyNotFound` at the start of the index.
+pub fn missing_key<H: Host>(index: &Dynamic<H>, how: Access) -> EvalAltResult<H>
     requires { IsText (layer_of index.now) }
     ensures { IsTold (error.ErrorPropertyNotFound (text_of (layer_of index.now)) how.idx_pos) result }
 {
