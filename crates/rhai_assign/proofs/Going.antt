@@ -1,36 +1,51 @@
 -- An assignment at a place of the code, which is taken from there and goes back, and one to the focus of a chain.
-use Rattle.std.proofs.Common.{◌≡◌, false, List, Some, Result, Ok, Err, refl, sym, ap}
+use Rattle.std.proofs.Common.{◌≡◌, Bool, true, false, List, Option, Some, None, Result, Ok, Err, refl, sym, ap, ◌∙◌}
 use Rattle.rhai_tree.specs.declared.position.Position.{Position}
 use Rattle.rhai_tree.specs.declared.expr.Expr.{Expr, out-Expr}
 use Rattle.rhai_tree.specs.declared.expr.OpAssignment.{OpAssignment}
 use Rattle.rhai_tree.specs.Positions.{position_of, start_of}
+use Rattle.rhai_tree.specs.declared.token.Token.{Token}
+use Rattle.rhai_values.specs.declared.base.value.AccessMode.TheVariants.{ReadWrite}
 use Rattle.rhai_values.specs.declared.base.value.Dynamic.{Dynamic}
 use Rattle.rhai_values.specs.declared.cells.CellStore.{CellStore}
 use Rattle.rhai_values.specs.Cells.{cells_of}
+use Rattle.rhai_values.specs.Modes.{with_mode}
 use Rattle.rhai_state.specs.declared.scope.Scope.{Scope}
 use Rattle.rhai_state.specs.declared.state.GlobalRuntimeState.{GlobalRuntimeState}
 use Rattle.rhai_state.specs.declared.error.EvalAltResult.{EvalAltResult}
 use Rattle.rhai_state.specs.declared.error.EvalAltResult.TheVariants as error
 use Rattle.rhai_state.specs.Errors.{is_out_of_memory}
 use Rattle.rhai_state.specs.Scope.{entries_of}
+use Rattle.rhai_operators.specs.Answers.{Answer, op_assign_of}
+use Rattle.rhai_machine.specs.machine.Memory.{◌⨾◌}
 use Rattle.rhai_machine.specs.language.Setting.{Rules}
 use Rattle.rhai_machine.specs.language.State.{Held, Local, State}
 use Rattle.rhai_machine.specs.language.Values.{unit_value}
-use Rattle.rhai_machine.specs.language.Places.{Target, focus_target, while_lent}
+use Rattle.rhai_machine.specs.language.Places.{InFocus, Target, focus_target, target, while_lent}
 use Rattle.rhai_machine.specs.language.Links.{name_in}
 use Rattle.rhai_machine.specs.language.Members.{focus_of}
-use Rattle.rhai_machine.specs.language.Assignment.{assign_core}
+use Rattle.rhai_machine.specs.language.Assignment.{assign_core, if_fast, update_core}
 use Rattle.rhai_machine.specs.language.Chains.{assign_focus}
-use Rattle.rhai_machine.specs.language.Frames.{Assignment, Core, Frame, on_value}
+use Rattle.rhai_machine.specs.language.Frames.{Assignment, AskUpdate, Core, Frame, InPlace, Update, on_value}
+use Rattle.rhai_machine.specs.language.Runs.{Runs, Steps}
 use Rattle.rhai_steps.specs.States.{state_of}
 use Rattle.rhai_assign.specs.declared.place.Place as code
-use Rattle.rhai_assign.specs.Chains.{FollowsFocus}
+use Rattle.rhai_assign.specs.Chains.{AssignsAtOnce, FollowsFocus}
 use Rattle.rhai_assign.specs.Follows.{Follows, FollowsAssign, Does, Wants}
 use Rattle.rhai_assign.specs.Lending.{placed}
 use Rattle.rhai_assign.specs.Targets.{IsPut, entries_put, place_in, there_at}
 use Rattle.rhai_assign.proofs.Lent.{as_it_was}
 use Rattle.rhai_assign.proofs.Places.{local_put}
 use Rattle.rhai_assign.proofs.Updates.{follows_alike, same_core}
+
+module _ {H : Type 0} where
+  -- no built-in takes a `()` before an `=`, and so none is tried
+  none_takes : (token : Token) (v : Dynamic H) → op_assign_of token unit_value v ≡ None
+  none_takes token v = refl
+
+  none_tried : (fast : Bool) (answer : Answer H) → answer ≡ None → if_fast fast answer ≡ None
+  none_tried true answer is = is
+  none_tried false answer is = refl
 
 module _ {S H : Type 0} (rules : Rules S H) where
   -- a part that goes from one state to another
@@ -79,3 +94,39 @@ module _ {S H : Type 0} (rules : Rules S H) where
         FollowsFocus rules root op v old (Err e) old
     focus_fails (error.ErrorOutOfMemory pos) is = Wants pos refl refl
     focus_fails e is = Does (λ k. same_core rules _ _ old (starts (Err e) (is refl) k))
+
+  module _ (root : Expr) (op : OpAssignment) (v t : Dynamic H) (s : State S H) (is_unit : t ≡ unit_value) where
+    -- the target of a `()` that was just inserted is the focus itself
+    inserted : (token : Option Token) → op.op ≡ token → (k : List (Frame H)) →
+        assign_focus rules.setting root (record { op = op; value = v }) k (placed InFocus t s).local
+        ≡ assign_core rules.setting token (record { name = name_in (out-Expr root); at = position_of root; op = op }) (target InFocus t) v k
+        (placed InFocus t s).local
+    inserted token is k = rw (← is) (starts root op v (placed InFocus t s) (Ok (target InFocus t)) (rw is_unit refl) k)
+
+    -- a value is written to it
+    pub inserted_written : (new : State S H) → op.op ≡ None → new ≡ placed InFocus (with_mode ReadWrite v) s →
+        AssignsAtOnce rules root op v (placed InFocus t s) (Ok unit_value) new
+    inserted_written new none is k = rw is (same_core rules _ _ (placed InFocus t s) (inserted None none k))
+
+    -- by an operator its natives are asked
+    abbrev asked : Token → Position → Update H
+    asked token at = record {
+      attempt = InPlace;
+      operator = token;
+      at = op.position;
+      place = InFocus;
+      target = t;
+      operand = v;
+      target_at = at;
+    }
+
+    pub inserted_updated : (new : State S H) (at : Position) (result : Result (Dynamic H) (EvalAltResult H)) (token : Token) →
+        op.op ≡ Some token → at ≡ position_of root → Runs rules (AskUpdate (asked token at)) (placed InFocus t s) result new →
+        AssignsAtOnce rules root op v (placed InFocus t s) result new
+    unfolding Steps
+    inserted_updated new at result token is stands runs k =
+        let fast = rules.setting.offer.fast_operators in
+        let tried : if_fast fast (op_assign_of token t v) ≡ None = none_tried fast (op_assign_of token t v) (rw is_unit (none_takes token v)) in
+        let asks : Runs rules (AskUpdate (asked token (position_of root))) (placed InFocus t s) result new = rw stands at runs in
+        same_core rules _ _ (placed InFocus t s) (inserted (Some token) is k ∙ ap (λ (answer : Answer H). update_core rules.setting answer
+        (asked token (position_of root)) k (placed InFocus t s).local) tried) ⨾ asks k

@@ -1,5 +1,5 @@
 -- What a chain works on, as it is assigned to.
-use Rattle.std.specs.Prelude.{◌≡◌, false, Option, Some, None, Result, Ok, Err}
+use Rattle.std.specs.Prelude.{◌≡◌, false, List, Option, Some, None, Result, Ok, Err}
 use Rattle.rhai_tree.specs.declared.expr.Expr.{Expr}
 use Rattle.rhai_tree.specs.declared.expr.OpAssignment.{OpAssignment}
 use Rattle.rhai_values.specs.declared.base.value.CellId.{CellId}
@@ -12,6 +12,8 @@ use Rattle.rhai_machine.specs.language.State.{State}
 use Rattle.rhai_machine.specs.language.Values.{Cells, is_handle}
 use Rattle.rhai_machine.specs.language.Places.{InCell, InFocus, Target, is_constant, target}
 use Rattle.rhai_machine.specs.language.Chains.{assign_focus}
+use Rattle.rhai_machine.specs.language.Frames.{Frame, ended}
+use Rattle.rhai_machine.specs.language.Runs.{at, with_core, Goes}
 use Rattle.rhai_assign.specs.Follows.{Follows}
 
 module _ {H : Type 0} where
@@ -43,3 +45,9 @@ module _ {H : Type 0} where
 abbrev pub FollowsFocus : {S H : Type 0} → Rules S H → (root : Expr) → OpAssignment → Dynamic H → State S H →
     Result (Dynamic H) (EvalAltResult H) → State S H → Type 0
 FollowsFocus rules root op v = Follows rules (assign_focus rules.setting root (record { op = op; value = v }))
+
+-- an assignment to the focus that begins where the machine does: memory runs out in it only where the machine may want it too
+abbrev pub AssignsAtOnce : {S H : Type 0} → Rules S H → (root : Expr) → OpAssignment → Dynamic H → State S H →
+    Result (Dynamic H) (EvalAltResult H) → State S H → Type 0
+AssignsAtOnce {H = H} rules root op v old result new = (k : List (Frame H)) →
+    Goes rules (with_core (assign_focus rules.setting root (record { op = op; value = v }) k old.local) old) (at (ended result) k new)

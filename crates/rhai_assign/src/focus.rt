@@ -10,26 +10,28 @@ ghost use Rattle.rhai_machine.specs.language.Links.{name_in};
 ghost use Rattle.rhai_machine.specs.language.Places.{InCell, InFocus, focus_in_cell, target as target_in};
 ghost use Rattle.rhai_machine.specs.language.Places.{focus_target as focus_target_of};
 ghost use Rattle.rhai_machine.specs.language.Setting.{rules_of};
+ghost use Rattle.rhai_machine.specs.language.Values.{unit_value as unit};
 ghost use Rattle.rhai_steps.specs.States.{state_of};
-ghost use Rattle.rhai_assign.specs.Chains.{FindsFocus, FollowsFocus, IsWritable};
+ghost use Rattle.rhai_assign.specs.Chains.{AssignsAtOnce, FindsFocus, FollowsFocus, IsWritable};
 ghost use Rattle.rhai_assign.specs.Follows.{FollowsAssign};
 ghost use Rattle.rhai_assign.specs.Keeps.{KeepsHeld};
 ghost use Rattle.rhai_assign.specs.Lending.{placed};
 
-use crate::place::is_constant;
-use crate::update::assign_lent;
+use crate::place::{Update, is_constant};
+use crate::update::{assign_lent, update_by_natives};
 use rhai_items::{Shared, Text};
 use rhai_state::error::EvalAltResult;
 use rhai_state::limits::Limits;
 use rhai_state::state::GlobalRuntimeState;
 use rhai_state::table::NativeTable;
 use rhai_steps::errors::{assignment_to_constant, data_race};
-use rhai_steps::values::let_go;
+use rhai_steps::values::{let_go, unit_value};
 use rhai_tree::expr::{Expr, OpAssignment};
 use rhai_tree::position::Position;
-use rhai_values::base::value::{CellId, Dynamic, Host, Union};
+use rhai_values::base::value::{AccessMode, CellId, Dynamic, Host, Union};
 use rhai_values::cells::CellStore;
 use std::alloc::Global;
+use std::mem::replace;
 
 /// A constant without a name that is assigned to.
 #[cold]
@@ -182,6 +184,51 @@ pub fn assign_focus<H: Host, T: NativeTable<H>>(
         Err(error) => {
             let_go(value);
             Err(error)
+        }
+    }
+}
+
+/// Assigns a value to a `()` that was just inserted, as `assign_focus` does. No built-in operator takes
+/// it, so under either setting of fast operators an operator is its natives' alone, and memory runs out
+/// in the assignment only where the machine may want it too.
+///
+/// # Errors
+/// What the natives of the operator answer, at the operator, and `ErrorDataTooLarge` for a value above a
+/// limit; what a native left in the target is measured at the root.
+pub fn assign_inserted<H: Host, T: NativeTable<H>>(
+    limits: &Limits,
+    alloc: Global,
+    global: &mut GlobalRuntimeState<H>,
+    table: &mut T,
+    target: &mut Dynamic<H>,
+    root: &Expr,
+    op: OpAssignment,
+    value: Dynamic<H>,
+    fast: bool,
+) -> Result<Dynamic<H>, EvalAltResult<H>>
+    requires { target.old ≡ unit }
+    ensures keeps { KeepsHeld global.old global.new }
+    ensures runs { (offer : _) (scope : _) (held : _) → offer.fast_operators ≡ fast →
+        AssignsAtOnce (rules_of limits.now H.name_of offer T.natives) root.now op value
+        (placed InFocus target.old (state_of (T.state table.old) global.old scope held))
+        result (placed InFocus target.new (state_of (T.state table.new) global.new scope held)) }
+{
+    let target_at = root.position();
+    match op.op {
+        Some(token) => {
+            let by = Update {
+                token,
+                at: op.position,
+                cell: None,
+                target_at,
+            };
+            update_by_natives(limits, alloc, global, table, target, by, value)
+        }
+        None => {
+            let mut value = value;
+            value.set_access_mode(AccessMode::ReadWrite);
+            let_go(replace(target, value));
+            Ok(unit_value())
         }
     }
 }

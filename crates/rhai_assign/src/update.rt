@@ -126,7 +126,7 @@ fn update_in_place<H: Host, T: NativeTable<H>>(
 }
 
 /// An update by its natives.
-fn update_by_natives<H: Host, T: NativeTable<H>>(
+pub(crate) fn update_by_natives<H: Host, T: NativeTable<H>>(
     limits: &Limits,
     alloc: Global,
     global: &mut GlobalRuntimeState<H>,
