@@ -126,7 +126,8 @@ module _ {S H : Type 0} (rules : Rules S H) where
     unfolding Steps
     inserted_updated new at result token is stands runs k =
         let fast = rules.setting.offer.fast_operators in
-        let tried : if_fast fast (op_assign_of token t v) ≡ None = none_tried fast (op_assign_of token t v) (rw is_unit (none_takes token v)) in
+        let tried : if_fast fast (op_assign_of token t v) ≡ None =
+        none_tried fast (op_assign_of token t v) (rw is_unit (none_takes token v)) in
         let asks : Runs rules (AskUpdate (asked token (position_of root))) (placed InFocus t s) result new = rw stands at runs in
         same_core rules _ _ (placed InFocus t s) (inserted (Some token) is k ∙ ap (λ (answer : Answer H). update_core rules.setting answer
         (asked token (position_of root)) k (placed InFocus t s).local) tried) ⨾ asks k
