@@ -2,15 +2,21 @@
 use Rattle.std.specs.Prelude.{ℤ, List, [], ◌∷◌, Option, Some, None, map}
 use Rattle.std.specs.Borrow.{Bor}
 use Rattle.rhai_values.specs.declared.base.value.Dynamic.{Dynamic}
-use Rattle.rhai_values.specs.declared.base.value.Union.{Union}
+use Rattle.rhai_values.specs.declared.base.value.FnPtrKind.TheOpen as layer
+use Rattle.rhai_values.specs.declared.base.value.Union.{Union, out-Union}
 use Rattle.rhai_values.specs.declared.base.value.Union.TheVariants as value
+use Rattle.rhai_values.specs.Layers.{UnionLayer}
 use Rattle.rhai_natives.specs.declared.arguments.Arguments.{Arguments}
 use Rattle.rhai_natives.specs.declared.arguments.Arguments.TheVariants as arguments
 
--- two that are there
+-- two that are there, and three
 abbrev pub both : {A B : Type 0} → Option A → Option B → Option (A × B)
 both (Some a) (Some b) = Some (a, b)
 both _ _ = None
+
+abbrev pub all_three : {A B C : Type 0} → Option A → Option B → Option C → Option (A × B × C)
+all_three (Some a) (Some b) (Some c) = Some (a, b, c)
+all_three _ _ _ = None
 
 module _ {H : Type 0} where
   abbrev pub now_of : Bor (Dynamic H) → Dynamic H
@@ -37,6 +43,14 @@ module _ {H : Type 0} where
   host_of (value.Host own) = Some own
   host_of _ = None
 
+  -- the items of an array
+  abbrev pub items_in : UnionLayer H → Option (List (Dynamic H))
+  items_in (layer.Array items) = Some items
+  items_in _ = None
+
+  abbrev pub array_of : Union H → Option (List (Dynamic H))
+  array_of v = items_in (out-Union H v)
+
   -- arguments of a number and of types, None where they are others
   abbrev pub none_in : List (Union H) → Option (Unit {0})
   none_in [] = Some tt
@@ -57,3 +71,15 @@ module _ {H : Type 0} where
   abbrev pub hosts_in : List (Union H) → Option (H × H)
   hosts_in (a ∷ b ∷ []) = both (host_of a) (host_of b)
   hosts_in _ = None
+
+  abbrev pub host_and_int_in : List (Union H) → Option (H × ℤ)
+  host_and_int_in (a ∷ b ∷ []) = both (host_of a) (int_of b)
+  host_and_int_in _ = None
+
+  abbrev pub host_and_ints_in : List (Union H) → Option (H × ℤ × ℤ)
+  host_and_ints_in (a ∷ b ∷ c ∷ []) = all_three (host_of a) (int_of b) (int_of c)
+  host_and_ints_in _ = None
+
+  abbrev pub host_and_array_in : List (Union H) → Option (H × List (Dynamic H))
+  host_and_array_in (a ∷ b ∷ []) = both (host_of a) (array_of b)
+  host_and_array_in _ = None

@@ -1,5 +1,5 @@
 -- What listed natives answer and leave holds nothing.
-use Rattle.std.proofs.Common.{◌≡◌, ℕ, Bool, true, false, List, [], Option, Some, None, Contains, refl, sym, ◌∙◌, arith, subst}
+use Rattle.std.proofs.Common.{◌≡◌, ℕ, ℤ, Bool, true, false, List, [], ◌∷◌, ◌++◌, map, Option, Some, None, Contains, refl, sym, ap, ◌∙◌, arith, subst}
 use Rattle.std.specs.Option.{option_map}
 use Rattle.rhai_values.specs.declared.base.value.Dynamic.{Dynamic}
 use Rattle.rhai_values.specs.declared.base.value.FnPtrKind.TheFolds.{fold_out-Dynamic, fold_out-Union}
@@ -10,14 +10,15 @@ use Rattle.rhai_state.specs.declared.error.EvalAltResult.TheFolds.{fold_out-Eval
 use Rattle.rhai_state.specs.declared.error.EvalAltResult.TheVariants.{outs-ErrorArithmetic, outs-ErrorIndexingType}
 use Rattle.rhai_state.specs.declared.error.EvalAltResult.TheVariants.{outs-ErrorPropertyNotFound}
 use Rattle.rhai_state.specs.Native.{Request, IsReached, held_by_reply}
-use Rattle.rhai_state.specs.Reach.{Reached, held_by, held_by_first, held_by_error}
-use Rattle.rhai_state.proofs.Held.{held-mode, held-unit, held-bool, held-int, held-text, held-host, held-runtime}
+use Rattle.rhai_state.specs.Reach.{Reached, each, held_by, held_by_first, held_by_error}
+use Rattle.rhai_state.proofs.Held.{held-mode, held-unit, held-bool, held-int, held-text, held-host, held-array, held-runtime}
 use Rattle.rhai_natives.specs.declared.response.Datum.{Datum}
 use Rattle.rhai_natives.specs.declared.response.Datum.TheVariants as datum
 use Rattle.rhai_natives.specs.declared.response.Fault.{Fault}
 use Rattle.rhai_natives.specs.declared.response.Fault.TheVariants as fault
 use Rattle.rhai_natives.specs.declared.response.Response.{Response}
 use Rattle.rhai_natives.specs.declared.response.Response.TheVariants as response
+use Rattle.rhai_natives.specs.Numbers.{items_of}
 use Rattle.rhai_natives.specs.Responses.{fault_of, union_of}
 use Rattle.rhai_natives.specs.Table.{changed, nothing, reply_for}
 
@@ -28,6 +29,12 @@ own h = []
 held-char : (H : Type 0) (letter : ℕ) → held_by {H = H} own (plain (value.Char letter)) ≡ []
 held-char H letter = simp (fold_out-Dynamic, fold_out-Union, outs-Char)
 
+-- integers hold nothing
+each-items : (H : Type 0) (numbers : List ℤ) → each (map (held_by {H = H} own) (items_of numbers)) ≡ []
+each-items H [] = refl
+each-items H (n ∷ numbers) =
+    ap (λ held. held ++ each (map (held_by {H = H} own) (items_of numbers))) (held-int own n) ∙ each-items H numbers
+
 module _ {H : Type 0} where
   held-datum : (d : Datum H) → held_by own (plain (union_of d)) ≡ []
   held-datum datum.Unit = held-unit own
@@ -35,6 +42,7 @@ module _ {H : Type 0} where
   held-datum (datum.Int number) = held-int own number
   held-datum (datum.Char letter) = held-char H letter
   held-datum (datum.Text text) = held-text own text
+  held-datum (datum.Integers numbers) = held-array own (items_of numbers) ∙ each-items H numbers
   held-datum (datum.Host h) = held-host own h
 
   held-fault : (f : Fault H) → held_by_error own (fault_of f) ≡ []

@@ -25,6 +25,7 @@ module _ {H : Type 0} where
   datum_no_handle (datum.Int number) = tt
   datum_no_handle (datum.Char letter) = tt
   datum_no_handle (datum.Text text) = tt
+  datum_no_handle (datum.Integers numbers) = tt
   datum_no_handle (datum.Host h) = tt
 
   allowed : (r : Response H) → IsAllowed (reply_for r)

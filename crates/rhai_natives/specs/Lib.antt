@@ -1,4 +1,5 @@
 pub mod Arguments
+pub mod Numbers
 pub mod Responses
 pub mod Listed
 pub mod Found

@@ -6,6 +6,7 @@ use Rattle.rhai_values.specs.declared.base.value.Union.TheVariants as value
 use Rattle.rhai_values.specs.Copy.{plain}
 use Rattle.rhai_state.specs.declared.error.EvalAltResult.{EvalAltResult}
 use Rattle.rhai_state.specs.declared.error.EvalAltResult.TheVariants as error
+use Rattle.rhai_natives.specs.Numbers.{items_of}
 use Rattle.rhai_natives.specs.declared.response.Datum.{Datum}
 use Rattle.rhai_natives.specs.declared.response.Datum.TheVariants as datum
 use Rattle.rhai_natives.specs.declared.response.Fault.{Fault}
@@ -37,6 +38,7 @@ module _ {H : Type 0} where
   union_of (datum.Int number) = value.Int number
   union_of (datum.Char letter) = value.Char letter
   union_of (datum.Text text) = value.Str text
+  union_of (datum.Integers numbers) = value.Array (items_of numbers)
   union_of (datum.Host own) = value.Host own
 
   -- a fault as an error, which stands nowhere

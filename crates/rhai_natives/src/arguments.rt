@@ -81,6 +81,39 @@ impl<'a, H> Arguments<'a, H> {
             _ => None,
         }
     }
+
+    /// Two arguments, a value of the host's own type and an integer.
+    pub fn host_and_int(&self) -> Option<(&'a H, i64)>
+        ensures { option_map (λ found. (found.0.now, found.1)) result
+            ≡ given.host_and_int_in (given.values_of self.now) }
+    {
+        match self {
+            Arguments::Two(a, b) => Some((host_of(a)?, int_of(b)?)),
+            _ => None,
+        }
+    }
+
+    /// Three arguments, a value of the host's own type and two integers.
+    pub fn host_and_ints(&self) -> Option<(&'a H, i64, i64)>
+        ensures { option_map (λ found. (found.0.now, found.1, found.2)) result
+            ≡ given.host_and_ints_in (given.values_of self.now) }
+    {
+        match self {
+            Arguments::More(a, b, c, []) => Some((host_of(a)?, int_of(b)?, int_of(c)?)),
+            _ => None,
+        }
+    }
+
+    /// Two arguments, a value of the host's own type and an array, of which these are the items.
+    pub fn host_and_array(&self) -> Option<(&'a H, &'a [Dynamic<H>])>
+        ensures { option_map (λ found. (found.0.now, found.1.now)) result
+            ≡ given.host_and_array_in (given.values_of self.now) }
+    {
+        match self {
+            Arguments::Two(a, b) => Some((host_of(a)?, array_of(b)?)),
+            _ => None,
+        }
+    }
 }
 
 fn int_of<H>(value: &Union<H>) -> Option<i64>
@@ -97,6 +130,15 @@ fn host_of<H>(value: &Union<H>) -> Option<&H>
 {
     match value {
         Union::Host(own) => Some(own),
+        _ => None,
+    }
+}
+
+fn array_of<H>(value: &Union<H>) -> Option<&[Dynamic<H>]>
+    ensures { option_map (λ items. items.now) result ≡ given.array_of value.now }
+{
+    match value {
+        Union::Array(items) => Some(items.get().as_slice()),
         _ => None,
     }
 }

@@ -3,11 +3,13 @@
 #![tactic(auto)]
 
 mod arguments;
+mod integers;
 mod listed;
 mod response;
 mod table;
 
 pub use arguments::Arguments;
+pub use integers::Integers;
 pub use listed::{Listed, ListedNatives};
 pub use response::{Datum, Fault, Response};
 pub use table::Natives;

@@ -6,11 +6,12 @@ ghost use Rattle.rhai_natives.specs.declared.response.Datum.TheVariants as datum
 ghost use Rattle.rhai_natives.specs.declared.response.Fault.TheVariants as fault;
 ghost use Rattle.rhai_natives.specs.declared.response.Response.TheVariants as response;
 
+use crate::integers::Integers;
 use rhai_items::{Shared, Text};
 use rhai_values::base::value::Union;
 use std::alloc::{AllocError, Global};
 
-/// A value that holds nothing but itself.
+/// A value that holds no cell, script function or constant.
 #[derive(Drop)]
 pub enum Datum<H> {
     Unit,
@@ -18,6 +19,7 @@ pub enum Datum<H> {
     Int(i64),
     Char(char),
     Text(Shared<Text>),
+    Integers(Integers<H>),
     Host(H),
 }
 
@@ -32,6 +34,7 @@ impl<H> Datum<H> {
             Datum::Int(number) => Union::Int(number),
             Datum::Char(letter) => Union::Char(letter),
             Datum::Text(text) => Union::Str(text),
+            Datum::Integers(array) => array.into_union(),
             Datum::Host(value) => Union::Host(value),
         }
     }
@@ -86,6 +89,18 @@ impl<H> Response<H> {
     {
         match shared(alloc, text) {
             Ok(text) => Response::Faults(Fault::Arithmetic(text)),
+            Err(_) => Response::NoMemory,
+        }
+    }
+}
+
+impl<H: Drop> Response<H> {
+    /// An array of these integers.
+    pub fn integers(alloc: Global, numbers: &[i64]) -> Response<H>
+        ensures { IsAnswered result (response.Gives (datum.Integers numbers.now)) }
+    {
+        match Integers::new(alloc, numbers) {
+            Ok(array) => Response::Gives(Datum::Integers(array)),
             Err(_) => Response::NoMemory,
         }
     }
