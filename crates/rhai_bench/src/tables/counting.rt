@@ -1,14 +1,17 @@
-//! Natives over a counter.
+//! Natives over a counter, and over pairs.
 
 ghost use Rattle.std.specs.Prelude.{◌≡◌, pos};
 ghost use Rattle.rhai_natives.specs.Responses.{IsAnswered};
 ghost use Rattle.rhai_bench.specs.Counting.{counted, doubled, increased, overflow};
 
+mod pairs;
+
 use crate::host::Pair;
+use crate::tables::counting::pairs::{PairNative, call_pair};
 use rhai_natives::{Arguments, Datum, Listed, ListedNatives, Natives, Response};
 use std::alloc::Global;
 
-/// A counter, and natives that increase an integer, double one, and count.
+/// A counter, natives that increase an integer, double one, and count, and those over pairs.
 #[derive(Debug, Drop)]
 pub struct Counting {
     pub counter: i64,
@@ -20,6 +23,7 @@ pub enum CountingNative {
     Inc,
     Double,
     Next,
+    Pairs(PairNative),
 }
 
 impl ListedNatives<Pair> for Counting {
@@ -41,6 +45,17 @@ impl ListedNatives<Pair> for Counting {
             Listed::Impure("inc", CountingNative::Inc),
             Listed::Pure("double", CountingNative::Double),
             Listed::Impure("next", CountingNative::Next),
+            Listed::Pure("pair", CountingNative::Pairs(PairNative::New)),
+            Listed::Pure("get$x", CountingNative::Pairs(PairNative::X)),
+            Listed::Pure("get$y", CountingNative::Pairs(PairNative::Y)),
+            Listed::Pure("get$sum", CountingNative::Pairs(PairNative::Sum)),
+            Listed::Pure("get$list", CountingNative::Pairs(PairNative::List)),
+            Listed::Pure("get$view", CountingNative::Pairs(PairNative::List)),
+            Listed::Impure("set$x", CountingNative::Pairs(PairNative::SetX)),
+            Listed::Impure("set$y", CountingNative::Pairs(PairNative::SetY)),
+            Listed::Impure("set$list", CountingNative::Pairs(PairNative::SetList)),
+            Listed::Pure("index$get$", CountingNative::Pairs(PairNative::At)),
+            Listed::Impure("index$set$", CountingNative::Pairs(PairNative::SetAt)),
         ]
     }
 
@@ -57,6 +72,7 @@ impl ListedNatives<Pair> for Counting {
                 arguments.none()?;
                 Some(self.next(alloc))
             }
+            CountingNative::Pairs(native) => call_pair(alloc, native, arguments),
         }
     }
 }
