@@ -1,10 +1,11 @@
-//! Calls a native a million times, or as many times as the argument says, in a loop that counts down.
-//! Prints how it ended and how many operations it charged, and on standard error how many of them a
-//! second had.
+//! Calls natives of one argument and of two a million times each, or as many times as the argument says,
+//! in loops that count down. Prints how each ended and how many operations it charged, and on standard
+//! error how many of them a second had.
 #![tactic(auto)]
 
 use rhai_bench::command::WRONG_ARGUMENTS;
-use rhai_bench::rows::loops::called_in_turn;
+use rhai_bench::rows::loops::{called_in_turn, called_in_turn_with_two};
+use rhai_bench::script::Script;
 use rhai_bench::settings::Way;
 use rhai_bench::timing::{first_number, print_speed, write_outcome};
 use std::io;
@@ -19,14 +20,21 @@ fn main(rt: HostRuntime) -> io::Result<ExitCode> {
         eprintln!(&rt; "usage: call_bench [CALLS]")?;
         return Ok(ExitCode::from(WRONG_ARGUMENTS));
     };
-    let script = called_in_turn(rt.alloc(), i64::from(calls))?;
-    let begun = Instant::now(&rt)?;
+    let one = called_in_turn(rt.alloc(), i64::from(calls))?;
+    time_run(&rt, "one argument", one)?;
+    let two = called_in_turn_with_two(rt.alloc(), i64::from(calls))?;
+    time_run(&rt, "two arguments", two)?;
+    Ok(ExitCode::SUCCESS)
+}
+
+/// Runs a script and prints how it ended.
+fn time_run(rt: &HostRuntime, what: &str, script: Script) -> io::Result<()> {
+    let begun = Instant::now(rt)?;
     let outcome = script.run(rt.alloc(), Way::USUAL)?;
-    let run = begun.elapsed(&rt)?;
+    let run = begun.elapsed(rt)?;
     let count = outcome.num_operations;
-    let wrote = write_outcome(&mut io::writer(&rt), &outcome);
+    let wrote = write_outcome(&mut io::writer(rt), &outcome);
     drop(outcome);
     wrote?;
-    print_speed(&rt, "the run", count, run)?;
-    Ok(ExitCode::SUCCESS)
+    print_speed(rt, what, count, run)
 }

@@ -109,3 +109,17 @@ pub fn doublings(alloc: Global, turns: i64) -> Result<Items<Stmt>, AllocError> {
     let body = tree.block([doubled, counted], 30, 51);
     tree.finish([start, while_stmt(left, body, 18)])
 }
+
+/// `let n = 1000000; while n > 0 { pair(n, 1); n -= 1; }`, with as many turns in the place of the million.
+pub fn pairings(alloc: Global, turns: i64) -> Result<Items<Stmt>, AllocError> {
+    let mut tree = Builder::new(alloc);
+    let start = tree.let_stmt("n", 5, int(turns, 9), 1);
+    let left = [tree.variable("n", 1, 24), int(0, 28)];
+    let left = tree.operator(Token::GreaterThan, ">", 26, left);
+    let args = [tree.variable("n", 1, 37), int(1, 40)];
+    let paired = Stmt::Expr(tree.call("pair", 32, args));
+    let n = tree.variable("n", 1, 44);
+    let counted = assign(Some(Token::Minus), 46, n, int(1, 49));
+    let body = tree.block([paired, counted], 30, 52);
+    tree.finish([start, while_stmt(left, body, 18)])
+}

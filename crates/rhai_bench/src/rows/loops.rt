@@ -5,7 +5,7 @@ use crate::script::Script;
 use rhai_eval::base::Items;
 use rhai_samples::loops::{
     break_at_the_top, continued_until, decrements, doublings, empty_loop, integer_and_true,
-    return_at_the_top, three_turns, true_or_integer, value_of_a_loop,
+    pairings, return_at_the_top, three_turns, true_or_integer, value_of_a_loop,
 };
 use std::alloc::{AllocError, Global};
 
@@ -56,4 +56,9 @@ pub fn counted_down(alloc: Global, turns: i64) -> Result<Script, AllocError> {
 /// A native that is called in each of so many turns.
 pub fn called_in_turn(alloc: Global, turns: i64) -> Result<Script, AllocError> {
     Ok(Script::new(alloc, doublings(alloc, turns)?))
+}
+
+/// A native of two arguments that is called in each of so many turns.
+pub fn called_in_turn_with_two(alloc: Global, turns: i64) -> Result<Script, AllocError> {
+    Ok(Script::new(alloc, pairings(alloc, turns)?))
 }
