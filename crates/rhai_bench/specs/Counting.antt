@@ -9,7 +9,8 @@ use Rattle.rhai_natives.specs.declared.response.Datum.TheVariants as datum
 use Rattle.rhai_natives.specs.declared.response.Fault.TheVariants.{Arithmetic, Runtime}
 use Rattle.rhai_natives.specs.declared.response.Response.{Response}
 use Rattle.rhai_natives.specs.declared.response.Response.TheVariants.{Gives, Changes, Faults}
-use Rattle.rhai_natives.specs.Arguments.{both, host_and_array_in, host_and_int_in, host_and_ints_in, host_in, int_in, int_of, ints_in, none_in}
+use Rattle.rhai_natives.specs.Arguments.{both, host_and_array_in, host_and_int_in, host_and_ints_in, host_in, int_in, int_of, ints_in}
+use Rattle.rhai_natives.specs.Arguments.{none_in}
 use Rattle.rhai_natives.specs.Listed.{Entry, impure, pure}
 use Rattle.rhai_natives.specs.Responses.{Done, done}
 use Rattle.rhai_bench.specs.declared.host.Pair.{Pair}
