@@ -1,0 +1,3 @@
+mod ArgumentLemmas
+mod LinkLemmas
+mod MemberLemmas

@@ -1,0 +1,154 @@
+-- Members of a value: what comes of the natives under the frames that wait for them.
+use Rattle.std.proofs.Common.{◌≡◌, Bool, true, false, List, ◌∷◌, Result, Ok, Err, refl, ap}
+use Rattle.std.specs.Prelude.{ℕ}
+use Rattle.rhai_tree.specs.declared.position.Position.{Position}
+use Rattle.rhai_values.specs.declared.base.value.Dynamic.{Dynamic}
+use Rattle.rhai_state.specs.declared.error.EvalAltResult.{EvalAltResult}
+use Rattle.rhai_state.specs.declared.error.EvalAltResult.TheVariants as error
+use Rattle.rhai_machine.specs.machine.Machine.{Go}
+use Rattle.rhai_machine.specs.machine.Memory.{here, wanting, ◌⨾◌}
+use Rattle.rhai_machine.specs.language.Setting.{Rules}
+use Rattle.rhai_machine.specs.language.State.{Answers, State}
+use Rattle.rhai_machine.specs.language.Frames.{Call, Frame, Property, MemberAccess, core, marked, Ask, Fail}
+use Rattle.rhai_machine.specs.language.Frames.{GetterTried, SetterTried, IndexerTried}
+use Rattle.rhai_machine.specs.language.Members.{after_setter, focus_of, get_item, get_property, getter_missing, got_by, indexer_missing}
+use Rattle.rhai_machine.specs.language.Members.{lacks_indexer, lacks_property, named, set_by, set_item, set_property, setter_missing}
+use Rattle.rhai_machine.specs.language.Runs.{at, Goes, Steps}
+use Rattle.rhai_steps.proofs.Pieces.{step_by}
+use Rattle.rhai_calls.specs.Marks.{MarkedRuns}
+use Rattle.rhai_methods.specs.Methods.{RunsFrom}
+use Rattle.rhai_chains.specs.Members.{tried, tried_by}
+
+-- the value that was answered
+pub answered_is : {H : Type 0} (v w : Dynamic H) → ◌≡◌ {A = Result (Dynamic H) (EvalAltResult H)} (Ok v) (Ok w) → v ≡ w
+answered_is v w is = cc
+
+module _ {S H : Type 0} (rules : Rules S H) where
+  -- memory runs out before a native is asked
+  pub wants_asking : (call : Call H) (s : State S H) (pos : Position) →
+      MarkedRuns rules (Ask call) s (Err (error.ErrorOutOfMemory pos)) s
+  unfolding Steps
+  wants_asking call s pos k = wanting {at = pos} here
+
+  -- ---- the indexer that is tried
+
+  indexer_gone : (otherwise : Result (Dynamic H) (EvalAltResult H)) (k : List (Frame H)) (s : State S H) (e : EvalAltResult H)
+      (lacks : Bool) → lacks_indexer e ≡ lacks →
+      Goes rules (at (Fail e) (IndexerTried otherwise ∷ k) s) (at (marked (tried_by lacks e otherwise)) k s)
+  indexer_gone (Ok v) k s e true is =
+      step_by rules _ _ (Go (indexer_missing true e (Ok v) k s.local))
+      (ap (λ (b : Bool). Go (indexer_missing b e (Ok v) k s.local)) is) here
+  indexer_gone (Err x) k s e true is =
+      step_by rules _ _ (Go (indexer_missing true e (Err x) k s.local))
+      (ap (λ (b : Bool). Go (indexer_missing b e (Err x) k s.local)) is) here
+  indexer_gone otherwise k s e false is =
+      step_by rules _ _ (Go (indexer_missing false e otherwise k s.local))
+      (ap (λ (b : Bool). Go (indexer_missing b e otherwise k s.local)) is) here
+
+  indexer_answers : (r : Result (Dynamic H × Bool) (EvalAltResult H)) (otherwise : Result (Dynamic H) (EvalAltResult H))
+      (k : List (Frame H)) (s : State S H) → Goes rules (at (marked r) (IndexerTried otherwise ∷ k) s) (at (marked (tried r otherwise)) k s)
+  indexer_answers (Ok (v, true)) otherwise k s = step_by rules _ _ _ refl here
+  indexer_answers (Ok (v, false)) otherwise k s = step_by rules _ _ _ refl here
+  indexer_answers (Err e) otherwise k s = indexer_gone otherwise k s e (lacks_indexer e) refl
+
+  module _ (asked : Dynamic H → Call H) (s new : State S H) (r : Result (Dynamic H × Bool) (EvalAltResult H))
+      (runs : MarkedRuns rules (Ask (asked (focus_of s.local))) s r new) where
+    -- a native is asked about the focus
+    pub asks_from : RunsFrom rules (λ k l. core (Ask (asked (focus_of l))) k l) s r new
+    unfolding RunsFrom Steps
+    asks_from k = runs k
+
+    -- an indexer is, and something stands for it where it is missing
+    pub tries_from : (otherwise : Result (Dynamic H) (EvalAltResult H)) (q : Result (Dynamic H × Bool) (EvalAltResult H)) →
+        q ≡ tried r otherwise → RunsFrom rules (λ k l. core (Ask (asked (focus_of l))) (IndexerTried otherwise ∷ k) l) s q new
+    unfolding RunsFrom Steps
+    tries_from otherwise q is k = rw is (runs (IndexerTried otherwise ∷ k) ⨾ indexer_answers r otherwise k new)
+
+  -- memory runs out before it is
+  pub wants_trying : (asked : Dynamic H → Call H) (otherwise : Result (Dynamic H) (EvalAltResult H)) (s : State S H) (e : EvalAltResult H)
+      (v : Dynamic H) → Answers (Err e) (Ok v) →
+      RunsFrom rules (λ k l. core (Ask (asked (focus_of l))) (IndexerTried otherwise ∷ k) l) s (Err e) s
+  wants_trying asked otherwise s (error.ErrorOutOfMemory pos) v is =
+      tries_from asked s s (Err (error.ErrorOutOfMemory pos)) (wants_asking (asked (focus_of s.local)) s pos) otherwise
+      (Err (error.ErrorOutOfMemory pos)) refl
+  wants_trying asked otherwise s e v is = let other : ◌≡◌ {A = Result (Dynamic H) (EvalAltResult H)} (Err e) (Ok v) = is refl in cc
+
+  -- ---- the getter
+
+  module _ (access : MemberAccess H) (name : List ℕ) where
+    getter_gives : (v : Dynamic H) (changed : Bool) (k : List (Frame H)) (s : State S H) →
+        Goes rules (at (marked (Ok (v, changed))) (GetterTried access name ∷ k) s) (at (marked (Ok (v, changed))) k s)
+    getter_gives v true k s = step_by rules _ _ _ refl here
+    getter_gives v false k s = step_by rules _ _ _ refl here
+
+    getter_goes : (e : EvalAltResult H) (lacks : Bool) → lacks_property e ≡ lacks → (k : List (Frame H)) (s : State S H) →
+        Goes rules (at (Fail e) (GetterTried access name ∷ k) s) (record {
+          core = getter_missing lacks e access name k s.local;
+          table = s.table;
+          count = s.count;
+        })
+    getter_goes e lacks is k s = step_by rules _ _ (Go (getter_missing lacks e access name k s.local))
+        (ap (λ (b : Bool). Go (getter_missing b e access name k s.local)) is) here
+
+    module _ (pos : Position) (s : State S H) where
+      abbrev asks_getter : Result (Dynamic H × Bool) (EvalAltResult H) → State S H → Type 0
+      asks_getter r new = MarkedRuns rules (Ask (get_property name pos access.guarded (focus_of s.local))) s r new
+
+      pub gets : (answer : Dynamic H × Bool) (new : State S H) → asks_getter (Ok answer) new →
+          RunsFrom rules (got_by (Property name pos) access) s (Ok answer) new
+      unfolding RunsFrom Steps
+      gets (v, changed) new runs k = runs (GetterTried access name ∷ k) ⨾ getter_gives v changed k new
+
+      -- its error stands, unless there is no such property
+      pub gets_none : (e : EvalAltResult H) (new : State S H) → asks_getter (Err e) new → lacks_property e ≡ false →
+          RunsFrom rules (got_by (Property name pos) access) s (Err e) new
+      unfolding RunsFrom Steps
+      gets_none e new runs other k = runs (GetterTried access name ∷ k) ⨾ getter_goes e false other k new
+
+      -- then the indexer is asked
+      pub gets_named : (e : EvalAltResult H) (mid new : State S H) (r : Result (Dynamic H × Bool) (EvalAltResult H)) →
+          asks_getter (Err e) mid → lacks_property e ≡ true →
+          RunsFrom rules (λ k l. core (Ask (get_item access.at (focus_of l) (named name))) (IndexerTried (Err e) ∷ k) l) mid r new →
+          RunsFrom rules (got_by (Property name pos) access) s r new
+      unfolding RunsFrom Steps
+      gets_named e mid new r runs lacks goes k = runs (GetterTried access name ∷ k) ⨾ getter_goes e true lacks k mid ⨾ goes k
+
+  -- ---- the setter
+
+  module _ (access : MemberAccess H) (name : List ℕ) (value : Dynamic H) (ignores : Bool) where
+    setter_gives : (v : Dynamic H) (changed : Bool) (k : List (Frame H)) (s : State S H) →
+        Goes rules (at (marked (Ok (v, changed))) (SetterTried access name value ignores ∷ k) s) (at (marked (Ok (v, changed))) k s)
+    setter_gives v true k s = step_by rules _ _ _ refl here
+    setter_gives v false k s = step_by rules _ _ _ refl here
+
+    setter_goes : (e : EvalAltResult H) (lacks : Bool) → lacks_property e ≡ lacks → (k : List (Frame H)) (s : State S H) →
+        Goes rules (at (Fail e) (SetterTried access name value ignores ∷ k) s) (record {
+          core = setter_missing lacks e access name value ignores k s.local;
+          table = s.table;
+          count = s.count;
+        })
+    setter_goes e lacks is k s = step_by rules _ _ (Go (setter_missing lacks e access name value ignores k s.local))
+        (ap (λ (b : Bool). Go (setter_missing b e access name value ignores k s.local)) is) here
+
+    module _ (pos : Position) (s : State S H) where
+      abbrev asks_setter : Result (Dynamic H × Bool) (EvalAltResult H) → State S H → Type 0
+      asks_setter r new = MarkedRuns rules (Ask (set_property name pos access.guarded (focus_of s.local) value)) s r new
+
+      pub sets : (answer : Dynamic H × Bool) (new : State S H) → asks_setter (Ok answer) new →
+          RunsFrom rules (set_by (Property name pos) ignores access value) s (Ok answer) new
+      unfolding RunsFrom Steps
+      sets (v, changed) new runs k = runs (SetterTried access name value ignores ∷ k) ⨾ setter_gives v changed k new
+
+      pub sets_none : (e : EvalAltResult H) (new : State S H) → asks_setter (Err e) new → lacks_property e ≡ false →
+          RunsFrom rules (set_by (Property name pos) ignores access value) s (Err e) new
+      unfolding RunsFrom Steps
+      sets_none e new runs other k = runs (SetterTried access name value ignores ∷ k) ⨾ setter_goes e false other k new
+
+      pub sets_named : (e : EvalAltResult H) (otherwise : Result (Dynamic H) (EvalAltResult H)) (mid new : State S H)
+          (r : Result (Dynamic H × Bool) (EvalAltResult H)) → asks_setter (Err e) mid → lacks_property e ≡ true →
+          otherwise ≡ after_setter ignores e →
+          RunsFrom rules (λ k l. core (Ask (set_item access.at access.guarded (focus_of l) (named name) value))
+          (IndexerTried otherwise ∷ k) l) mid r new → RunsFrom rules (set_by (Property name pos) ignores access value) s r new
+      unfolding RunsFrom Steps
+      sets_named e otherwise mid new r runs lacks is goes k =
+          runs (SetterTried access name value ignores ∷ k) ⨾ setter_goes e true lacks k mid ⨾ rw is at (goes k)

@@ -1,0 +1,4 @@
+pub mod Chains
+pub mod Members
+pub mod Roots
+pub mod Spots

@@ -1,0 +1,18 @@
+//! What a chain is given besides its links.
+
+use rhai_tree::expr::OpAssignment;
+use rhai_values::base::value::Dynamic;
+
+/// What an assignment gives: by an operator or as it is, and the value on the right.
+#[derive(Drop)]
+pub struct NewValue<H> {
+    pub op: OpAssignment,
+    pub value: Dynamic<H>,
+}
+
+/// What a chain reads of an engine beside its limits.
+#[derive(Clone, Copy, Debug, PartialEq, Eq)]
+pub struct Switches {
+    pub fast_operators: bool,
+    pub fail_on_invalid_map_property: bool,
+}

@@ -1,0 +1,544 @@
+//! Members of a value that natives get and set: a property by its getter and its setter, and by the
+//! indexer where it has none; an item by the indexer. Ports upstream's `call_indexer_get` and
+//! `call_indexer_set` with what its chains do about them.
+
+ghost use Rattle.std.specs.Prelude.{◌≡◌, ◌<◌, ◌≤◌, ◌++◌, ◌∷◌, [], length, slice_get, Some, Err, IfOk, false};
+ghost use Rattle.rhai_machine.specs.language.Arguments.{operation_named};
+ghost use Rattle.rhai_machine.specs.language.Frames.{Ask, IndexerTried, Item, Property, core};
+ghost use Rattle.rhai_machine.specs.language.Members.{after_setter, focus_of, lent_call, named};
+ghost use Rattle.rhai_machine.specs.language.Members.{get_core, got_by, set_by, set_core};
+ghost use Rattle.rhai_machine.specs.language.Members.{get_item as item_got, set_item as item_set};
+ghost use Rattle.rhai_machine.specs.language.Members.{set_property as property_set};
+ghost use Rattle.rhai_machine.specs.language.Members.{lacks_indexer as lacks_indexer_in};
+ghost use Rattle.rhai_machine.specs.language.Members.{lacks_property as lacks_property_in};
+ghost use Rattle.rhai_machine.specs.language.Setting.{rules_of};
+ghost use Rattle.rhai_steps.specs.States.{state_of};
+ghost use Rattle.rhai_calls.specs.Marks.{MarkedRuns};
+ghost use Rattle.rhai_methods.specs.Methods.{lending, RunsFrom};
+ghost use Rattle.rhai_chains.specs.Members.{access_of, tried};
+
+use rhai_calls::native::{Passing, marked, pass_native};
+use rhai_items::{Items, Shared, Text};
+use rhai_state::error::EvalAltResult;
+use rhai_state::limits::Limits;
+use rhai_state::state::GlobalRuntimeState;
+use rhai_state::table::NativeTable;
+use rhai_steps::values::{let_go, list_of, text_value, unit_value};
+use rhai_tree::position::Position;
+use rhai_values::base::value::{Dynamic, Host};
+use std::alloc::{AllocError, Global};
+use std::mem::replace;
+
+/// What natives get and set in a value.
+#[derive(Drop)]
+pub enum Member<'a, H> {
+    /// A property, by its name.
+    Property(&'a Shared<Text>, Position),
+    /// An item, by an index of any type.
+    Item(Dynamic<H>),
+}
+
+/// How a member is got and set.
+#[derive(Drop)]
+pub struct MemberAccess<'a, H> {
+    pub member: Member<'a, H>,
+    /// The operator.
+    pub at: Position,
+    /// A constant is kept from a native that is not pure.
+    pub guarded: bool,
+}
+
+/// Whether an error says that there is no such property.
+fn lacks_property<H: Host>(error: &EvalAltResult<H>) -> bool
+    ensures { result ≡ lacks_property_in error.now }
+{
+    matches!(error, EvalAltResult::ErrorDotExpr(_, _))
+}
+
+/// Whether an error says that there is no indexer for two types.
+pub fn lacks_indexer<H: Host>(error: &EvalAltResult<H>) -> bool
+    ensures { result ≡ lacks_indexer_in error.now }
+{
+    matches!(error, EvalAltResult::ErrorIndexingType(_, _))
+}
+
+/// The name of a getter or a setter: that of the property behind what such names begin with.
+fn name_behind(alloc: Global, prefix: &str, name: &Shared<Text>) -> Result<Text, AllocError>
+    ensures { IfOk result (λ text. text ≡ prefix.now ++ name.now) }
+{
+    let mut text = String::from_str(alloc, prefix)?;
+    text.push_str(name.get().as_str())?;
+    Ok(Text::from_string(text))
+}
+
+/// A list of two values, or want of memory.
+fn list_of_both<H: Host>(
+    alloc: Global,
+    first: Dynamic<H>,
+    second: Dynamic<H>,
+) -> Result<Items<Dynamic<H>>, AllocError>
+    ensures { IfOk result (λ items. items ≡ first ∷ second ∷ []) }
+{
+    let mut items = Items::new(alloc);
+    items.push(first)?;
+    items.push(second)?;
+    Ok(items)
+}
+
+/// The first value of a list.
+fn first_of<H: Host>(items: Items<Dynamic<H>>) -> Dynamic<H>
+    requires { 0 < length items }
+    ensures { slice_get items 0 ≡ Some result }
+{
+    let mut items = items;
+    items.remove(0)
+}
+
+/// Asks the getter or the setter of a property, which the focus is lent to.
+fn ask_property<H: Host, T: NativeTable<H>>(
+    limits: &Limits,
+    alloc: Global,
+    global: &mut GlobalRuntimeState<H>,
+    table: &mut T,
+    focus: &mut Dynamic<H>,
+    prefix: &str,
+    name: &Shared<Text>,
+    rest: &[Dynamic<H>],
+    passing: Passing,
+    pos: Position,
+) -> Result<(Dynamic<H>, bool), EvalAltResult<H>>
+    ensures counts { global.old.num_operations ≤ global.new.num_operations }
+    ensures runs { (offer : _) (scope : _) (held : _) →
+        MarkedRuns (rules_of limits.now H.name_of offer T.natives)
+        (Ask (lent_call (operation_named (prefix.now ++ name.now) pos) passing.guarded passing.marks
+        focus.old rest.now))
+        (state_of (T.state table.old) global.old scope (lending held focus.old))
+        result (state_of (T.state table.new) global.new scope (lending held focus.new)) }
+    ensures unmarked { IfOk result (λ answer. passing.marks ≡ false → answer.1 ≡ false) }
+{
+    let Ok(text) = name_behind(alloc, prefix, name) else {
+        return Err(EvalAltResult::ErrorOutOfMemory(pos));
+    };
+    let native = text.as_str();
+    pass_native(
+        limits, alloc, global, table, native, None, focus, rest, passing, pos,
+    )
+}
+
+/// Asks the indexer that gets, which the focus is lent to.
+fn ask_item<H: Host, T: NativeTable<H>>(
+    limits: &Limits,
+    alloc: Global,
+    global: &mut GlobalRuntimeState<H>,
+    table: &mut T,
+    focus: &mut Dynamic<H>,
+    index: &mut Dynamic<H>,
+    at: Position,
+) -> Result<(Dynamic<H>, bool), EvalAltResult<H>>
+    ensures counts { global.old.num_operations ≤ global.new.num_operations }
+    ensures runs { (offer : _) (scope : _) (held : _) →
+        MarkedRuns (rules_of limits.now H.name_of offer T.natives) (Ask (item_got at focus.old index.old))
+        (state_of (T.state table.old) global.old scope (lending held focus.old))
+        result (state_of (T.state table.new) global.new scope (lending held focus.new)) }
+    ensures unmarked { IfOk result (λ answer. answer.1 ≡ false) }
+    ensures index { index.new ≡ index.old }
+{
+    let passing = Passing {
+        guarded: true,
+        marks: false,
+    };
+    match list_of(alloc, replace(index, unit_value())) {
+        Ok(items) => {
+            let rest = items.as_slice();
+            let result = pass_native(
+                limits,
+                alloc,
+                global,
+                table,
+                "index$get$",
+                None,
+                focus,
+                rest,
+                passing,
+                at,
+            );
+            let_go(replace(index, first_of(items)));
+            result
+        }
+        Err(value) => {
+            let_go(replace(index, value));
+            Err(EvalAltResult::ErrorOutOfMemory(at))
+        }
+    }
+}
+
+/// Asks the setter of a property.
+fn ask_setter<H: Host, T: NativeTable<H>>(
+    limits: &Limits,
+    alloc: Global,
+    global: &mut GlobalRuntimeState<H>,
+    table: &mut T,
+    focus: &mut Dynamic<H>,
+    name: &Shared<Text>,
+    value: &mut Dynamic<H>,
+    guarded: bool,
+    pos: Position,
+) -> Result<(Dynamic<H>, bool), EvalAltResult<H>>
+    ensures counts { global.old.num_operations ≤ global.new.num_operations }
+    ensures runs { (offer : _) (scope : _) (held : _) →
+        MarkedRuns (rules_of limits.now H.name_of offer T.natives)
+        (Ask (property_set name.now pos guarded focus.old value.old))
+        (state_of (T.state table.old) global.old scope (lending held focus.old))
+        result (state_of (T.state table.new) global.new scope (lending held focus.new)) }
+    ensures value { value.new ≡ value.old }
+{
+    let passing = Passing {
+        guarded,
+        marks: true,
+    };
+    match list_of(alloc, replace(value, unit_value())) {
+        Ok(items) => {
+            let rest = items.as_slice();
+            let result = ask_property(
+                limits, alloc, global, table, focus, "set$", name, rest, passing, pos,
+            );
+            let_go(replace(value, first_of(items)));
+            result
+        }
+        Err(back) => {
+            let_go(replace(value, back));
+            Err(EvalAltResult::ErrorOutOfMemory(pos))
+        }
+    }
+}
+
+/// Asks the indexer that sets.
+fn ask_to_set<H: Host, T: NativeTable<H>>(
+    limits: &Limits,
+    alloc: Global,
+    global: &mut GlobalRuntimeState<H>,
+    table: &mut T,
+    focus: &mut Dynamic<H>,
+    index: Dynamic<H>,
+    value: Dynamic<H>,
+    guarded: bool,
+    at: Position,
+) -> Result<(Dynamic<H>, bool), EvalAltResult<H>>
+    ensures counts { global.old.num_operations ≤ global.new.num_operations }
+    ensures runs { (offer : _) (scope : _) (held : _) →
+        MarkedRuns (rules_of limits.now H.name_of offer T.natives)
+        (Ask (item_set at guarded focus.old index value))
+        (state_of (T.state table.old) global.old scope (lending held focus.old))
+        result (state_of (T.state table.new) global.new scope (lending held focus.new)) }
+{
+    let passing = Passing {
+        guarded,
+        marks: true,
+    };
+    let Ok(items) = list_of_both(alloc, index, value) else {
+        return Err(EvalAltResult::ErrorOutOfMemory(at));
+    };
+    let rest = items.as_slice();
+    pass_native(
+        limits,
+        alloc,
+        global,
+        table,
+        "index$set$",
+        None,
+        focus,
+        rest,
+        passing,
+        at,
+    )
+}
+
+/// What comes of the indexer: where it is missing, something stands for it.
+fn unless_missing<H: Host>(
+    answer: Result<(Dynamic<H>, bool), EvalAltResult<H>>,
+    otherwise: Result<Dynamic<H>, EvalAltResult<H>>,
+) -> Result<(Dynamic<H>, bool), EvalAltResult<H>>
+    ensures { result ≡ tried answer otherwise }
+{
+    match answer {
+        Ok(answer) => {
+            drop(otherwise);
+            Ok(answer)
+        }
+        Err(error) => {
+            if lacks_indexer(&error) {
+                drop(error);
+                marked(otherwise, false)
+            } else {
+                drop(otherwise);
+                Err(error)
+            }
+        }
+    }
+}
+
+/// The indexer is asked for a property that has no getter. Where it is missing too, the getter's error
+/// stands.
+fn get_named<H: Host, T: NativeTable<H>>(
+    limits: &Limits,
+    alloc: Global,
+    global: &mut GlobalRuntimeState<H>,
+    table: &mut T,
+    focus: &mut Dynamic<H>,
+    name: &Shared<Text>,
+    at: Position,
+    missing: EvalAltResult<H>,
+) -> Result<(Dynamic<H>, bool), EvalAltResult<H>>
+    ensures counts { global.old.num_operations ≤ global.new.num_operations }
+    ensures runs { (offer : _) (scope : _) (held : _) →
+        RunsFrom (rules_of limits.now H.name_of offer T.natives)
+        (λ k l. core (Ask (item_got at (focus_of l) (named name.now))) (IndexerTried (Err missing) ∷ k) l)
+        (state_of (T.state table.old) global.old scope (lending held focus.old))
+        result (state_of (T.state table.new) global.new scope (lending held focus.new)) }
+    ensures unmarked { IfOk result (λ answer. answer.1 ≡ false) }
+{
+    match text_value(name, at) {
+        Ok(index) => {
+            let mut index = index;
+            let answer = ask_item(limits, alloc, global, table, focus, &mut index, at);
+            let_go(index);
+            unless_missing(answer, Err(missing))
+        }
+        Err(error) => {
+            drop(missing);
+            Err(error)
+        }
+    }
+}
+
+/// A property of the focus.
+fn get_property<H: Host, T: NativeTable<H>>(
+    limits: &Limits,
+    alloc: Global,
+    global: &mut GlobalRuntimeState<H>,
+    table: &mut T,
+    focus: &mut Dynamic<H>,
+    name: &Shared<Text>,
+    pos: Position,
+    at: Position,
+    guarded: bool,
+) -> Result<(Dynamic<H>, bool), EvalAltResult<H>>
+    ensures counts { global.old.num_operations ≤ global.new.num_operations }
+    ensures runs { (offer : _) (scope : _) (held : _) (member : _) →
+        RunsFrom (rules_of limits.now H.name_of offer T.natives)
+        (got_by (Property name.now pos) (record { member = member; at = at; guarded = guarded }))
+        (state_of (T.state table.old) global.old scope (lending held focus.old))
+        result (state_of (T.state table.new) global.new scope (lending held focus.new)) }
+    ensures unmarked { IfOk result (λ answer. answer.1 ≡ false) }
+{
+    let none = Items::new(alloc);
+    let rest = none.as_slice();
+    let passing = Passing {
+        guarded,
+        marks: false,
+    };
+    match ask_property(
+        limits, alloc, global, table, focus, "get$", name, rest, passing, pos,
+    ) {
+        Ok(answer) => Ok(answer),
+        Err(error) => {
+            if lacks_property(&error) {
+                get_named(limits, alloc, global, table, focus, name, at, error)
+            } else {
+                Err(error)
+            }
+        }
+    }
+}
+
+/// The value of a member of the focus, which is lent to the native. It is not marked, and the access stays
+/// as it was.
+///
+/// # Errors
+/// Those of the natives; where a property has neither getter nor indexer the getter's `ErrorDotExpr`.
+pub fn get_member<H: Host, T: NativeTable<H>>(
+    limits: &Limits,
+    alloc: Global,
+    global: &mut GlobalRuntimeState<H>,
+    table: &mut T,
+    focus: &mut Dynamic<H>,
+    access: &mut MemberAccess<'_, H>,
+) -> Result<(Dynamic<H>, bool), EvalAltResult<H>>
+    ensures counts { global.old.num_operations ≤ global.new.num_operations }
+    ensures runs { (offer : _) (scope : _) (held : _) →
+        RunsFrom (rules_of limits.now H.name_of offer T.natives) (get_core (access_of access.old))
+        (state_of (T.state table.old) global.old scope (lending held focus.old))
+        result (state_of (T.state table.new) global.new scope (lending held focus.new)) }
+    ensures unmarked { IfOk result (λ answer. answer.1 ≡ false) }
+    ensures access { access_of access.new ≡ access_of access.old }
+{
+    let at = access.at;
+    let guarded = access.guarded;
+    match &mut access.member {
+        Member::Property(name, pos) => get_property(
+            limits, alloc, global, table, focus, name, *pos, at, guarded,
+        ),
+        Member::Item(index) => ask_item(limits, alloc, global, table, focus, index, at),
+    }
+}
+
+/// The indexer sets a property that has no setter.
+fn set_named<H: Host, T: NativeTable<H>>(
+    limits: &Limits,
+    alloc: Global,
+    global: &mut GlobalRuntimeState<H>,
+    table: &mut T,
+    focus: &mut Dynamic<H>,
+    name: &Shared<Text>,
+    value: Dynamic<H>,
+    guarded: bool,
+    at: Position,
+    otherwise: Result<Dynamic<H>, EvalAltResult<H>>,
+) -> Result<(Dynamic<H>, bool), EvalAltResult<H>>
+    ensures counts { global.old.num_operations ≤ global.new.num_operations }
+    ensures runs { (offer : _) (scope : _) (held : _) →
+        RunsFrom (rules_of limits.now H.name_of offer T.natives)
+        (λ k l. core (Ask (item_set at guarded (focus_of l) (named name.now) value))
+        (IndexerTried otherwise ∷ k) l)
+        (state_of (T.state table.old) global.old scope (lending held focus.old))
+        result (state_of (T.state table.new) global.new scope (lending held focus.new)) }
+{
+    match text_value(name, at) {
+        Ok(index) => {
+            let answer = ask_to_set(
+                limits, alloc, global, table, focus, index, value, guarded, at,
+            );
+            unless_missing(answer, otherwise)
+        }
+        Err(error) => {
+            let_go(value);
+            drop(otherwise);
+            Err(error)
+        }
+    }
+}
+
+/// What stands for a missing indexer after a setter: the setter's error, or `()` where that is ignored.
+fn instead<H: Host>(ignores: bool, error: EvalAltResult<H>) -> Result<Dynamic<H>, EvalAltResult<H>>
+    ensures { result ≡ after_setter ignores error }
+{
+    if ignores {
+        drop(error);
+        Ok(unit_value())
+    } else {
+        Err(error)
+    }
+}
+
+/// Sets a property of the focus.
+fn set_property<H: Host, T: NativeTable<H>>(
+    limits: &Limits,
+    alloc: Global,
+    global: &mut GlobalRuntimeState<H>,
+    table: &mut T,
+    focus: &mut Dynamic<H>,
+    name: &Shared<Text>,
+    pos: Position,
+    at: Position,
+    guarded: bool,
+    value: Dynamic<H>,
+    ignores: bool,
+) -> Result<(Dynamic<H>, bool), EvalAltResult<H>>
+    ensures counts { global.old.num_operations ≤ global.new.num_operations }
+    ensures runs { (offer : _) (scope : _) (held : _) (member : _) →
+        RunsFrom (rules_of limits.now H.name_of offer T.natives)
+        (set_by (Property name.now pos) ignores
+        (record { member = member; at = at; guarded = guarded }) value)
+        (state_of (T.state table.old) global.old scope (lending held focus.old))
+        result (state_of (T.state table.new) global.new scope (lending held focus.new)) }
+{
+    let mut value = value;
+    match ask_setter(
+        limits, alloc, global, table, focus, name, &mut value, guarded, pos,
+    ) {
+        Ok(answer) => {
+            let_go(value);
+            Ok(answer)
+        }
+        Err(error) => {
+            if lacks_property(&error) {
+                let otherwise = instead(ignores, error);
+                set_named(
+                    limits, alloc, global, table, focus, name, value, guarded, at, otherwise,
+                )
+            } else {
+                let_go(value);
+                Err(error)
+            }
+        }
+    }
+}
+
+/// Sets an item of the focus.
+fn set_item<H: Host, T: NativeTable<H>>(
+    limits: &Limits,
+    alloc: Global,
+    global: &mut GlobalRuntimeState<H>,
+    table: &mut T,
+    focus: &mut Dynamic<H>,
+    index: Dynamic<H>,
+    at: Position,
+    guarded: bool,
+    value: Dynamic<H>,
+    ignores: bool,
+) -> Result<(Dynamic<H>, bool), EvalAltResult<H>>
+    ensures counts { global.old.num_operations ≤ global.new.num_operations }
+    ensures runs { (offer : _) (scope : _) (held : _) (member : _) →
+        RunsFrom (rules_of limits.now H.name_of offer T.natives)
+        (set_by (Item index) ignores (record { member = member; at = at; guarded = guarded }) value)
+        (state_of (T.state table.old) global.old scope (lending held focus.old))
+        result (state_of (T.state table.new) global.new scope (lending held focus.new)) }
+{
+    let answer = ask_to_set(
+        limits, alloc, global, table, focus, index, value, guarded, at,
+    );
+    if ignores {
+        unless_missing(answer, Ok(unit_value()))
+    } else {
+        answer
+    }
+}
+
+/// Sets a member of the focus, which is lent to the native. The answer is the native's, marked where that
+/// is not pure. Where the absence of an indexer is ignored, `()` stands for what it answers. An index goes
+/// to the native, and `()` is left of it.
+///
+/// # Errors
+/// Those of the natives; where a property has neither setter nor indexer the setter's `ErrorDotExpr`,
+/// unless that is ignored.
+pub fn set_member<H: Host, T: NativeTable<H>>(
+    limits: &Limits,
+    alloc: Global,
+    global: &mut GlobalRuntimeState<H>,
+    table: &mut T,
+    focus: &mut Dynamic<H>,
+    access: &mut MemberAccess<'_, H>,
+    value: Dynamic<H>,
+    ignores: bool,
+) -> Result<(Dynamic<H>, bool), EvalAltResult<H>>
+    ensures counts { global.old.num_operations ≤ global.new.num_operations }
+    ensures runs { (offer : _) (scope : _) (held : _) →
+        RunsFrom (rules_of limits.now H.name_of offer T.natives)
+        (set_core ignores (access_of access.old) value)
+        (state_of (T.state table.old) global.old scope (lending held focus.old))
+        result (state_of (T.state table.new) global.new scope (lending held focus.new)) }
+{
+    let at = access.at;
+    let guarded = access.guarded;
+    match &mut access.member {
+        Member::Property(name, pos) => set_property(
+            limits, alloc, global, table, focus, name, *pos, at, guarded, value, ignores,
+        ),
+        Member::Item(index) => {
+            let index = replace(index, unit_value());
+            set_item(
+                limits, alloc, global, table, focus, index, at, guarded, value, ignores,
+            )
+        }
+    }
+}
