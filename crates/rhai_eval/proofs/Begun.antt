@@ -17,10 +17,10 @@ use Rattle.rhai_laws.proofs.KeptLaws.{kept_from, names_stay_from}
 use Rattle.rhai_laws.proofs.WantLaws.{runs_up_to_memory, steps_with_memory}
 use Rattle.rhai_steps.specs.States.{holding, state_of}
 use Rattle.rhai_context.specs.declared.Context.{Context}
-use Rattle.rhai_eval.specs.Calls.{StartsAs, called}
+use Rattle.rhai_cycle.specs.Calls.{StartsAs, called}
+use Rattle.rhai_cycle.specs.States.{state_in}
+use Rattle.rhai_cycle.proofs.Chain.{still_none}
 use Rattle.rhai_eval.specs.Ends.{EndsFrom}
-use Rattle.rhai_eval.specs.States.{state_in}
-use Rattle.rhai_eval.proofs.Chain.{still_none}
 
 module _ {S H : Type 0} (rules : Rules S H) (operation : Operation) (args : List Expr) (captures : Bool) where
   -- where the call begins
@@ -61,14 +61,14 @@ module _ {S H : Type 0} (rules : Rules S H) (operation : Operation) (args : List
       (function_same this rules.setting (keyword_of operation.token operation.name (length args)) operation args captures k before.local)
       ((rw none at starts) k)
 
-  -- a call over values that were taken from a caller and given back, whatever the caller's `this`
+  -- a call over values that were taken from a caller and given back, whatever the caller's `this`, by what is read of the engine
   pub call_lent : (t u : S) (taken left : Context H) (global after : GlobalRuntimeState H) (scope names : Scope H)
-      (r : Result (Dynamic H) (EvalAltResult H)) (this : Option (Dynamic H)) {search : Bool} →
+      (r : Result (Dynamic H) (EvalAltResult H)) (this : Option (Dynamic H)) {search : Bool} {read : Rules S H} → read ≡ rules →
       taken ≡ record { global = global; scope = scope; this = None; spare = [] } →
       after ≡ record left.global { always_search_scope = search } → names ≡ left.scope →
-      StartsAs rules begins (state_in t taken) r (state_in u left) →
+      StartsAs read begins (state_in t taken) r (state_in u left) →
       StartsAs rules begins (state_of t global scope (holding this)) r (state_of u after names (holding this))
-  call_lent t u taken left global after scope names r this is given variables starts =
-      let start : StartsAs rules begins (state_of t global scope (holding None)) r (state_in u left) = rw is at starts in
+  call_lent t u taken left global after scope names r this reads is given variables starts =
+      let start : StartsAs rules begins (state_of t global scope (holding None)) r (state_in u left) = rw (reads, is) at starts in
       let none = still_none left.this (call_kept _ _ r start).bound in
       rw (given, variables) (call_with t u global left.global scope left.scope r left.this this none start)

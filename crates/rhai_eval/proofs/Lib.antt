@@ -1,13 +1,5 @@
 mod Begun
-mod CallSteps
-mod Chain
-mod ChoiceSteps
-mod Conditions
-mod DataSteps
-mod LoopSteps
-mod NameLemmas
+mod InPlace
 mod OnTargets
 mod Public
 mod Scripts
-mod Turns
-mod InPlace

@@ -1,62 +1,10 @@
--- How the parts of a call are told.
-use Rattle.std.specs.Prelude.{◌≡◌, Bool, List, ◌∷◌, Result, Ok, Err, length}
-use Rattle.rhai_tree.specs.declared.expr.Expr.{Expr}
+-- How the value of an argument is told.
+use Rattle.std.specs.Prelude.{Result, Ok, Err}
 use Rattle.rhai_tree.specs.declared.position.Position.{Position}
 use Rattle.rhai_values.specs.declared.base.value.Dynamic.{Dynamic}
-use Rattle.rhai_values.specs.declared.base.value.FnPtr.{FnPtr, out-FnPtr}
 use Rattle.rhai_state.specs.declared.error.EvalAltResult.{EvalAltResult}
-use Rattle.rhai_machine.specs.machine.Point.{Point}
-use Rattle.rhai_machine.specs.language.Setting.{Rules}
-use Rattle.rhai_machine.specs.language.State.{Local, State}
-use Rattle.rhai_machine.specs.language.Frames.{Operation, Control, Purpose, Frame, Core, Fail, ended}
-use Rattle.rhai_machine.specs.language.Arguments.{arguments_core, arguments_there, flattens, function_core, keyword_of, pointer_core}
-use Rattle.rhai_machine.specs.language.Runs.{at, with_core, Goes}
 
 -- the value of a result that says besides where it starts
 abbrev pub value_with : {H : Type 0} → Result (Dynamic H × Position) (EvalAltResult H) → Result (Dynamic H) (EvalAltResult H)
 value_with (Ok pair) = Ok pair.0
 value_with (Err e) = Err e
-
-module _ {S H : Type 0} (rules : Rules S H) where
-  -- from the core to which a rule leads, over any stack, to how it ended
-  unfoldable pub StartsAs : (start : List (Frame H) → Local H → Core H) → State S H → Result (Dynamic H) (EvalAltResult H) → State S H →
-      Type 0
-  StartsAs start old result new = (k : List (Frame H)) → Goes rules (with_core (start k old.local) old) (at (ended result) k new)
-
-  -- from a control over a frame to what comes of the frame
-  unfoldable pub RunsUnder : Control H → Frame H → State S H → Result (Dynamic H) (EvalAltResult H) → State S H → Type 0
-  RunsUnder c f old result new = (k : List (Frame H)) → Goes rules (at c (f ∷ k) old) (at (ended result) k new)
-
-  -- a pointer that is called
-  abbrev pub pointer_called : FnPtr H → Position → List Expr → (captures : Bool) → List (Frame H) → Local H → Core H
-  pointer_called pointer at args captures k l = pointer_core rules.setting (out-FnPtr H pointer).kind pointer at args captures k l
-
-  -- all arguments are there for what they are for, or an error comes down
-  abbrev pub collected : Purpose H → Result (List (Dynamic H)) (EvalAltResult H) → List (Frame H) → State S H → Point S (Core H)
-  collected purpose (Ok values) k new = with_core (arguments_there rules.setting purpose values k new.local) new
-  collected purpose (Err e) k new = at (Fail e) k new
-
-  -- from the arguments of a call behind those that are there to where all of them are there, whatever they are for
-  unfoldable pub Collects : (flattened : Bool) → (made : List (Dynamic H)) → List Expr → State S H →
-      Result (List (Dynamic H)) (EvalAltResult H) → State S H → Type 0
-  Collects flattened made args old result new = (purpose : Purpose H) → flattens purpose ≡ flattened → (k : List (Frame H)) →
-      Goes rules (with_core (arguments_core rules.setting purpose made args k old.local) old) (collected purpose result k new)
-
-  -- an argument has been taken, or an error comes down
-  abbrev pub has_taken : Purpose H → Result (Unit {0}) (EvalAltResult H) → (more : List (Dynamic H)) → (rest : List Expr) →
-      List (Frame H) → State S H → Point S (Core H)
-  has_taken purpose (Ok _) more rest k new = with_core (arguments_core rules.setting purpose more rest k new.local) new
-  has_taken purpose (Err e) more rest k new = at (Fail e) k new
-
-  -- from an argument behind those that are there to the others, whatever they are for
-  unfoldable pub TakesNext : (flattened : Bool) → (made : List (Dynamic H)) → Expr → State S H → Result (Unit {0}) (EvalAltResult H) →
-      (more : List (Dynamic H)) → State S H → Type 0
-  TakesNext flattened made arg old result more new = (purpose : Purpose H) → flattens purpose ≡ flattened → (rest : List Expr) →
-      (k : List (Frame H)) →
-      Goes rules (with_core (arguments_core rules.setting purpose made (arg ∷ rest) k old.local) old) (has_taken purpose result more rest k new)
-
-module _ {H : Type 0} where
-  -- what is no operator on its operands is a keyword, or a call by name
-  abbrev pub called : Operation → List Expr → (captures : Bool) → List (Frame H) → Local H → Core H
-  called operation args captures k l =
-      function_core (keyword_of operation.token operation.name (length args)) operation args captures k l

@@ -2,7 +2,6 @@ pub mod Calls
 pub mod Ends
 pub mod Indexing
 pub mod Lends
-pub mod Memory
 pub mod Plain
 pub mod Search
 pub mod States

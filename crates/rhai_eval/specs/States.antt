@@ -1,13 +1,8 @@
--- What a run of the code is to the machine: the engine and the table as its rules, and the context as its state.
+-- What a run of the code is to the machine: the engine and the table as its rules.
 use Rattle.std.specs.Prelude.{ℕ, ◌-◌, ◌^◌, List}
-use Rattle.rhai_check.specs.Names.{Name}
 use Rattle.rhai_state.specs.declared.limits.Limits.{Limits}
 use Rattle.rhai_state.specs.Native.{Natives}
-use Rattle.rhai_state.specs.Scope.{names_in}
 use Rattle.rhai_machine.specs.language.Setting.{Offer, Rules, rules_of}
-use Rattle.rhai_machine.specs.language.State.{State}
-use Rattle.rhai_steps.specs.States.{holding, state_of}
-use Rattle.rhai_context.specs.declared.Context.{Context}
 use Rattle.rhai_eval.specs.declared.engine.Engine.{Engine}
 
 -- no limit of operations, of variables, of modules or of data, and calls up to 64 deep
@@ -36,11 +31,3 @@ module _ {H : Type 0} where
   -- under a host's type names, an engine and a table
   abbrev pub under : {S : Type 0} → (H → List ℕ) → Engine H → Natives S H → Rules S H
   under host engine natives = rules_of engine.limits host (offer_of engine) natives
-
-  -- all that a run changes
-  abbrev pub state_in : {S : Type 0} → S → Context H → State S H
-  state_in table run = state_of table run.global run.scope (holding run.this)
-
-  -- the names of the variables
-  abbrev pub names : Context H → List Name
-  names run = names_in run.scope

@@ -3,8 +3,10 @@
 ghost use Rattle.std.specs.Prelude.{◌≡◌, ◌<◌, ◌≤◌, ◌+◌, ◌-◌, ◌^◌, OnOk, IfErr, [], true, false};
 ghost use Rattle.rhai_state.specs.declared.error.EvalAltResult.TheVariants as error;
 ghost use Rattle.rhai_state.specs.Limits.{limit_of};
-ghost use Rattle.rhai_eval.specs.States.{unlimited};
+ghost use Rattle.rhai_cycle.specs.States.{offer_of as offered};
+ghost use Rattle.rhai_eval.specs.States.{offer_of, unlimited};
 
+use rhai_cycle::evaluator::Evaluator;
 use rhai_items::{Items, Shared, Table};
 use rhai_state::error::EvalAltResult;
 use rhai_state::limits::Limits;
@@ -60,6 +62,22 @@ impl<H: Host> Engine<H> {
             modules: ModuleTable {
                 modules: Table::new(alloc),
             },
+        }
+    }
+
+    /// What a run reads of the engine.
+    pub(crate) fn evaluator(&self) -> Evaluator<'_, H>
+        ensures limits { result.limits.now ≡ self.now.limits }
+        ensures offer { offered result ≡ offer_of self.now }
+    {
+        Evaluator {
+            limits: &self.limits,
+            fast_operators: self.fast_operators,
+            allow_shadowing: self.allow_shadowing,
+            fail_on_invalid_map_property: self.fail_on_invalid_map_property,
+            global_modules: &self.global_modules,
+            global_sub_modules: &self.global_sub_modules,
+            modules: &self.modules,
         }
     }
 

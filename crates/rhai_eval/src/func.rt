@@ -1,6 +1,5 @@
 //! Calls.
 
-mod arguments;
 pub mod call;
 pub mod method;
 pub mod native;

@@ -9,7 +9,7 @@ ghost use Rattle.rhai_machine.specs.language.Script.{EndsAsMachine, AgreesWithHi
 ghost use Rattle.rhai_machine.specs.language.Script.{end_of_script};
 ghost use Rattle.rhai_steps.specs.States.{holding, state_of};
 ghost use Rattle.rhai_laws.specs.Kept.{Kept};
-ghost use Rattle.rhai_eval.specs.Memory.{may_ask};
+ghost use Rattle.rhai_cycle.specs.Memory.{may_ask};
 ghost use Rattle.rhai_eval.specs.Plain.{Plain};
 ghost use Rattle.rhai_eval.specs.States.{under};
 
@@ -67,7 +67,8 @@ impl<H: Host> Engine<H> {
         ensures search { global.new.always_search_scope ≡ global.old.always_search_scope }
     {
         let mut run = take(alloc, global, scope);
-        let outcome = self.run_stmt_block(alloc, &mut run, table, tree.statements(), false);
+        let evaluator = self.evaluator();
+        let outcome = evaluator.run_stmt_block(alloc, &mut run, table, tree.statements(), false);
         give_back(run, global, scope);
         top(outcome, map_exit_to_return_value)
     }

@@ -1,41 +1,25 @@
 //! Statements. Ports upstream's `eval/stmt.rs`; the contracts speak of the machine's runs.
 
-ghost use Rattle.std.specs.Prelude.{◌≡◌, ◌<◌, ◌≤◌, ◌++◌, ◌∷◌, [], ◌||◌, OnOk, IfErr, IsTrue, true, false, None};
-ghost use Rattle.std.specs.Prelude.{length, map};
-ghost use Rattle.rhai_check.specs.Forms.{is_exported};
-ghost use Rattle.rhai_check.specs.Frame.{tests_of, target_resolves, resolves_expr, resolves_stmt};
-ghost use Rattle.rhai_check.specs.Frame.{resolves_block, all_resolve};
+ghost use Rattle.std.specs.Prelude.{◌≡◌, ◌≤◌, OnOk, IsTrue, length, map};
+ghost use Rattle.rhai_check.specs.Frame.{resolves_stmt, all_resolve};
 ghost use Rattle.rhai_check.specs.Names.{Begins};
-ghost use Rattle.rhai_tree.specs.declared.expr.Expr.TheOpen as layer;
-ghost use Rattle.rhai_state.specs.Errors.{is_out_of_memory};
 ghost use Rattle.rhai_state.specs.Native.{was};
 ghost use Rattle.rhai_state.specs.Scope.{names_in};
-ghost use Rattle.rhai_machine.specs.language.Values.{unit_value as unit};
-ghost use Rattle.rhai_machine.specs.language.Frames.{Exec, OpenStmt, Enter, Run};
-ghost use Rattle.rhai_machine.specs.language.Runs.{Runs};
+ghost use Rattle.rhai_machine.specs.language.Frames.{Exec, Enter};
 ghost use Rattle.rhai_steps.specs.States.{holding, state_of};
 ghost use Rattle.rhai_laws.specs.Kept.{Kept};
 ghost use Rattle.rhai_eval.specs.Ends.{EndsAs};
-ghost use Rattle.rhai_eval.specs.Memory.{asks_expr, asks_block, asks_stmt, may_ask};
 ghost use Rattle.rhai_eval.specs.Plain.{Plain};
-ghost use Rattle.rhai_eval.specs.States.{names, state_in, under};
+ghost use Rattle.rhai_eval.specs.States.{under};
 
 use crate::engine::Engine;
-use rhai_assign::assign_variable;
-use rhai_assign::in_place::assign_in_place;
-use rhai_context::{Context, give_back, take};
+use rhai_context::{give_back, take};
 use rhai_state::caches::Caches;
 use rhai_state::error::EvalAltResult;
 use rhai_state::scope::Scope;
 use rhai_state::state::GlobalRuntimeState;
 use rhai_state::table::NativeTable;
-use rhai_steps::charges::track_operation;
-use rhai_steps::loops::chosen;
-use rhai_steps::values::{flatten, unit_value};
-use rhai_steps::variables::{define_variable, enter_list, leave_list, may_declare, mode_of};
-use rhai_tree::expr::{Expr, Ident, OpAssignment, Stmt, StmtBlock};
-use rhai_tree::flags::ASTFlags;
-use rhai_tree::position::Position;
+use rhai_tree::expr::Stmt;
 use rhai_values::base::value::{Dynamic, Host};
 use std::alloc::Global;
 
@@ -73,7 +57,8 @@ impl<H: Host> Engine<H> {
         ensures search { global.new.always_search_scope ≡ global.old.always_search_scope }
     {
         let mut run = take(alloc, global, scope);
-        let result = self.run_stmt(alloc, &mut run, table, stmt, rewind_scope);
+        let evaluator = self.evaluator();
+        let result = evaluator.run_stmt(alloc, &mut run, table, stmt, rewind_scope);
         give_back(run, global, scope);
         result
     }
@@ -112,277 +97,15 @@ impl<H: Host> Engine<H> {
         ensures search { global.new.always_search_scope ≡ global.old.always_search_scope }
     {
         let mut run = take(alloc, global, scope);
-        let result = self.run_stmt_block(alloc, &mut run, table, statements, restore_orig_state);
+        let evaluator = self.evaluator();
+        let result = evaluator.run_stmt_block(
+            alloc,
+            &mut run,
+            table,
+            statements,
+            restore_orig_state,
+        );
         give_back(run, global, scope);
         result
-    }
-
-    /// What a statement does, in a list that restores or not.
-    #[cycle(eval)]
-    pub(crate) fn run_stmt<T: NativeTable<H>>(
-        &self,
-        alloc: Global,
-        run: &mut Context<H>,
-        table: &mut T,
-        stmt: &Stmt,
-        restoring: bool,
-    ) -> Result<Dynamic<H>, EvalAltResult<H>>
-        requires resolves { IsTrue (resolves_stmt stmt.now (names run.old)).0 }
-        ensures charges { OnOk result (run.old.global.num_operations < run.new.global.num_operations) }
-        ensures names { OnOk result (names run.new ≡ (resolves_stmt stmt.now (names run.old)).1) }
-        ensures runs { Runs (under H.name_of self.now T.natives) (Exec stmt.now restoring)
-            (state_in (T.state table.old) run.old) result (state_in (T.state table.new) run.new) }
-        ensures memory { IfErr result (λ error. is_out_of_memory error ≡ true → IsTrue (asks_stmt stmt.now)) }
-    {
-        track_operation(&self.limits, &mut run.global, stmt.position())?;
-        match stmt {
-            Stmt::Noop(_) => Ok(unit_value()),
-            Stmt::Expr(expr) => self.run_expr_stmt(alloc, run, table, expr, restoring),
-            Stmt::FnCall(call, pos) => self.run_fn_call_expr(alloc, run, table, call, *pos),
-            Stmt::Block(block) => {
-                self.run_stmt_block(alloc, run, table, block.statements.as_slice(), true)
-            }
-            Stmt::Assignment(op, lhs, rhs) => {
-                self.run_assignment(alloc, run, table, *op, lhs, rhs, restoring)
-            }
-            Stmt::If(test, body, branch, pos) => {
-                self.run_if(alloc, run, table, test, body, branch, *pos, restoring)
-            }
-            Stmt::Var(ident, value, None, options, pos) => {
-                self.run_var(alloc, run, table, ident, value, *options, *pos, restoring)
-            }
-            Stmt::While(test, body, _) => self.run_while(alloc, run, table, test, body),
-            Stmt::Do(test, body, options, _) => {
-                self.run_do(alloc, run, table, test, body, *options)
-            }
-            Stmt::BreakLoop(value, options, pos) => {
-                self.run_break(alloc, run, table, value, *options, *pos)
-            }
-            Stmt::Return(value, _, pos) => self.run_return(alloc, run, table, value, *pos),
-            _ => unreachable!(),
-        }
-    }
-
-    /// The value of an expression statement.
-    #[cycle(eval)]
-    fn run_expr_stmt<T: NativeTable<H>>(
-        &self,
-        alloc: Global,
-        run: &mut Context<H>,
-        table: &mut T,
-        expr: &Expr,
-        restoring: bool,
-    ) -> Result<Dynamic<H>, EvalAltResult<H>>
-        requires resolves { IsTrue (resolves_expr expr.now (names run.old)) }
-        ensures counts { OnOk result (run.old.global.num_operations ≤ run.new.global.num_operations) }
-        ensures names { OnOk result (names run.new ≡ names run.old) }
-        ensures runs { Runs (under H.name_of self.now T.natives) (OpenStmt (layer.Expr expr.now) restoring)
-            (state_in (T.state table.old) run.old) result (state_in (T.state table.new) run.new) }
-        ensures memory { IfErr result (λ error. is_out_of_memory error ≡ true →
-            IsTrue (asks_expr expr.now).0) }
-    {
-        let value = self.run_expr(alloc, run, table, expr)?;
-        flatten(alloc, &run.global.cells, value, expr.position())
-    }
-
-    /// An assignment to a variable. By an operator it is done in place under fast operators, where its
-    /// value is an operand that stands and there is a built-in for it.
-    #[cycle(eval)]
-    fn run_assignment<T: NativeTable<H>>(
-        &self,
-        alloc: Global,
-        run: &mut Context<H>,
-        table: &mut T,
-        op: OpAssignment,
-        lhs: &Expr,
-        rhs: &Expr,
-        restoring: bool,
-    ) -> Result<Dynamic<H>, EvalAltResult<H>>
-        requires resolves_target { IsTrue (target_resolves (tests_of lhs.now) (names run.old)) }
-        requires resolves { IsTrue (resolves_expr rhs.now (names run.old)) }
-        ensures counts { OnOk result (run.old.global.num_operations ≤ run.new.global.num_operations) }
-        ensures names { OnOk result (names run.new ≡ names run.old) }
-        ensures runs { Runs (under H.name_of self.now T.natives)
-            (OpenStmt (layer.Assignment op lhs.now rhs.now) restoring)
-            (state_in (T.state table.old) run.old) result (state_in (T.state table.new) run.new) }
-    {
-        let is_fast = self.fast_operators;
-        if !is_fast {
-            return self.assign_value(alloc, run, table, op, lhs, rhs, restoring);
-        }
-        match assign_in_place(
-            &self.limits,
-            alloc,
-            &mut run.global,
-            &*table,
-            &mut run.scope,
-            op,
-            lhs,
-            rhs,
-        ) {
-            Some(result) => result,
-            None => self.assign_value(alloc, run, table, op, lhs, rhs, restoring),
-        }
-    }
-
-    /// An assignment whose value is evaluated first.
-    #[cycle(eval)]
-    fn assign_value<T: NativeTable<H>>(
-        &self,
-        alloc: Global,
-        run: &mut Context<H>,
-        table: &mut T,
-        op: OpAssignment,
-        lhs: &Expr,
-        rhs: &Expr,
-        restoring: bool,
-    ) -> Result<Dynamic<H>, EvalAltResult<H>>
-        requires resolves_target { IsTrue (target_resolves (tests_of lhs.now) (names run.old)) }
-        requires resolves { IsTrue (resolves_expr rhs.now (names run.old)) }
-        ensures counts { OnOk result (run.old.global.num_operations ≤ run.new.global.num_operations) }
-        ensures names { OnOk result (names run.new ≡ names run.old) }
-        ensures runs { Runs (under H.name_of self.now T.natives)
-            (OpenStmt (layer.Assignment op lhs.now rhs.now) restoring)
-            (state_in (T.state table.old) run.old) result (state_in (T.state table.new) run.new) }
-    {
-        let Expr::Variable {
-            offset,
-            name,
-            pos,
-            ..
-        } = lhs
-        else {
-            unreachable!()
-        };
-        let value = self.run_expr(alloc, run, table, rhs)?;
-        let value = flatten(alloc, &run.global.cells, value, rhs.position())?;
-        assign_variable(
-            &self.limits,
-            alloc,
-            &mut run.global,
-            table,
-            &mut run.scope,
-            *offset,
-            name,
-            *pos,
-            op,
-            value,
-            self.fast_operators,
-        )
-    }
-
-    /// The list that a condition chose.
-    #[cycle(eval)]
-    fn run_if<T: NativeTable<H>>(
-        &self,
-        alloc: Global,
-        run: &mut Context<H>,
-        table: &mut T,
-        test: &Expr,
-        body: &StmtBlock,
-        branch: &StmtBlock,
-        pos: Position,
-        restoring: bool,
-    ) -> Result<Dynamic<H>, EvalAltResult<H>>
-        requires resolves_test { IsTrue (resolves_expr test.now (names run.old)) }
-        requires resolves_body { IsTrue (resolves_block body.now (names run.old)) }
-        requires resolves_branch { IsTrue (resolves_block branch.now (names run.old)) }
-        ensures counts { OnOk result (run.old.global.num_operations ≤ run.new.global.num_operations) }
-        ensures names { OnOk result (names run.new ≡ names run.old) }
-        ensures runs { Runs (under H.name_of self.now T.natives)
-            (OpenStmt (layer.If test.now body.now branch.now pos) restoring)
-            (state_in (T.state table.old) run.old) result (state_in (T.state table.new) run.new) }
-        ensures memory { IfErr result (λ error. is_out_of_memory error ≡ true →
-            IsTrue ((asks_expr test.now).1 || (asks_block body.now || asks_block branch.now))) }
-    {
-        let holds = self.run_condition(alloc, run, table, test)?;
-        self.run_stmt_block(alloc, run, table, chosen(holds, body, branch), true)
-    }
-
-    /// A new variable.
-    #[cycle(eval)]
-    fn run_var<T: NativeTable<H>>(
-        &self,
-        alloc: Global,
-        run: &mut Context<H>,
-        table: &mut T,
-        ident: &Ident,
-        value: &Expr,
-        options: ASTFlags,
-        pos: Position,
-        restoring: bool,
-    ) -> Result<Dynamic<H>, EvalAltResult<H>>
-        requires resolves { IsTrue (resolves_expr value.now (names run.old)) }
-        ensures counts { OnOk result (run.old.global.num_operations ≤ run.new.global.num_operations) }
-        ensures names { OnOk result (names run.new ≡ names run.old ++ ident.now.name ∷ []) }
-        ensures runs { is_exported options ≡ false → Runs (under H.name_of self.now T.natives)
-            (OpenStmt (layer.Var ident.now value.now None options pos) restoring)
-            (state_in (T.state table.old) run.old) result (state_in (T.state table.new) run.new) }
-    {
-        may_declare(
-            &self.limits,
-            self.allow_shadowing,
-            &run.scope,
-            &ident.name,
-            pos,
-        )?;
-        let given = self.run_expr(alloc, run, table, value)?;
-        let given = flatten(alloc, &run.global.cells, given, value.position())?;
-        define_variable(&mut run.scope, ident, mode_of(options), given, pos)
-    }
-
-    /// What a list of statements does. A restoring list takes back on every way out the variables that
-    /// it added, the imports and the scope level; an empty one has no effect.
-    #[cycle(eval)]
-    pub(crate) fn run_stmt_block<T: NativeTable<H>>(
-        &self,
-        alloc: Global,
-        run: &mut Context<H>,
-        table: &mut T,
-        statements: &[Stmt],
-        restoring: bool,
-    ) -> Result<Dynamic<H>, EvalAltResult<H>>
-        requires resolves { IsTrue (all_resolve (map resolves_stmt statements.now) (names run.old)).0 }
-        ensures counts { OnOk result (run.old.global.num_operations ≤ run.new.global.num_operations) }
-        ensures restores { OnOk result (IsTrue restoring → names run.new ≡ names run.old) }
-        ensures runs { Runs (under H.name_of self.now T.natives) (Enter statements.now restoring)
-            (state_in (T.state table.old) run.old) result (state_in (T.state table.new) run.new) }
-        ensures memory { IfErr result (λ error. is_out_of_memory error ≡ true →
-            IsTrue (may_ask statements.now)) }
-    {
-        if statements.is_empty() {
-            return Ok(unit_value());
-        }
-        if !restoring {
-            return self.run_statements(alloc, run, table, statements, restoring);
-        }
-        let saved = enter_list(&mut run.global, &run.scope);
-        let result = self.run_statements(alloc, run, table, statements, restoring);
-        leave_list(&mut run.global, &mut run.scope, saved);
-        result
-    }
-
-    /// What statements do, one after the other.
-    #[cycle(eval)]
-    fn run_statements<T: NativeTable<H>>(
-        &self,
-        alloc: Global,
-        run: &mut Context<H>,
-        table: &mut T,
-        statements: &[Stmt],
-        restoring: bool,
-    ) -> Result<Dynamic<H>, EvalAltResult<H>>
-        requires resolves { IsTrue (all_resolve (map resolves_stmt statements.now) (names run.old)).0 }
-        ensures counts { OnOk result (run.old.global.num_operations ≤ run.new.global.num_operations) }
-        ensures runs { Runs (under H.name_of self.now T.natives) (Run statements.now restoring unit)
-            (state_in (T.state table.old) run.old) result (state_in (T.state table.new) run.new) }
-        ensures memory { IfErr result (λ error. is_out_of_memory error ≡ true →
-            IsTrue (may_ask statements.now)) }
-    {
-        let mut last = unit_value();
-        'each_stmt: for stmt in statements {
-            last = self.run_stmt(alloc, run, table, stmt, restoring)?;
-        }
-        Ok(last)
     }
 }

@@ -1,0 +1,425 @@
+use Rattle.std.proofs.Common.{◌∷◌, [], length, codes, refl, sym, ap, ◌∙◌, arith}
+use Rattle.std.specs.Option.{option_copied, option_map}
+use Rattle.rhai_steps.specs.States.{holding}
+use Rattle.rhai_state.specs.declared.state.GlobalRuntimeState.{GlobalRuntimeState}
+use Rattle.rhai_machine.specs.machine.Point.{after}
+use Rattle.rhai_machine.specs.machine.Memory.{here, next, ◌⨾◌}
+use Rattle.rhai_machine.specs.language.Frames as machine
+use Rattle.rhai_machine.specs.language.Frames.{KeywordArgument, CallArgument, ToCall, ToCallOn, ToCallNumber, ToCurry}
+use Rattle.rhai_machine.specs.language.Arguments.{arguments_core, keyword_of, operation_named}
+use Rattle.rhai_machine.specs.language.Runs.{Steps}
+use Rattle.rhai_steps.proofs.Pieces.{exits, passed, told, step_by}
+use Rattle.rhai_operands.proofs.Names.{call_is_plain, good_name, operands_of_call}
+use Rattle.rhai_pointers.specs.Keywords.{word_of}
+use Rattle.rhai_pointers.specs.Leading.{all_args, seen}
+use Rattle.rhai_pointers.proofs.LeadingLemmas.{lent_leads, values_go, variable_goes}
+use Rattle.rhai_dispatch.specs.Going.{GoesOn}
+use Rattle.rhai_context.specs.declared.Context.{Context}
+use Rattle.rhai_cycle.specs.Calls.{Collects, RunsUnder, StartsAs, TakesNext}
+use Rattle.rhai_cycle.specs.States.{names, offer_of, under}
+use Rattle.rhai_cycle.proofs.NameLemmas.{first_resolves, part_resolves}
+use Rattle.rhai_cycle.proofs.Chain.{drop_item, drop_all}
+use Rattle.rhai_cycle.proofs.CallSteps.{begins_call, by_name, by_number, charged_on, counted, named_alone, named_so, refused_on, takes_told, worded}
+use Rattle.rhai_cycle.proofs.CallSteps.{calls_fails, calls_goes, curries_fails, curries_goes, defined_fails, defined_goes, made_fails, made_goes}
+use Rattle.rhai_cycle.proofs.evaluator.Evaluator.+eval.Goals as goal
+
+-- a call by name, or of a keyword
+
+pub run_function-run_call-requires : goal.run_function-run_call-requires
+run_function-run_call-requires g t c =
+    λ κs lives. (
+      omega arith,
+      (
+        lives.0,
+        (
+          lives.1,
+          rw (← c.parted.ensures, c.as_slice.ensures)
+              (operands_of_call c.args.call.now c.args.pos (names c.args.run.now) c.requires.resolves),
+        ),
+      ),
+    )
+
+pub run_function-returns-clause-runs : goal.run_function-returns-clause-runs
+unfolding Steps StartsAs
+run_function-returns-clause-runs g t c k =
+    let rules = under g.H.Host.name_of c.args.self.now g.T.NativeTable.natives in
+    begins_call rules c.args.call.now c.args.pos k _ (call_is_plain c.args.call.now c.args.pos _ c.requires.resolves) c.requires.form
+    ⨾ (rw (← c.parted.ensures, c.as_slice.ensures, c.as_str-name.ensures, c.get.ensures) at c.run_call.ensures.runs) k
+
+pub run_call-run_named-requires : goal.run_call-run_named-requires
+run_call-run_named-requires g t c = λ κs lives. (omega arith, (lives.0, (lives.1, c.requires.1.1.1.1)))
+
+pub run_call-run_called-requires : goal.run_call-run_called-requires
+run_call-run_called-requires g t c =
+    λ κs lives. (omega arith, (lives.0, (lives.1, rw c.in-Some.is at c.requires.1.1.1.1)))
+
+pub run_call-returns-in-None-clause-runs : goal.run_call-returns-in-None-clause-runs
+unfolding Steps StartsAs
+run_call-returns-in-None-clause-runs g t c k =
+    let rules = under g.H.Host.name_of c.args.self.now g.T.NativeTable.natives in
+    let operation : machine.Operation = record { name = c.args.name.now; token = c.args.token; at = c.args.pos } in
+    rw (c.in-None.is, named_alone rules operation c.args.captures k _ _)
+    ((rw (c.in-None.is, c.new-curried.ensures) at c.run_named.ensures.runs) k)
+
+pub run_call-returns-in-Some-clause-runs : goal.run_call-returns-in-Some-clause-runs
+unfolding StartsAs
+run_call-returns-in-Some-clause-runs g t c k = rw c.in-Some.is (c.run_called.ensures.runs k)
+
+pub run_called-run_keyword-requires : goal.run_called-run_keyword-requires
+run_called-run_keyword-requires g t c =
+    let resolved = first_resolves (c.args.first.now ∷ c.args.rest.now) c.args.first.now c.args.rest.now (names c.args.run.now) refl
+    c.requires.1.1.1.1 in
+    λ κs lives. (omega arith, (lives.0, (lives.1, resolved)))
+
+pub run_called-run_named-requires : goal.run_called-run_named-requires
+run_called-run_named-requires g t c = λ κs lives. (omega arith, (lives.0, (lives.1, c.requires.1.1.1.1)))
+
+pub run_called-returns-in-Some-clause-runs : goal.run_called-returns-in-Some-clause-runs
+unfolding StartsAs RunsUnder
+run_called-returns-in-Some-clause-runs g t c k =
+    let rules = under g.H.Host.name_of c.args.self.now g.T.NativeTable.natives in
+    let operation : machine.Operation = record { name = c.args.name.now; token = c.args.token; at = c.args.pos } in
+    rw (worded rules operation c.args.captures k _
+    (keyword_of c.args.token c.args.name.now (length (c.args.first.now ∷ c.args.rest.now))) (word_of c.in-Some.word) c.args.first.now c.args.rest.now
+    (counted c.args.token c.args.name.now c.args.rest.now ∙ sym c.keyword_of.ensures ∙ ap (option_map word_of) c.in-Some.is))
+    (c.run_keyword.ensures.runs k)
+
+pub run_called-returns-in-None-clause-runs : goal.run_called-returns-in-None-clause-runs
+unfolding Steps StartsAs
+run_called-returns-in-None-clause-runs g t c k =
+    let rules = under g.H.Host.name_of c.args.self.now g.T.NativeTable.natives in
+    let operation : machine.Operation = record { name = c.args.name.now; token = c.args.token; at = c.args.pos } in
+    rw (named_so rules operation c.args.captures k _
+    (keyword_of c.args.token c.args.name.now (length (c.args.first.now ∷ c.args.rest.now))) (c.args.first.now ∷ c.args.rest.now)
+    (counted c.args.token c.args.name.now c.args.rest.now ∙ sym c.keyword_of.ensures ∙ ap (option_map word_of) c.in-None.is))
+    ((rw c.new-curried.ensures at c.run_named.ensures.runs) k)
+
+-- a keyword, and one whose first argument is there
+
+pub run_keyword-returns-in_err-value-clause-runs : goal.run_keyword-returns-in_err-value-clause-runs
+unfolding after Steps RunsUnder
+run_keyword-returns-in_err-value-clause-runs g t c k =
+    rw (passed _ c.from_residual.ensures) (c.in_err-value.ensures.runs (KeywordArgument _ _ _ _ _ ∷ k) ⨾ next here)
+
+pub run_keyword-run_word-requires : goal.run_keyword-run_word-requires
+run_keyword-run_word-requires g t c =
+    λ κs lives. (
+      omega (arith, c.in_ok-value.ensures.charges),
+      (lives.0, (lives.1, rw c.in_ok-value.ensures.names c.requires.resolves_rest)),
+    )
+
+pub run_keyword-returns-clause-runs : goal.run_keyword-returns-clause-runs
+unfolding Steps RunsUnder
+run_keyword-returns-clause-runs g t c k =
+    c.in_ok-value.ensures.runs (KeywordArgument _ _ _ _ _ ∷ k) ⨾ (rw c.start_position-start.ensures at c.run_word.ensures.runs) k
+
+pub run_word-returns-in-IsShared-clause-runs : goal.run_word-returns-in-IsShared-clause-runs
+unfolding after RunsUnder
+run_word-returns-in-IsShared-clause-runs g t c k = rw (c.in-IsShared.is, c.is_shared.ensures) (next here)
+
+pub run_word-returns-in_err-text-in-IsDefinedVariable-clause-runs : goal.run_word-returns-in_err-text-in-IsDefinedVariable-clause-runs
+unfolding RunsUnder
+run_word-returns-in_err-text-in-IsDefinedVariable-clause-runs g t c k =
+    let rules = under g.H.Host.name_of c.args.self.now g.T.NativeTable.natives in
+    rw (passed _ c.from_residual.ensures, c.in-IsDefinedVariable.is) (defined_fails rules c.args.value c.args.pos c.args.start c.args.rest.now c.args.captures k _ _
+    c.in_err-text-in-IsDefinedVariable.ensures)
+
+pub run_word-returns-in_ok-text-in-IsDefinedVariable-clause-runs : goal.run_word-returns-in_ok-text-in-IsDefinedVariable-clause-runs
+unfolding RunsUnder
+run_word-returns-in_ok-text-in-IsDefinedVariable-clause-runs g t c k =
+    let rules = under g.H.Host.name_of c.args.self.now g.T.NativeTable.natives in
+    rw (c.in-IsDefinedVariable.is, c.is_defined.ensures) (defined_goes rules c.args.value c.args.pos c.args.start c.args.rest.now c.args.captures k _ _
+    (c.in_ok-text-in-IsDefinedVariable.ensures tt) here)
+
+pub run_word-returns-in_err-text-in-MakePointer-clause-runs : goal.run_word-returns-in_err-text-in-MakePointer-clause-runs
+unfolding RunsUnder
+run_word-returns-in_err-text-in-MakePointer-clause-runs g t c k =
+    let rules = under g.H.Host.name_of c.args.self.now g.T.NativeTable.natives in
+    rw (passed _ c.from_residual-in_err-text-in-MakePointer.ensures, c.in-MakePointer.is) (made_fails rules c.args.value c.args.pos c.args.start c.args.rest.now c.args.captures k _ _
+    c.in_err-text-in-MakePointer.ensures)
+
+pub run_word-returns-in_ok-text-in-MakePointer-clause-runs : goal.run_word-returns-in_ok-text-in-MakePointer-clause-runs
+unfolding RunsUnder
+run_word-returns-in_ok-text-in-MakePointer-clause-runs g t c k =
+    let rules = under g.H.Host.name_of c.args.self.now g.T.NativeTable.natives in
+    rw c.in-MakePointer.is (made_goes rules c.args.value c.args.pos c.args.start c.args.rest.now c.args.captures k _ _
+    (c.in_ok-text-in-MakePointer.ensures tt) (told rules _ _ c.make_pointer.ensures k _))
+
+pub run_word-returns-in_err-pointer-in-Curry-clause-runs : goal.run_word-returns-in_err-pointer-in-Curry-clause-runs
+unfolding RunsUnder
+run_word-returns-in_err-pointer-in-Curry-clause-runs g t c k =
+    let rules = under g.H.Host.name_of c.args.self.now g.T.NativeTable.natives in
+    rw (passed _ c.from_residual-in_err-pointer-in-Curry.ensures, c.in-Curry.is) (curries_fails rules c.args.value c.args.pos c.args.start c.args.rest.now c.args.captures k _ _
+    c.in_err-pointer-in-Curry.ensures)
+
+pub run_word-returns-in_ok-pointer-in-Curry-clause-runs : goal.run_word-returns-in_ok-pointer-in-Curry-clause-runs
+unfolding RunsUnder StartsAs
+run_word-returns-in_ok-pointer-in-Curry-clause-runs g t c k =
+    let rules = under g.H.Host.name_of c.args.self.now g.T.NativeTable.natives in
+    rw c.in-Curry.is (curries_goes rules c.args.value c.args.pos c.args.start c.args.rest.now c.args.captures k _ _
+    (c.in_ok-pointer-in-Curry.ensures tt) (c.run_curry.ensures.runs k))
+
+pub run_word-returns-in_err-pointer-in-CallPointer-clause-runs : goal.run_word-returns-in_err-pointer-in-CallPointer-clause-runs
+unfolding RunsUnder
+run_word-returns-in_err-pointer-in-CallPointer-clause-runs g t c k =
+    let rules = under g.H.Host.name_of c.args.self.now g.T.NativeTable.natives in
+    rw (passed _ c.from_residual-in_err-pointer-in-CallPointer.ensures, c.in-CallPointer.is) (calls_fails rules c.args.value c.args.pos c.args.start c.args.rest.now c.args.captures k _ _
+    c.in_err-pointer-in-CallPointer.ensures)
+
+pub run_word-returns-in_ok-pointer-in-CallPointer-clause-runs : goal.run_word-returns-in_ok-pointer-in-CallPointer-clause-runs
+unfolding RunsUnder StartsAs
+run_word-returns-in_ok-pointer-in-CallPointer-clause-runs g t c k =
+    let rules = under g.H.Host.name_of c.args.self.now g.T.NativeTable.natives in
+    rw c.in-CallPointer.is (calls_goes rules c.args.value c.args.pos c.args.start c.args.rest.now c.args.captures k _ _
+    (c.in_ok-pointer-in-CallPointer.ensures tt) (c.run_pointer.ensures.runs k))
+
+-- a pointer that gets more arguments
+
+pub run_curry-run_more_args-requires : goal.run_curry-run_more_args-requires
+run_curry-run_more_args-requires g t c =
+    λ κs lives. (
+      omega (arith, ap (λ (r : Context _). r.global.num_operations) c.lend_list-made.ensures.run),
+      (lives.0, (lives.1, rw c.lend_list-made.ensures.run c.requires)),
+    )
+
+pub run_curry-returns-in-Ok-clause-runs : goal.run_curry-returns-in-Ok-clause-runs
+unfolding StartsAs Collects
+run_curry-returns-in-Ok-clause-runs g t c k =
+    let rules = under g.H.Host.name_of c.args.self.now g.T.NativeTable.natives in
+    (rw (c.in-Ok.is, c.lend_list-made.ensures.list, c.lend_list-made.ensures.run) at c.run_more_args.ensures.collects) (ToCurry c.args.pointer) refl k
+    ⨾ told rules _ _ c.with_curried.ensures k _
+
+pub run_curry-returns-in-Err-clause-runs : goal.run_curry-returns-in-Err-clause-runs
+unfolding StartsAs Collects
+run_curry-returns-in-Err-clause-runs g t c k =
+    (rw (c.in-Err.is, c.lend_list-made.ensures.list, c.lend_list-made.ensures.run) at c.run_more_args.ensures.collects) (ToCurry c.args.pointer) refl k
+
+-- a pointer that is called
+
+pub run_pointer-run_named-requires : goal.run_pointer-run_named-requires
+run_pointer-run_named-requires g t c =
+    λ κs lives. (omega arith, (lives.0, (lives.1, rw (← c.parted.ensures) c.requires)))
+
+pub run_pointer-returns-clause-runs : goal.run_pointer-returns-clause-runs
+unfolding StartsAs Steps
+run_pointer-returns-clause-runs g t c k =
+    let rules = under g.H.Host.name_of c.args.self.now g.T.NativeTable.natives in
+    rw (by_name rules c.args.pointer c.args.pos c.args.args.now c.args.captures k _ _ (sym c.parts_of-name.ensures.number ∙ c.in-None.is))
+    ((rw (← c.parted.ensures, c.as_str-name.ensures, c.get.ensures, c.parts_of-name.ensures.name, c.parts_of-name.ensures.curried)
+    at c.run_named.ensures.runs) k)
+
+pub run_pointer-returns-in-Some-clause-runs : goal.run_pointer-returns-in-Some-clause-runs
+unfolding StartsAs
+run_pointer-returns-in-Some-clause-runs g t c k =
+    let rules = under g.H.Host.name_of c.args.self.now g.T.NativeTable.natives in
+    rw (by_number rules c.args.pointer c.args.pos c.args.args.now c.args.captures k _ _ c.in-Some.id
+    (sym c.parts_of-name.ensures.number ∙ c.in-Some.is))
+    ((rw c.parts_of-name.ensures.curried at c.run_number.ensures.runs) k)
+
+pub run_number-run_more_args-requires : goal.run_number-run_more_args-requires
+run_number-run_more_args-requires g t c =
+    λ κs lives. (
+      omega (arith, ap (λ (r : Context _). r.global.num_operations) c.lend_list-made.ensures.run),
+      (lives.0, (lives.1, rw c.lend_list-made.ensures.run c.requires)),
+    )
+
+pub run_number-returns-in-Err-clause-runs : goal.run_number-returns-in-Err-clause-runs
+unfolding StartsAs Collects
+run_number-returns-in-Err-clause-runs g t c k =
+    (rw (c.in-Err.is, c.lend_list-made.ensures.list, c.lend_list-made.ensures.run) at c.run_more_args.ensures.collects)
+    (ToCallNumber c.args.id.number (operation_named (codes "call") c.args.pos) c.args.curried) refl k
+
+pub run_number-returns-in-Ok-clause-runs : goal.run_number-returns-in-Ok-clause-runs
+unfolding StartsAs Collects GoesOn
+run_number-returns-in-Ok-clause-runs g t c k =
+    (rw (c.in-Ok.is, c.lend_list-made.ensures.list, c.lend_list-made.ensures.run) at c.run_more_args.ensures.collects)
+    (ToCallNumber c.args.id.number (operation_named (codes "call") c.args.pos) c.args.curried) refl k
+    ⨾ c.call_number.ensures.runs (offer_of c.args.self.now) c.run_more_args.new.run.scope (holding c.run_more_args.new.run.this) k
+
+-- a call by name
+
+pub run_named-run_more_args-requires : goal.run_named-run_more_args-requires
+run_named-run_more_args-requires g t c =
+    let args = all_args (option_copied c.args.first) c.args.rest.now in
+    let found = sym (rw c.as_slice.ensures at c.first_variable.ensures) ∙ ap (option_map seen) c.in-Some.is in
+    let first = lent_leads _ args (seen c.in-Some.variable) found in
+    λ κs lives. (
+      omega (
+        arith,
+        ap (λ (global : GlobalRuntimeState _). global.num_operations) c.in_ok-track_operation-in-Some.ensures.charged,
+        ap (λ (r : Context _). r.global.num_operations) c.lend_list-made.ensures.run,
+      ),
+      (
+        lives.0,
+        (
+          lives.1,
+          rw c.lend_list-made.ensures.run
+              (first_resolves args first.arg (seen c.in-Some.variable).rest _ first.comes_first c.requires.1.1.1.1).1,
+        ),
+      ),
+    )
+
+pub run_named-call_on_variable-result-requires : goal.run_named-call_on_variable-result-requires
+run_named-call_on_variable-result-requires g t c =
+    let args = all_args (option_copied c.args.first) c.args.rest.now in
+    let found = sym (rw c.as_slice.ensures at c.first_variable.ensures) ∙ ap (option_map seen) c.in-Some.is in
+    let first = lent_leads _ args (seen c.in-Some.variable) found in
+    rw (c.in_ok-values-in-Some.ensures.names, c.lend_list-made.ensures.run)
+    (good_name first.arg (seen c.in-Some.variable).offset (seen c.in-Some.variable).name first.namespace
+    (seen c.in-Some.variable).at _ first.is_variable
+    (first_resolves args first.arg (seen c.in-Some.variable).rest _ first.comes_first c.requires.1.1.1.1).0)
+
+pub run_named-returns-in_err-track_operation-in-Some-clause-runs : goal.run_named-returns-in_err-track_operation-in-Some-clause-runs
+unfolding Steps
+run_named-returns-in_err-track_operation-in-Some-clause-runs g t c =
+    let rules = under g.H.Host.name_of c.args.self.now g.T.NativeTable.natives in
+    let args = all_args (option_copied c.args.first) c.args.rest.now in
+    let found = sym (rw c.as_slice.ensures at c.first_variable.ensures) ∙ ap (option_map seen) c.in-Some.is in
+    let operation : machine.Operation = record { name = c.args.name.now; token = c.args.token; at = c.args.pos } in
+    let first = seen c.in-Some.variable in
+    let purpose : machine.Purpose g.row.H.Denot = ToCallOn operation first.name first.at in
+    exits rules _ _ _ _ _ c.from_residual.ensures (λ k.
+    refused_on rules _ c.args.run.now.global c.track_operation.new.global _ _ _ _ k
+    (λ l. arguments_core rules.setting purpose [] first.rest k l)
+    (variable_goes rules.setting _ c.args.curried args c.args.captures k _ (seen c.in-Some.variable) found) _
+    c.in_err-track_operation-in-Some.ensures.full c.in_err-track_operation-in-Some.ensures.refused c.in_err-track_operation-in-Some.ensures.same)
+
+pub run_named-returns-in_err-values-in-Some-clause-runs : goal.run_named-returns-in_err-values-in-Some-clause-runs
+unfolding Steps Collects
+run_named-returns-in_err-values-in-Some-clause-runs g t c =
+    let rules = under g.H.Host.name_of c.args.self.now g.T.NativeTable.natives in
+    let args = all_args (option_copied c.args.first) c.args.rest.now in
+    let found = sym (rw c.as_slice.ensures at c.first_variable.ensures) ∙ ap (option_map seen) c.in-Some.is in
+    let operation : machine.Operation = record { name = c.args.name.now; token = c.args.token; at = c.args.pos } in
+    let first = seen c.in-Some.variable in
+    let purpose : machine.Purpose g.row.H.Denot = ToCallOn operation first.name first.at in
+    exits rules _ _ _ _ _ c.from_residual-in_err-values-in-Some.ensures (λ k.
+    charged_on rules _ c.args.run.now.global c.track_operation.new.global _ _ _ _ k
+    (λ l. arguments_core rules.setting purpose [] first.rest k l)
+    (variable_goes rules.setting _ c.args.curried args c.args.captures k _ (seen c.in-Some.variable) found)
+    c.in_ok-track_operation-in-Some.ensures.room c.in_ok-track_operation-in-Some.ensures.charged
+    ⨾ (rw (c.lend_list-made.ensures.list, c.lend_list-made.ensures.run) at c.in_err-values-in-Some.ensures.collects) purpose refl k)
+
+pub run_named-returns-in_ok-values-in-Some-clause-runs : goal.run_named-returns-in_ok-values-in-Some-clause-runs
+unfolding Steps Collects GoesOn
+run_named-returns-in_ok-values-in-Some-clause-runs g t c k =
+    let rules = under g.H.Host.name_of c.args.self.now g.T.NativeTable.natives in
+    let args = all_args (option_copied c.args.first) c.args.rest.now in
+    let found = sym (rw c.as_slice.ensures at c.first_variable.ensures) ∙ ap (option_map seen) c.in-Some.is in
+    let operation : machine.Operation = record { name = c.args.name.now; token = c.args.token; at = c.args.pos } in
+    let first = seen c.in-Some.variable in
+    let purpose : machine.Purpose g.row.H.Denot = ToCallOn operation first.name first.at in
+    rw c.keep_list.ensures
+    (charged_on rules _ c.args.run.now.global c.track_operation.new.global _ _ _ _ k
+    (λ l. arguments_core rules.setting purpose [] first.rest k l)
+    (variable_goes rules.setting _ c.args.curried args c.args.captures k _ (seen c.in-Some.variable) found)
+    c.in_ok-track_operation-in-Some.ensures.room c.in_ok-track_operation-in-Some.ensures.charged
+    ⨾ (rw (c.lend_list-made.ensures.list, c.lend_list-made.ensures.run) at c.in_ok-values-in-Some.ensures.collects) purpose refl k
+    ⨾ (rw c.as_slice-in-Some.ensures at (c.call_on_variable-result.ensures.runs (offer_of c.args.self.now) (holding c.run_more_args.new.run.this))) k)
+
+pub run_named-returns-in-Ok-clause-runs : goal.run_named-returns-in-Ok-clause-runs
+unfolding Steps Collects GoesOn
+run_named-returns-in-Ok-clause-runs g t c k =
+    let rules = under g.H.Host.name_of c.args.self.now g.T.NativeTable.natives in
+    let args = all_args (option_copied c.args.first) c.args.rest.now in
+    let found = sym (rw c.as_slice.ensures at c.first_variable.ensures) ∙ ap (option_map seen) c.in-None.is in
+    rw c.keep_list-in-Ok.ensures
+    (step_by rules _ _ _ (values_go rules.setting _ c.args.curried args c.args.captures k _ found)
+    ((rw c.in-Ok.is at c.run_args.ensures.collects) (ToCall _ c.args.curried) refl k
+    ⨾ c.call_values-result.ensures.runs (offer_of c.args.self.now) c.run_args.new.run.scope (holding c.run_args.new.run.this) k))
+
+pub run_named-returns-in-Err-clause-runs : goal.run_named-returns-in-Err-clause-runs
+unfolding Steps Collects
+run_named-returns-in-Err-clause-runs g t c k =
+    let rules = under g.H.Host.name_of c.args.self.now g.T.NativeTable.natives in
+    let args = all_args (option_copied c.args.first) c.args.rest.now in
+    let found = sym (rw c.as_slice.ensures at c.first_variable.ensures) ∙ ap (option_map seen) c.in-None.is in
+    step_by rules _ _ _ (values_go rules.setting _ c.args.curried args c.args.captures k _ found)
+    ((rw c.in-Err.is at c.run_args.ensures.collects) (ToCall _ c.args.curried) refl k)
+
+-- arguments
+
+pub run_args-run_next_arg-requires : goal.run_args-run_next_arg-requires
+run_args-run_next_arg-requires g t c =
+    let resolved = first_resolves (all_args (option_copied c.args.first) c.args.rest.now) c.in-Some.arg.now c.args.rest.now
+    (names c.args.run.now) (ap (λ o. all_args (option_copied o) c.args.rest.now) c.in-Some.is) c.requires in
+    λ κs lives. (
+      omega (arith, ap (λ (r : Context _). r.global.num_operations) c.lend_list-made.ensures.run),
+      (lives.0, (lives.1, rw c.lend_list-made.ensures.run resolved.0)),
+    )
+
+pub run_args-run_more_args-requires : goal.run_args-run_more_args-requires
+run_args-run_more_args-requires g t c =
+    let resolved = first_resolves (all_args (option_copied c.args.first) c.args.rest.now) c.in-Some.arg.now c.args.rest.now
+    (names c.args.run.now) (ap (λ o. all_args (option_copied o) c.args.rest.now) c.in-Some.is) c.requires in
+    λ κs lives. (
+      omega (arith, ap (λ (r : Context _). r.global.num_operations) c.lend_list-made.ensures.run, c.in-Ok.ensures.counts),
+      (lives.0, (lives.1, rw (c.in-Ok.ensures.names, c.lend_list-made.ensures.run) resolved.1)),
+    )
+
+pub run_args-returns-in-None-clause-collects : goal.run_args-returns-in-None-clause-collects
+unfolding Collects
+run_args-returns-in-None-clause-collects g t c purpose is k =
+    rw (c.in-None.is, c.lend_list-made.ensures.list, c.lend_list-made.ensures.run) here
+
+pub run_args-returns-in-Ok-clause-collects : goal.run_args-returns-in-Ok-clause-collects
+unfolding TakesNext Collects
+run_args-returns-in-Ok-clause-collects g t c purpose is k =
+    rw c.in-Some.is ((rw (c.lend_list-made.ensures.list, c.lend_list-made.ensures.run) at c.in-Ok.ensures.takes) purpose is c.args.rest.now k
+    ⨾ c.run_more_args.ensures.collects purpose is k)
+
+pub run_args-returns-in-Err-clause-collects : goal.run_args-returns-in-Err-clause-collects
+unfolding TakesNext Collects
+run_args-returns-in-Err-clause-collects g t c purpose is k =
+    rw c.in-Some.is ((rw (c.lend_list-made.ensures.list, c.lend_list-made.ensures.run) at c.in-Err.ensures.takes) purpose is c.args.rest.now k)
+
+pub run_more_args-run_next_arg-requires : goal.run_more_args-run_next_arg-requires
+run_more_args-run_next_arg-requires g t c =
+    λ κs lives. (
+      omega arith,
+      (
+        lives.0,
+        (
+          lives.1,
+          part_resolves c.args.args.now c.each_arg.arg-index c.arg-item.result
+              (names c.each_arg.run) c.each_arg-test.true c.arg-item.is (rw c.each_arg.invariant.names c.requires),
+        ),
+      ),
+    )
+
+pub run_more_args-each_arg-init : goal.run_more_args-each_arg-init
+run_more_args-each_arg-init g t c = record { counts = omega arith; names = refl; steps = λ purpose is k. here }
+
+pub run_more_args-each_arg-preserved : goal.run_more_args-each_arg-preserved
+unfolding TakesNext
+run_more_args-each_arg-preserved g t c =
+    record {
+      counts = omega (arith, c.each_arg.invariant.counts, c.in-Ok.ensures.counts);
+      names = c.in-Ok.ensures.names ∙ c.each_arg.invariant.names;
+      steps = λ purpose is k. c.each_arg.invariant.steps purpose is k ⨾ rw (drop_item _ _ _ c.each_arg-test.true c.arg-item.is)
+          (c.in-Ok.ensures.takes purpose is _ k);
+    }
+
+pub run_more_args-returns-in-Err-clause-collects : goal.run_more_args-returns-in-Err-clause-collects
+unfolding TakesNext Collects
+run_more_args-returns-in-Err-clause-collects g t c purpose is k =
+    c.each_arg.invariant.steps purpose is k ⨾ rw (drop_item _ _ _ c.each_arg-test.true c.arg-item.is)
+    (c.in-Err.ensures.takes purpose is _ k)
+
+pub run_more_args-returns-clause-collects : goal.run_more_args-returns-clause-collects
+unfolding Collects
+run_more_args-returns-clause-collects g t c purpose is k =
+    c.each_arg.invariant.steps purpose is k ⨾ rw (drop_all _ _ c.each_arg-test.false) here
+
+pub run_next_arg-returns-in_err-value-clause-takes : goal.run_next_arg-returns-in_err-value-clause-takes
+unfolding after Steps TakesNext
+run_next_arg-returns-in_err-value-clause-takes g t c purpose is rest k =
+    rw (passed _ c.from_residual.ensures) (c.in_err-value.ensures.runs (CallArgument _ _ _ _ ∷ k) ⨾ next here)
+
+pub run_next_arg-returns-clause-takes : goal.run_next_arg-returns-clause-takes
+unfolding Steps TakesNext
+run_next_arg-returns-clause-takes g t c purpose is rest k =
+    let rules = under g.H.Host.name_of c.args.self.now g.T.NativeTable.natives in
+    c.in_ok-value.ensures.runs (CallArgument _ _ _ _ ∷ k)
+    ⨾ rw (← c.position.ensures) (takes_told rules purpose c.args.made.now c.in_ok-value.value c.position.result rest k _ c.args.flattened
+    c.take_argument.new.made c.take_argument.result is c.take_argument.ensures.kept c.take_argument.ensures.refused)

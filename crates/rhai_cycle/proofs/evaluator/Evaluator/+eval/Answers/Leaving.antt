@@ -1,0 +1,64 @@
+use Rattle.std.proofs.Common.{◌∷◌, refl}
+use Rattle.rhai_machine.specs.machine.Point.{after}
+use Rattle.rhai_machine.specs.machine.Memory.{here, next, ◌⨾◌}
+use Rattle.rhai_machine.specs.language.Frames.{BreakValue, ReturnValue}
+use Rattle.rhai_machine.specs.language.Runs.{Steps}
+use Rattle.rhai_steps.proofs.Pieces.{exits, faulted}
+use Rattle.rhai_cycle.specs.States.{under}
+use Rattle.rhai_cycle.proofs.LoopSteps.{breaks_unit, returns_unit, returns_value}
+use Rattle.rhai_cycle.proofs.Chain.{flat_fails}
+use Rattle.rhai_cycle.proofs.evaluator.Evaluator.+eval.Goals as goal
+
+pub run_break-returns-in-None-clause-runs : goal.run_break-returns-in-None-clause-runs
+unfolding Steps
+run_break-returns-in-None-clause-runs g t c restoring k =
+    let rules = under g.H.Host.name_of c.args.self.now g.T.NativeTable.natives in
+    rw c.in-None.is (breaks_unit rules c.args.options _ _ _ c.args.pos restoring k _ c.breaks.ensures c.unit_value.ensures
+    c.loop_break.ensures)
+
+pub run_break-returns-in-Some-clause-runs : goal.run_break-returns-in-Some-clause-runs
+run_break-returns-in-Some-clause-runs g t c = rw c.in-Some.is c.break_with.ensures.runs
+
+pub break_with-returns-in_err-value-clause-runs : goal.break_with-returns-in_err-value-clause-runs
+unfolding after Steps
+break_with-returns-in_err-value-clause-runs g t c restoring =
+    let rules = under g.H.Host.name_of c.args.self.now g.T.NativeTable.natives in
+    exits rules _ _ _ _ _ c.from_residual.ensures (λ k. next (c.in_err-value.ensures.runs (BreakValue _ _ ∷ k) ⨾ next here))
+
+pub break_with-returns-clause-runs : goal.break_with-returns-clause-runs
+unfolding after Steps
+break_with-returns-clause-runs g t c restoring k =
+    let rules = under g.H.Host.name_of c.args.self.now g.T.NativeTable.natives in
+    next (c.in_ok-value.ensures.runs (BreakValue _ _ ∷ k) ⨾ next (rw (← c.breaks.ensures) (faulted rules _ _ c.loop_break.ensures k _)))
+
+pub run_return-returns-in-None-clause-runs : goal.run_return-returns-in-None-clause-runs
+unfolding after Steps
+run_return-returns-in-None-clause-runs g t c options restoring plain k =
+    let rules = under g.H.Host.name_of c.args.self.now g.T.NativeTable.natives in
+    rw c.in-None.is (returns_unit rules _ _ restoring k _ plain ⨾ rw (← c.unit_value.ensures) (faulted rules _ _ c.returned.ensures k
+    _))
+
+pub run_return-returns-in-Some-clause-runs : goal.run_return-returns-in-Some-clause-runs
+run_return-returns-in-Some-clause-runs g t c = rw c.in-Some.is c.return_with.ensures.runs
+
+pub return_with-returns-in_err-value-clause-runs : goal.return_with-returns-in_err-value-clause-runs
+unfolding after Steps
+return_with-returns-in_err-value-clause-runs g t c options restoring plain =
+    let rules = under g.H.Host.name_of c.args.self.now g.T.NativeTable.natives in
+    exits rules _ _ _ _ _ c.from_residual.ensures (λ k.
+    returns_value rules _ _ _ restoring k _ plain ⨾ c.in_err-value.ensures.runs (ReturnValue _ _ ∷ k) ⨾ next here)
+
+pub return_with-returns-in_err-value-2-clause-runs : goal.return_with-returns-in_err-value-2-clause-runs
+unfolding after Steps
+return_with-returns-in_err-value-2-clause-runs g t c options restoring plain =
+    let rules = under g.H.Host.name_of c.args.self.now g.T.NativeTable.natives in
+    exits rules _ _ _ _ _ c.from_residual-in_err-value-2.ensures (λ k.
+    returns_value rules _ _ _ restoring k _ plain ⨾ c.in_ok-value.ensures.runs (ReturnValue _ _ ∷ k)
+    ⨾ flat_fails rules _ _ k _ _ (ReturnValue _ _) refl (rw c.position-place.ensures at c.in_err-value-2.ensures.exact))
+
+pub return_with-returns-clause-runs : goal.return_with-returns-clause-runs
+unfolding after Steps
+return_with-returns-clause-runs g t c options restoring plain k =
+    let rules = under g.H.Host.name_of c.args.self.now g.T.NativeTable.natives in
+    returns_value rules _ _ _ restoring k _ plain ⨾ c.in_ok-value.ensures.runs (ReturnValue _ _ ∷ k)
+    ⨾ next (rw (← c.position-place.ensures, ← (c.in_ok-value-2.ensures.exact tt)) (faulted rules _ _ c.returned.ensures k _))

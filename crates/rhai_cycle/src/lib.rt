@@ -1,0 +1,13 @@
+//! The evaluator's cycle: statements, expressions, loops and calls, which call one another, each
+//! proved to run as the step machine over any stack. They read no more of an engine than
+//! `Evaluator` has.
+#![tactic(auto)]
+
+mod arguments;
+pub mod call;
+mod choices;
+mod data;
+pub mod evaluator;
+pub mod expr;
+mod loops;
+pub mod stmt;

@@ -1,0 +1,305 @@
+//! Loops, and the ways out of them. Ports the loops of upstream's `eval/stmt.rs`; the contracts
+//! speak of the machine's runs.
+
+ghost use Rattle.std.specs.Prelude.{◌≡◌, ◌<◌, ◌≤◌, ◌∷◌, OnOk, IsTrue, true, false, length, Option, Some};
+ghost use Rattle.std.specs.Option.{option_map};
+ghost use Rattle.rhai_check.specs.Forms.{is_throw};
+ghost use Rattle.rhai_check.specs.Frame.{tests_of, option_resolves, resolves_expr, resolves_block};
+ghost use Rattle.rhai_tree.specs.declared.expr.Expr.{out-Expr};
+ghost use Rattle.rhai_tree.specs.declared.expr.Expr.TheOpen as layer;
+ghost use Rattle.rhai_machine.specs.language.Loops.{is_endless as without_end};
+ghost use Rattle.rhai_machine.specs.language.Frames.{Eval, Enter, OpenStmt, WhileTurn, WhileBody, DoTurn};
+ghost use Rattle.rhai_machine.specs.language.Frames.{DoCondition};
+ghost use Rattle.rhai_machine.specs.language.Runs.{at, Goes, Steps, Runs};
+ghost use Rattle.rhai_steps.specs.Loops.{after_turn};
+ghost use Rattle.rhai_cycle.specs.States.{names, state_in, under};
+
+use crate::evaluator::Evaluator;
+use rhai_context::Context;
+use rhai_state::error::EvalAltResult;
+use rhai_state::table::NativeTable;
+use rhai_steps::charges::track_operation;
+use rhai_steps::errors::{loop_break, returned};
+use rhai_steps::loops::{BodyEnd, body_end, breaks, do_next, is_endless, while_next};
+use rhai_steps::values::{flatten, unit_value};
+use rhai_tree::expr::{Expr, StmtBlock};
+use rhai_tree::flags::ASTFlags;
+use rhai_tree::position::Position;
+use rhai_values::base::value::{Dynamic, Host};
+use std::alloc::Global;
+
+impl<'e, H: Host> Evaluator<'e, H> {
+    /// A `while`, turn by turn.
+    #[cycle(eval)]
+    pub(crate) fn run_while<T: NativeTable<H>>(
+        &self,
+        alloc: Global,
+        run: &mut Context<H>,
+        table: &mut T,
+        test: &Expr,
+        body: &StmtBlock,
+    ) -> Result<Dynamic<H>, EvalAltResult<H>>
+        requires resolves_test { IsTrue (resolves_expr test.now (names run.old)) }
+        requires resolves_body { IsTrue (resolves_block body.now (names run.old)) }
+        ensures counts { OnOk result (run.old.global.num_operations ≤ run.new.global.num_operations) }
+        ensures names { OnOk result (names run.new ≡ names run.old) }
+        ensures runs { Runs (under H.name_of self.now T.natives) (WhileTurn test.now body.now)
+            (state_in (T.state table.old) run.old) result (state_in (T.state table.new) run.new) }
+    {
+        'turns: loop {
+            let turn = self.while_turn(alloc, run, table, test, body)?;
+            if let Some(value) = turn {
+                return Ok(value);
+            }
+        }
+    }
+
+    /// A turn of a `while`: None where another one follows, else the loop's value.
+    #[cycle(eval)]
+    fn while_turn<T: NativeTable<H>>(
+        &self,
+        alloc: Global,
+        run: &mut Context<H>,
+        table: &mut T,
+        test: &Expr,
+        body: &StmtBlock,
+    ) -> Result<Option<Dynamic<H>>, EvalAltResult<H>>
+        requires resolves_test { IsTrue (resolves_expr test.now (names run.old)) }
+        requires resolves_body { IsTrue (resolves_block body.now (names run.old)) }
+        ensures charges { OnOk result (run.old.global.num_operations < run.new.global.num_operations) }
+        ensures names { OnOk result (names run.new ≡ names run.old) }
+        ensures runs { Steps (under H.name_of self.now T.natives) (WhileTurn test.now body.now)
+            (state_in (T.state table.old) run.old)
+            (after_turn result (WhileTurn test.now body.now)) (state_in (T.state table.new) run.new) }
+    {
+        if is_endless(test) {
+            return self.endless_turn(alloc, run, table, test, body);
+        }
+        let holds = self.run_condition(alloc, run, table, test)?;
+        if holds {
+            self.while_body(alloc, run, table, test, body)
+        } else {
+            Ok(Some(unit_value()))
+        }
+    }
+
+    /// A turn of a `while` without a condition; an empty body is charged at its brace.
+    #[cycle(eval)]
+    fn endless_turn<T: NativeTable<H>>(
+        &self,
+        alloc: Global,
+        run: &mut Context<H>,
+        table: &mut T,
+        test: &Expr,
+        body: &StmtBlock,
+    ) -> Result<Option<Dynamic<H>>, EvalAltResult<H>>
+        requires endless { without_end (out-Expr test.now) ≡ true }
+        requires resolves_body { IsTrue (resolves_block body.now (names run.old)) }
+        ensures charges { OnOk result (run.old.global.num_operations < run.new.global.num_operations) }
+        ensures names { OnOk result (names run.new ≡ names run.old) }
+        ensures runs { Steps (under H.name_of self.now T.natives) (WhileTurn test.now body.now)
+            (state_in (T.state table.old) run.old)
+            (after_turn result (WhileTurn test.now body.now)) (state_in (T.state table.new) run.new) }
+    {
+        if body.statements.is_empty() {
+            track_operation(self.limits, &mut run.global, body.position)?;
+            return Ok(None);
+        }
+        self.while_body(alloc, run, table, test, body)
+    }
+
+    /// The body of a `while`, once.
+    #[cycle(eval)]
+    fn while_body<T: NativeTable<H>>(
+        &self,
+        alloc: Global,
+        run: &mut Context<H>,
+        table: &mut T,
+        test: &Expr,
+        body: &StmtBlock,
+    ) -> Result<Option<Dynamic<H>>, EvalAltResult<H>>
+        requires resolves_body { IsTrue (resolves_block body.now (names run.old)) }
+        ensures counts { OnOk result (run.old.global.num_operations ≤ run.new.global.num_operations) }
+        ensures charges { OnOk result (0 < length body.now.statements →
+            run.old.global.num_operations < run.new.global.num_operations) }
+        ensures names { OnOk result (names run.new ≡ names run.old) }
+        ensures runs { (k : _) → Goes (under H.name_of self.now T.natives)
+            (at (Enter body.now.statements true) (WhileBody test.now body.now ∷ k)
+            (state_in (T.state table.old) run.old))
+            (at (after_turn result (WhileTurn test.now body.now)) k (state_in (T.state table.new) run.new)) }
+    {
+        let statements = body.statements.as_slice();
+        let outcome = self.run_stmt_block(alloc, run, table, statements, true);
+        while_next(outcome)
+    }
+
+    /// A `do`, turn by turn.
+    #[cycle(eval)]
+    pub(crate) fn run_do<T: NativeTable<H>>(
+        &self,
+        alloc: Global,
+        run: &mut Context<H>,
+        table: &mut T,
+        test: &Expr,
+        body: &StmtBlock,
+        options: ASTFlags,
+    ) -> Result<Dynamic<H>, EvalAltResult<H>>
+        requires resolves_test { IsTrue (resolves_expr test.now (names run.old)) }
+        requires resolves_body { IsTrue (resolves_block body.now (names run.old)) }
+        ensures counts { OnOk result (run.old.global.num_operations ≤ run.new.global.num_operations) }
+        ensures names { OnOk result (names run.new ≡ names run.old) }
+        ensures runs { Runs (under H.name_of self.now T.natives) (DoTurn test.now body.now options)
+            (state_in (T.state table.old) run.old) result (state_in (T.state table.new) run.new) }
+    {
+        'turns: loop {
+            let turn = self.do_turn(alloc, run, table, test, body, options)?;
+            if let Some(value) = turn {
+                return Ok(value);
+            }
+        }
+    }
+
+    /// A turn of a `do`: the body, then the condition; a `continue` skips the condition.
+    #[cycle(eval)]
+    fn do_turn<T: NativeTable<H>>(
+        &self,
+        alloc: Global,
+        run: &mut Context<H>,
+        table: &mut T,
+        test: &Expr,
+        body: &StmtBlock,
+        options: ASTFlags,
+    ) -> Result<Option<Dynamic<H>>, EvalAltResult<H>>
+        requires resolves_test { IsTrue (resolves_expr test.now (names run.old)) }
+        requires resolves_body { IsTrue (resolves_block body.now (names run.old)) }
+        ensures charges { OnOk result (run.old.global.num_operations < run.new.global.num_operations) }
+        ensures names { OnOk result (names run.new ≡ names run.old) }
+        ensures runs { Steps (under H.name_of self.now T.natives) (DoTurn test.now body.now options)
+            (state_in (T.state table.old) run.old)
+            (after_turn result (DoTurn test.now body.now options)) (state_in (T.state table.new) run.new) }
+    {
+        let statements = body.statements.as_slice();
+        let outcome = self.run_stmt_block(alloc, run, table, statements, true);
+        match body_end(outcome)? {
+            BodyEnd::Break(value) => Ok(Some(value)),
+            BodyEnd::Continue => Ok(None),
+            BodyEnd::Done => self.do_test(alloc, run, table, test, options),
+        }
+    }
+
+    /// The condition of a `do`: None where another turn follows.
+    #[cycle(eval)]
+    fn do_test<T: NativeTable<H>>(
+        &self,
+        alloc: Global,
+        run: &mut Context<H>,
+        table: &mut T,
+        test: &Expr,
+        options: ASTFlags,
+    ) -> Result<Option<Dynamic<H>>, EvalAltResult<H>>
+        requires resolves { IsTrue (resolves_expr test.now (names run.old)) }
+        ensures charges { OnOk result (run.old.global.num_operations < run.new.global.num_operations) }
+        ensures names { OnOk result (names run.new ≡ names run.old) }
+        ensures runs { (body : _) (k : _) → Goes (under H.name_of self.now T.natives)
+            (at (Eval test.now) (DoCondition test.now body options ∷ k)
+            (state_in (T.state table.old) run.old))
+            (at (after_turn result (DoTurn test.now body options)) k (state_in (T.state table.new) run.new)) }
+    {
+        let holds = self.run_condition(alloc, run, table, test)?;
+        Ok(do_next(options, holds))
+    }
+
+    /// A `break` or a `continue`: an error on its way to its loop, with its value as it is.
+    #[cycle(eval)]
+    pub(crate) fn run_break<T: NativeTable<H>>(
+        &self,
+        alloc: Global,
+        run: &mut Context<H>,
+        table: &mut T,
+        value: &Option<Expr>,
+        options: ASTFlags,
+        pos: Position,
+    ) -> Result<Dynamic<H>, EvalAltResult<H>>
+        requires resolves { IsTrue (option_resolves (option_map tests_of value.now) (names run.old)) }
+        ensures counts { OnOk result (run.old.global.num_operations ≤ run.new.global.num_operations) }
+        ensures names { OnOk result (names run.new ≡ names run.old) }
+        ensures runs { (restoring : _) → Runs (under H.name_of self.now T.natives)
+            (OpenStmt (layer.BreakLoop value.now options pos) restoring)
+            (state_in (T.state table.old) run.old) result (state_in (T.state table.new) run.new) }
+    {
+        match value {
+            None => Err(loop_break(alloc, unit_value(), breaks(options), pos)),
+            Some(value) => self.break_with(alloc, run, table, value, options, pos),
+        }
+    }
+
+    /// A `break` with a value.
+    #[cycle(eval)]
+    fn break_with<T: NativeTable<H>>(
+        &self,
+        alloc: Global,
+        run: &mut Context<H>,
+        table: &mut T,
+        value: &Expr,
+        options: ASTFlags,
+        pos: Position,
+    ) -> Result<Dynamic<H>, EvalAltResult<H>>
+        requires resolves { IsTrue (resolves_expr value.now (names run.old)) }
+        ensures counts { OnOk result (run.old.global.num_operations ≤ run.new.global.num_operations) }
+        ensures names { OnOk result (names run.new ≡ names run.old) }
+        ensures runs { (restoring : _) → Runs (under H.name_of self.now T.natives)
+            (OpenStmt (layer.BreakLoop (Some value.now) options pos) restoring)
+            (state_in (T.state table.old) run.old) result (state_in (T.state table.new) run.new) }
+    {
+        let value = self.run_expr(alloc, run, table, value)?;
+        Err(loop_break(alloc, value, breaks(options), pos))
+    }
+
+    /// A `return`: an error on its way to the end of its function or script.
+    #[cycle(eval)]
+    pub(crate) fn run_return<T: NativeTable<H>>(
+        &self,
+        alloc: Global,
+        run: &mut Context<H>,
+        table: &mut T,
+        value: &Option<Expr>,
+        pos: Position,
+    ) -> Result<Dynamic<H>, EvalAltResult<H>>
+        requires resolves { IsTrue (option_resolves (option_map tests_of value.now) (names run.old)) }
+        ensures counts { OnOk result (run.old.global.num_operations ≤ run.new.global.num_operations) }
+        ensures names { OnOk result (names run.new ≡ names run.old) }
+        ensures runs { (options : _) (restoring : _) → is_throw options ≡ false →
+            Runs (under H.name_of self.now T.natives) (OpenStmt (layer.Return value.now options pos)
+            restoring)
+            (state_in (T.state table.old) run.old) result (state_in (T.state table.new) run.new) }
+    {
+        match value {
+            None => Err(returned(alloc, unit_value(), pos)),
+            Some(value) => self.return_with(alloc, run, table, value, pos),
+        }
+    }
+
+    /// A `return` with a value.
+    #[cycle(eval)]
+    fn return_with<T: NativeTable<H>>(
+        &self,
+        alloc: Global,
+        run: &mut Context<H>,
+        table: &mut T,
+        value: &Expr,
+        pos: Position,
+    ) -> Result<Dynamic<H>, EvalAltResult<H>>
+        requires resolves { IsTrue (resolves_expr value.now (names run.old)) }
+        ensures counts { OnOk result (run.old.global.num_operations ≤ run.new.global.num_operations) }
+        ensures names { OnOk result (names run.new ≡ names run.old) }
+        ensures runs { (options : _) (restoring : _) → is_throw options ≡ false →
+            Runs (under H.name_of self.now T.natives) (OpenStmt (layer.Return (Some value.now) options pos)
+            restoring)
+            (state_in (T.state table.old) run.old) result (state_in (T.state table.new) run.new) }
+    {
+        let place = value.position();
+        let value = self.run_expr(alloc, run, table, value)?;
+        let value = flatten(alloc, &run.global.cells, value, place)?;
+        Err(returned(alloc, value, pos))
+    }
+}
