@@ -1,5 +1,3 @@
 pub mod Settings
-pub mod Tables
 pub mod Outcome
 pub mod Arguments
-pub mod Counting

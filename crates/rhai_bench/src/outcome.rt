@@ -3,9 +3,9 @@
 ghost use Rattle.std.specs.Prelude.{◌≡◌};
 ghost use Rattle.rhai_bench.specs.Outcome.{status_of};
 
-use crate::host::Pair;
 use rhai_eval::base::{Dynamic, EvalAltResult, Scope};
 use rhai_eval::check::CheckFault;
+use rhai_tables::host::Pair;
 
 /// How a script ended.
 #[derive(Drop)]

@@ -1,8 +1,8 @@
 //! The lines of endings.
 
-use crate::host::Pair;
 use crate::outcome::Ending;
 use rhai_eval::base::{Dynamic, Position, Table, Union};
+use rhai_tables::host::Pair;
 use std::io;
 use std::io::Write;
 

@@ -5,9 +5,10 @@ use rhai_eval::base::{Items, Stmt};
 use std::alloc::{AllocError, Global};
 
 mod calls;
+pub mod chains;
 pub mod data;
 pub mod loops;
-pub mod operators;
+mod operators;
 mod variables;
 
 /// The scripts of a row in their order, None where no row has the number. A number is written in
@@ -15,9 +16,17 @@ mod variables;
 pub fn scripts(alloc: Global, row: &str) -> Result<Option<Items<Script>>, AllocError> {
     let scripts = match row {
         "1" => operators::sum_under_limits(alloc),
+        "4" => chains::items(alloc),
+        "5" => chains::bits(alloc),
+        "6" => chains::slices(alloc),
+        "7" => chains::value_before_index(alloc),
         "11" => loops::continued(alloc),
+        "14" => chains::new_key_of_a_constant(alloc),
+        "17" => chains::item_under_a_limit(alloc),
+        "18" => chains::absent(alloc),
         "20" => variables::hidden_and_constant(alloc),
         "22" => data::too_large(alloc),
+        "23" => chains::slices_past_the_ends(alloc),
         "24" => calls::refused_by_the_checker(alloc),
         "26" => variables::blocks_under_limits(alloc),
         "27" => operators::refused_operands(alloc),
@@ -26,6 +35,8 @@ pub fn scripts(alloc: Global, row: &str) -> Result<Option<Items<Script>>, AllocE
         "30" => data::joined_and_gathered(alloc),
         "31" => calls::natives(alloc),
         "32" => calls::pointers_and_names(alloc),
+        "33" => chains::pairs_assigned(alloc),
+        "34" => chains::refused_by_natives(alloc),
         _ => return Ok(None),
     };
     scripts.map(Some)

@@ -8,15 +8,15 @@ ghost use Rattle.rhai_state.specs.Limits.{limit_of};
 ghost use Rattle.rhai_bench.specs.Outcome.{IfRefused};
 ghost use Rattle.rhai_bench.specs.Settings.{under_array_size, under_operations, usual};
 
-use crate::host::Pair;
 use crate::outcome::{Ending, Outcome};
 use crate::settings::{Settings, Way};
-use crate::tables::counting::Counting;
 use rhai_eval::base::{Items, Scope, Stmt};
 use rhai_eval::check::check_tree;
 use rhai_eval::engine::Engine;
 use rhai_eval::script::ScriptFuncDef;
 use rhai_eval::state::GlobalRuntimeState;
+use rhai_tables::host::Pair;
+use rhai_tables::tables::counting::Counting;
 use std::alloc::{AllocError, Global};
 
 /// The tree of a script, and what is set for its run.

@@ -4,9 +4,9 @@ ghost use Rattle.std.specs.Prelude.{◌≡◌, [], false};
 ghost use Rattle.rhai_state.specs.Caches.{depth_of, is_on};
 ghost use Rattle.rhai_bench.specs.Settings.{under_array_size, under_operations, usual};
 
-use crate::host::Pair;
 use rhai_eval::engine::Engine;
 use rhai_eval::state::{Caches, Limits};
+use rhai_tables::host::Pair;
 use std::alloc::Global;
 
 /// The limits and switches of a run.

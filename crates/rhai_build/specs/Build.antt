@@ -1,5 +1,5 @@
 -- The forms of the tree that the bench builds. A place is a column of the first line.
-use Rattle.std.specs.Prelude.{◌≡◌, ℕ, List, [], Option, Some, None, false, true, MatchOption}
+use Rattle.std.specs.Prelude.{◌≡◌, ℕ, List, [], ◌∷◌, Option, Some, None, false, true, MatchOption}
 use Rattle.std.specs.declared.num.NonZeroUsize.{NonZeroUsize}
 use Rattle.std.specs.Int.NonZero.{non_zero_usize_get}
 use Rattle.rhai_build.specs.declared.Builder.{Builder}
@@ -50,6 +50,17 @@ call_at name column args =
     (record { namespace = unqualified; name = name; args = args; op_token = None; capture_parent_scope = false })
     (at 1 column)
 
+-- the namespace of a name behind one module
+abbrev pub module_of : List ℕ → Namespace
+module_of name = record { path = name ∷ []; index = None; position = none }
+
+-- a method, behind a dot
+abbrev pub method_at : Namespace → List ℕ → ℕ → List Expr → Expr
+method_at namespace name column args =
+    expr.MethodCall
+    (record { namespace = namespace; name = name; args = args; op_token = None; capture_parent_scope = false })
+    (at 1 column)
+
 -- an entry of a map
 abbrev pub entry_at : List ℕ → Expr → MapEntry
 entry_at key value = record { key = key; value = value }
@@ -71,13 +82,17 @@ assigned_by op column = record { op = op; position = at 1 column }
 abbrev pub no_options : ASTFlags
 no_options = record { 0 = 0 }
 
--- the option of an `until` after a body
+-- the option of an `until` after a body, and of a dot at which a chain ends where `()` stands in front of it
 abbrev pub negated_option : ASTFlags
 negated_option = record { 0 = 1 }
 
 -- the option of a `break`
 abbrev pub break_option : ASTFlags
 break_option = record { 0 = 2 }
+
+-- the option of an index where a chain ends
+abbrev pub end_option : ASTFlags
+end_option = record { 0 = 2 }
 
 -- the option of a constant
 abbrev pub constant_option : ASTFlags

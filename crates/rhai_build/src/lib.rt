@@ -11,6 +11,7 @@ use rhai_tree::expr::{Namespace, Stmt};
 use rhai_tree::position::Position;
 use std::alloc::{AllocError, Global};
 
+pub mod chains;
 pub mod expressions;
 pub mod statements;
 

@@ -1,3 +1,7 @@
+pub mod Alike
 mod ArgumentLemmas
-mod LinkLemmas
+mod AssignLemmas
+pub mod LinkLemmas
 mod MemberLemmas
+mod SettingLemmas
+mod SpotLemmas

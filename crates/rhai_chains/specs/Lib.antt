@@ -1,4 +1,5 @@
+pub mod Assigned
 pub mod Chains
 pub mod Members
-pub mod Roots
+pub mod Ready
 pub mod Spots

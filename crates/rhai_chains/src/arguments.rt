@@ -7,7 +7,7 @@ ghost use Rattle.rhai_machine.specs.language.Expressions.{literal_of};
 ghost use Rattle.rhai_machine.specs.language.Links.{asked_by, link_of as link_in};
 ghost use Rattle.rhai_machine.specs.language.State.{Answers};
 ghost use Rattle.rhai_chains.specs.Chains.{form_seen};
-ghost use Rattle.rhai_chains.specs.Roots.{at_once, IsReady};
+ghost use Rattle.rhai_chains.specs.Ready.{at_once, IsReady};
 
 use crate::links::{Link, LinkForm, link_of};
 use rhai_state::error::EvalAltResult;

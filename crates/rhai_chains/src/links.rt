@@ -56,7 +56,7 @@ fn breaks(options: ASTFlags) -> bool
 }
 
 /// What the operator of a chain works on, None of what is no chain.
-fn first_of(chain: &Expr) -> Option<&Expr>
+pub fn first_of(chain: &Expr) -> Option<&Expr>
     ensures { option_copied result ≡ first_in (out-Expr chain.now) }
 {
     match chain {

@@ -1,3 +1,4 @@
+pub mod Chains
 pub mod MapKeys
 pub mod Offsets
 pub mod Outcome

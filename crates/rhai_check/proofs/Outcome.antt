@@ -20,8 +20,8 @@ use Rattle.rhai_check.specs.Frame.{tests_of, var_resolves}
 use Rattle.rhai_check.specs.Names.{Name}
 use Rattle.rhai_check.specs.Refusals.{IsFirst, Refuses}
 use Rattle.rhai_check.specs.WellFormed.{seen_expr, seen_stmt, target_faults, control_faults, var_faults}
-use Rattle.rhai_check.proofs.Walk.{expr_faults, stmt_faults, expr_declares, stmt_declares, expr_tests, seen-expr, seen-stmt}
-use Rattle.rhai_check.proofs.Walk.{Seen, SeenStmt, Tests, resolves-expr, refuses_expr_at, refuses_stmt_at}
+use Rattle.rhai_check.proofs.Walk.{expr_faults, stmt_faults, expr_declares, expr_tests, seen-expr, seen-stmt}
+use Rattle.rhai_check.proofs.Walk.{Seen, SeenStmt, Tests, resolves-expr, refuses_expr_at}
 
 -- what always holds holds where a call gives no error
 pub given_ok : {A : Type 0} {P : Type 0} (r : Result A CheckFault) → P → OnOk r P
@@ -52,6 +52,11 @@ pub resolved_expr_at : {A : Type 0} (r : Result A CheckFault) (e : Expr) (l : Ex
     → OnOk r ((base : List Name) → IsTrue ((tests_of e).value (base ++ names)))
 resolved_expr_at r e l names is h =
     subst (λ (s : Tests). OnOk r ((base : List Name) → IsTrue (s.value (base ++ names)))) (sym (resolves-expr e l is)) h
+
+-- a form that may always run
+pub runs_at : (e : Expr) (l : ExprLayer) (names : List Name) → out-Expr e ≡ l → IsTrue ((walk.expr_step sound (expr_tests l)).value names)
+    → IsTrue ((tests_of e).value names)
+runs_at e l names is h = ap (λ (s : Tests). s.value names) (resolves-expr e l is) ∙ h
 
 pub refused_expr_at : {A : Type 0} (r : Result A CheckFault) (e : Expr) (l : ExprLayer) (c : Context) → out-Expr e ≡ l
     → IfErr r (λ fault. Refuses ((walk.expr_step faulty (expr_faults l)).value c) (declares.expr_step (expr_declares l)) fault)

@@ -79,7 +79,7 @@ seen-stmt s l is = fold_out-Stmt Seen SeenStmt (Unit {0}) SeenCall SeenEntry See
     (walk.block_step faulty) s
     ∙ ap (λ (k : StmtLayer). walk.stmt_step faulty (stmt_faults k)) is
 
-declares-expr : (e : Expr) (l : ExprLayer) → out-Expr e ≡ l → declares_expr e ≡ declares.expr_step (expr_declares l)
+pub declares-expr : (e : Expr) (l : ExprLayer) → out-Expr e ≡ l → declares_expr e ≡ declares.expr_step (expr_declares l)
 declares-expr e l is = fold_out-Expr Bool Bool (Unit {0}) Bool (Unit {0}) Bool
     declares.expr_step declares.stmt_step (λ conditional. tt) (λ call. any_of call.args) (λ entry. tt) (λ block. any_of block.statements) e
     ∙ ap (λ (k : ExprLayer). declares.expr_step (expr_declares k)) is

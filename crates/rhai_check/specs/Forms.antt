@@ -22,3 +22,7 @@ is_exported options = bit_and options.0 8 == 8
 -- a `throw`, which is marked as a `return` with `BREAK`
 abbrev pub is_throw : ASTFlags → Bool
 is_throw options = bit_and options.0 2 == 2
+
+-- an operator of a chain that ends it: the chain stands in brackets of its own
+abbrev pub ends_chain : ASTFlags → Bool
+ends_chain options = bit_and options.0 2 == 2

@@ -1,6 +1,6 @@
 -- What a run may rely on in a part of a checked tree: it has forms that are there alone, and each offset is that of the newest variable
 -- of its name in the scope, whose names are taken oldest first.
-use Rattle.std.specs.Prelude.{IsTrue, List, [], ◌∷◌, ◌++◌, map, Option}
+use Rattle.std.specs.Prelude.{Bool, false, IsTrue, List, [], ◌∷◌, ◌++◌, map, Option}
 use Rattle.rhai_check.specs.Types.{ASTFlags, Expr, FnCallExpr, MapEntry, Position, ScriptFuncDef, ScriptFuncPayload, Stmt, StmtBlock}
 use Rattle.rhai_tree.specs.declared.function.ScriptFuncPayload.TheVariants.{Statements}
 use Rattle.rhai_check.specs.Names.{Name}
@@ -16,6 +16,9 @@ resolves_expr e = (tests_of e).value
 
 abbrev pub resolves_call : FnCallExpr → Position → walk.Finds sound
 resolves_call call = (walk.seen_call sound call).value
+
+abbrev pub resolves_method : FnCallExpr → Position → walk.Finds sound
+resolves_method call = (walk.seen_call sound call).method
 
 abbrev pub resolves_block : StmtBlock → walk.Finds sound
 resolves_block block = (walk.seen_block sound block).value
@@ -46,10 +49,25 @@ entries_resolve = walk.found_in_entries sound
 abbrev pub map_resolves : List (walk.SeenEntry sound) → List Name → Position → walk.Finds sound
 map_resolves = walk.found_in_map sound
 
+-- of what stands behind a dot, and of a property or a method that begins there
+abbrev pub dot_resolves : Bool → walk.Link sound → Position → walk.Finds sound
+dot_resolves = walk.found_behind_dot sound
+
+abbrev pub name_resolves : walk.Link sound → Position → walk.Finds sound
+name_resolves link = walk.found_from_name sound (walk.named_in sound link) (walk.nothing sound)
+
 -- and of a variable, which stands after the names before it
 abbrev pub var_resolves : walk.Seen sound → ASTFlags → Position → Name → walk.SeenStmt sound
 var_resolves expr options pos name names = (walk.found_in_var sound expr options pos names, names ++ name ∷ [])
 
+-- whether a chain that starts here may be assigned to, and whether one that goes on ends in a method
+abbrev pub tested_root : walk.Seen sound → Bool
+tested_root root = walk.is_root sound root.is_place root.link
+
+abbrev pub tested_end : walk.Link sound → Bool
+tested_end = walk.index_ends sound false
+
+-- whether a function's body may run above some names
 abbrev pub resolves_body : ScriptFuncPayload → walk.Finds sound
 resolves_body (Statements block) = resolves_block block
 

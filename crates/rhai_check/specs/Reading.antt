@@ -1,13 +1,13 @@
 -- One walk over a tree, which is read in two ways: for the faults that stand in it, and for whether a part may run above some names.
-use Rattle.std.specs.Prelude.{Bool, true, false, ◌&&◌, if◌then◌else◌, List, [], ◌∷◌, ◌++◌, length, map, Option, Some, None}
+use Rattle.std.specs.Prelude.{Bool, true, false, not, ◌&&◌, if◌then◌else◌, List, [], ◌∷◌, ◌++◌, length, map, Option, Some, None}
 use Rattle.std.specs.declared.num.NonZeroUsize.{NonZeroUsize}
 use Rattle.rhai_check.specs.Types.{ASTFlags, CheckFault, Expr, FnCallExpr, MapEntry, Position, Stmt, StmtBlock}
-use Rattle.rhai_check.specs.declared.check.CheckFault.TheVariants.{BadOffset, BadAssignment, BadMapKey}
-use Rattle.rhai_check.specs.declared.check.CheckFault.TheVariants.{LoopControlOutside, EvalCall, NotYet}
+use Rattle.rhai_check.specs.declared.check.CheckFault.TheVariants.{BadOffset, BadChain, BadAssignment, BadMapKey}
+use Rattle.rhai_check.specs.declared.check.CheckFault.TheVariants.{LoopControlOutside, EvalCall, NotAnExpression, QualifiedMethod, NotYet}
 use Rattle.rhai_tree.specs.declared.expr.Expr.TheOpen as layer
 use Rattle.rhai_tree.specs.declared.expr.Expr.TheFolds.{fold-Expr, fold-FnCallExpr, fold-MapEntry, fold-StmtBlock, fold-Stmt}
 use Rattle.rhai_check.specs.Context.{Context, inside, looping, declaring}
-use Rattle.rhai_check.specs.Forms.{is_unqualified, is_eval_call, is_exported, is_throw}
+use Rattle.rhai_check.specs.Forms.{is_unqualified, is_eval_call, is_exported, is_throw, ends_chain}
 use Rattle.rhai_check.specs.Keys.{are_keys}
 use Rattle.rhai_check.specs.Names.{Name, is_good}
 use Rattle.rhai_tree.specs.Positions.{first_or, start_of_name, start_of_operands, start_of_call, first_shared}
@@ -60,17 +60,27 @@ module _ (r : Reading) where
   abbrev pub Finds : Type 0
   Finds = r.Around → r.Found
 
-  -- what is seen of an expression or a block: where it starts, whether it may be assigned to, and what is found of it
+  -- what an expression is behind an operator of a chain: nothing but an index; a property or a method, with what is found of it there;
+  -- or a chain that goes on, with what is found of its first, also as a property or a method if it is one, and behind that
+  pub data Link : Type 0 where
+    IndexAlone : Link
+    Named : (is_method : Bool) → Finds → Link
+    GoesOn : (first : Finds) → (named : Option Finds) → (behind : Finds) → (ends_in_method : Bool) → Link
+
+  -- what is seen of an expression or a block: where it starts, whether it may be assigned to, what is found of it, and what it is in a
+  -- chain
   pub record Seen : Type 0 where
     pub start : Position
     pub is_place : Bool
     pub value : Finds
+    pub link : Link
 
   -- what is seen of a call: its first operand's start, where it is written between two, and what is found
-  -- of it where its name or operator stands
+  -- of it where its name or operator stands, as a call and as a method
   pub record SeenCall : Type 0 where
     pub operand : Option Position
     pub value : Position → Finds
+    pub method : Position → Finds
 
   -- what is seen of a statement: what is found of it, and what surrounds the next one
   abbrev pub SeenStmt : Type 0
@@ -94,12 +104,68 @@ module _ (r : Reading) where
   abbrev pub not_yet : Position → Finds
   not_yet pos c = r.fault (NotYet pos)
 
-  -- variables, `this` and chains are places, and nothing else is
+  -- variables, `this` and chains from them are places, and nothing else is
   abbrev pub place : Position → Finds → Seen
-  place start value = record { start = start; is_place = true; value = value }
+  place start value = record { start = start; is_place = true; value = value; link = IndexAlone }
 
   abbrev pub plain : Position → Finds → Seen
-  plain start value = record { start = start; is_place = false; value = value }
+  plain start value = record { start = start; is_place = false; value = value; link = IndexAlone }
+
+  -- a property or a method is no expression by itself
+  abbrev pub named : (is_method : Bool) → Position → Finds → Seen
+  named is_method pos value = record {
+    start = pos;
+    is_place = false;
+    value = λ c. r.fault (NotAnExpression pos);
+    link = Named is_method value;
+  }
+
+  -- ---- chains
+
+  -- as a property or a method
+  abbrev pub named_in : Link → Option Finds
+  named_in (Named is_method value) = Some value
+  named_in _ = None
+
+  -- a variable or `this`, which a chain that is assigned to starts from
+  abbrev pub is_root : (is_place : Bool) → Link → Bool
+  is_root true IndexAlone = true
+  is_root _ _ = false
+
+  -- behind a bracket stands an index; a chain there, unless it is in brackets of its own, has the index first and goes on
+  abbrev pub found_behind_bracket : (ends : Bool) → Link → Finds → Finds
+  found_behind_bracket false (GoesOn first named behind ends_in_method) value c = r.both (first c) (behind c)
+  found_behind_bracket _ _ value c = value c
+
+  -- behind a dot stands a property or a method, or a chain that goes on from one
+  abbrev pub found_from_name : Option Finds → (behind : Finds) → Position → Finds
+  found_from_name (Some value) behind pos c = r.both (value c) (behind c)
+  found_from_name None behind pos c = r.fault (BadChain pos)
+
+  abbrev pub found_behind_dot : (ends : Bool) → Link → Position → Finds
+  found_behind_dot ends (Named is_method value) pos c = value c
+  found_behind_dot false (GoesOn first named behind ends_in_method) pos c = found_from_name named behind pos c
+  found_behind_dot _ _ pos c = r.fault (BadChain pos)
+
+  -- a chain that ends in a method
+  abbrev pub method_ends : (ends : Bool) → Link → Bool
+  method_ends ends (Named is_method value) = is_method
+  method_ends false (GoesOn first named behind ends_in_method) = ends_in_method
+  method_ends _ _ = false
+
+  -- of an index only the chain that goes on can
+  abbrev pub index_ends : (ends : Bool) → Link → Bool
+  index_ends false (GoesOn first named behind ends_in_method) = ends_in_method
+  index_ends _ _ = false
+
+  -- a chain: its root, and what is behind its operator
+  abbrev pub chain : (root : Seen) → (behind : Finds) → (ends_in_method : Bool) → Seen
+  chain root behind ends_in_method = record {
+    start = root.start;
+    is_place = is_root root.is_place root.link && not ends_in_method;
+    value = λ c. r.both (root.value c) (behind c);
+    link = GoesOn root.value (named_in root.link) behind ends_in_method;
+  }
 
   -- the left side of an assignment is a place
   abbrev pub found_in_target : Seen → Finds
@@ -160,12 +226,14 @@ module _ (r : Reading) where
   expr_step (layer.ThisPtr pos) = place pos (not_yet pos)
   expr_step (layer.Variable offset name namespace pos) =
       place (start_of_name namespace.path namespace.position pos) (found_in_variable offset name namespace.path pos)
-  expr_step (layer.Property name pos) = plain pos (not_yet pos)
-  expr_step (layer.MethodCall call pos) = plain pos (not_yet pos)
+  expr_step (layer.Property name pos) = named false pos nothing
+  expr_step (layer.MethodCall call pos) = named true pos (call.method pos)
   expr_step (layer.Expr::FnCall call pos) = plain (start_of_call call.operand pos) (call.value pos)
   expr_step (layer.Stmt block) = block
-  expr_step (layer.Dot lhs rhs options pos) = place lhs.start (not_yet pos)
-  expr_step (layer.Index lhs rhs options pos) = place lhs.start (not_yet pos)
+  expr_step (layer.Dot lhs rhs options pos) =
+      chain lhs (found_behind_dot (ends_chain options) rhs.link pos) (method_ends (ends_chain options) rhs.link)
+  expr_step (layer.Index lhs rhs options pos) =
+      chain lhs (found_behind_bracket (ends_chain options) rhs.link rhs.value) (index_ends (ends_chain options) rhs.link)
   expr_step (layer.And parts pos) = plain (first_or pos (map start_in parts)) (found_in_all parts)
   expr_step (layer.Or parts pos) = plain (first_or pos (map start_in parts)) (found_in_all parts)
   expr_step (layer.Coalesce parts pos) = plain (first_or pos (map start_in parts)) (found_in_all parts)
@@ -177,6 +245,7 @@ module _ (r : Reading) where
         if is_eval_call call.namespace call.name (length call.args) then r.fault (EvalCall pos)
         else if is_unqualified call.namespace.path then found_in_all call.args c
         else r.fault (NotYet pos);
+    method = λ pos c. if is_unqualified call.namespace.path then found_in_all call.args c else r.fault (QualifiedMethod pos);
   }
 
   abbrev pub entry_step : layer.MapEntry-F Seen SeenStmt (Unit {0}) SeenCall SeenEntry Seen → SeenEntry
@@ -184,11 +253,7 @@ module _ (r : Reading) where
 
   -- what a block declares ends with it
   abbrev pub block_step : layer.StmtBlock-F Seen SeenStmt (Unit {0}) SeenCall SeenEntry Seen → Seen
-  block_step block = record {
-    start = block.position;
-    is_place = false;
-    value = λ c. (found_in_list block.statements (r.inside c)).0;
-  }
+  block_step block = plain block.position (λ c. (found_in_list block.statements (r.inside c)).0)
 
   abbrev pub stmt_step : layer.Stmt-F Seen SeenStmt (Unit {0}) SeenCall SeenEntry Seen → SeenStmt
   stmt_step (layer.Noop pos) c = (r.none, c)

@@ -1,5 +1,5 @@
 -- Well-formed trees: the faults that stand in a tree, each with its position, in the order of the tree.
-use Rattle.std.specs.Prelude.{◌≡◌, List, [], ◌∷◌, ◌++◌, map, Option}
+use Rattle.std.specs.Prelude.{◌≡◌, Bool, false, List, [], ◌∷◌, ◌++◌, map, Option}
 use Rattle.std.specs.List.{Contains}
 use Rattle.rhai_check.specs.Types.{ASTFlags, CheckFault, Expr, FnCallExpr, MapEntry, Position, ScriptFuncDef, ScriptFuncPayload, Stmt}
 use Rattle.rhai_check.specs.Types.{StmtBlock}
@@ -49,6 +49,20 @@ control_faults = walk.found_in_control faulty
 
 abbrev pub var_faults : walk.Seen faulty → ASTFlags → Position → walk.Finds faulty
 var_faults = walk.found_in_var faulty
+
+-- the faults of what stands behind a dot, and of a property or a method that begins there
+abbrev pub dot_faults : Bool → walk.Link faulty → Position → walk.Finds faulty
+dot_faults = walk.found_behind_dot faulty
+
+abbrev pub name_faults : walk.Link faulty → Position → walk.Finds faulty
+name_faults link = walk.found_from_name faulty (walk.named_in faulty link) (walk.nothing faulty)
+
+-- whether a chain that starts here may be assigned to, and whether one that goes on ends in a method
+abbrev pub seen_root : walk.Seen faulty → Bool
+seen_root root = walk.is_root faulty root.is_place root.link
+
+abbrev pub seen_end : walk.Link faulty → Bool
+seen_end = walk.index_ends faulty false
 
 -- the faults of the statements of a tree
 abbrev pub faults_in_statements : List Stmt → List CheckFault

@@ -6,6 +6,7 @@ ghost use Rattle.rhai_check.specs.Declares.{needs_memory};
 ghost use Rattle.rhai_check.specs.Faults.{place_of};
 ghost use Rattle.rhai_check.specs.WellFormed.{Stands, faults_in_function, IsFormedFunction, IsFormedTree};
 
+mod chain;
 mod expr;
 mod function;
 mod keys;

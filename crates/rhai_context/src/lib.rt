@@ -5,6 +5,7 @@
 ghost use Rattle.std.specs.Prelude.{◌≡◌, [], None};
 
 use rhai_items::Items;
+use rhai_state::room::Room;
 use rhai_state::scope::Scope;
 use rhai_state::state::GlobalRuntimeState;
 use rhai_values::base::value::{Dynamic, Host};
@@ -38,6 +39,7 @@ fn nothing<H: Host>(alloc: Global, always_search_scope: bool) -> GlobalRuntimeSt
         always_search_scope,
         cells: CellStore::new(alloc),
         constant_tables: Items::new(alloc),
+        room: Room::new(alloc),
     }
 }
 
@@ -52,11 +54,12 @@ pub fn take<H: Host>(
     ensures search { global.new.always_search_scope ≡ global.old.always_search_scope }
 {
     let empty = nothing(alloc, global.always_search_scope);
+    let spare = global.room.lend(alloc);
     Context {
         global: replace(global, empty),
         scope: replace(scope, Scope::new(alloc)),
         this: None,
-        spare: Items::new(alloc),
+        spare,
     }
 }
 
@@ -88,6 +91,7 @@ pub fn give_back<H: Host>(run: Context<H>, global: &mut GlobalRuntimeState<H>, s
 {
     let mut left = run.global;
     left.always_search_scope = global.always_search_scope;
+    left.room.keep(run.spare);
     drop(replace(global, left));
     drop(replace(scope, run.scope));
 }

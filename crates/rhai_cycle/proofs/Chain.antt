@@ -20,7 +20,7 @@ use Rattle.rhai_machine.specs.machine.Memory.{here, next, wanting, ◌⨾◌}
 use Rattle.rhai_machine.specs.language.Setting.{Rules, limit_under}
 use Rattle.rhai_machine.specs.language.State.{Held, State}
 use Rattle.rhai_state.specs.Errors.{is_out_of_memory}
-use Rattle.rhai_machine.specs.language.Frames.{StatementValue, RightOperand, AssignValue}
+use Rattle.rhai_machine.specs.language.Frames.{StatementValue, RightOperand, AssignChain, AssignValue}
 use Rattle.rhai_machine.specs.language.Frames.{ReturnValue, Control, Frame, Core, core, ended, UnaryOperand, LeftOperand}
 use Rattle.rhai_machine.specs.language.Frames.{DefineValue, Eval, Exec, Argument, OpenExpr, OpenStmt, Enter, Run, Back, Fail, RestoreList}
 use Rattle.rhai_machine.specs.language.Frames.{Saved}
@@ -164,6 +164,7 @@ module _ {S H : Type 0} (rules : Rules S H) where
   flattens (RightOperand operation left right_at) = Some right_at
   flattens (AssignValue assignment value_at) = Some value_at
   flattens (ReturnValue value_at pos) = Some value_at
+  flattens (AssignChain root chain op value_at) = Some value_at
   flattens _ = None
 
   module _ (v : Dynamic H) (pos : Position) (k : List (Frame H)) (l : State S H) (e : EvalAltResult H) where
@@ -176,6 +177,7 @@ module _ {S H : Type 0} (rules : Rules S H) where
     flat_core (RightOperand operation left right_at) is told = let same : right_at ≡ pos = cc in rw (same, ← told) refl
     flat_core (AssignValue assignment value_at) is told = let same : value_at ≡ pos = cc in rw (same, ← told) refl
     flat_core (ReturnValue value_at at) is told = let same : value_at ≡ pos = cc in rw (same, ← told) refl
+    flat_core (AssignChain root chain op value_at) is told = let same : value_at ≡ pos = cc in rw (same, ← told) refl
     flat_core _ is told = cc
 
     flat_passes : (f : Frame H) → flattens f ≡ Some pos → (x : EvalAltResult H) →
@@ -187,6 +189,7 @@ module _ {S H : Type 0} (rules : Rules S H) where
     flat_passes (RightOperand operation left right_at) is x = refl
     flat_passes (AssignValue assignment value_at) is x = refl
     flat_passes (ReturnValue value_at at) is x = refl
+    flat_passes (AssignChain root chain op value_at) is x = refl
     flat_passes _ is x = cc
 
     -- a value whose cell is held, or memory runs out

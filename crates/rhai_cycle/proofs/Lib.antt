@@ -1,5 +1,7 @@
 mod CallSteps
 pub mod Chain
+pub mod ChainLemmas
+mod ChainSteps
 mod ChoiceSteps
 mod Conditions
 mod DataSteps

@@ -1,3 +1,4 @@
 pub mod Calls
+pub mod Chains
 pub mod Memory
 pub mod States

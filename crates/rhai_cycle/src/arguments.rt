@@ -1,7 +1,7 @@
 //! The arguments of calls, and calls by name. Ports upstream's `func/call.rs`; the contracts speak of
 //! the machine's runs and of specs/Calls.antt.
 
-ghost use Rattle.std.specs.Prelude.{◌≡◌, ◌≤◌, [], IsTrue, OnOk, map, true};
+ghost use Rattle.std.specs.Prelude.{◌≡◌, ◌≤◌, ◌+◌, [], IfOk, IsTrue, OnOk, length, map, true};
 ghost use Rattle.std.specs.Option.{option_copied};
 ghost use Rattle.rhai_check.specs.Frame.{all_resolve_exprs, resolves_expr, tests_of};
 ghost use Rattle.rhai_machine.specs.language.Frames.{CallNamed};
@@ -150,6 +150,7 @@ impl<'e, H: Host> Evaluator<'e, H> {
         requires { IsTrue (all_resolve_exprs (map tests_of args.now) (names run.old)) }
         ensures counts { OnOk result (run.old.global.num_operations ≤ run.new.global.num_operations) }
         ensures names { OnOk result (names run.new ≡ names run.old) }
+        ensures more { IfOk result (λ values. length values ≡ length made + length args.now) }
         ensures collects { Collects (under H.name_of self.now T.natives) flattened made args.now
             (state_in (T.state table.old) run.old) result (state_in (T.state table.new) run.new) }
     {
@@ -180,6 +181,7 @@ impl<'e, H: Host> Evaluator<'e, H> {
         requires { IsTrue (resolves_expr arg.now (names run.old)) }
         ensures counts { OnOk result (run.old.global.num_operations ≤ run.new.global.num_operations) }
         ensures names { OnOk result (names run.new ≡ names run.old) }
+        ensures more { OnOk result (length made.new ≡ length made.old + 1) }
         ensures takes { TakesNext (under H.name_of self.now T.natives) flattened made.old arg.now
             (state_in (T.state table.old) run.old) result made.new (state_in (T.state table.new) run.new) }
     {

@@ -72,6 +72,8 @@ impl<'e, H: Host> Evaluator<'e, H> {
             Expr::InterpolatedString(parts, pos) => {
                 self.run_interpolated(alloc, run, table, parts.as_slice(), *pos)
             }
+            Expr::Dot(root, ..) => self.run_chain(alloc, run, table, root.get(), expr, None),
+            Expr::Index(root, ..) => self.run_chain(alloc, run, table, root.get(), expr, None),
             _ => unreachable!(),
         }
     }

@@ -5,6 +5,7 @@
 
 mod arguments;
 pub mod call;
+mod chains;
 mod choices;
 mod data;
 pub mod evaluator;

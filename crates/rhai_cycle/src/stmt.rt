@@ -98,8 +98,8 @@ impl<'e, H: Host> Evaluator<'e, H> {
         flatten(alloc, &run.global.cells, value, expr.position())
     }
 
-    /// An assignment to a variable. By an operator it is done in place under fast operators, where its
-    /// value is an operand that stands and there is a built-in for it.
+    /// An assignment to a variable, or to what a chain leads to. To a variable by an operator it is done in
+    /// place under fast operators, where its value is an operand that stands and there is a built-in for it.
     #[cycle(eval)]
     fn run_assignment<T: NativeTable<H>>(
         &self,
@@ -165,7 +165,7 @@ impl<'e, H: Host> Evaluator<'e, H> {
             ..
         } = lhs
         else {
-            unreachable!()
+            return self.assign_chain(alloc, run, table, op, lhs, rhs, restoring);
         };
         let value = self.run_expr(alloc, run, table, rhs)?;
         let value = flatten(alloc, &run.global.cells, value, rhs.position())?;

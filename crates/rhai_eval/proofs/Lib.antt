@@ -1,4 +1,7 @@
+mod Assigned
 mod Begun
+mod Chained
+mod Indexed
 mod InPlace
 mod OnTargets
 mod Public

@@ -1,5 +1,5 @@
 -- A method on a target: how it ends, and what it keeps.
-use Rattle.std.proofs.Common.{Bool, List, [], ◌∷◌, Result, refl}
+use Rattle.std.proofs.Common.{Bool, List, [], Result, refl}
 use Rattle.rhai_tree.specs.declared.position.Position.{Position}
 use Rattle.rhai_values.specs.declared.base.value.Dynamic.{Dynamic}
 use Rattle.rhai_state.specs.declared.error.EvalAltResult.{EvalAltResult}

@@ -1,5 +1,5 @@
 -- How a part of a tree, or a call, ends: as the machine does, over any stack, or up to where memory ran out.
-use Rattle.std.specs.Prelude.{Bool, List, Result}
+use Rattle.std.specs.Prelude.{◌≡◌, ◌⊎◌, Bool, List, Result}
 use Rattle.rhai_values.specs.declared.base.value.Dynamic.{Dynamic}
 use Rattle.rhai_state.specs.declared.error.EvalAltResult.{EvalAltResult}
 use Rattle.rhai_machine.specs.machine.Point.{Reaches}
@@ -9,6 +9,7 @@ use Rattle.rhai_machine.specs.language.Frames.{Control, Frame, Core, core, ended
 use Rattle.rhai_machine.specs.language.Language.{machine}
 use Rattle.rhai_machine.specs.language.Memory.{UpToMemory}
 use Rattle.rhai_machine.specs.language.Runs.{at, with_core}
+use Rattle.rhai_eval.specs.Assigned.{assigned}
 
 module _ {S H : Type 0} (rules : Rules S H) where
   -- Over any stack the machine runs from where a part begins to how it ended, where memory was not wanting. In any case it does up to
@@ -31,3 +32,15 @@ module _ {S H : Type 0} (rules : Rules S H) where
   abbrev pub EndsMarked : (begins : List (Frame H) → Local H → Core H) → State S H → Result (Dynamic H × Bool) (EvalAltResult H) →
       State S H → Type 0
   EndsMarked begins old result new = Ends begins old (HasMemory result) (marked result) new
+
+  -- The same of a call that begins within a rule, of which the machine has done a part already: there memory may also have run out before
+  -- the call did anything.
+  pub record EndsWithin (begins : List (Frame H) → Local H → Core H) (old : State S H) (memory : Type 0) (end : Control H)
+      (new : State S H) : Type 0 where
+    pub runs : memory → (k : List (Frame H)) → Reaches (machine rules) (cut rules) (with_core (begins k old.local) old) (at end k new)
+    pub up_to : (new ≡ old) ⊎ ((k : List (Frame H)) → UpToMemory rules (with_core (begins k old.local) old) (at end k new))
+
+  -- from where an assignment begins to its error, or to `()`, marked
+  abbrev pub EndsAssigned : (begins : List (Frame H) → Local H → Core H) → State S H → Result (Unit {0}) (EvalAltResult H) → State S H →
+      Type 0
+  EndsAssigned begins old result new = EndsWithin begins old (HasMemory result) (marked (assigned result)) new

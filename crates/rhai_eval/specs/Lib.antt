@@ -1,4 +1,6 @@
+pub mod Assigned
 pub mod Calls
+pub mod Chains
 pub mod Ends
 pub mod Indexing
 pub mod Lends

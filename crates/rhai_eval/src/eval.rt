@@ -1,5 +1,6 @@
 //! Expressions and statements.
 
+pub mod chaining;
 pub mod expr;
 pub mod indexing;
 pub mod script;

@@ -7,3 +7,7 @@ pub mod KeptMethods
 pub mod KeptChains
 pub mod KeptRules
 pub mod KeptLaws
+pub mod KeyLemmas
+pub mod SelectorLemmas
+pub mod Assigning
+pub mod AssignedLaws

@@ -4,6 +4,7 @@
 ghost use Rattle.rhai_machine.specs.language.Setting.{Setting, over};
 ghost use Rattle.rhai_laws.specs.Laws.{GoesWithMemory, GoesUpToMemory, StepsKeep, NamesStay, NamesBegin};
 ghost use Rattle.rhai_laws.specs.Laws.{VariablesStay};
+ghost use Rattle.rhai_laws.specs.Assigned.{AssignsAtPath, RunsAssignAtPath};
 
 use rhai_state::table::NativeTable;
 use rhai_values::base::value::Host;
@@ -39,4 +40,16 @@ pub fn script_names_begin<H: Host, T: NativeTable<H>>(of: PhantomData<(H, T)>)
 /// There are never more variables than the limit allows.
 pub fn script_variables_stay<H: Host, T: NativeTable<H>>(of: PhantomData<(H, T)>)
     ensures { (setting : Setting H) → VariablesStay (over setting T.natives) }
+{}
+
+/// An assignment without an operator through indexes and properties of arrays and maps, from a
+/// variable on, that comes to a value has written at the path: what was assigned is read there,
+/// read-write, and every place off the path reads as it did when the variable was read.
+pub fn chain_assigns_at_path<H: Host, T: NativeTable<H>>(of: PhantomData<(H, T)>)
+    ensures { (setting : Setting H) → AssignsAtPath (over setting T.natives) }
+{}
+
+/// The same, of what an evaluator tells of a run.
+pub fn run_assigns_at_path<H: Host, T: NativeTable<H>>(of: PhantomData<(H, T)>)
+    ensures { (setting : Setting H) → RunsAssignAtPath (over setting T.natives) }
 {}

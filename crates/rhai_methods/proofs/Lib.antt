@@ -5,4 +5,4 @@ mod Levels
 mod Meanings
 mod Pointed
 mod Taking
-mod TargetLemmas
+pub mod TargetLemmas

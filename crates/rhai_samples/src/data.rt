@@ -56,11 +56,17 @@ pub fn items_of_texts(alloc: Global) -> Result<Items<Stmt>, AllocError> {
 
 /// `let a = [1, 1, 1];`, with so many literals, which all stand at one place.
 pub fn many_items(alloc: Global, count: u32) -> Result<Items<Stmt>, AllocError> {
+    let items = Expr::Array(ones(alloc, count)?, at(9));
     let mut tree = Builder::new(alloc);
+    let declared = tree.let_stmt("a", 5, items, 1);
+    tree.finish([declared])
+}
+
+/// So many ones, which all stand at one place.
+pub(crate) fn ones(alloc: Global, count: u32) -> Result<Items<Expr>, AllocError> {
     let mut items = Items::new(alloc);
     for _ in 0..count {
         items.push(int(1, 10))?;
     }
-    let declared = tree.let_stmt("a", 5, Expr::Array(items, at(9)), 1);
-    tree.finish([declared])
+    Ok(items)
 }

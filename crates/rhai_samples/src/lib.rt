@@ -2,7 +2,10 @@
 #![tactic(auto)]
 
 pub mod calls;
+pub mod chains;
 pub mod data;
 pub mod loops;
 pub mod operators;
+pub mod pairs;
+pub mod refused;
 pub mod variables;

@@ -6,6 +6,7 @@ pub mod caches;
 mod debug;
 pub mod error;
 pub mod limits;
+pub mod room;
 pub mod scope;
 pub mod state;
 pub mod table;

@@ -1,14 +1,14 @@
 //! What scripts come to.
 
-use rhai_bench::host::Pair;
 use rhai_bench::outcome::{Ending, Outcome};
 use rhai_bench::print::{write_ending, write_value};
+use rhai_bench::rows::chains::left_in_place;
 use rhai_bench::rows::loops::{endless, outside_of_loops};
-use rhai_bench::rows::operators::first_that_is_there;
 use rhai_bench::rows::scripts;
 use rhai_bench::script::Script;
 use rhai_bench::settings::Way;
 use rhai_eval::base::{AccessMode, Dynamic, EvalAltResult, Items, Scope, Union};
+use rhai_tables::host::Pair;
 use std::alloc::{AllocError, Global};
 use std::io;
 use std::io::Write;
@@ -18,7 +18,7 @@ fn scripts_of(alloc: Global, list: &str) -> Result<Option<Items<Script>>, AllocE
     let scripts = match list {
         "endless" => endless(alloc),
         "outside" => outside_of_loops(alloc),
-        "coalesced" => first_that_is_there(alloc),
+        "kept" => left_in_place(alloc),
         row => return scripts(alloc, row),
     };
     scripts.map(Some)
@@ -123,7 +123,7 @@ fn write_outcome(
         "ends" => write_ending(out, &outcome.ending),
         "charges" => write!(out, "{}", outcome.num_operations),
         "leaves" => write_variables(others, &outcome.scope, out),
-        "says" => write!(out, "{}", text_of(&outcome.ending)),
+        "says" => write_said(&outcome.ending, out),
         _ => write!(out, "no form"),
     }
 }
@@ -147,12 +147,30 @@ fn write_variables(others: usize, scope: &Scope<Pair>, out: &mut Vec<u8>) -> io:
     Ok(())
 }
 
-/// What an error of these scripts says beside its place, or `nothing`.
+/// Writes what an error of these scripts says beside its place, or `nothing`.
+fn write_said(ending: &Ending, out: &mut Vec<u8>) -> io::Result<()> {
+    match ending {
+        Ending::Error(
+            EvalAltResult::ErrorArrayBounds(bounds, _)
+            | EvalAltResult::ErrorStringBounds(bounds, _),
+        ) => {
+            let bounds = bounds.get();
+            write!(out, "{} and {}", bounds.length, bounds.index)
+        }
+        _ => write!(out, "{}", text_of(ending)),
+    }
+}
+
+/// The text of an error, or `nothing`.
 fn text_of(ending: &Ending) -> &str {
     match ending {
         Ending::Error(EvalAltResult::ErrorFunctionNotFound(text, _)) => text.get().as_str(),
         Ending::Error(EvalAltResult::ErrorVariableNotFound(text, _)) => text.get().as_str(),
         Ending::Error(EvalAltResult::ErrorAssignmentToConstant(text, _)) => text.get().as_str(),
+        Ending::Error(EvalAltResult::ErrorDotExpr(text, _)) => text.get().as_str(),
+        Ending::Error(EvalAltResult::ErrorNonPureMethodCallOnConstant(text, _)) => {
+            text.get().as_str()
+        }
         Ending::Error(EvalAltResult::ErrorMismatchDataType(types, _)) => types.get().found.as_str(),
         _ => "nothing",
     }

@@ -1,10 +1,10 @@
 //! Each kind of value as it is printed, and places.
 
-use rhai_bench::host::Pair;
 use rhai_bench::print::{write_place, write_value};
 use rhai_eval::base::{
     Boxed, CellId, Dynamic, FnPtr, FnPtrKind, Items, Position, Shared, Text, Union,
 };
+use rhai_tables::host::Pair;
 use std::alloc::{AllocError, Global};
 use std::io;
 use std::io::Write;

@@ -10,6 +10,7 @@ mod reader;
 mod shown;
 mod subject;
 mod tree;
+mod trees;
 mod values;
 
 use crate::compare::{Tally, compare_lines};

@@ -1,17 +1,19 @@
-//! The faults of the checker, and operators as they are written.
+//! The faults of the checker, operators as they are written, and trees that are refused.
 
 use crate::operators::operator;
 use crate::reader::Reader;
 use crate::shown::Sheet;
+use crate::trees;
 use rhai_check::check::CheckFault;
 use rhai_tree::position::Position;
 
-/// What `fault NAME PLACE` or `operator OP` is written as.
+/// What `fault NAME PLACE` or `operator OP` is written as, or what `check TREE` is refused for.
 pub fn answer(line: &mut Reader<'_>, out: &mut Sheet) {
     match line.word() {
         "fault" => out.fault(fault(line)),
         "operator" => out.write(operator(line).as_str()),
-        _ => line.want("fault or operator"),
+        "check" => trees::answer(line, out),
+        _ => line.want("fault, operator or check"),
     }
 }
 

@@ -3,9 +3,7 @@
 use crate::rows::Row;
 use crate::script::Script;
 use rhai_eval::base::Items;
-use rhai_samples::operators::{
-    integer_as_condition, sum, sum_of_two_types, sum_with_unknown_name, unit_or_integer,
-};
+use rhai_samples::operators::{integer_as_condition, sum, sum_of_two_types, sum_with_unknown_name};
 use std::alloc::{AllocError, Global};
 
 /// The sum of two integers: three operations are too few, four are enough.
@@ -22,12 +20,5 @@ pub(crate) fn refused_operands(alloc: Global) -> Result<Items<Script>, AllocErro
     row.add(sum_of_two_types(alloc));
     row.add(sum_with_unknown_name(alloc));
     row.add(integer_as_condition(alloc));
-    row.finish()
-}
-
-/// The first of two values that is not `()`.
-pub fn first_that_is_there(alloc: Global) -> Result<Items<Script>, AllocError> {
-    let mut row = Row::new(alloc);
-    row.add(unit_or_integer(alloc));
     row.finish()
 }

@@ -13,6 +13,7 @@ ghost use Rattle.rhai_check.specs.WellFormed.{seen_expr, seen_call, target_fault
 ghost use Rattle.rhai_check.specs.WellFormed.{faults_in_all, faults_in_entries, faults_in_map, seen_entry};
 
 use crate::check::CheckFault;
+use crate::check::chain::{check_behind_dot, ends_chain, ends_in_method, is_root};
 use crate::check::keys::has_keys;
 use crate::check::names::is_good;
 use crate::check::place::Place;
@@ -67,11 +68,17 @@ pub(crate) fn check_expr(
         Expr::And(parts, _) => check_exprs(names, place, parts.as_slice()),
         Expr::Or(parts, _) => check_exprs(names, place, parts.as_slice()),
         Expr::Coalesce(parts, _) => check_exprs(names, place, parts.as_slice()),
-        Expr::ThisPtr(pos)
-        | Expr::Property(_, pos)
-        | Expr::MethodCall(_, pos)
-        | Expr::Dot(_, _, _, pos)
-        | Expr::Index(_, _, _, pos) => Err(CheckFault::NotYet(*pos)),
+        Expr::Property(_, pos) | Expr::MethodCall(_, pos) => Err(CheckFault::NotAnExpression(*pos)),
+        Expr::Dot(lhs, rhs, options, pos) => {
+            check_expr(names, place, lhs.get())?;
+            check_behind_dot(names, place, rhs.get(), ends_chain(*options), *pos)
+        }
+        Expr::Index(lhs, rhs, _, _) => {
+            check_expr(names, place, lhs.get())?;
+            // the index, or a chain that goes on and has the index first
+            check_expr(names, place, rhs.get())
+        }
+        Expr::ThisPtr(pos) => Err(CheckFault::NotYet(*pos)),
     }
 }
 
@@ -161,15 +168,19 @@ pub(crate) fn check_option(
     }
 }
 
-/// Whether an expression is a variable, `this` or a chain, which alone may be assigned to.
+/// Whether an expression may be assigned to: a variable, `this`, or a chain from one of them that
+/// does not end in a method.
 fn is_place(expr: &Expr) -> bool
     ensures seen { result ≡ (seen_expr expr.now).is_place }
     ensures tested { result ≡ (tests_of expr.now).is_place }
 {
-    matches!(
-        expr,
-        Expr::Variable { .. } | Expr::ThisPtr(_) | Expr::Dot(..) | Expr::Index(..)
-    )
+    match expr {
+        Expr::Variable { .. } | Expr::ThisPtr(_) => true,
+        Expr::Dot(root, _, _, _) | Expr::Index(root, _, _, _) => {
+            is_root(root.get()) && !ends_in_method(expr)
+        }
+        _ => false,
+    }
 }
 
 /// Passes the left side of an assignment, or answers one of its faults.
@@ -201,7 +212,7 @@ fn is_eval_call(call: &FnCallExpr) -> bool
 }
 
 /// Whether a call's name stands without a path.
-fn is_unqualified(call: &FnCallExpr) -> bool
+pub(crate) fn is_unqualified(call: &FnCallExpr) -> bool
     ensures { result ≡ is_unqualified call.now.namespace.path }
 {
     call.namespace.path.len() == 0

@@ -1,24 +1,185 @@
-//! Indexing, with its charge and the host's indexers: each call is one of `rhai_index`. Ports
-//! upstream's `eval/indexing.rs` as far as it is there.
+//! Indexing, with its charge and the host's indexers. Ports upstream's `eval/indexing.rs` as far as it is
+//! there. What an index leads to is found by `rhai_index`; the indexers are natives, whose contracts speak
+//! of the machine's runs and of specs/Indexing.antt.
 
-ghost use Rattle.std.specs.Prelude.{◌≡◌};
+ghost use Rattle.std.specs.Prelude.{◌≡◌, ◌∷◌, [], ◌<◌, false, true, length, slice_get, IfErr, IfOk, Some};
 ghost use Rattle.rhai_values.specs.Cells.{IsNoHandle};
-ghost use Rattle.rhai_index.specs.Calls.{Calls, LendsNoHandle};
-ghost use Rattle.rhai_index.specs.Indexers.{beside_change, by_itself, reading, writing};
+ghost use Rattle.rhai_machine.specs.language.Frames.{Ask};
+ghost use Rattle.rhai_machine.specs.language.Members.{get_core, get_item, set_core, set_item};
+ghost use Rattle.rhai_machine.specs.language.Runs.{Runs};
+ghost use Rattle.rhai_machine.specs.language.Setting.{rules_of};
+ghost use Rattle.rhai_steps.specs.States.{state_of};
+ghost use Rattle.rhai_calls.specs.Marks.{MarkedRuns};
+ghost use Rattle.rhai_methods.specs.Methods.{lending};
 ghost use Rattle.rhai_index.specs.Indexes.{Indexes};
-ghost use Rattle.rhai_eval.specs.Indexing.{access};
+ghost use Rattle.rhai_laws.specs.Kept.{Kept};
+ghost use Rattle.rhai_eval.specs.Ends.{EndsFrom, EndsMarked};
+ghost use Rattle.rhai_eval.specs.Indexing.{access, item_by};
+ghost use Rattle.rhai_eval.specs.Places.{with_place};
+ghost use Rattle.rhai_eval.specs.States.{under};
 
 use crate::engine::Engine;
-use rhai_index::{indexers, indexing};
+use rhai_calls::native::{Passing, call_native, pass_native};
+use rhai_index::indexing;
+use rhai_items::Items;
 use rhai_places::spot::Access;
 use rhai_places::target::Target;
 use rhai_state::caches::Caches;
 use rhai_state::error::EvalAltResult;
+use rhai_state::limits::Limits;
 use rhai_state::state::GlobalRuntimeState;
 use rhai_state::table::NativeTable;
+use rhai_steps::values::{let_go, list_of, unit_value};
 use rhai_tree::position::Position;
 use rhai_values::base::value::{Dynamic, Host};
 use std::alloc::Global;
+use std::mem::replace;
+
+/// The first value of a list.
+fn first_of<H: Host>(items: Items<Dynamic<H>>) -> Dynamic<H>
+    requires { 0 < length items }
+    ensures { slice_get items 0 ≡ Some result }
+{
+    let mut items = items;
+    items.remove(0)
+}
+
+/// The first two values of a list.
+fn both_of<H: Host>(items: Items<Dynamic<H>>) -> (Dynamic<H>, Dynamic<H>)
+    requires { 1 < length items }
+    ensures first { slice_get items 0 ≡ Some result.0 }
+    ensures second { slice_get items 1 ≡ Some result.1 }
+{
+    let mut items = items;
+    let second = items.remove(1);
+    (first_of(items), second)
+}
+
+/// A list of two values. Where there is no memory they come back.
+fn list_of_both<H: Host>(
+    alloc: Global,
+    first: Dynamic<H>,
+    second: Dynamic<H>,
+) -> Result<Items<Dynamic<H>>, (Dynamic<H>, Dynamic<H>)>
+    ensures ok { IfOk result (λ items. items ≡ first ∷ second ∷ []) }
+    ensures err { IfErr result (λ both. both ≡ (first, second)) }
+{
+    match list_of(alloc, first) {
+        Ok(items) => {
+            let mut items = items;
+            match items.try_push(second) {
+                Ok(()) => Ok(items),
+                Err(failed) => Err((first_of(items), failed.value)),
+            }
+        }
+        Err(first) => Err((first, second)),
+    }
+}
+
+/// Puts two values back where they were taken.
+fn put_both<H: Host>(both: (Dynamic<H>, Dynamic<H>), index: &mut Dynamic<H>, new: &mut Dynamic<H>)
+    ensures index { index.new ≡ both.0 }
+    ensures new { new.new ≡ both.1 }
+{
+    let (first, second) = both;
+    let_go(replace(index, first));
+    let_go(replace(new, second));
+}
+
+/// Asks the indexer that gets, which the object is lent to. A constant is kept from one that is not pure.
+fn ask_get<H: Host, T: NativeTable<H>>(
+    limits: &Limits,
+    alloc: Global,
+    global: &mut GlobalRuntimeState<H>,
+    table: &mut T,
+    object: &mut Dynamic<H>,
+    index: &mut Dynamic<H>,
+    pos: Position,
+) -> Result<Dynamic<H>, EvalAltResult<H>>
+    ensures runs { (offer : _) (scope : _) (held : _) →
+        Runs (rules_of limits.now H.name_of offer T.natives) (Ask (get_item pos object.old index.old))
+        (state_of (T.state table.old) global.old scope (lending held object.old))
+        result (state_of (T.state table.new) global.new scope (lending held object.new)) }
+    ensures index { index.new ≡ index.old }
+{
+    let guarded = true;
+    match list_of(alloc, replace(index, unit_value())) {
+        Ok(items) => {
+            let rest = items.as_slice();
+            let result = call_native(
+                limits,
+                alloc,
+                global,
+                table,
+                "index$get$",
+                None,
+                object,
+                rest,
+                guarded,
+                pos,
+            );
+            let_go(replace(index, first_of(items)));
+            result
+        }
+        Err(value) => {
+            let_go(replace(index, value));
+            Err(EvalAltResult::ErrorOutOfMemory(pos))
+        }
+    }
+}
+
+/// Asks the indexer that sets, which the object is lent to.
+fn ask_set<H: Host, T: NativeTable<H>>(
+    limits: &Limits,
+    alloc: Global,
+    global: &mut GlobalRuntimeState<H>,
+    table: &mut T,
+    object: &mut Dynamic<H>,
+    index: &mut Dynamic<H>,
+    new: &mut Dynamic<H>,
+    guarded: bool,
+    pos: Position,
+) -> Result<(Dynamic<H>, bool), EvalAltResult<H>>
+    ensures runs { (offer : _) (scope : _) (held : _) →
+        MarkedRuns (rules_of limits.now H.name_of offer T.natives)
+        (Ask (set_item pos guarded object.old index.old new.old))
+        (state_of (T.state table.old) global.old scope (lending held object.old))
+        result (state_of (T.state table.new) global.new scope (lending held object.new)) }
+    ensures index { index.new ≡ index.old }
+    ensures new { new.new ≡ new.old }
+{
+    let passing = Passing {
+        guarded,
+        marks: true,
+    };
+    match list_of_both(
+        alloc,
+        replace(index, unit_value()),
+        replace(new, unit_value()),
+    ) {
+        Ok(items) => {
+            let rest = items.as_slice();
+            let result = pass_native(
+                limits,
+                alloc,
+                global,
+                table,
+                "index$set$",
+                None,
+                object,
+                rest,
+                passing,
+                pos,
+            );
+            put_both(both_of(items), index, new);
+            result
+        }
+        Err(both) => {
+            put_both(both, index, new);
+            Err(EvalAltResult::ErrorOutOfMemory(pos))
+        }
+    }
+}
 
 impl<H: Host> Engine<H> {
     /// The target that an index leads to, charged first without a position. Where the object is of
@@ -72,15 +233,16 @@ impl<H: Host> Engine<H> {
     }
 
     /// Charges a call of the indexer that reads at the operator, and calls it. An object that is a
-    /// handle of a cell stands for the cell's value, and the cell is held so long. Ports upstream's
-    /// `call_indexer_get`. Asked: no handle stands in the cell of an object.
+    /// handle of a cell stands for the cell's value, and the cell is held so long. What the indexer
+    /// leaves of the object stands there on every way out, and the index stays. Ports upstream's
+    /// `call_indexer_get`.
     ///
     /// # Errors
     /// At the operator: `ErrorTooManyOperations` where the count has reached the limit, and then
-    /// nothing is changed; `ErrorDataRace` where the cell is held; `ErrorNonPureMethodCallOnConstant`
-    /// for a constant where the indexer is not pure, which is then not called; `ErrorIndexingType`
-    /// where there is no indexer; its own fault, at the operator where it says no position;
-    /// `ErrorDataTooLarge` for a value above a limit.
+    /// nothing is changed; `ErrorDataRace` where the cell is held, or a handle stands in it;
+    /// `ErrorNonPureMethodCallOnConstant` for a constant where the indexer is not pure, which is then
+    /// not called; `ErrorIndexingType` where there is no indexer; its own fault, at the operator where
+    /// it says no position; `ErrorDataTooLarge` for a value above a limit.
     pub fn call_indexer_get<T: NativeTable<H>>(
         &self,
         alloc: Global,
@@ -91,22 +253,33 @@ impl<H: Host> Engine<H> {
         index: &mut Dynamic<H>,
         pos: Position,
     ) -> Result<Dynamic<H>, EvalAltResult<H>>
-        requires { LendsNoHandle global.old object.old }
-        ensures calls { Calls self.now.limits H.name_of T.natives T.state (reading index.old pos) by_itself
-            global.old table.old object.old global.new table.new object.new result }
+        ensures ends { (scope : _) (this : _) → EndsFrom (under H.name_of self.now T.natives)
+            (get_core (item_by index.old pos true))
+            (state_of (T.state table.old) global.old scope (with_place this (Some object.old))) result
+            (state_of (T.state table.new) global.new scope (with_place this (Some object.new))) }
+        ensures kept { (scope : _) (this : _) → Kept (under H.name_of self.now T.natives)
+            (state_of (T.state table.old) global.old scope (with_place this (Some object.old)))
+            (state_of (T.state table.new) global.new scope (with_place this (Some object.new))) }
         ensures index { index.new ≡ index.old }
         ensures caches { _caches.new ≡ _caches.old }
+        ensures search { global.new.always_search_scope ≡ global.old.always_search_scope }
     {
-        indexers::call_indexer_get(alloc, &self.limits, global, table, object, index, pos)
+        let limits = &self.limits;
+        let search = global.always_search_scope;
+        let result = ask_get(limits, alloc, global, table, object, index, pos);
+        global.always_search_scope = search;
+        result
     }
 
     /// Charges a call of the indexer that writes at the operator, and calls it. Answers its value
     /// too, and whether it may have changed the object. An object that is a handle of a cell stands
-    /// for the cell's value, and the cell is held so long. Ports upstream's `call_indexer_set`, with
-    /// `is_ref_mut` for whether the object is lent. Asked: no handle stands in the cell of an object.
+    /// for the cell's value, and the cell is held so long. What the indexer leaves of the object stands
+    /// there on every way out, and the index and the new value stay. Ports upstream's
+    /// `call_indexer_set`; `is_ref_mut` says that the object is a place of the caller, and a constant
+    /// there is kept from an indexer that is not pure.
     ///
     /// # Errors
-    /// Those of `call_indexer_get`; a constant is refused where it is lent.
+    /// Those of `call_indexer_get`; a constant is refused where it is a place of the caller.
     pub fn call_indexer_set<T: NativeTable<H>>(
         &self,
         alloc: Global,
@@ -119,24 +292,24 @@ impl<H: Host> Engine<H> {
         is_ref_mut: bool,
         pos: Position,
     ) -> Result<(Dynamic<H>, bool), EvalAltResult<H>>
-        requires { LendsNoHandle global.old object.old }
-        ensures calls { Calls self.now.limits H.name_of T.natives T.state
-            (writing index.old new_val.old is_ref_mut pos) beside_change
-            global.old table.old object.old global.new table.new object.new result }
+        ensures ends { (scope : _) (this : _) → EndsMarked (under H.name_of self.now T.natives)
+            (set_core false (item_by index.old pos is_ref_mut) new_val.old)
+            (state_of (T.state table.old) global.old scope (with_place this (Some object.old))) result
+            (state_of (T.state table.new) global.new scope (with_place this (Some object.new))) }
+        ensures kept { (scope : _) (this : _) → Kept (under H.name_of self.now T.natives)
+            (state_of (T.state table.old) global.old scope (with_place this (Some object.old)))
+            (state_of (T.state table.new) global.new scope (with_place this (Some object.new))) }
         ensures index { index.new ≡ index.old }
         ensures new_val { new_val.new ≡ new_val.old }
         ensures caches { _caches.new ≡ _caches.old }
+        ensures search { global.new.always_search_scope ≡ global.old.always_search_scope }
     {
-        indexers::call_indexer_set(
-            alloc,
-            &self.limits,
-            global,
-            table,
-            object,
-            index,
-            new_val,
-            is_ref_mut,
-            pos,
-        )
+        let limits = &self.limits;
+        let search = global.always_search_scope;
+        let result = ask_set(
+            limits, alloc, global, table, object, index, new_val, is_ref_mut, pos,
+        );
+        global.always_search_scope = search;
+        result
     }
 }

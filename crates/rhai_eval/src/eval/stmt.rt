@@ -1,29 +1,195 @@
-//! Statements. Ports upstream's `eval/stmt.rs`; the contracts speak of the machine's runs.
+//! Statements, and assignment to what a target shows. Ports upstream's `eval/stmt.rs`; the contracts
+//! speak of the machine's runs and of specs/Assigned.antt.
 
-ghost use Rattle.std.specs.Prelude.{◌≡◌, ◌≤◌, OnOk, IsTrue, length, map};
+ghost use Rattle.std.specs.Prelude.{◌≡◌, ◌≤◌, OnOk, IsTrue, Some, length, map};
 ghost use Rattle.rhai_check.specs.Frame.{resolves_stmt, all_resolve};
 ghost use Rattle.rhai_check.specs.Names.{Begins};
+ghost use Rattle.rhai_values.specs.Cells.{IsNoHandle};
 ghost use Rattle.rhai_state.specs.Native.{was};
 ghost use Rattle.rhai_state.specs.Scope.{names_in};
+ghost use Rattle.rhai_places.specs.Targets.{IsFit};
 ghost use Rattle.rhai_machine.specs.language.Frames.{Exec, Enter};
+ghost use Rattle.rhai_machine.specs.language.Setting.{rules_of};
 ghost use Rattle.rhai_steps.specs.States.{holding, state_of};
 ghost use Rattle.rhai_laws.specs.Kept.{Kept};
-ghost use Rattle.rhai_eval.specs.Ends.{EndsAs};
+ghost use Rattle.rhai_methods.specs.Methods.{lending};
+ghost use Rattle.rhai_methods.specs.Targets.{ComesBack, StaysAlike, stands};
+ghost use Rattle.rhai_chains.specs.Chains.{FollowsFrom};
+ghost use Rattle.rhai_eval.specs.Assigned.{assigned, target_assigned, value_assigned, without_value};
+ghost use Rattle.rhai_eval.specs.Ends.{EndsAs, EndsAssigned};
+ghost use Rattle.rhai_eval.specs.Places.{with_place};
 ghost use Rattle.rhai_eval.specs.Plain.{Plain};
 ghost use Rattle.rhai_eval.specs.States.{under};
 
 use crate::engine::Engine;
+use rhai_assign::focus::assign_focus;
 use rhai_context::{give_back, take};
+use rhai_places::target::{Part, Target};
 use rhai_state::caches::Caches;
 use rhai_state::error::EvalAltResult;
+use rhai_state::limits::Limits;
 use rhai_state::scope::Scope;
 use rhai_state::state::GlobalRuntimeState;
 use rhai_state::table::NativeTable;
-use rhai_tree::expr::Stmt;
+use rhai_steps::values::let_go;
+use rhai_tree::expr::{Expr, OpAssignment, Stmt};
+use rhai_tree::position::Position;
 use rhai_values::base::value::{Dynamic, Host};
 use std::alloc::Global;
 
+/// What an assignment comes to, without the value that it answers.
+fn without_answer<H: Host>(
+    outcome: Result<Dynamic<H>, EvalAltResult<H>>,
+) -> Result<(), EvalAltResult<H>>
+    ensures { result ≡ without_value outcome }
+{
+    match outcome {
+        Ok(value) => {
+            let_go(value);
+            Ok(())
+        }
+        Err(error) => Err(error),
+    }
+}
+
+/// Assigns to a value in its place.
+fn assign_value<H: Host, T: NativeTable<H>>(
+    limits: &Limits,
+    fast: bool,
+    alloc: Global,
+    global: &mut GlobalRuntimeState<H>,
+    table: &mut T,
+    place: &mut Dynamic<H>,
+    root: &Expr,
+    op: OpAssignment,
+    value: Dynamic<H>,
+) -> Result<(), EvalAltResult<H>>
+    ensures follows { (offer : _) (scope : _) (held : _) → offer.fast_operators ≡ fast →
+        let rules = rules_of limits.now H.name_of offer T.natives in
+        FollowsFrom rules (value_assigned rules.setting root.now (record { op = op; value = value }))
+        (state_of (T.state table.old) global.old scope (lending held place.old))
+        (assigned result) (state_of (T.state table.new) global.new scope (lending held place.new)) }
+{
+    let answer = assign_focus(limits, alloc, global, table, place, root, op, value, fast);
+    without_answer(answer)
+}
+
+/// Puts an assigned part back into its place, unless the assignment failed.
+fn put_assigned<H: Host>(
+    alloc: Global,
+    target: &mut Target<'_, H>,
+    outcome: Result<(), EvalAltResult<H>>,
+    pos: Position,
+) -> Result<(), EvalAltResult<H>>
+    requires fit { IsFit target.old.part target.old.at.now }
+    ensures same_reference { target.new.at.ghost_name ≡ target.old.at.ghost_name }
+    ensures part { target.new.part ≡ target.old.part }
+    ensures comes { ComesBack H.name_of target.old.part target.old.at.now pos (assigned outcome)
+        (assigned result) target.new.at.now }
+{
+    match outcome {
+        Ok(()) => target.propagate_changed_value(alloc, pos),
+        Err(error) => Err(error),
+    }
+}
+
+/// Assigns to what a target shows, and puts a part back into its place.
+fn assign_target<H: Host, T: NativeTable<H>>(
+    limits: &Limits,
+    fast: bool,
+    alloc: Global,
+    global: &mut GlobalRuntimeState<H>,
+    table: &mut T,
+    target: &mut Target<'_, H>,
+    root: &Expr,
+    op: OpAssignment,
+    value: Dynamic<H>,
+) -> Result<(), EvalAltResult<H>>
+    requires fit { IsFit target.old.part target.old.at.now }
+    ensures same_reference { target.new.at.ghost_name ≡ target.old.at.ghost_name }
+    ensures part { StaysAlike target.old.part target.old.at.now target.new.part target.new.at.now }
+    ensures follows { (offer : _) (scope : _) (held : _) → offer.fast_operators ≡ fast →
+        let rules = rules_of limits.now H.name_of offer T.natives in
+        FollowsFrom rules (target_assigned rules.setting root.now (record { op = op; value = value })
+        target.old.part target.old.at.now)
+        (state_of (T.state table.old) global.old scope
+        (lending held (stands target.old.part target.old.at.now)))
+        (assigned result) (state_of (T.state table.new) global.new scope
+        (lending held (stands target.new.part target.new.at.now))) }
+{
+    match &mut target.part {
+        Part::Whole => {
+            let place = &mut *target.at;
+            assign_value(limits, fast, alloc, global, table, place, root, op, value)
+        }
+        Part::Temporary(temporary) => assign_value(
+            limits, fast, alloc, global, table, temporary, root, op, value,
+        ),
+        Part::Of(_, shown) => {
+            let outcome = assign_value(limits, fast, alloc, global, table, shown, root, op, value);
+            put_assigned(alloc, target, outcome, op.position)
+        }
+    }
+}
+
 impl<H: Host> Engine<H> {
+    /// Assigns to what a target shows: a value as it is, or by an operator, for which the built-in is tried
+    /// first under fast operators, then the native `op=`, which may change the value in its place, and
+    /// where that is missing the native `op`, which gives the new one. A place or a temporary that is a
+    /// handle stands for the value of its cell. A part is put back into its place; after an error the place
+    /// of a part is as it was. The root of the chain tells which constant it is that may not be assigned
+    /// to. What was assigned to is not measured here. Ports upstream's `eval_op_assignment`.
+    ///
+    /// Asked: a part that its place has, and a value to assign that is no handle of a cell. No function of a
+    /// script is called.
+    ///
+    /// # Errors
+    /// At the root's start: `ErrorAssignmentToConstant` for a constant, and `ErrorDataRace` for the handle
+    /// of a cell that is held. At the operator: what the operator answers, with `ErrorTooManyOperations`
+    /// where the count has reached the limit, `ErrorDataTooLarge` for what it gave, and
+    /// `ErrorMismatchDataType` for a part that has become of another type, whose place then stays. At the
+    /// root `ErrorDataTooLarge` for what a native left in the target, or gave for it.
+    pub fn eval_op_assignment<T: NativeTable<H>>(
+        &self,
+        alloc: Global,
+        global: &mut GlobalRuntimeState<H>,
+        _caches: &mut Caches<H>,
+        table: &mut T,
+        op_info: &OpAssignment,
+        root: &Expr,
+        target: &mut Target<'_, H>,
+        new_val: Dynamic<H>,
+    ) -> Result<(), EvalAltResult<H>>
+        requires fit { IsFit target.old.part target.old.at.now }
+        requires value { IsNoHandle new_val.value }
+        ensures ends { (scope : _) (this : _) → let rules = under H.name_of self.now T.natives in
+            EndsAssigned rules (target_assigned rules.setting root.now
+            (record { op = op_info.now; value = new_val }) target.old.part target.old.at.now)
+            (state_of (T.state table.old) global.old scope
+            (with_place this (Some (stands target.old.part target.old.at.now)))) result
+            (state_of (T.state table.new) global.new scope
+            (with_place this (Some (stands target.new.part target.new.at.now)))) }
+        ensures kept { (scope : _) (this : _) → Kept (under H.name_of self.now T.natives)
+            (state_of (T.state table.old) global.old scope
+            (with_place this (Some (stands target.old.part target.old.at.now))))
+            (state_of (T.state table.new) global.new scope
+            (with_place this (Some (stands target.new.part target.new.at.now)))) }
+        ensures same_reference { target.new.at.ghost_name ≡ target.old.at.ghost_name }
+        ensures part { StaysAlike target.old.part target.old.at.now target.new.part target.new.at.now }
+        ensures caches { _caches.new ≡ _caches.old }
+        ensures search { global.new.always_search_scope ≡ global.old.always_search_scope }
+    {
+        let limits = &self.limits;
+        let fast = self.fast_operators;
+        let op = *op_info;
+        let search = global.always_search_scope;
+        let result = assign_target(
+            limits, fast, alloc, global, table, target, root, op, new_val,
+        );
+        global.always_search_scope = search;
+        result
+    }
+
     /// What a statement does, charged first at its position; in a list that restores, `rewind_scope`
     /// is set. Ports upstream's `eval_stmt`.
     ///

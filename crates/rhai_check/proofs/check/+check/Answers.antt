@@ -1,17 +1,24 @@
 use Rattle.std.proofs.Common.{◌≡◌, ap, ◌∙◌, sym, rules, refl, ◌++◌, true, arith, length, ◌≤◌}
 use Rattle.rhai_tree.specs.declared.expr.Expr.TheOpen as layer
-use Rattle.rhai_tree.specs.declared.expr.Expr.TheVariants.{outs-Variable, outs-Or}
-use Rattle.rhai_tree.specs.declared.expr.Stmt.TheVariants.{outs-If, outs-Noop, outs-While}
+use Rattle.rhai_tree.specs.declared.expr.Expr.TheVariants.{outs-Variable, outs-Or, outs-Dot, outs-Index, outs-DynamicConstant}
+use Rattle.rhai_tree.specs.declared.expr.Expr.TheVariants.{outs-BoolConstant, outs-IntegerConstant, outs-CharConstant}
+use Rattle.rhai_tree.specs.declared.expr.Expr.TheVariants.{outs-StringConstant, outs-Unit}
+use Rattle.rhai_tree.specs.declared.expr.Stmt.TheVariants.{outs-If, outs-Noop, outs-While, outs-Assignment}
 use Rattle.rhai_check.specs.Context.{around}
-use Rattle.rhai_check.specs.Frame.{tests_of}
-use Rattle.rhai_check.specs.WellFormed.{seen_expr}
+use Rattle.rhai_check.specs.Frame.{tests_of, dot_resolves, name_resolves}
+use Rattle.rhai_check.specs.Forms.{ends_chain}
+use Rattle.rhai_check.specs.Reading.{faulty, sound, found_behind_bracket}
+use Rattle.rhai_check.specs.WellFormed.{seen_expr, dot_faults}
 use Rattle.rhai_check.specs.Names.{is_good}
 use Rattle.std.proofs.lemmas.Grind.{common_steps}
+use Rattle.std.proofs.lemmas.List.{append-nil}
+use Rattle.rhai_check.proofs.Chains.{bracket_same, named_alone, named_apart, and_true, passes_as, runs_as, refused_as}
+use Rattle.rhai_check.proofs.Chains.{chain_passes, chain_runs, chain_refused, rest_refused}
 use Rattle.rhai_check.proofs.Offsets.{variable_above}
-use Rattle.rhai_check.proofs.Outcome.{given_ok, err_then, exact_expr_at, exact_stmt_at, resolved_expr_at, refused_expr_at}
+use Rattle.rhai_check.proofs.Outcome.{given_ok, err_then, runs_at, exact_expr_at, exact_stmt_at, resolved_expr_at, refused_expr_at}
 use Rattle.rhai_check.proofs.Outcome.{target_refused, exported_refused, var_passes, var_runs, control_passes, control_refused, loop_passes}
 use Rattle.rhai_check.proofs.Refused.{refused, refuses_expr, refuses_stmt, refuses_first, refuses_later}
-use Rattle.rhai_check.proofs.Walk.{refuses_stmt_at, resolves-expr, resolves-stmt}
+use Rattle.rhai_check.proofs.Walk.{refuses_expr_at, refuses_stmt_at, resolves-expr, resolves-stmt}
 use Rattle.rhai_check.proofs.MapKeys.{map_passes, map_runs, map_refused, keys_refused}
 use Rattle.rhai_check.proofs.check.+check.Goals as goal
 
@@ -159,3 +166,148 @@ pub expr::check_map-returns-in-Ok-false-clause-refused : goal.expr::check_map-re
 expr::check_map-returns-in-Ok-false-clause-refused t c =
     keys_refused c.args.entries.now c.args.template.now.0 c.args.pos (around c.args.names.now c.args.place)
     (sym c.in-Ok-false.field-0-test ∙ c.in-Ok-false.ensures)
+
+pub chain::check_behind_dot-returns-then-ends-clause-refused : goal.chain::check_behind_dot-returns-then-ends-clause-refused
+chain::check_behind_dot-returns-then-ends-clause-refused t c =
+    refused_as _ _ _ _ (named_alone faulty append-nil c.args.ends (seen_expr c.args.rhs.now).link c.args.pos
+    (around c.args.names.now c.args.place) c.if-ends.true) c.check_named.ensures.refused
+
+pub chain::check_behind_dot-returns-in_err-check_named-in-Dot-clause-refused :
+    goal.chain::check_behind_dot-returns-in_err-check_named-in-Dot-clause-refused
+chain::check_behind_dot-returns-in_err-check_named-in-Dot-clause-refused t c =
+    refused _ _ _ _ c.from_residual.ensures
+    (chain_refused c.args.rhs.now c.in-Dot.first c.in-Dot.rest (layer.Dot c.in-Dot.first c.in-Dot.rest c.in-Dot.options c.in-Dot.dot)
+    c.args.ends (dot_faults (ends_chain c.in-Dot.options) (seen_expr c.in-Dot.rest).link c.in-Dot.dot) _ c.args.pos
+    (around c.args.names.now c.args.place) c.if-ends.false (rw (c.in-Dot.is, outs-Dot) refl) refl refl _
+    (rw c.get.ensures at c.in_err-check_named-in-Dot.ensures.refused))
+
+pub chain::check_behind_dot-returns-in_err-check_named-in-Index-clause-refused :
+    goal.chain::check_behind_dot-returns-in_err-check_named-in-Index-clause-refused
+chain::check_behind_dot-returns-in_err-check_named-in-Index-clause-refused t c =
+    refused _ _ _ _ c.from_residual-in_err-check_named-in-Index.ensures
+    (chain_refused c.args.rhs.now c.in-Index.first c.in-Index.rest
+    (layer.Index c.in-Index.first c.in-Index.rest c.in-Index.field-2 c.in-Index.field-3)
+    c.args.ends _ _ c.args.pos
+    (around c.args.names.now c.args.place) c.if-ends.false (rw (c.in-Index.is, outs-Index) refl) refl refl _
+    (rw c.get-in-Index.ensures at c.in_err-check_named-in-Index.ensures.refused))
+
+pub chain::check_behind_dot-returns-in_ok-check_named-in-Dot-clause-refused :
+    goal.chain::check_behind_dot-returns-in_ok-check_named-in-Dot-clause-refused
+chain::check_behind_dot-returns-in_ok-check_named-in-Dot-clause-refused t c =
+    err_then _ (λ e h. rest_refused c.args.rhs.now c.in-Dot.first c.in-Dot.rest
+    (layer.Dot c.in-Dot.first c.in-Dot.rest c.in-Dot.options c.in-Dot.dot)
+    c.args.ends (dot_faults (ends_chain c.in-Dot.options) (seen_expr c.in-Dot.rest).link c.in-Dot.dot) _ c.args.pos
+    (around c.args.names.now c.args.place) c.if-ends.false (rw (c.in-Dot.is, outs-Dot) refl) refl refl e
+    (rw c.get.ensures at c.in_ok-check_named-in-Dot.ensures.exact) h)
+    (rw (c.in_ok-check_named-in-Dot.ensures.same, c.ends_chain.ensures, c.get-in-Dot.ensures) at c.check_behind_dot.ensures.refused)
+
+pub chain::check_behind_dot-returns-in_ok-check_named-in-Index-clause-exact :
+    goal.chain::check_behind_dot-returns-in_ok-check_named-in-Index-clause-exact
+chain::check_behind_dot-returns-in_ok-check_named-in-Index-clause-exact t c =
+    chain_passes c.args.rhs.now c.in-Index.first c.in-Index.rest
+    (layer.Index c.in-Index.first c.in-Index.rest c.in-Index.field-2 c.in-Index.field-3)
+    c.args.ends _ _ c.args.pos
+    (around c.args.names.now c.args.place) c.if-ends.false (rw (c.in-Index.is, outs-Index) refl) refl _
+    (rw c.get-in-Index.ensures at c.in_ok-check_named-in-Index.ensures.exact)
+    (passes_as _ _ _ (bracket_same faulty (ends_chain c.in-Index.field-2) c.in-Index.rest (around c.args.names.now c.args.place))
+    (rw (c.in_ok-check_named-in-Index.ensures.same, c.get-in-Index-2.ensures) at c.check_expr.ensures.exact))
+
+pub chain::check_behind_dot-returns-in_ok-check_named-in-Index-clause-resolved :
+    goal.chain::check_behind_dot-returns-in_ok-check_named-in-Index-clause-resolved
+chain::check_behind_dot-returns-in_ok-check_named-in-Index-clause-resolved t c =
+    chain_runs _ c.args.rhs.now c.in-Index.first
+    (layer.Index c.in-Index.first c.in-Index.rest c.in-Index.field-2 c.in-Index.field-3)
+    c.args.ends _ _ c.args.pos c.args.names.now c.if-ends.false (rw (c.in-Index.is, outs-Index) refl) refl
+    (rw c.get-in-Index.ensures at c.in_ok-check_named-in-Index.ensures.resolved)
+    (runs_as _ (tests_of c.in-Index.rest).value (found_behind_bracket sound (ends_chain c.in-Index.field-2)
+    (tests_of c.in-Index.rest).link (tests_of c.in-Index.rest).value) c.args.names.now
+    (bracket_same sound (ends_chain c.in-Index.field-2) c.in-Index.rest)
+    (rw (c.in_ok-check_named-in-Index.ensures.same, c.get-in-Index-2.ensures) at c.check_expr.ensures.resolved))
+
+pub chain::check_behind_dot-returns-in_ok-check_named-in-Index-clause-refused :
+    goal.chain::check_behind_dot-returns-in_ok-check_named-in-Index-clause-refused
+chain::check_behind_dot-returns-in_ok-check_named-in-Index-clause-refused t c =
+    err_then _ (λ e h. rest_refused c.args.rhs.now c.in-Index.first c.in-Index.rest
+    (layer.Index c.in-Index.first c.in-Index.rest c.in-Index.field-2 c.in-Index.field-3)
+    c.args.ends _ _ c.args.pos
+    (around c.args.names.now c.args.place) c.if-ends.false (rw (c.in-Index.is, outs-Index) refl) refl refl e
+    (rw c.get-in-Index.ensures at c.in_ok-check_named-in-Index.ensures.exact) h)
+    (refused_as _ _ _ _ (bracket_same faulty (ends_chain c.in-Index.field-2) c.in-Index.rest (around c.args.names.now c.args.place))
+    (rw (c.in_ok-check_named-in-Index.ensures.same, c.get-in-Index-2.ensures) at c.check_expr.ensures.refused))
+
+pub chain::check_behind_dot-returns-in_default : goal.chain::check_behind_dot-returns-in_default
+chain::check_behind_dot-returns-in_default t c = record {
+  same = c.check_named-in_default.ensures.same;
+  exact = passes_as _ _ _ (named_apart faulty append-nil c.args.rhs.now c.args.ends c.args.pos (around c.args.names.now c.args.place)
+      c.if-ends.false c.in_default.not-Dot c.in_default.not-Index) c.check_named-in_default.ensures.exact;
+  resolved = runs_as _ (name_resolves (tests_of c.args.rhs.now).link c.args.pos)
+      (dot_resolves c.args.ends (tests_of c.args.rhs.now).link c.args.pos) c.args.names.now
+      (λ ns. named_apart sound and_true c.args.rhs.now c.args.ends c.args.pos ns c.if-ends.false c.in_default.not-Dot
+      c.in_default.not-Index) c.check_named-in_default.ensures.resolved;
+  refused = refused_as _ _ _ _ (named_apart faulty append-nil c.args.rhs.now c.args.ends c.args.pos
+      (around c.args.names.now c.args.place) c.if-ends.false c.in_default.not-Dot c.in_default.not-Index)
+      c.check_named-in_default.ensures.refused;
+}
+
+pub expr::check_expr-returns-in_err-check_expr-in-Dot-clause-refused : goal.expr::check_expr-returns-in_err-check_expr-in-Dot-clause-refused
+expr::check_expr-returns-in_err-check_expr-in-Dot-clause-refused t c =
+    refused _ _ _ _ c.from_residual.ensures
+    (refuses_expr_at c.args.expr.now (layer.Dot c.in-Dot.lhs c.in-Dot.rhs c.in-Dot.options c.in-Dot.pos)
+    (around c.args.names.now c.args.place) _ (rw (c.in-Dot.is, outs-Dot) refl)
+    (refuses_first _ _ _ _ _ (rw c.get-in-Dot.ensures at c.in_err-check_expr-in-Dot.ensures.refused)))
+
+pub expr::check_expr-returns-in-DynamicConstant-clause-resolved : goal.expr::check_expr-returns-in-DynamicConstant-clause-resolved
+expr::check_expr-returns-in-DynamicConstant-clause-resolved t c base =
+    runs_at c.args.expr.now (layer.DynamicConstant c.in-DynamicConstant.field-0 c.in-DynamicConstant.field-1) (base ++ c.args.names.now)
+    (rw (c.in-DynamicConstant.is, outs-DynamicConstant) refl) refl
+
+pub expr::check_expr-returns-in-BoolConstant-clause-resolved : goal.expr::check_expr-returns-in-BoolConstant-clause-resolved
+expr::check_expr-returns-in-BoolConstant-clause-resolved t c base =
+    runs_at c.args.expr.now (layer.BoolConstant c.in-BoolConstant.field-0 c.in-BoolConstant.field-1) (base ++ c.args.names.now)
+    (rw (c.in-BoolConstant.is, outs-BoolConstant) refl) refl
+
+pub expr::check_expr-returns-in-IntegerConstant-clause-resolved : goal.expr::check_expr-returns-in-IntegerConstant-clause-resolved
+expr::check_expr-returns-in-IntegerConstant-clause-resolved t c base =
+    runs_at c.args.expr.now (layer.IntegerConstant c.in-IntegerConstant.field-0 c.in-IntegerConstant.field-1) (base ++ c.args.names.now)
+    (rw (c.in-IntegerConstant.is, outs-IntegerConstant) refl) refl
+
+pub expr::check_expr-returns-in-CharConstant-clause-resolved : goal.expr::check_expr-returns-in-CharConstant-clause-resolved
+expr::check_expr-returns-in-CharConstant-clause-resolved t c base =
+    runs_at c.args.expr.now (layer.CharConstant c.in-CharConstant.field-0 c.in-CharConstant.field-1) (base ++ c.args.names.now)
+    (rw (c.in-CharConstant.is, outs-CharConstant) refl) refl
+
+pub expr::check_expr-returns-in-StringConstant-clause-resolved : goal.expr::check_expr-returns-in-StringConstant-clause-resolved
+expr::check_expr-returns-in-StringConstant-clause-resolved t c base =
+    runs_at c.args.expr.now (layer.StringConstant c.in-StringConstant.field-0 c.in-StringConstant.field-1) (base ++ c.args.names.now)
+    (rw (c.in-StringConstant.is, outs-StringConstant) refl) refl
+
+pub expr::check_expr-returns-in-Unit-clause-resolved : goal.expr::check_expr-returns-in-Unit-clause-resolved
+expr::check_expr-returns-in-Unit-clause-resolved t c base =
+    runs_at c.args.expr.now (layer.Unit c.in-Unit.field-0) (base ++ c.args.names.now) (rw (c.in-Unit.is, outs-Unit) refl) refl
+
+pub expr::check_expr-returns-in_ok-check_expr-in-Index-clause-refused :
+    goal.expr::check_expr-returns-in_ok-check_expr-in-Index-clause-refused
+expr::check_expr-returns-in_ok-check_expr-in-Index-clause-refused t c =
+    err_then _ (λ e h. refuses_expr_at c.args.expr.now
+    (layer.Index c.in-Index.lhs c.in-Index.rhs c.in-Index.field-2 c.in-Index.field-3)
+    (around c.args.names.now c.args.place) e (rw (c.in-Index.is, outs-Index) refl)
+    (refuses_later _ _ _ _ e (rw c.get-in-Index.ensures at c.in_ok-check_expr-in-Index.ensures.exact) h))
+    (refused_as _ _ _ _ (bracket_same faulty (ends_chain c.in-Index.field-2) c.in-Index.rhs (around c.args.names.now c.args.place))
+    (rw (c.in_ok-check_expr-in-Index.ensures.same, c.get-in-Index-2.ensures) at c.check_expr-in-Index-2.ensures.refused))
+
+pub stmt::check_stmt-returns-in_err-check_target-in-Assignment-clause-refused :
+    goal.stmt::check_stmt-returns-in_err-check_target-in-Assignment-clause-refused
+stmt::check_stmt-returns-in_err-check_target-in-Assignment-clause-refused t c =
+    refused _ _ _ _ c.from_residual-in_err-check_target-in-Assignment.ensures
+    (refuses_stmt_at c.args.stmt.now (layer.Assignment c.in-Assignment.field-0 c.in-Assignment.lhs c.in-Assignment.rhs)
+    (around c.args.names.now c.args.place) _ (rw (c.in-Assignment.is, outs-Assignment) refl)
+    (refuses_first _ _ _ _ _ c.in_err-check_target-in-Assignment.ensures.refused))
+
+pub stmt::check_stmt-returns-in_ok-check_target-in-Assignment-clause-refused :
+    goal.stmt::check_stmt-returns-in_ok-check_target-in-Assignment-clause-refused
+stmt::check_stmt-returns-in_ok-check_target-in-Assignment-clause-refused t c =
+    err_then _ (λ e h. refuses_stmt_at c.args.stmt.now
+    (layer.Assignment c.in-Assignment.field-0 c.in-Assignment.lhs c.in-Assignment.rhs)
+    (around c.args.names.now c.args.place) e (rw (c.in-Assignment.is, outs-Assignment) refl)
+    (refuses_later _ _ _ _ e c.in_ok-check_target-in-Assignment.ensures.exact h))
+    (rw c.in_ok-check_target-in-Assignment.ensures.same at c.check_expr-in-Assignment.ensures.refused)

@@ -1,4 +1,5 @@
 mod Calls
+mod Chains
 mod Choices
 mod Data
 mod Expressions
@@ -9,6 +10,7 @@ mod Statements
 use Rattle.rhai_cycle.proofs.evaluator.Evaluator.+eval.Goals as goal
 use Rattle.rhai_cycle.proofs.evaluator.Evaluator.+eval.Answers.Expressions as expressions
 use Rattle.rhai_cycle.proofs.evaluator.Evaluator.+eval.Answers.Calls as calls
+use Rattle.rhai_cycle.proofs.evaluator.Evaluator.+eval.Answers.Chains as chains
 use Rattle.rhai_cycle.proofs.evaluator.Evaluator.+eval.Answers.Statements as statements
 use Rattle.rhai_cycle.proofs.evaluator.Evaluator.+eval.Answers.Choices as choices
 use Rattle.rhai_cycle.proofs.evaluator.Evaluator.+eval.Answers.Data as making
@@ -90,6 +92,9 @@ run_stmt-returns-in-Block-clause-runs = statements.run_stmt-returns-in-Block-cla
 
 pub run_stmt-returns-in-If-clause-runs : goal.run_stmt-returns-in-If-clause-runs
 run_stmt-returns-in-If-clause-runs = statements.run_stmt-returns-in-If-clause-runs
+
+pub run_stmt-run_assignment-requires : goal.run_stmt-run_assignment-requires
+run_stmt-run_assignment-requires = statements.run_stmt-run_assignment-requires
 
 pub run_stmt-returns-in-Assignment-clause-runs : goal.run_stmt-returns-in-Assignment-clause-runs
 run_stmt-returns-in-Assignment-clause-runs = statements.run_stmt-returns-in-Assignment-clause-runs
@@ -614,3 +619,114 @@ run_next_arg-returns-in_err-value-clause-takes = functions.run_next_arg-returns-
 
 pub run_next_arg-returns-clause-takes : goal.run_next_arg-returns-clause-takes
 run_next_arg-returns-clause-takes = functions.run_next_arg-returns-clause-takes
+
+pub run_chain-run_root-result-requires : goal.run_chain-run_root-result-requires
+run_chain-run_root-result-requires = chains.run_chain-run_root-result-requires
+
+pub run_chain-returns-in-Ok-clause-runs : goal.run_chain-returns-in-Ok-clause-runs
+run_chain-returns-in-Ok-clause-runs = chains.run_chain-returns-in-Ok-clause-runs
+
+pub run_chain-returns-in-Err-clause-runs : goal.run_chain-returns-in-Err-clause-runs
+run_chain-returns-in-Err-clause-runs = chains.run_chain-returns-in-Err-clause-runs
+
+pub run_chain_args-ready_args-requires : goal.run_chain_args-ready_args-requires
+run_chain_args-ready_args-requires = chains.run_chain_args-ready_args-requires
+
+pub run_chain_args-run_link_args-requires : goal.run_chain_args-run_link_args-requires
+run_chain_args-run_link_args-requires = chains.run_chain_args-run_link_args-requires
+
+pub run_chain_args-returns-in-Some-clause-asked : goal.run_chain_args-returns-in-Some-clause-asked
+run_chain_args-returns-in-Some-clause-asked = chains.run_chain_args-returns-in-Some-clause-asked
+
+pub run_chain_args-returns-in-Some-clause-opens : goal.run_chain_args-returns-in-Some-clause-opens
+run_chain_args-returns-in-Some-clause-opens = chains.run_chain_args-returns-in-Some-clause-opens
+
+pub run_chain_args-returns-in-None-clause-asked : goal.run_chain_args-returns-in-None-clause-asked
+run_chain_args-returns-in-None-clause-asked = chains.run_chain_args-returns-in-None-clause-asked
+
+pub run_chain_args-returns-in-None-clause-opens : goal.run_chain_args-returns-in-None-clause-opens
+run_chain_args-returns-in-None-clause-opens = chains.run_chain_args-returns-in-None-clause-opens
+
+pub run_link_args-unreachable-requires : goal.run_link_args-unreachable-requires
+run_link_args-unreachable-requires = chains.run_link_args-unreachable-requires
+
+pub run_link_args-run_more_args-requires : goal.run_link_args-run_more_args-requires
+run_link_args-run_more_args-requires = chains.run_link_args-run_more_args-requires
+
+pub run_link_args-run_link_args-requires : goal.run_link_args-run_link_args-requires
+run_link_args-run_link_args-requires = chains.run_link_args-run_link_args-requires
+
+pub run_link_args-returns-in-Err-clause-gathers : goal.run_link_args-returns-in-Err-clause-gathers
+run_link_args-returns-in-Err-clause-gathers = chains.run_link_args-returns-in-Err-clause-gathers
+
+pub run_link_args-returns-in_err-values-clause-gathers : goal.run_link_args-returns-in_err-values-clause-gathers
+run_link_args-returns-in_err-values-clause-gathers = chains.run_link_args-returns-in_err-values-clause-gathers
+
+pub run_link_args-returns-in-Some-behind-clause-gathers : goal.run_link_args-returns-in-Some-behind-clause-gathers
+run_link_args-returns-in-Some-behind-clause-gathers = chains.run_link_args-returns-in-Some-behind-clause-gathers
+
+pub run_link_args-returns-in-Some-behind-clause-asked : goal.run_link_args-returns-in-Some-behind-clause-asked
+run_link_args-returns-in-Some-behind-clause-asked = chains.run_link_args-returns-in-Some-behind-clause-asked
+
+pub run_link_args-returns-in-None-clause-gathers : goal.run_link_args-returns-in-None-clause-gathers
+run_link_args-returns-in-None-clause-gathers = chains.run_link_args-returns-in-None-clause-gathers
+
+pub run_link_args-returns-in-None-clause-asked : goal.run_link_args-returns-in-None-clause-asked
+run_link_args-returns-in-None-clause-asked = chains.run_link_args-returns-in-None-clause-asked
+
+pub run_root-walk_value-requires : goal.run_root-walk_value-requires
+run_root-walk_value-requires = chains.run_root-walk_value-requires
+
+pub run_root-returns-in_err-value-clause-runs : goal.run_root-returns-in_err-value-clause-runs
+run_root-returns-in_err-value-clause-runs = chains.run_root-returns-in_err-value-clause-runs
+
+pub run_root-returns-in_default-clause-runs : goal.run_root-returns-in_default-clause-runs
+run_root-returns-in_default-clause-runs = chains.run_root-returns-in_default-clause-runs
+
+pub run_root-returns-in-Err-clause-runs : goal.run_root-returns-in-Err-clause-runs
+run_root-returns-in-Err-clause-runs = chains.run_root-returns-in-Err-clause-runs
+
+pub run_root-walk_variable-requires-clause-good : goal.run_root-walk_variable-requires-clause-good
+run_root-walk_variable-requires-clause-good = chains.run_root-walk_variable-requires-clause-good
+
+pub run_root-returns-clause-runs : goal.run_root-returns-clause-runs
+run_root-returns-clause-runs = chains.run_root-returns-clause-runs
+
+pub assign_chain-unreachable-requires : goal.assign_chain-unreachable-requires
+assign_chain-unreachable-requires = chains.assign_chain-unreachable-requires
+
+pub assign_chain-run_chain-requires : goal.assign_chain-run_chain-requires
+assign_chain-run_chain-requires = chains.assign_chain-run_chain-requires
+
+pub assign_chain-returns-in_err-value-clause-runs : goal.assign_chain-returns-in_err-value-clause-runs
+assign_chain-returns-in_err-value-clause-runs = chains.assign_chain-returns-in_err-value-clause-runs
+
+pub assign_chain-returns-in_err-value-2-clause-runs : goal.assign_chain-returns-in_err-value-2-clause-runs
+assign_chain-returns-in_err-value-2-clause-runs = chains.assign_chain-returns-in_err-value-2-clause-runs
+
+pub assign_chain-returns-in_err-left-clause-runs : goal.assign_chain-returns-in_err-left-clause-runs
+assign_chain-returns-in_err-left-clause-runs = chains.assign_chain-returns-in_err-left-clause-runs
+
+pub assign_chain-returns-clause-runs : goal.assign_chain-returns-clause-runs
+assign_chain-returns-clause-runs = chains.assign_chain-returns-clause-runs
+
+pub run_expr-run_chain-requires : goal.run_expr-run_chain-requires
+run_expr-run_chain-requires = chains.run_expr-run_chain-requires
+
+pub run_expr-run_chain-requires-in-Index : goal.run_expr-run_chain-requires-in-Index
+run_expr-run_chain-requires-in-Index = chains.run_expr-run_chain-requires-in-Index
+
+pub run_expr-returns-in-Dot-clause-runs : goal.run_expr-returns-in-Dot-clause-runs
+run_expr-returns-in-Dot-clause-runs = chains.run_expr-returns-in-Dot-clause-runs
+
+pub run_expr-returns-in-Index-clause-runs : goal.run_expr-returns-in-Index-clause-runs
+run_expr-returns-in-Index-clause-runs = chains.run_expr-returns-in-Index-clause-runs
+
+pub assign_value-assign_chain-requires : goal.assign_value-assign_chain-requires
+assign_value-assign_chain-requires = chains.assign_value-assign_chain-requires
+
+pub run_more_args-returns-clause-more : goal.run_more_args-returns-clause-more
+run_more_args-returns-clause-more = functions.run_more_args-returns-clause-more
+
+pub run_next_arg-returns-clause-more : goal.run_next_arg-returns-clause-more
+run_next_arg-returns-clause-more = functions.run_next_arg-returns-clause-more

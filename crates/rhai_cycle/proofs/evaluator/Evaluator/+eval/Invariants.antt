@@ -1,4 +1,4 @@
-use Rattle.std.specs.Prelude.{◌≡◌, ◌≤◌, ◌+◌, ◌*◌, ◌-◌, ℕ, List, [], drop, map}
+use Rattle.std.specs.Prelude.{◌≡◌, ◌≤◌, ◌+◌, ◌*◌, ◌-◌, ℕ, List, [], drop, length, map}
 use Rattle.std.specs.String.{string_bytes}
 use Rattle.rhai_check.specs.Frame.{resolves_stmt, all_resolve}
 use Rattle.rhai_check.specs.Keys.{key_of}
@@ -99,10 +99,25 @@ abbrev pub decreases-run_condition : goal.decreases-run_condition
 decreases-run_condition g l = 16 * left l.self.now l.run.now + 2
 
 abbrev pub decreases-assign_value : goal.decreases-assign_value
-decreases-assign_value g l = 16 * left l.self.now l.run.now + 3
+decreases-assign_value g l = 16 * left l.self.now l.run.now + 8
+
+abbrev pub decreases-assign_chain : goal.decreases-assign_chain
+decreases-assign_chain g l = 16 * left l.self.now l.run.now + 7
+
+abbrev pub decreases-run_chain : goal.decreases-run_chain
+decreases-run_chain g l = 16 * left l.self.now l.run.now + 6
+
+abbrev pub decreases-run_chain_args : goal.decreases-run_chain_args
+decreases-run_chain_args g l = 16 * left l.self.now l.run.now + 5
+
+abbrev pub decreases-run_link_args : goal.decreases-run_link_args
+decreases-run_link_args g l = 16 * left l.self.now l.run.now + 4
+
+abbrev pub decreases-run_root : goal.decreases-run_root
+decreases-run_root g l = 16 * left l.self.now l.run.now + 3
 
 abbrev pub decreases-run_assignment : goal.decreases-run_assignment
-decreases-run_assignment g l = 16 * left l.self.now l.run.now + 4
+decreases-run_assignment g l = 16 * left l.self.now l.run.now + 9
 
 abbrev pub decreases-run_while : goal.decreases-run_while
 decreases-run_while g l = 16 * left l.self.now l.run.now + 6
@@ -202,6 +217,7 @@ abbrev pub invariant-run_more_args-each_arg : goal.invariant-run_more_args-each_
 invariant-run_more_args-each_arg g l = record {
   counts : l.fn.run.global.num_operations ≤ l.run.global.num_operations;
   names : names l.run ≡ names l.fn.run;
+  more : length l.values + length (drop l.arg-index l.args) ≡ length l.fn.made + length l.args;
   steps : (purpose : Purpose g.row.H.Denot) → flattens purpose ≡ l.flattened → (k : List (Frame g.row.H.Denot)) →
       Goes (under g.H.Host.name_of l.self g.T.NativeTable.natives)
       (with_core (arguments_core (under g.H.Host.name_of l.self g.T.NativeTable.natives).setting purpose l.fn.made l.args k

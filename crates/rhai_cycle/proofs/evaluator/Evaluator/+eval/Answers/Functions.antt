@@ -21,6 +21,7 @@ use Rattle.rhai_cycle.proofs.NameLemmas.{first_resolves, part_resolves}
 use Rattle.rhai_cycle.proofs.Chain.{drop_item, drop_all}
 use Rattle.rhai_cycle.proofs.CallSteps.{begins_call, by_name, by_number, charged_on, counted, named_alone, named_so, refused_on, takes_told, worded}
 use Rattle.rhai_cycle.proofs.CallSteps.{calls_fails, calls_goes, curries_fails, curries_goes, defined_fails, defined_goes, made_fails, made_goes}
+use Rattle.rhai_cycle.proofs.ChainSteps.{kept_more}
 use Rattle.rhai_cycle.proofs.evaluator.Evaluator.+eval.Goals as goal
 
 -- a call by name, or of a keyword
@@ -388,7 +389,7 @@ run_more_args-run_next_arg-requires g t c =
     )
 
 pub run_more_args-each_arg-init : goal.run_more_args-each_arg-init
-run_more_args-each_arg-init g t c = record { counts = omega arith; names = refl; steps = λ purpose is k. here }
+run_more_args-each_arg-init g t c = record { counts = omega arith; names = refl; more = refl; steps = λ purpose is k. here }
 
 pub run_more_args-each_arg-preserved : goal.run_more_args-each_arg-preserved
 unfolding TakesNext
@@ -396,6 +397,12 @@ run_more_args-each_arg-preserved g t c =
     record {
       counts = omega (arith, c.each_arg.invariant.counts, c.in-Ok.ensures.counts);
       names = c.in-Ok.ensures.names ∙ c.each_arg.invariant.names;
+      more = omega (
+        arith,
+        c.each_arg.invariant.more,
+        c.in-Ok.ensures.more,
+        ap length (drop_item _ _ _ c.each_arg-test.true c.arg-item.is),
+      );
       steps = λ purpose is k. c.each_arg.invariant.steps purpose is k ⨾ rw (drop_item _ _ _ c.each_arg-test.true c.arg-item.is)
           (c.in-Ok.ensures.takes purpose is _ k);
     }
@@ -410,6 +417,14 @@ pub run_more_args-returns-clause-collects : goal.run_more_args-returns-clause-co
 unfolding Collects
 run_more_args-returns-clause-collects g t c purpose is k =
     c.each_arg.invariant.steps purpose is k ⨾ rw (drop_all _ _ c.each_arg-test.false) here
+
+pub run_more_args-returns-clause-more : goal.run_more_args-returns-clause-more
+run_more_args-returns-clause-more g t c =
+    omega (arith, c.each_arg.invariant.more, ap length (drop_all c.args.args.now c.each_arg.arg-index c.each_arg-test.false))
+
+pub run_next_arg-returns-clause-more : goal.run_next_arg-returns-clause-more
+run_next_arg-returns-clause-more g t c =
+    kept_more c.take_argument.result _ c.args.made.now c.take_argument.new.made c.take_argument.ensures.kept
 
 pub run_next_arg-returns-in_err-value-clause-takes : goal.run_next_arg-returns-in_err-value-clause-takes
 unfolding after Steps TakesNext

@@ -6,6 +6,7 @@ use Rattle.rhai_tree.specs.declared.expr.Expr.TheVariants as exprs
 use Rattle.rhai_tree.specs.declared.expr.Stmt.TheVariants as stmts
 use Rattle.rhai_tree.specs.declared.expr.Expr.TheViews.{the_lemmas}
 use Rattle.rhai_check.specs.Frame.{resolves_stmt}
+use Rattle.rhai_state.specs.declared.state.GlobalRuntimeState.{GlobalRuntimeState}
 use Rattle.rhai_machine.specs.machine.Point.{after}
 use Rattle.rhai_machine.specs.machine.Memory.{here, next, ◌⨾◌}
 use Rattle.rhai_machine.specs.language.Frames.{StatementValue, DefineValue, IfCondition, RestOfList, RestoreList, AssignValue}
@@ -18,7 +19,7 @@ use Rattle.rhai_operands.specs.Tests.{Tests}
 use Rattle.rhai_operands.proofs.Names.{good_target, plain_target}
 use Rattle.rhai_assign.proofs.Prepared.{begins_assignment}
 use Rattle.rhai_cycle.proofs.Conditions.{chooses}
-use Rattle.rhai_cycle.proofs.NameLemmas.{plain_return, plain_var, names_restored, rest_resolves, any_item}
+use Rattle.rhai_cycle.proofs.NameLemmas.{plain_return, plain_var, names_restored, rest_resolves, sides_resolve, any_item}
 use Rattle.rhai_cycle.proofs.Chain.{flat_fails, on_ok_given, drop_item, drop_all, begins_stmt, on_ok, opens_stmt}
 use Rattle.rhai_cycle.proofs.Chain.{refuses_stmt, restores, enters_empty, enters_plain, enters_restoring, is_empty_list, is_not_empty}
 use Rattle.rhai_cycle.proofs.Chain.{left_state, not_declared, begins_value, defines}
@@ -67,6 +68,19 @@ run_stmt-returns-in-If-clause-runs g t c =
     let rules = under g.H.Host.name_of c.args.self.now g.T.NativeTable.natives in
     opens_stmt rules _ c.args.run.now.global c.track_operation.new.global _ _ c.in_ok-track_operation.ensures.room
     c.in_ok-track_operation.ensures.charged _ _ _ _ _ c.run_if.ensures.runs (rw (c.in-If.is, stmts.outs-If) refl)
+
+pub run_stmt-run_assignment-requires : goal.run_stmt-run_assignment-requires
+run_stmt-run_assignment-requires g t c =
+    let sides = sides_resolve c.args.stmt.now c.in-Assignment.op c.in-Assignment.lhs c.in-Assignment.rhs (names c.args.run.now)
+    (rw (c.in-Assignment.is, stmts.outs-Assignment) refl) c.requires.resolves in
+    λ κs lives. (
+      omega (
+        arith,
+        c.in_ok-track_operation.ensures.room,
+        ap (λ (global : GlobalRuntimeState _). global.num_operations) c.in_ok-track_operation.ensures.charged,
+      ),
+      (lives.0, (lives.1, (sides.0, sides.1))),
+    )
 
 pub run_stmt-returns-in-Assignment-clause-runs : goal.run_stmt-returns-in-Assignment-clause-runs
 run_stmt-returns-in-Assignment-clause-runs g t c =

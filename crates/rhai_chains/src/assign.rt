@@ -1,0 +1,624 @@
+//! The end of a chain that is assigned to: a place or a part that an index or a key leads to, or a member.
+//! Ports what upstream's `eval_dot_index_chain_raw` does with a new value. The contracts cite
+//! specs/Assigned.antt.
+
+ghost use Rattle.std.specs.Prelude.{◌≡◌, ◌≤◌, ◌↔◌, [], false, true, Ok, Err, IfErr, IfOk, IsTrue, None, Some};
+ghost use Rattle.rhai_tree.specs.declared.expr.Expr.{out-Expr};
+ghost use Rattle.rhai_tree.specs.Positions.{start_of};
+ghost use Rattle.rhai_values.specs.Cells.{cells_of};
+ghost use Rattle.rhai_values.specs.Layers.{layer_of};
+ghost use Rattle.rhai_state.specs.Errors.{is_out_of_memory};
+ghost use Rattle.rhai_state.specs.declared.error.EvalAltResult.TheVariants as error;
+ghost use Rattle.rhai_places.specs.Parts.{IsPart, IsPlace, part_of, value_at};
+ghost use Rattle.rhai_machine.specs.language.Chains.{assign_focus as assign_focus_core, spot_core};
+ghost use Rattle.rhai_machine.specs.language.Chains.{assign_member as assign_member_core};
+ghost use Rattle.rhai_machine.specs.language.Chains.{assign_spot as assign_spot_core};
+ghost use Rattle.rhai_machine.specs.language.Chains.{is_property as is_of_property};
+ghost use Rattle.rhai_machine.specs.language.Links.{name_in};
+ghost use Rattle.rhai_machine.specs.language.Located.{bars_key as is_barred, is_place_spot};
+ghost use Rattle.rhai_machine.specs.language.Located.{lacks_key as is_lacking};
+ghost use Rattle.rhai_machine.specs.language.Setting.{rules_of};
+ghost use Rattle.rhai_machine.specs.language.State.{Answers};
+ghost use Rattle.rhai_machine.specs.language.Unwinding.{looked_at};
+ghost use Rattle.rhai_machine.specs.language.Values.{unit_value as unit};
+ghost use Rattle.rhai_steps.specs.States.{state_of};
+ghost use Rattle.rhai_calls.specs.Marks.{with_mark};
+ghost use Rattle.rhai_methods.specs.Methods.{lending, RunsFrom};
+ghost use Rattle.rhai_chains.specs.Assigned.{item_assigned, measured_as, none_got, property_assigned};
+ghost use Rattle.rhai_chains.specs.Assigned.{set_last, value_got, value_operated};
+ghost use Rattle.rhai_chains.specs.Assigned.{FollowsUnless, GoesIn, IsKept};
+ghost use Rattle.rhai_chains.specs.Chains.{chain_at, FollowsFrom, HasSwitches, link_seen, new_value};
+ghost use Rattle.rhai_chains.specs.Members.{access_of};
+
+use crate::chain::{NewValue, Switches};
+use crate::links::{Link, LinkForm};
+use crate::members::{Member, MemberAccess, get_member, lacks_indexer, set_member};
+use crate::spots::{find_spot, way_by};
+use rhai_assign::focus::{assign_focus, assign_inserted};
+use rhai_items::{Shared, Text};
+use rhai_places::part::read_part;
+use rhai_places::place::place_mut;
+use rhai_places::put::put_part;
+use rhai_places::spot::Spot;
+use rhai_state::error::EvalAltResult;
+use rhai_state::limits::Limits;
+use rhai_state::state::GlobalRuntimeState;
+use rhai_state::table::NativeTable;
+use rhai_steps::errors::{assignment_to_constant, data_too_large};
+use rhai_steps::replies::sized;
+use rhai_steps::values::{let_go, unit_value};
+use rhai_tree::expr::Expr;
+use rhai_tree::position::Position;
+use rhai_values::base::value::{AccessMode, Dynamic, Host, Union};
+use rhai_values::cells::CellStore;
+use std::alloc::Global;
+
+/// A constant without a name that is assigned to.
+#[cold]
+#[inline(never)]
+fn nameless_constant<H>(alloc: Global, pos: Position) -> EvalAltResult<H>
+    ensures { is_out_of_memory result ≡ false → result ≡ error.ErrorAssignmentToConstant [] pos }
+{
+    match Shared::new(alloc, Text::new(alloc)) {
+        Ok(name) => EvalAltResult::ErrorAssignmentToConstant(name, pos),
+        Err(_) => EvalAltResult::ErrorOutOfMemory(pos),
+    }
+}
+
+/// A constant that a chain assigns to, with the name of the chain's root.
+#[cold]
+#[inline(never)]
+fn constant_of<H>(alloc: Global, root: &Expr) -> EvalAltResult<H>
+    ensures { is_out_of_memory result ≡ false → result ≡ error.ErrorAssignmentToConstant
+        (name_in (out-Expr root.now)) (start_of root.now) }
+{
+    let pos = root.start_position();
+    match root {
+        Expr::Variable { name, .. } => assignment_to_constant(name, pos),
+        _ => nameless_constant(alloc, pos),
+    }
+}
+
+/// Whether a value is a map that does not have a key.
+fn lacks_key<H>(source: &Dynamic<H>, index: &Dynamic<H>) -> bool
+    ensures { result ≡ is_lacking (layer_of source.now) (layer_of index.now) }
+{
+    match (&source.value, &index.value) {
+        (Union::Map(entries), Union::Str(key)) => entries.get().find(key.get().as_str()).is_err(),
+        _ => false,
+    }
+}
+
+/// Whether a value is a map that may not be changed and does not have a key.
+fn bars_key<H>(source: &Dynamic<H>, index: &Dynamic<H>) -> bool
+    ensures { result ≡ is_barred source.now index.now }
+{
+    matches!(source.mode, AccessMode::ReadOnly) && lacks_key(source, index)
+}
+
+/// Whether a value is a `()` that may be changed, as a key has it that was inserted.
+fn is_plain_unit<H>(value: &Dynamic<H>) -> bool
+    ensures { IsTrue result ↔ (value.now ≡ unit) }
+{
+    match &value.value {
+        Union::Unit => matches!(value.mode, AccessMode::ReadWrite),
+        _ => false,
+    }
+}
+
+/// A value as it is measured: that of its cell where it is a handle, unless the cell is held.
+fn looked_through<'a, H>(cells: &'a CellStore<H>, value: &'a Dynamic<H>) -> &'a Dynamic<H>
+    ensures { result.now ≡ looked_at (cells_of cells.now) value.now }
+{
+    match &value.value {
+        Union::Cell(id) => match cells.get(*id) {
+            Some(inner) => inner,
+            None => value,
+        },
+        _ => value,
+    }
+}
+
+/// What an assignment ends with, once what it assigned to is measured: `()`, marked.
+fn measure<H: Host>(
+    limits: &Limits,
+    alloc: Global,
+    value: &Dynamic<H>,
+    pos: Position,
+) -> Result<(Dynamic<H>, bool), EvalAltResult<H>>
+    ensures { Answers result (measured_as limits.now value.now pos) }
+{
+    match value.exceeds(
+        limits.max_string_size,
+        limits.max_array_size,
+        limits.max_map_size,
+    ) {
+        None => Ok((unit_value(), true)),
+        Some(fault) => Err(data_too_large(alloc, fault, pos)),
+    }
+}
+
+/// The same through a handle, unless the assignment failed.
+fn measured<H: Host>(
+    limits: &Limits,
+    alloc: Global,
+    cells: &CellStore<H>,
+    target: &Dynamic<H>,
+    outcome: Result<Dynamic<H>, EvalAltResult<H>>,
+    pos: Position,
+) -> Result<(Dynamic<H>, bool), EvalAltResult<H>>
+    ensures fits { IfOk outcome (λ _. Answers result
+        (measured_as limits.now (looked_at (cells_of cells.now) target.now) pos)) }
+    ensures fault { IfErr outcome (λ e. result ≡ Err e) }
+{
+    let_go(outcome?);
+    measure(limits, alloc, looked_through(cells, target), pos)
+}
+
+/// Assigns to a value. A `()` may be a key's that was inserted: there memory is wanting only where the
+/// machine wants it.
+fn assign_to<H: Host, T: NativeTable<H>>(
+    limits: &Limits,
+    fast: bool,
+    alloc: Global,
+    global: &mut GlobalRuntimeState<H>,
+    table: &mut T,
+    target: &mut Dynamic<H>,
+    root: &Expr,
+    new: NewValue<H>,
+) -> Result<Dynamic<H>, EvalAltResult<H>>
+    ensures counts { global.old.num_operations ≤ global.new.num_operations }
+    ensures runs { (offer : _) (scope : _) (held : _) → offer.fast_operators ≡ fast →
+        let rules = rules_of limits.now H.name_of offer T.natives in
+        FollowsUnless (target.old ≡ unit) rules (assign_focus_core rules.setting root.now (new_value new))
+        (state_of (T.state table.old) global.old scope (lending held target.old))
+        (with_mark false result) (state_of (T.state table.new) global.new scope (lending held target.new)) }
+{
+    let NewValue { op, value } = new;
+    if is_plain_unit(target) {
+        return assign_inserted(limits, alloc, global, table, target, root, op, value, fast);
+    }
+    assign_focus(limits, alloc, global, table, target, root, op, value, fast)
+}
+
+/// Assigns to an item, which is measured then.
+fn assign_item<H: Host, T: NativeTable<H>>(
+    limits: &Limits,
+    fast: bool,
+    alloc: Global,
+    global: &mut GlobalRuntimeState<H>,
+    table: &mut T,
+    source: &mut Dynamic<H>,
+    spot: Spot,
+    root: &Expr,
+    new: NewValue<H>,
+) -> Result<(Dynamic<H>, bool), EvalAltResult<H>>
+    requires { IsPlace (layer_of source.old) spot }
+    ensures counts { global.old.num_operations ≤ global.new.num_operations }
+    ensures runs { (offer : _) (scope : _) (held : _) → offer.fast_operators ≡ fast →
+        let rules = rules_of limits.now H.name_of offer T.natives in
+        FollowsUnless (value_at source.old spot ≡ Some unit) rules
+        (item_assigned rules.setting root.now (new_value new) spot source.old)
+        (state_of (T.state table.old) global.old scope (lending held source.old))
+        result (state_of (T.state table.new) global.new scope (lending held source.new)) }
+{
+    let pos = new.op.position;
+    let place = place_mut(&mut source.value, spot);
+    let outcome = assign_to(limits, fast, alloc, global, table, place, root, new);
+    measured(limits, alloc, &global.cells, place, outcome, pos)
+}
+
+/// Assigns to a property of a map, which is measured then.
+fn assign_property<H: Host, T: NativeTable<H>>(
+    limits: &Limits,
+    fast: bool,
+    alloc: Global,
+    global: &mut GlobalRuntimeState<H>,
+    table: &mut T,
+    source: &mut Dynamic<H>,
+    spot: Spot,
+    root: &Expr,
+    new: NewValue<H>,
+) -> Result<(Dynamic<H>, bool), EvalAltResult<H>>
+    requires { IsPlace (layer_of source.old) spot }
+    ensures counts { global.old.num_operations ≤ global.new.num_operations }
+    ensures runs { (offer : _) (scope : _) (held : _) → offer.fast_operators ≡ fast →
+        let rules = rules_of limits.now H.name_of offer T.natives in
+        FollowsUnless (value_at source.old spot ≡ Some unit) rules
+        (property_assigned rules.setting root.now (new_value new) spot source.old)
+        (state_of (T.state table.old) global.old scope (lending held source.old))
+        result (state_of (T.state table.new) global.new scope (lending held source.new)) }
+{
+    let pos = new.op.position;
+    let place = place_mut(&mut source.value, spot);
+    let outcome = assign_to(limits, fast, alloc, global, table, place, root, new);
+    measured(limits, alloc, &global.cells, source, outcome, pos)
+}
+
+/// An assigned part goes back into its place, and is measured then. What is refused leaves the place.
+fn put_assigned<H: Host>(
+    limits: &Limits,
+    alloc: Global,
+    source: &mut Dynamic<H>,
+    spot: Spot,
+    part: &Dynamic<H>,
+    pos: Position,
+) -> Result<(Dynamic<H>, bool), EvalAltResult<H>>
+    requires { IsPart (layer_of source.old) spot }
+    ensures { GoesIn limits.now H.name_of source.old spot part.now pos source.new result }
+{
+    match put_part(alloc, source, spot, part, pos) {
+        Ok(()) => measure(limits, alloc, part, pos),
+        Err(refusal) => Err(refusal),
+    }
+}
+
+/// Assigns to a part that was read.
+fn assign_read<H: Host, T: NativeTable<H>>(
+    limits: &Limits,
+    fast: bool,
+    alloc: Global,
+    global: &mut GlobalRuntimeState<H>,
+    table: &mut T,
+    source: &mut Dynamic<H>,
+    spot: Spot,
+    part: Dynamic<H>,
+    root: &Expr,
+    new: NewValue<H>,
+) -> Result<(Dynamic<H>, bool), EvalAltResult<H>>
+    requires there { IsPart (layer_of source.old) spot }
+    requires read { part ≡ part_of source.old spot }
+    ensures counts { global.old.num_operations ≤ global.new.num_operations }
+    ensures runs { (offer : _) (scope : _) (held : _) (link : _) → offer.fast_operators ≡ fast →
+        let rules = rules_of limits.now H.name_of offer T.natives in
+        FollowsFrom rules (assign_spot_core rules.setting false spot link root.now (new_value new) source.old)
+        (state_of (T.state table.old) global.old scope (lending held source.old))
+        result (state_of (T.state table.new) global.new scope (lending held source.new)) }
+{
+    let NewValue { op, value } = new;
+    let pos = op.position;
+    let mut part = part;
+    match assign_focus(
+        limits, alloc, global, table, &mut part, root, op, value, fast,
+    ) {
+        Ok(done) => {
+            let_go(done);
+            put_assigned(limits, alloc, source, spot, &part, pos)
+        }
+        Err(error) => Err(error),
+    }
+}
+
+/// Assigns to a part, which goes back into its place and is measured.
+fn assign_part<H: Host, T: NativeTable<H>>(
+    limits: &Limits,
+    fast: bool,
+    alloc: Global,
+    global: &mut GlobalRuntimeState<H>,
+    table: &mut T,
+    source: &mut Dynamic<H>,
+    spot: Spot,
+    root: &Expr,
+    new: NewValue<H>,
+) -> Result<(Dynamic<H>, bool), EvalAltResult<H>>
+    requires { IsPart (layer_of source.old) spot }
+    ensures counts { global.old.num_operations ≤ global.new.num_operations }
+    ensures runs { (offer : _) (scope : _) (held : _) (link : _) → offer.fast_operators ≡ fast →
+        let rules = rules_of limits.now H.name_of offer T.natives in
+        FollowsFrom rules (assign_spot_core rules.setting false spot link root.now (new_value new) source.old)
+        (state_of (T.state table.old) global.old scope (lending held source.old))
+        result (state_of (T.state table.new) global.new scope (lending held source.new)) }
+{
+    match read_part(alloc, source, spot) {
+        Ok(part) => assign_read(
+            limits, fast, alloc, global, table, source, spot, part, root, new,
+        ),
+        Err(_) => {
+            let pos = new.op.position;
+            let_go(new.value);
+            Err(EvalAltResult::ErrorOutOfMemory(pos))
+        }
+    }
+}
+
+/// Assigns to a place, by the form of the link that leads there.
+fn assign_place<H: Host, T: NativeTable<H>>(
+    limits: &Limits,
+    fast: bool,
+    alloc: Global,
+    global: &mut GlobalRuntimeState<H>,
+    table: &mut T,
+    source: &mut Dynamic<H>,
+    spot: Spot,
+    link: Link<'_>,
+    root: &Expr,
+    new: NewValue<H>,
+) -> Result<(Dynamic<H>, bool), EvalAltResult<H>>
+    requires { IsPlace (layer_of source.old) spot }
+    ensures counts { global.old.num_operations ≤ global.new.num_operations }
+    ensures runs { (offer : _) (scope : _) (held : _) → offer.fast_operators ≡ fast →
+        let rules = rules_of limits.now H.name_of offer T.natives in
+        FollowsUnless (value_at source.old spot ≡ Some unit) rules
+        (assign_spot_core rules.setting true spot (link_seen link.entry) root.now (new_value new) source.old)
+        (state_of (T.state table.old) global.old scope (lending held source.old))
+        result (state_of (T.state table.new) global.new scope (lending held source.new)) }
+{
+    match link.form {
+        LinkForm::Property(..) => assign_property(
+            limits, fast, alloc, global, table, source, spot, root, new,
+        ),
+        LinkForm::Index(_) => assign_item(
+            limits, fast, alloc, global, table, source, spot, root, new,
+        ),
+        LinkForm::Method(..) => assign_item(
+            limits, fast, alloc, global, table, source, spot, root, new,
+        ),
+    }
+}
+
+/// Whether a value stands at a spot.
+fn is_place(spot: Spot) -> bool
+    ensures { result ≡ is_place_spot spot }
+{
+    matches!(spot, Spot::Item(_) | Spot::Value(_))
+}
+
+/// Assigns to a spot that was found.
+fn assign_spot<H: Host, T: NativeTable<H>>(
+    limits: &Limits,
+    fast: bool,
+    alloc: Global,
+    global: &mut GlobalRuntimeState<H>,
+    table: &mut T,
+    source: &mut Dynamic<H>,
+    spot: Spot,
+    link: Link<'_>,
+    root: &Expr,
+    new: NewValue<H>,
+) -> Result<(Dynamic<H>, bool), EvalAltResult<H>>
+    requires { IsKept (layer_of source.old) spot }
+    ensures counts { global.old.num_operations ≤ global.new.num_operations }
+    ensures runs { (offer : _) (scope : _) (held : _) → offer.fast_operators ≡ fast →
+        let rules = rules_of limits.now H.name_of offer T.natives in
+        FollowsUnless (value_at source.old spot ≡ Some unit) rules
+        (assign_spot_core rules.setting (is_place_spot spot) spot (link_seen link.entry) root.now
+        (new_value new) source.old)
+        (state_of (T.state table.old) global.old scope (lending held source.old))
+        result (state_of (T.state table.new) global.new scope (lending held source.new)) }
+{
+    if is_place(spot) {
+        return assign_place(
+            limits, fast, alloc, global, table, source, spot, link, root, new,
+        );
+    }
+    assign_part(limits, fast, alloc, global, table, source, spot, root, new)
+}
+
+/// Assigns to what an index or a key leads to: a place, which is measured then, or of a property its map; or
+/// a part, which goes back into its place and is measured. A key that is missing is inserted, but a map that
+/// may not be changed gets none. The answer is `()`, marked.
+///
+/// # Errors
+/// Those of `crate::spots::find_spot`; at the root's start `ErrorAssignmentToConstant` for a missing key of a
+/// map that may not be changed, and those of `rhai_assign::focus::assign_focus`; at the operator
+/// `ErrorMismatchDataType` for a part that has become of another type, and `ErrorDataTooLarge`.
+pub fn assign_at<H: Host, T: NativeTable<H>>(
+    limits: &Limits,
+    switches: Switches,
+    alloc: Global,
+    global: &mut GlobalRuntimeState<H>,
+    table: &mut T,
+    source: &mut Dynamic<H>,
+    index: &Dynamic<H>,
+    link: Link<'_>,
+    root: &Expr,
+    new: NewValue<H>,
+) -> Result<(Dynamic<H>, bool), EvalAltResult<H>>
+    ensures counts { global.old.num_operations ≤ global.new.num_operations }
+    ensures runs { (offer : _) (scope : _) (held : _) (rest : _) (args : _) (in_place : _) →
+        HasSwitches offer switches →
+        let rules = rules_of limits.now H.name_of offer T.natives in
+        FollowsFrom rules (spot_core rules.setting None (Some (new_value new)) (link_seen link.entry)
+        index.now (chain_at root.now rest args (Some new) in_place) source.old)
+        (state_of (T.state table.old) global.old scope (lending held source.old))
+        result (state_of (T.state table.new) global.new scope (lending held source.new)) }
+{
+    if bars_key(source, index) {
+        let_go(new.value);
+        return Err(constant_of(alloc, root));
+    }
+    let how = way_by(link, true, switches);
+    match find_spot(alloc, &global.cells, source, index, how) {
+        Ok(spot) => {
+            let fast = switches.fast_operators;
+            assign_spot(
+                limits, fast, alloc, global, table, source, spot, link, root, new,
+            )
+        }
+        Err(error) => {
+            let_go(new.value);
+            Err(error)
+        }
+    }
+}
+
+/// Whether a member is a property.
+fn is_property<H>(access: &MemberAccess<'_, H>) -> bool
+    ensures { result ≡ is_of_property (access_of access.now).member }
+{
+    matches!(access.member, Member::Property(..))
+}
+
+/// What comes of a member that was set at the end of an assignment: of an item `()`, marked.
+fn item_set<H: Host>(
+    answer: Result<(Dynamic<H>, bool), EvalAltResult<H>>,
+) -> Result<(Dynamic<H>, bool), EvalAltResult<H>>
+    ensures set { IfOk answer (λ _. result ≡ Ok (unit, true)) }
+    ensures fault { IfErr answer (λ e. result ≡ Err e) }
+{
+    let (value, _) = answer?;
+    let_go(value);
+    Ok((unit_value(), true))
+}
+
+/// Sets a member at the end of an assignment. What a property's setter gives is the answer.
+fn set_assigned<H: Host, T: NativeTable<H>>(
+    limits: &Limits,
+    alloc: Global,
+    global: &mut GlobalRuntimeState<H>,
+    table: &mut T,
+    focus: &mut Dynamic<H>,
+    access: &mut MemberAccess<'_, H>,
+    value: Dynamic<H>,
+) -> Result<(Dynamic<H>, bool), EvalAltResult<H>>
+    ensures counts { global.old.num_operations ≤ global.new.num_operations }
+    ensures runs { (offer : _) (scope : _) (held : _) →
+        RunsFrom (rules_of limits.now H.name_of offer T.natives) (set_last (access_of access.old) value)
+        (state_of (T.state table.old) global.old scope (lending held focus.old))
+        result (state_of (T.state table.new) global.new scope (lending held focus.new)) }
+{
+    let of_property = is_property(access);
+    let answer = set_member(limits, alloc, global, table, focus, access, value, false);
+    if of_property {
+        answer
+    } else {
+        item_set(answer)
+    }
+}
+
+/// Sets a member to what an operator gave; an item is measured first.
+fn set_operated<H: Host, T: NativeTable<H>>(
+    limits: &Limits,
+    alloc: Global,
+    global: &mut GlobalRuntimeState<H>,
+    table: &mut T,
+    focus: &mut Dynamic<H>,
+    access: &mut MemberAccess<'_, H>,
+    value: Dynamic<H>,
+    pos: Position,
+) -> Result<(Dynamic<H>, bool), EvalAltResult<H>>
+    ensures counts { global.old.num_operations ≤ global.new.num_operations }
+    ensures runs { (offer : _) (scope : _) (held : _) (answer : _) →
+        RunsFrom (rules_of limits.now H.name_of offer T.natives)
+        (value_operated (access_of access.old) value pos answer)
+        (state_of (T.state table.old) global.old scope (lending held focus.old))
+        result (state_of (T.state table.new) global.new scope (lending held focus.new)) }
+{
+    if is_property(access) {
+        return set_assigned(limits, alloc, global, table, focus, access, value);
+    }
+    match sized(alloc, limits, value, pos) {
+        Ok(value) => set_assigned(limits, alloc, global, table, focus, access, value),
+        Err(error) => Err(error),
+    }
+}
+
+/// Operates on the value that was got of a member, and sets the member to it.
+fn operate<H: Host, T: NativeTable<H>>(
+    limits: &Limits,
+    fast: bool,
+    alloc: Global,
+    global: &mut GlobalRuntimeState<H>,
+    table: &mut T,
+    focus: &mut Dynamic<H>,
+    access: &mut MemberAccess<'_, H>,
+    value: Dynamic<H>,
+    root: &Expr,
+    new: NewValue<H>,
+) -> Result<(Dynamic<H>, bool), EvalAltResult<H>>
+    ensures counts { global.old.num_operations ≤ global.new.num_operations }
+    ensures runs { (offer : _) (scope : _) (held : _) → offer.fast_operators ≡ fast →
+        RunsFrom (rules_of limits.now H.name_of offer T.natives)
+        (value_got (access_of access.old) root.now (new_value new) value)
+        (state_of (T.state table.old) global.old scope (lending held focus.old))
+        result (state_of (T.state table.new) global.new scope (lending held focus.new)) }
+{
+    let NewValue { op, value: operand } = new;
+    let mut value = value;
+    match assign_focus(
+        limits, alloc, global, table, &mut value, root, op, operand, fast,
+    ) {
+        Ok(done) => {
+            let_go(done);
+            set_operated(
+                limits,
+                alloc,
+                global,
+                table,
+                focus,
+                access,
+                value,
+                op.position,
+            )
+        }
+        Err(error) => {
+            let_go(value);
+            Err(error)
+        }
+    }
+}
+
+/// Where a member was not got: an item without an indexer is set to the right side as it is.
+fn set_ungot<H: Host, T: NativeTable<H>>(
+    limits: &Limits,
+    alloc: Global,
+    global: &mut GlobalRuntimeState<H>,
+    table: &mut T,
+    focus: &mut Dynamic<H>,
+    access: &mut MemberAccess<'_, H>,
+    error: EvalAltResult<H>,
+    new: NewValue<H>,
+) -> Result<(Dynamic<H>, bool), EvalAltResult<H>>
+    ensures counts { global.old.num_operations ≤ global.new.num_operations }
+    ensures runs { (offer : _) (scope : _) (held : _) (root : _) →
+        RunsFrom (rules_of limits.now H.name_of offer T.natives)
+        (none_got (access_of access.old) root (new_value new) error)
+        (state_of (T.state table.old) global.old scope (lending held focus.old))
+        result (state_of (T.state table.new) global.new scope (lending held focus.new)) }
+{
+    if is_property(access) {
+        let_go(new.value);
+        return Err(error);
+    }
+    if lacks_indexer(&error) {
+        drop(error);
+        return set_assigned(limits, alloc, global, table, focus, access, new.value);
+    }
+    let_go(new.value);
+    Err(error)
+}
+
+/// Assigns to a member of the focus: sets it, or by an operator gets it, operates on what was got, and sets
+/// that.
+pub fn assign_member<H: Host, T: NativeTable<H>>(
+    limits: &Limits,
+    switches: Switches,
+    alloc: Global,
+    global: &mut GlobalRuntimeState<H>,
+    table: &mut T,
+    focus: &mut Dynamic<H>,
+    access: &mut MemberAccess<'_, H>,
+    root: &Expr,
+    new: NewValue<H>,
+) -> Result<(Dynamic<H>, bool), EvalAltResult<H>>
+    ensures counts { global.old.num_operations ≤ global.new.num_operations }
+    ensures runs { (offer : _) (scope : _) (held : _) → HasSwitches offer switches →
+        let rules = rules_of limits.now H.name_of offer T.natives in
+        RunsFrom rules (assign_member_core rules.setting new.op.op (access_of access.old) root.now
+        (new_value new))
+        (state_of (T.state table.old) global.old scope (lending held focus.old))
+        result (state_of (T.state table.new) global.new scope (lending held focus.new)) }
+{
+    match new.op.op {
+        None => set_assigned(limits, alloc, global, table, focus, access, new.value),
+        Some(_) => match get_member(limits, alloc, global, table, focus, access) {
+            Ok((value, _)) => {
+                let fast = switches.fast_operators;
+                operate(
+                    limits, fast, alloc, global, table, focus, access, value, root, new,
+                )
+            }
+            Err(error) => set_ungot(limits, alloc, global, table, focus, access, error, new),
+        },
+    }
+}

@@ -1,0 +1,130 @@
+//! The checker's walk along chains.
+
+ghost use Rattle.std.specs.Prelude.{◌≡◌, ◌++◌, [], IsTrue, IfErr, OnOk, List};
+ghost use Rattle.rhai_check.specs.Context.{around};
+ghost use Rattle.rhai_check.specs.Declares.{declares_expr, declares_call};
+ghost use Rattle.rhai_check.specs.Forms.{ends_chain};
+ghost use Rattle.rhai_check.specs.Frame.{tests_of, resolves_method, dot_resolves, name_resolves};
+ghost use Rattle.rhai_check.specs.Frame.{tested_root, tested_end};
+ghost use Rattle.rhai_check.specs.Names.{Name};
+ghost use Rattle.rhai_check.specs.Refusals.{Refuses};
+ghost use Rattle.rhai_check.specs.WellFormed.{seen_expr, seen_call, dot_faults, name_faults};
+ghost use Rattle.rhai_check.specs.WellFormed.{seen_root, seen_end};
+
+use crate::check::CheckFault;
+use crate::check::expr::{check_expr, check_exprs, is_unqualified};
+use crate::check::place::Place;
+use bitflags::Flags;
+use rhai_items::{Items, Shared, Text};
+use rhai_tree::expr::{Expr, FnCallExpr};
+use rhai_tree::flags::ASTFlags;
+use rhai_tree::position::Position;
+
+/// Whether an operator of a chain ends it: the chain stands in brackets of its own.
+pub(crate) fn ends_chain(options: ASTFlags) -> bool
+    ensures { result ≡ ends_chain options }
+{
+    options.contains(ASTFlags::BREAK)
+}
+
+/// Whether a chain that starts from an expression may be assigned to: it is a variable or `this`.
+pub(crate) fn is_root(expr: &Expr) -> bool
+    ensures seen { result ≡ seen_root (seen_expr expr.now) }
+    ensures tested { result ≡ tested_root (tests_of expr.now) }
+{
+    matches!(expr, Expr::Variable { .. } | Expr::ThisPtr(_))
+}
+
+/// Whether a chain that goes on with an expression ends in a method.
+pub(crate) fn ends_in_method(expr: &Expr) -> bool
+    ensures seen { result ≡ seen_end (seen_expr expr.now).link }
+    ensures tested { result ≡ tested_end (tests_of expr.now).link }
+{
+    match expr {
+        Expr::Dot(_, rhs, options, _) => match rhs.get() {
+            Expr::MethodCall(_, _) => true,
+            rest => !ends_chain(*options) && ends_in_method(rest),
+        },
+        Expr::Index(_, rhs, options, _) => !ends_chain(*options) && ends_in_method(rhs.get()),
+        _ => false,
+    }
+}
+
+/// Passes what stands behind a dot at a position, or answers one of its faults: a property or a
+/// method, or one from which the chain goes on, unless it ends there.
+#[cycle(check)]
+pub(crate) fn check_behind_dot(
+    names: &mut Items<Shared<Text>>,
+    place: Place,
+    rhs: &Expr,
+    ends: bool,
+    pos: Position,
+) -> Result<(), CheckFault>
+    ensures same { OnOk result (names.new ≡ names.old) }
+    ensures exact { OnOk result (dot_faults ends (seen_expr rhs.now).link pos (around names.old place)
+        ≡ []) }
+    ensures resolved { OnOk result ((base : List Name) → IsTrue
+        (dot_resolves ends (tests_of rhs.now).link pos (base ++ names.old))) }
+    ensures refused { IfErr result (λ fault. Refuses (dot_faults ends (seen_expr rhs.now).link pos
+        (around names.old place)) (declares_expr rhs.now) fault) }
+{
+    if ends {
+        return check_named(names, place, rhs, pos);
+    }
+    match rhs {
+        Expr::Dot(first, rest, options, dot) => {
+            check_named(names, place, first.get(), pos)?;
+            check_behind_dot(names, place, rest.get(), ends_chain(*options), *dot)
+        }
+        Expr::Index(first, rest, _, _) => {
+            check_named(names, place, first.get(), pos)?;
+            check_expr(names, place, rest.get())
+        }
+        _ => check_named(names, place, rhs, pos),
+    }
+}
+
+/// Passes a property or a method that begins behind a dot at a position, or answers one of its
+/// faults.
+#[cycle(check)]
+fn check_named(
+    names: &mut Items<Shared<Text>>,
+    place: Place,
+    first: &Expr,
+    pos: Position,
+) -> Result<(), CheckFault>
+    ensures same { OnOk result (names.new ≡ names.old) }
+    ensures exact { OnOk result (name_faults (seen_expr first.now).link pos (around names.old place) ≡ []) }
+    ensures resolved { OnOk result ((base : List Name) → IsTrue
+        (name_resolves (tests_of first.now).link pos (base ++ names.old))) }
+    ensures refused { IfErr result (λ fault. Refuses (name_faults (seen_expr first.now).link pos
+        (around names.old place)) (declares_expr first.now) fault) }
+{
+    match first {
+        Expr::Property(_, _) => Ok(()),
+        Expr::MethodCall(call, name) => check_method(names, place, call, *name),
+        _ => Err(CheckFault::BadChain(pos)),
+    }
+}
+
+/// Passes a method whose name stands at a position, or answers one of its faults.
+#[cycle(check)]
+fn check_method(
+    names: &mut Items<Shared<Text>>,
+    place: Place,
+    call: &FnCallExpr,
+    pos: Position,
+) -> Result<(), CheckFault>
+    ensures same { OnOk result (names.new ≡ names.old) }
+    ensures exact { OnOk result ((seen_call call.now).method pos (around names.old place) ≡ []) }
+    ensures resolved { OnOk result ((base : List Name) → IsTrue
+        (resolves_method call.now pos (base ++ names.old))) }
+    ensures refused { IfErr result (λ fault. Refuses ((seen_call call.now).method pos
+        (around names.old place)) (declares_call call.now) fault) }
+{
+    if is_unqualified(call) {
+        check_exprs(names, place, call.args.as_slice())
+    } else {
+        Err(CheckFault::QualifiedMethod(pos))
+    }
+}

@@ -1,0 +1,409 @@
+use Rattle.std.proofs.Common.{◌≡◌, ◌∷◌, [], false, true, length, Option, Some, None, is_none, is_some, refl, sym, ap, subst, ◌∙◌, arith}
+use Rattle.std.specs.Option.{option_copied, option_map}
+use Rattle.rhai_steps.specs.States.{holding}
+use Rattle.rhai_tree.specs.declared.expr.Expr.{out-Expr}
+use Rattle.rhai_tree.specs.declared.expr.Expr.TheOpen as layer
+use Rattle.rhai_tree.specs.declared.expr.Expr.TheVariants as exprs
+use Rattle.rhai_tree.specs.Layers.{ExprLayer}
+use Rattle.rhai_state.specs.declared.state.GlobalRuntimeState.{GlobalRuntimeState}
+use Rattle.rhai_machine.specs.machine.Point.{after}
+use Rattle.rhai_machine.specs.machine.Memory.{here, next, ◌⨾◌}
+use Rattle.rhai_machine.specs.language.Frames.{AssignChain, AssignedChain, ChainRoot, ReadRoot, RootValue, ToChain, chain_on}
+use Rattle.rhai_machine.specs.language.Arguments.{arguments_core}
+use Rattle.rhai_machine.specs.language.Links.{asked_by, first_in}
+use Rattle.rhai_machine.specs.language.Runs.{Steps}
+use Rattle.rhai_steps.proofs.Pieces.{charged, exits, passed, refused}
+use Rattle.rhai_operands.proofs.Names.{good_name, plain_name}
+use Rattle.rhai_chains.specs.Chains.{chain_at, link_seen, new_of}
+use Rattle.rhai_walk.specs.Roots.{RunsUnder}
+use Rattle.rhai_context.specs.declared.Context.{Context}
+use Rattle.rhai_cycle.specs.Calls.{Collects}
+use Rattle.rhai_cycle.specs.Chains.{Gathers, Opens}
+use Rattle.rhai_cycle.specs.States.{names, offer_of, state_in, under}
+use Rattle.rhai_cycle.proofs.Chain.{begins, flat_fails}
+use Rattle.rhai_cycle.proofs.CallSteps.{charged_on, refused_on}
+use Rattle.rhai_cycle.proofs.ChainLemmas.{has_link, left_chain, link_resolves, may_walk, no_variable}
+use Rattle.rhai_cycle.proofs.ChainLemmas.{RestResolves, root_resolves, target_parts}
+use Rattle.rhai_cycle.proofs.ChainSteps.{arrives_last, arrives_on, asks_further, asks_last, asks_link, begins_chain}
+use Rattle.rhai_cycle.proofs.ChainSteps.{evaluates_root, given_asked, is_given, not_assigned, nothing_there, opens_asking, opens_given}
+use Rattle.rhai_cycle.proofs.ChainSteps.{variable_root, walks_given}
+use Rattle.rhai_cycle.proofs.evaluator.Evaluator.+eval.Goals as goal
+
+-- a chain, its arguments and its root
+
+pub run_chain-run_root-result-requires : goal.run_chain-run_root-result-requires
+run_chain-run_root-result-requires g t c =
+    λ κs lives. (
+      omega (arith, c.in-Ok.ensures.counts),
+      (
+        lives.0,
+        (
+          lives.1,
+          (
+            rw c.in-Ok.ensures.names c.requires.root,
+            (
+              rw c.as_mut_slice.ensures.value
+                  (walks_given _ (out-Expr c.args.chain.now) c.in-Ok.values c.requires.walks c.in-Ok.ensures.asked),
+              c.requires.starts,
+            ),
+          ),
+        ),
+      ),
+    )
+
+pub run_chain-returns-in-Ok-clause-runs : goal.run_chain-returns-in-Ok-clause-runs
+unfolding Steps Opens
+run_chain-returns-in-Ok-clause-runs g t c k =
+    rw c.keep_list.ensures
+    (c.in-Ok.ensures.opens (chain_on c.args.root.now (out-Expr c.args.chain.now) (new_of c.args.new)) refl k
+    ⨾ (rw c.as_mut_slice.ensures.value at c.run_root-result.ensures.runs false) k)
+
+pub run_chain-returns-in-Err-clause-runs : goal.run_chain-returns-in-Err-clause-runs
+unfolding Steps Opens
+run_chain-returns-in-Err-clause-runs g t c k =
+    c.in-Err.ensures.opens (chain_on c.args.root.now (out-Expr c.args.chain.now) (new_of c.args.new)) refl k
+
+pub run_chain_args-ready_args-requires : goal.run_chain_args-ready_args-requires
+run_chain_args-ready_args-requires g t c = is_given c.in-Some.ready _ (rw c.in-Some.is at c.needs_no_step.ensures)
+
+pub run_chain_args-run_link_args-requires : goal.run_chain_args-run_link_args-requires
+run_chain_args-run_link_args-requires g t c =
+    λ κs lives. (
+      omega (arith, ap (λ (r : Context _). r.global.num_operations) c.lend_list-made.ensures.run),
+      (lives.0, (lives.1, rw c.lend_list-made.ensures.run c.requires)),
+    )
+
+pub run_chain_args-returns-in-Some-clause-asked : goal.run_chain_args-returns-in-Some-clause-asked
+run_chain_args-returns-in-Some-clause-asked g t c =
+    given_asked c.in-Some.ready (out-Expr c.args.chain.now) c.ready_args.result (rw c.in-Some.is at c.needs_no_step.ensures)
+    c.ready_args.ensures.given
+
+pub run_chain_args-returns-in-Some-clause-opens : goal.run_chain_args-returns-in-Some-clause-opens
+unfolding Opens
+run_chain_args-returns-in-Some-clause-opens g t c chain whole k =
+    let rules = under g.H.Host.name_of c.args.self.now g.T.NativeTable.natives in
+    rw c.ready_args.ensures.run
+    (opens_given rules chain (out-Expr c.args.chain.now) whole k (state_in (g.T.NativeTable.state c.args.table.now) c.args.run.now)
+    c.in-Some.ready c.ready_args.result (rw c.in-Some.is at c.needs_no_step.ensures) c.ready_args.ensures.given
+    c.ready_args.ensures.refused)
+
+pub run_chain_args-returns-in-None-clause-asked : goal.run_chain_args-returns-in-None-clause-asked
+run_chain_args-returns-in-None-clause-asked g t c = rw c.lend_list-made.ensures.list at c.run_link_args.ensures.asked
+
+pub run_chain_args-returns-in-None-clause-opens : goal.run_chain_args-returns-in-None-clause-opens
+unfolding Opens Gathers
+run_chain_args-returns-in-None-clause-opens g t c chain whole k =
+    let rules = under g.H.Host.name_of c.args.self.now g.T.NativeTable.natives in
+    let there = has_link (out-Expr c.args.chain.now) (names c.args.run.now) c.requires in
+    opens_asking rules chain (out-Expr c.args.chain.now) whole k _ there.0 there.1 (rw c.in-None.is at c.needs_no_step.ensures)
+    ⨾ (rw (c.lend_list-made.ensures.list, c.lend_list-made.ensures.run) at c.run_link_args.ensures.gathers) chain k
+
+-- what the links ask for
+
+pub run_link_args-unreachable-requires : goal.run_link_args-unreachable-requires
+run_link_args-unreachable-requires g t c =
+    link_resolves (out-Expr c.args.chain.now) (names c.args.run.now) None
+    (sym c.link_of.ensures ∙ ap (option_map link_seen) (nothing_there _ c.in_default.not-Some)) c.requires
+
+pub run_link_args-run_more_args-requires : goal.run_link_args-run_more_args-requires
+run_link_args-run_more_args-requires g t c =
+    let found = sym c.link_of.ensures ∙ ap (option_map link_seen) c.in-Some.is in
+    let parts = link_resolves (out-Expr c.args.chain.now) (names c.args.run.now) (Some (link_seen c.in-Some.link)) found c.requires in
+    λ κs lives. (
+      omega (arith, ap (λ (global : GlobalRuntimeState _). global.num_operations) c.in_default-track_operation.ensures.charged),
+      (lives.0, (lives.1, rw c.asked.ensures parts.0)),
+    )
+
+pub run_link_args-run_link_args-requires : goal.run_link_args-run_link_args-requires
+run_link_args-run_link_args-requires g t c =
+    let found = sym c.link_of.ensures ∙ ap (option_map link_seen) c.in-Some.is in
+    let parts = link_resolves (out-Expr c.args.chain.now) (names c.args.run.now) (Some (link_seen c.in-Some.link)) found c.requires in
+    let on : (link_seen c.in-Some.link).behind ≡ Some (out-Expr c.in-Some-behind.rest.now) =
+    ap (λ o. option_map out-Expr (option_copied o)) c.in-Some-behind.is in
+    λ κs lives. (
+      omega (
+        arith,
+        c.in_default-track_operation.ensures.room,
+        ap (λ (global : GlobalRuntimeState _). global.num_operations) c.in_default-track_operation.ensures.charged,
+        c.in_ok-values.ensures.counts,
+      ),
+      (
+        lives.0,
+        (lives.1, rw c.in_ok-values.ensures.names (subst (λ (o : Option ExprLayer). RestResolves o (names c.args.run.now)) on parts.1)),
+      ),
+    )
+
+pub run_link_args-returns-in-Err-clause-gathers : goal.run_link_args-returns-in-Err-clause-gathers
+unfolding Gathers
+run_link_args-returns-in-Err-clause-gathers g t c chain k =
+    let rules = under g.H.Host.name_of c.args.self.now g.T.NativeTable.natives in
+    let link = link_seen c.in-Some.link in
+    let found = sym c.link_of.ensures ∙ ap (option_map link_seen) c.in-Some.is in
+    refused_on rules _ c.args.run.now.global c.track_operation.new.global _ _ _ _ k
+    (λ l. arguments_core rules.setting (ToChain chain link.behind) c.args.made (asked_by link.form) k l)
+    (asks_link rules chain (out-Expr c.args.chain.now) c.args.made link found k _) _
+    c.in-Err.ensures.full c.in-Err.ensures.refused c.in-Err.ensures.same
+
+pub run_link_args-returns-in_err-values-clause-gathers : goal.run_link_args-returns-in_err-values-clause-gathers
+unfolding Gathers Collects
+run_link_args-returns-in_err-values-clause-gathers g t c chain k =
+    let rules = under g.H.Host.name_of c.args.self.now g.T.NativeTable.natives in
+    let link = link_seen c.in-Some.link in
+    let found = sym c.link_of.ensures ∙ ap (option_map link_seen) c.in-Some.is in
+    rw (passed _ c.from_residual.ensures)
+    (charged_on rules _ c.args.run.now.global c.track_operation.new.global _ _ _ _ k
+    (λ l. arguments_core rules.setting (ToChain chain link.behind) c.args.made (asked_by link.form) k l)
+    (asks_link rules chain (out-Expr c.args.chain.now) c.args.made link found k _)
+    c.in_default-track_operation.ensures.room c.in_default-track_operation.ensures.charged
+    ⨾ (rw c.asked.ensures at c.in_err-values.ensures.collects) (ToChain chain link.behind) refl k)
+
+pub run_link_args-returns-in-Some-behind-clause-gathers : goal.run_link_args-returns-in-Some-behind-clause-gathers
+unfolding Gathers Collects
+run_link_args-returns-in-Some-behind-clause-gathers g t c chain k =
+    let rules = under g.H.Host.name_of c.args.self.now g.T.NativeTable.natives in
+    let link = link_seen c.in-Some.link in
+    let found = sym c.link_of.ensures ∙ ap (option_map link_seen) c.in-Some.is in
+    let on : link.behind ≡ Some (out-Expr c.in-Some-behind.rest.now) =
+    ap (λ o. option_map out-Expr (option_copied o)) c.in-Some-behind.is in
+    charged_on rules _ c.args.run.now.global c.track_operation.new.global _ _ _ _ k
+    (λ l. arguments_core rules.setting (ToChain chain link.behind) c.args.made (asked_by link.form) k l)
+    (asks_link rules chain (out-Expr c.args.chain.now) c.args.made link found k _)
+    c.in_default-track_operation.ensures.room c.in_default-track_operation.ensures.charged
+    ⨾ (rw c.asked.ensures at c.in_ok-values.ensures.collects) (ToChain chain link.behind) refl k
+    ⨾ arrives_on rules chain c.in_ok-values.values link.behind k _ (out-Expr c.in-Some-behind.rest.now) on
+    ⨾ c.run_link_args.ensures.gathers chain k
+
+pub run_link_args-returns-in-Some-behind-clause-asked : goal.run_link_args-returns-in-Some-behind-clause-asked
+run_link_args-returns-in-Some-behind-clause-asked g t c =
+    let link = link_seen c.in-Some.link in
+    let found = sym c.link_of.ensures ∙ ap (option_map link_seen) c.in-Some.is in
+    let on : link.behind ≡ Some (out-Expr c.in-Some-behind.rest.now) =
+    ap (λ o. option_map out-Expr (option_copied o)) c.in-Some-behind.is in
+    asks_further c.run_link_args.result (length c.args.made) (length c.in_ok-values.values) (out-Expr c.args.chain.now)
+    (out-Expr c.in-Some-behind.rest.now) link found on (rw c.asked.ensures at c.in_ok-values.ensures.more) c.run_link_args.ensures.asked
+
+pub run_link_args-returns-in-None-clause-gathers : goal.run_link_args-returns-in-None-clause-gathers
+unfolding Gathers Collects
+run_link_args-returns-in-None-clause-gathers g t c chain k =
+    let rules = under g.H.Host.name_of c.args.self.now g.T.NativeTable.natives in
+    let link = link_seen c.in-Some.link in
+    let found = sym c.link_of.ensures ∙ ap (option_map link_seen) c.in-Some.is in
+    let alone : link.behind ≡ None = ap (λ o. option_map out-Expr (option_copied o)) c.in-None.is in
+    charged_on rules _ c.args.run.now.global c.track_operation.new.global _ _ _ _ k
+    (λ l. arguments_core rules.setting (ToChain chain link.behind) c.args.made (asked_by link.form) k l)
+    (asks_link rules chain (out-Expr c.args.chain.now) c.args.made link found k _)
+    c.in_default-track_operation.ensures.room c.in_default-track_operation.ensures.charged
+    ⨾ (rw c.asked.ensures at c.in_ok-values.ensures.collects) (ToChain chain link.behind) refl k
+    ⨾ arrives_last rules chain c.in_ok-values.values link.behind k _ alone
+
+pub run_link_args-returns-in-None-clause-asked : goal.run_link_args-returns-in-None-clause-asked
+run_link_args-returns-in-None-clause-asked g t c =
+    let link = link_seen c.in-Some.link in
+    let found = sym c.link_of.ensures ∙ ap (option_map link_seen) c.in-Some.is in
+    let alone : link.behind ≡ None = ap (λ o. option_map out-Expr (option_copied o)) c.in-None.is in
+    asks_last c.in_ok-values.values (length c.args.made) (out-Expr c.args.chain.now) link found alone
+    (rw c.asked.ensures at c.in_ok-values.ensures.more)
+
+-- the root
+
+pub run_root-walk_value-requires : goal.run_root-walk_value-requires
+run_root-walk_value-requires g t c =
+    let other = no_variable c.args.root.now c.in_default.not-Variable in
+    let none = not_assigned c.args.new (out-Expr c.args.root.now) other c.requires.starts in
+    record { walks = rw none at c.requires.walks }
+
+pub run_root-returns-in_err-value-clause-runs : goal.run_root-returns-in_err-value-clause-runs
+unfolding after Steps
+run_root-returns-in_err-value-clause-runs g t c in_place =
+    let rules = under g.H.Host.name_of c.args.self.now g.T.NativeTable.natives in
+    let other = no_variable c.args.root.now c.in_default.not-Variable in
+    let none = not_assigned c.args.new (out-Expr c.args.root.now) other c.requires.starts in
+    let chain = chain_at c.args.root.now (out-Expr c.args.chain.now) c.args.args.now c.args.new in_place in
+    exits rules _ _ _ _ _ c.from_residual.ensures (λ k.
+    evaluates_root rules c.args.root.now (names c.args.run.now) other c.requires.root chain refl (ap (λ o. is_none (new_of o)) none) k _
+    ⨾ c.in_err-value.ensures.runs (RootValue chain ∷ k) ⨾ next here)
+
+pub run_root-returns-in_default-clause-runs : goal.run_root-returns-in_default-clause-runs
+unfolding Steps RunsUnder
+run_root-returns-in_default-clause-runs g t c in_place k =
+    let rules = under g.H.Host.name_of c.args.self.now g.T.NativeTable.natives in
+    let other = no_variable c.args.root.now c.in_default.not-Variable in
+    let none = not_assigned c.args.new (out-Expr c.args.root.now) other c.requires.starts in
+    let chain = chain_at c.args.root.now (out-Expr c.args.chain.now) c.args.args.now None in_place in
+    rw none
+    (evaluates_root rules c.args.root.now (names c.args.run.now) other c.requires.root chain refl refl k _
+    ⨾ c.in_ok-value.ensures.runs (RootValue chain ∷ k)
+    ⨾ c.walk_value.ensures.runs (offer_of c.args.self.now) c.run_expr.new.run.scope (holding c.run_expr.new.run.this) in_place
+    c.switches-switches.ensures k)
+
+pub run_root-returns-in-Err-clause-runs : goal.run_root-returns-in-Err-clause-runs
+unfolding Steps
+run_root-returns-in-Err-clause-runs g t c in_place k =
+    let rules = under g.H.Host.name_of c.args.self.now g.T.NativeTable.natives in
+    let chain = chain_at c.args.root.now (out-Expr c.args.chain.now) c.args.args.now c.args.new in_place in
+    let form : out-Expr c.args.root.now ≡ layer.Variable c.in-Variable.offset c.in-Variable.name c.in-Variable.namespace
+    c.in-Variable.pos = rw (c.in-Variable.is, exprs.outs-Variable) refl in
+    let plain = plain_name c.args.root.now c.in-Variable.offset c.in-Variable.name c.in-Variable.namespace c.in-Variable.pos
+    (names c.args.run.now) form c.requires.root in
+    refused rules _ c.args.run.now.global c.track_operation.new.global _ _ (ChainRoot chain)
+    (ReadRoot c.in-Variable.name c.in-Variable.pos chain) c.in-Variable.pos
+    (λ k. variable_root rules c.args.root.now c.in-Variable.offset c.in-Variable.name c.in-Variable.namespace c.in-Variable.pos form plain
+    chain refl k _) _ c.in-Err.ensures.full c.in-Err.ensures.refused c.in-Err.ensures.same k
+
+pub run_root-walk_variable-requires-clause-good : goal.run_root-walk_variable-requires-clause-good
+run_root-walk_variable-requires-clause-good g t c =
+    good_name c.args.root.now c.in-Variable.offset c.in-Variable.name c.in-Variable.namespace c.in-Variable.pos _
+    (rw (c.in-Variable.is, exprs.outs-Variable) refl) c.requires.root
+
+pub run_root-returns-clause-runs : goal.run_root-returns-clause-runs
+unfolding Steps
+run_root-returns-clause-runs g t c in_place k =
+    let rules = under g.H.Host.name_of c.args.self.now g.T.NativeTable.natives in
+    let chain = chain_at c.args.root.now (out-Expr c.args.chain.now) c.args.args.now c.args.new in_place in
+    let form : out-Expr c.args.root.now ≡ layer.Variable c.in-Variable.offset c.in-Variable.name c.in-Variable.namespace
+    c.in-Variable.pos = rw (c.in-Variable.is, exprs.outs-Variable) refl in
+    let plain = plain_name c.args.root.now c.in-Variable.offset c.in-Variable.name c.in-Variable.namespace c.in-Variable.pos
+    (names c.args.run.now) form c.requires.root in
+    charged rules _ c.args.run.now.global c.track_operation.new.global _ _ (ChainRoot chain)
+    (ReadRoot c.in-Variable.name c.in-Variable.pos chain) c.in-Variable.pos
+    (λ k. variable_root rules c.args.root.now c.in-Variable.offset c.in-Variable.name c.in-Variable.namespace c.in-Variable.pos form plain
+    chain refl k _) c.in_default-track_operation.ensures.room c.in_default-track_operation.ensures.charged k
+    ⨾ c.walk_variable.ensures.runs (offer_of c.args.self.now) (holding c.args.run.now.this) in_place c.switches-switches.ensures k
+
+-- an assignment
+
+pub assign_chain-unreachable-requires : goal.assign_chain-unreachable-requires
+assign_chain-unreachable-requires g t c =
+    let none : first_in (out-Expr c.args.lhs.now) ≡ None =
+    sym c.first_of.ensures ∙ ap option_copied (nothing_there _ c.in_default.not-Some) in
+    let clear : false ≡ true = ap is_some (sym none) ∙ c.requires.chain in cc
+
+pub assign_chain-run_chain-requires : goal.assign_chain-run_chain-requires
+assign_chain-run_chain-requires g t c =
+    let found = sym c.first_of.ensures ∙ ap option_copied c.in-Some.is in
+    let parts = target_parts c.args.lhs.now c.in-Some.root.now (names c.args.run.now) found c.requires.resolves_target in
+    λ κs lives. (
+      omega (arith, c.in_ok-value.ensures.charges),
+      (
+        lives.0,
+        (
+          lives.1,
+          (
+            rw c.in_ok-value.ensures.names parts.root_runs,
+            (
+              rw c.in_ok-value.ensures.names parts.behind_runs,
+              (may_walk true (names c.args.run.now) (out-Expr c.args.lhs.now) parts.behind_runs parts.ends, parts.starts),
+            ),
+          ),
+        ),
+      ),
+    )
+
+pub assign_chain-returns-in_err-value-clause-runs : goal.assign_chain-returns-in_err-value-clause-runs
+unfolding after Steps
+assign_chain-returns-in_err-value-clause-runs g t c =
+    let rules = under g.H.Host.name_of c.args.self.now g.T.NativeTable.natives in
+    let found = sym c.first_of.ensures ∙ ap option_copied c.in-Some.is in
+    exits rules _ _ _ _ _ c.from_residual.ensures (λ k.
+    begins_chain rules c.args.op c.args.lhs.now c.args.rhs.now c.in-Some.root.now c.args.restoring found k _
+    ⨾ c.in_err-value.ensures.runs (AssignChain _ _ _ _ ∷ k) ⨾ next here)
+
+pub assign_chain-returns-in_err-value-2-clause-runs : goal.assign_chain-returns-in_err-value-2-clause-runs
+unfolding Steps
+assign_chain-returns-in_err-value-2-clause-runs g t c =
+    let rules = under g.H.Host.name_of c.args.self.now g.T.NativeTable.natives in
+    let found = sym c.first_of.ensures ∙ ap option_copied c.in-Some.is in
+    exits rules _ _ _ _ _ c.from_residual-in_err-value-2.ensures (λ k.
+    begins_chain rules c.args.op c.args.lhs.now c.args.rhs.now c.in-Some.root.now c.args.restoring found k _
+    ⨾ c.in_ok-value.ensures.runs (AssignChain _ _ _ _ ∷ k)
+    ⨾ flat_fails rules _ _ k _ _ (AssignChain _ _ _ _) refl (rw c.position.ensures at c.in_err-value-2.ensures.exact))
+
+pub assign_chain-returns-in_err-left-clause-runs : goal.assign_chain-returns-in_err-left-clause-runs
+unfolding after Steps
+assign_chain-returns-in_err-left-clause-runs g t c =
+    let rules = under g.H.Host.name_of c.args.self.now g.T.NativeTable.natives in
+    let found = sym c.first_of.ensures ∙ ap option_copied c.in-Some.is in
+    exits rules _ _ _ _ _ c.from_residual-in_err-left.ensures (λ k.
+    begins_chain rules c.args.op c.args.lhs.now c.args.rhs.now c.in-Some.root.now c.args.restoring found k _
+    ⨾ c.in_ok-value.ensures.runs (AssignChain _ _ _ _ ∷ k)
+    ⨾ next (rw (← c.position.ensures, ← (c.in_ok-value-2.ensures.exact tt)) (c.in_err-left.ensures.runs (AssignedChain ∷ k) ⨾ next here)))
+
+pub assign_chain-returns-clause-runs : goal.assign_chain-returns-clause-runs
+unfolding after Steps
+assign_chain-returns-clause-runs g t c k =
+    let rules = under g.H.Host.name_of c.args.self.now g.T.NativeTable.natives in
+    let found = sym c.first_of.ensures ∙ ap option_copied c.in-Some.is in
+    begins_chain rules c.args.op c.args.lhs.now c.args.rhs.now c.in-Some.root.now c.args.restoring found k _
+    ⨾ c.in_ok-value.ensures.runs (AssignChain _ _ _ _ ∷ k)
+    ⨾ next (rw (← c.position.ensures, ← (c.in_ok-value-2.ensures.exact tt)) (c.in_ok-left.ensures.runs (AssignedChain ∷ k)
+    ⨾ next (rw c.unit_value.ensures here)))
+
+-- where a chain is read, and where it is assigned to
+
+pub run_expr-run_chain-requires : goal.run_expr-run_chain-requires
+run_expr-run_chain-requires g t c =
+    let parts = root_resolves c.args.expr.now c.in-Dot.root (names c.args.run.now) (rw (c.in-Dot.is, exprs.outs-Dot) refl)
+    c.requires.resolves in
+    λ κs lives. (
+      omega (
+        arith,
+        c.in_ok-track_operation.ensures.room,
+        ap (λ (global : GlobalRuntimeState _). global.num_operations) c.in_ok-track_operation.ensures.charged,
+      ),
+      (
+        lives.0,
+        (
+          lives.1,
+          (
+            rw c.get.ensures parts.0,
+            (parts.1, (may_walk false (names c.args.run.now) (out-Expr c.args.expr.now) parts.1 tt, tt)),
+          ),
+        ),
+      ),
+    )
+
+pub run_expr-run_chain-requires-in-Index : goal.run_expr-run_chain-requires-in-Index
+run_expr-run_chain-requires-in-Index g t c =
+    let parts = root_resolves c.args.expr.now c.in-Index.root (names c.args.run.now) (rw (c.in-Index.is, exprs.outs-Index) refl)
+    c.requires.resolves in
+    λ κs lives. (
+      omega (
+        arith,
+        c.in_ok-track_operation.ensures.room,
+        ap (λ (global : GlobalRuntimeState _). global.num_operations) c.in_ok-track_operation.ensures.charged,
+      ),
+      (
+        lives.0,
+        (
+          lives.1,
+          (
+            rw c.get-in-Index.ensures parts.0,
+            (parts.1, (may_walk false (names c.args.run.now) (out-Expr c.args.expr.now) parts.1 tt, tt)),
+          ),
+        ),
+      ),
+    )
+
+pub run_expr-returns-in-Dot-clause-runs : goal.run_expr-returns-in-Dot-clause-runs
+unfolding after Steps
+run_expr-returns-in-Dot-clause-runs g t c k =
+    let rules = under g.H.Host.name_of c.args.self.now g.T.NativeTable.natives in
+    begins rules _ c.args.run.now.global c.track_operation.new.global _ _ c.in_ok-track_operation.ensures.room
+    c.in_ok-track_operation.ensures.charged _ (layer.Dot c.in-Dot.root c.in-Dot.field-1 c.in-Dot.field-2 c.in-Dot.field-3)
+    (rw (c.in-Dot.is, exprs.outs-Dot) refl) k
+    ⨾ next ((rw (c.get.ensures, c.in-Dot.is, exprs.outs-Dot) at c.run_chain.ensures.runs) k)
+
+pub run_expr-returns-in-Index-clause-runs : goal.run_expr-returns-in-Index-clause-runs
+unfolding after Steps
+run_expr-returns-in-Index-clause-runs g t c k =
+    let rules = under g.H.Host.name_of c.args.self.now g.T.NativeTable.natives in
+    begins rules _ c.args.run.now.global c.track_operation.new.global _ _ c.in_ok-track_operation.ensures.room
+    c.in_ok-track_operation.ensures.charged _ (layer.Index c.in-Index.root c.in-Index.field-1 c.in-Index.field-2 c.in-Index.field-3)
+    (rw (c.in-Index.is, exprs.outs-Index) refl) k
+    ⨾ next ((rw (c.get-in-Index.ensures, c.in-Index.is, exprs.outs-Index) at c.run_chain-in-Index.ensures.runs) k)
+
+pub assign_value-assign_chain-requires : goal.assign_value-assign_chain-requires
+assign_value-assign_chain-requires g t c =
+    let chain = left_chain c.args.lhs.now (names c.args.run.now) (no_variable c.args.lhs.now c.in_default.not-Variable)
+    c.requires.resolves_target in
+    λ κs lives. (omega arith, (lives.0, (lives.1, (chain, (c.requires.resolves_target, c.requires.resolves)))))

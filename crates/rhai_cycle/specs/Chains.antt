@@ -1,0 +1,68 @@
+-- How the parts of a chain are told, and what a run may rely on in one that was checked.
+use Rattle.std.specs.Prelude.{◌≡◌, ⊤, ℕ, ◌+◌, Bool, true, false, List, length, is_some, IsTrue, Result, Ok, Err}
+use Rattle.rhai_tree.specs.declared.expr.Expr.{out-Expr}
+use Rattle.rhai_tree.specs.declared.expr.Expr.TheOpen as layer
+use Rattle.rhai_tree.specs.Layers.{ExprLayer}
+use Rattle.rhai_check.specs.Forms.{ends_chain}
+use Rattle.rhai_check.specs.Frame.{dot_resolves, tests_of}
+use Rattle.rhai_check.specs.Reading as walk
+use Rattle.rhai_check.specs.Reading.{sound}
+use Rattle.rhai_values.specs.declared.base.value.Dynamic.{Dynamic}
+use Rattle.rhai_state.specs.declared.error.EvalAltResult.{EvalAltResult}
+use Rattle.rhai_machine.specs.machine.Point.{Point}
+use Rattle.rhai_machine.specs.language.Setting.{Rules}
+use Rattle.rhai_machine.specs.language.State.{State}
+use Rattle.rhai_machine.specs.language.Frames.{Chain, Frame, Core, ChainArguments, ChainRoot, Fail, OpenChain}
+use Rattle.rhai_machine.specs.language.Expressions.{literal_of}
+use Rattle.rhai_machine.specs.language.Runs.{at, Goes}
+use Rattle.rhai_chains.specs.Chains.{Walks}
+use Rattle.rhai_chains.specs.declared.arguments.Ready.{Ready}
+use Rattle.rhai_chains.specs.declared.arguments.Ready.TheVariants as code
+
+-- ---- what is asked
+
+-- what stands behind the operator of a chain may run above some names
+abbrev pub behind_resolves : ExprLayer → walk.Finds sound
+behind_resolves (layer.Dot lhs rhs options pos) = dot_resolves (ends_chain options) (tests_of rhs).link pos
+behind_resolves (layer.Index lhs rhs options pos) =
+    walk.found_behind_bracket sound (ends_chain options) (tests_of rhs).link (tests_of rhs).value
+behind_resolves _ = λ names. false
+
+-- a chain that is assigned to or not walks, with some number of values
+pub record MayWalk (assigned : Bool) (form : ExprLayer) : Type 0 where
+  pub count : ℕ
+  pub walks : Walks assigned form count
+
+-- a chain that is assigned to starts from a variable
+abbrev pub StartsFrom : (assigned : Bool) → (root : ExprLayer) → Type 0
+StartsFrom true (layer.Variable offset name namespace pos) = ⊤
+StartsFrom true _ = ⊥
+StartsFrom false root = ⊤
+
+-- what a chain is given at once is nothing, or the value of a literal
+abbrev pub IsGiven : (H : Type 0) → Ready → Type 0
+IsGiven H code.Nothing = ⊤
+IsGiven H (code.Literal expr) = IsTrue (is_some (literal_of {H = H} (out-Expr expr.now)))
+
+module _ {H : Type 0} where
+  -- as many values as a chain asks for stand behind those before them
+  abbrev pub HasAsked : Result (List (Dynamic H)) (EvalAltResult H) → (before : ℕ) → ExprLayer → Type 0
+  HasAsked (Ok values) before form = (assigned : Bool) (count : ℕ) → Walks assigned form count → length values ≡ before + count
+  HasAsked (Err e) before form = ⊤
+
+module _ {S H : Type 0} (rules : Rules S H) where
+  -- the values of all links are there for a chain's root, or an error comes down
+  abbrev pub gathered : Chain H → Result (List (Dynamic H)) (EvalAltResult H) → List (Frame H) → State S H → Point S (Core H)
+  gathered chain (Ok values) k new = at (ChainRoot (record chain { args = values })) k new
+  gathered chain (Err e) k new = at (Fail e) k new
+
+  -- from the arguments of a chain's links behind those that are there to where all of them are there, whatever the whole chain is
+  unfoldable pub Gathers : (rest : ExprLayer) → (made : List (Dynamic H)) → State S H → Result (List (Dynamic H)) (EvalAltResult H) →
+      State S H → Type 0
+  Gathers rest made old result new = (chain : Chain H) (k : List (Frame H)) →
+      Goes rules (at (ChainArguments chain rest made) k old) (gathered chain result k new)
+
+  -- and from where the chain is entered
+  unfoldable pub Opens : (form : ExprLayer) → State S H → Result (List (Dynamic H)) (EvalAltResult H) → State S H → Type 0
+  Opens form old result new = (chain : Chain H) → chain.rest ≡ form → (k : List (Frame H)) →
+      Goes rules (at (OpenChain chain) k old) (gathered chain result k new)

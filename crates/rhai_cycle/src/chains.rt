@@ -1,0 +1,260 @@
+//! Chains: what their links ask for, their roots, and assignments to what they lead to. Ports upstream's
+//! `eval_dot_index_chain`, up to the walk; the contracts speak of the machine's runs and of
+//! specs/Chains.antt.
+
+ghost use Rattle.std.specs.Prelude.{◌≡◌, ◌≤◌, IsTrue, OnOk, IfOk, IfErr, Some, [], true, is_some, length};
+ghost use Rattle.rhai_tree.specs.declared.expr.Expr.{out-Expr};
+ghost use Rattle.rhai_tree.specs.declared.expr.Expr.TheOpen as layer;
+ghost use Rattle.rhai_check.specs.Frame.{resolves_expr, target_resolves, tests_of};
+ghost use Rattle.rhai_state.specs.Errors.{is_out_of_memory};
+ghost use Rattle.rhai_machine.specs.language.Frames.{ChainRoot, OpenChain, OpenStmt, chain_on};
+ghost use Rattle.rhai_machine.specs.language.Links.{first_in};
+ghost use Rattle.rhai_machine.specs.language.Runs.{Runs};
+ghost use Rattle.rhai_chains.specs.Chains.{HasSwitches, Walks, chain_at, new_of};
+ghost use Rattle.rhai_chains.specs.Ready.{IsReady};
+ghost use Rattle.rhai_cycle.specs.Chains.{Gathers, HasAsked, IsGiven, MayWalk, Opens, StartsFrom};
+ghost use Rattle.rhai_cycle.specs.Chains.{behind_resolves};
+ghost use Rattle.rhai_cycle.specs.States.{names, offer_of, state_in, under};
+
+use crate::evaluator::Evaluator;
+use rhai_chains::arguments::{Ready, asked, needs_no_step, ready_value};
+use rhai_chains::chain::{NewValue, Switches};
+use rhai_chains::links::{first_of, link_of};
+use rhai_context::{Context, keep_list, lend_list};
+use rhai_items::Items;
+use rhai_pointers::arguments::keep_argument;
+use rhai_state::error::EvalAltResult;
+use rhai_state::table::NativeTable;
+use rhai_steps::charges::track_operation;
+use rhai_steps::values::{flatten, let_go, unit_value};
+use rhai_tree::expr::{Expr, OpAssignment};
+use rhai_values::base::value::{Dynamic, Host};
+use rhai_walk::root::{walk_value, walk_variable};
+use std::alloc::Global;
+
+/// What a chain is given at once, in the list that calls use again.
+fn ready_args<H: Host>(
+    alloc: Global,
+    run: &mut Context<H>,
+    ready: Ready<'_>,
+) -> Result<Items<Dynamic<H>>, EvalAltResult<H>>
+    requires { IsGiven H ready }
+    ensures given { IfOk result (λ args. IsReady (Some ready.entry) (Some args)) }
+    ensures refused { IfErr result (λ error. is_out_of_memory error ≡ true) }
+    ensures run { run.new ≡ record run.old { spare = [] } }
+{
+    let mut made = lend_list(alloc, run);
+    match ready {
+        Ready::Nothing => Ok(made),
+        Ready::Literal(literal) => {
+            let value = ready_value(alloc, literal)?;
+            keep_argument(&mut made, value, literal.position())?;
+            Ok(made)
+        }
+    }
+}
+
+impl<'e, H: Host> Evaluator<'e, H> {
+    /// What the walk of a chain reads of an engine.
+    fn switches(&self) -> Switches
+        ensures { HasSwitches (offer_of self.now) result }
+    {
+        Switches {
+            fast_operators: self.fast_operators,
+            fail_on_invalid_map_property: self.fail_on_invalid_map_property,
+        }
+    }
+
+    /// A chain that is read or assigned to: first what all its links ask for, then its root, and then the
+    /// walk.
+    #[cycle(eval)]
+    pub fn run_chain<T: NativeTable<H>>(
+        &self,
+        alloc: Global,
+        run: &mut Context<H>,
+        table: &mut T,
+        root: &Expr,
+        chain: &Expr,
+        new: Option<NewValue<H>>,
+    ) -> Result<Dynamic<H>, EvalAltResult<H>>
+        requires root { IsTrue (resolves_expr root.now (names run.old)) }
+        requires behind { IsTrue (behind_resolves (out-Expr chain.now) (names run.old)) }
+        requires walks { MayWalk (is_some new) (out-Expr chain.now) }
+        requires starts { StartsFrom (is_some new) (out-Expr root.now) }
+        ensures counts { OnOk result (run.old.global.num_operations ≤ run.new.global.num_operations) }
+        ensures names { OnOk result (names run.new ≡ names run.old) }
+        ensures runs { Runs (under H.name_of self.now T.natives)
+            (OpenChain (chain_on root.now (out-Expr chain.now) (new_of new)))
+            (state_in (T.state table.old) run.old) result (state_in (T.state table.new) run.new) }
+    {
+        match self.run_chain_args(alloc, run, table, chain) {
+            Ok(values) => {
+                let mut values = values;
+                let result = self.run_root(
+                    alloc,
+                    run,
+                    table,
+                    root,
+                    chain,
+                    values.as_mut_slice(),
+                    new,
+                );
+                keep_list(run, values);
+                result
+            }
+            Err(error) => {
+                drop(new);
+                Err(error)
+            }
+        }
+    }
+
+    /// What the links of a chain ask for. One link alone that asks for nothing, or for a literal, needs no
+    /// step.
+    #[cycle(eval)]
+    fn run_chain_args<T: NativeTable<H>>(
+        &self,
+        alloc: Global,
+        run: &mut Context<H>,
+        table: &mut T,
+        chain: &Expr,
+    ) -> Result<Items<Dynamic<H>>, EvalAltResult<H>>
+        requires { IsTrue (behind_resolves (out-Expr chain.now) (names run.old)) }
+        ensures counts { OnOk result (run.old.global.num_operations ≤ run.new.global.num_operations) }
+        ensures names { OnOk result (names run.new ≡ names run.old) }
+        ensures asked { HasAsked result 0 (out-Expr chain.now) }
+        ensures opens { Opens (under H.name_of self.now T.natives) (out-Expr chain.now)
+            (state_in (T.state table.old) run.old) result (state_in (T.state table.new) run.new) }
+    {
+        match needs_no_step::<H>(chain) {
+            Some(ready) => ready_args(alloc, run, ready),
+            None => {
+                let made = lend_list(alloc, run);
+                self.run_link_args(alloc, run, table, made, chain)
+            }
+        }
+    }
+
+    /// The values that the links of a chain ask for, behind those that are there, from left to right and
+    /// flattened. What stands behind each operator is charged first.
+    #[cycle(eval)]
+    fn run_link_args<T: NativeTable<H>>(
+        &self,
+        alloc: Global,
+        run: &mut Context<H>,
+        table: &mut T,
+        made: Items<Dynamic<H>>,
+        chain: &Expr,
+    ) -> Result<Items<Dynamic<H>>, EvalAltResult<H>>
+        requires { IsTrue (behind_resolves (out-Expr chain.now) (names run.old)) }
+        ensures counts { OnOk result (run.old.global.num_operations ≤ run.new.global.num_operations) }
+        ensures names { OnOk result (names run.new ≡ names run.old) }
+        ensures asked { HasAsked result (length made) (out-Expr chain.now) }
+        ensures gathers { Gathers (under H.name_of self.now T.natives) (out-Expr chain.now) made
+            (state_in (T.state table.old) run.old) result (state_in (T.state table.new) run.new) }
+    {
+        let Some(link) = link_of(chain) else {
+            unreachable!()
+        };
+        if let Err(error) = track_operation(self.limits, &mut run.global, link.rest_at) {
+            drop(made);
+            return Err(error);
+        }
+        let values = self.run_more_args(alloc, run, table, made, asked(link), true)?;
+        match link.behind {
+            Some(rest) => self.run_link_args(alloc, run, table, values, rest),
+            None => Ok(values),
+        }
+    }
+
+    /// A chain from its root on, its arguments there. A variable is charged and walked on in its place; any
+    /// other root is evaluated, and its value is walked on.
+    #[cycle(eval)]
+    fn run_root<T: NativeTable<H>>(
+        &self,
+        alloc: Global,
+        run: &mut Context<H>,
+        table: &mut T,
+        root: &Expr,
+        chain: &Expr,
+        args: &mut [Dynamic<H>],
+        new: Option<NewValue<H>>,
+    ) -> Result<Dynamic<H>, EvalAltResult<H>>
+        requires root { IsTrue (resolves_expr root.now (names run.old)) }
+        requires walks { Walks (is_some new) (out-Expr chain.now) (length args.old) }
+        requires starts { StartsFrom (is_some new) (out-Expr root.now) }
+        ensures counts { OnOk result (run.old.global.num_operations ≤ run.new.global.num_operations) }
+        ensures names { OnOk result (names run.new ≡ names run.old) }
+        ensures runs { (in_place : _) → Runs (under H.name_of self.now T.natives)
+            (ChainRoot (chain_at root.now (out-Expr chain.now) args.old new in_place))
+            (state_in (T.state table.old) run.old) result (state_in (T.state table.new) run.new) }
+    {
+        let limits = self.limits;
+        let switches = self.switches();
+        let Expr::Variable {
+            offset,
+            name,
+            pos,
+            ..
+        } = root
+        else {
+            drop(new);
+            let value = self.run_expr(alloc, run, table, root)?;
+            let global = &mut run.global;
+            return walk_value(
+                limits, switches, alloc, global, table, value, root, chain, args,
+            );
+        };
+        if let Err(error) = track_operation(limits, &mut run.global, *pos) {
+            drop(new);
+            return Err(error);
+        }
+        walk_variable(
+            limits,
+            switches,
+            alloc,
+            &mut run.global,
+            table,
+            &mut run.scope,
+            *offset,
+            name,
+            *pos,
+            root,
+            chain,
+            args,
+            new,
+        )
+    }
+
+    /// An assignment to what a chain leads to, whose value is evaluated first.
+    #[cycle(eval)]
+    pub(crate) fn assign_chain<T: NativeTable<H>>(
+        &self,
+        alloc: Global,
+        run: &mut Context<H>,
+        table: &mut T,
+        op: OpAssignment,
+        lhs: &Expr,
+        rhs: &Expr,
+        restoring: bool,
+    ) -> Result<Dynamic<H>, EvalAltResult<H>>
+        requires chain { is_some (first_in (out-Expr lhs.now)) ≡ true }
+        requires resolves_target { IsTrue (target_resolves (tests_of lhs.now) (names run.old)) }
+        requires resolves { IsTrue (resolves_expr rhs.now (names run.old)) }
+        ensures counts { OnOk result (run.old.global.num_operations ≤ run.new.global.num_operations) }
+        ensures names { OnOk result (names run.new ≡ names run.old) }
+        ensures runs { Runs (under H.name_of self.now T.natives)
+            (OpenStmt (layer.Assignment op lhs.now rhs.now) restoring)
+            (state_in (T.state table.old) run.old) result (state_in (T.state table.new) run.new) }
+    {
+        let Some(root) = first_of(lhs) else {
+            unreachable!()
+        };
+        let value = self.run_expr(alloc, run, table, rhs)?;
+        let value = flatten(alloc, &run.global.cells, value, rhs.position())?;
+        let new = Some(NewValue { op, value });
+        let left = self.run_chain(alloc, run, table, root, lhs, new)?;
+        let_go(left);
+        Ok(unit_value())
+    }
+}

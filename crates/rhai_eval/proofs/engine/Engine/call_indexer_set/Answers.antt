@@ -1,0 +1,28 @@
+use Rattle.std.proofs.Common.{Some, None}
+use Rattle.rhai_machine.specs.language.Setting.{Rules}
+use Rattle.rhai_machine.specs.language.State.{State}
+use Rattle.rhai_steps.specs.States.{state_of}
+use Rattle.rhai_eval.specs.Places.{with_place}
+use Rattle.rhai_eval.specs.States.{offer_of, under}
+use Rattle.rhai_eval.proofs.Indexed.{set_ends, set_kept}
+use Rattle.rhai_eval.proofs.engine.Engine.call_indexer_set.Goals as goal
+
+pub returns-clause-ends : goal.returns-clause-ends
+returns-clause-ends g c scope this =
+    let rules : Rules _ _ = under g.H.Host.name_of c.args.self.now g.T.NativeTable.natives in
+    let old : State _ _ = state_of (g.T.NativeTable.state c.args.table.now) c.args.global.now scope
+    (with_place this (Some c.args.object.now)) in
+    let new : State _ _ = state_of (g.T.NativeTable.state c.ask_set-result.new.table) c.ask_set-result.new.global scope
+    (with_place this (Some c.ask_set-result.new.object)) in
+    set_ends rules c.args.index.now c.args.pos old new c.args.is_ref_mut c.args.new_val.now c.ask_set-result.result
+    (c.ask_set-result.ensures.runs (offer_of c.args.self.now) scope (with_place this None))
+
+pub returns-clause-kept : goal.returns-clause-kept
+returns-clause-kept g c scope this =
+    let rules : Rules _ _ = under g.H.Host.name_of c.args.self.now g.T.NativeTable.natives in
+    let old : State _ _ = state_of (g.T.NativeTable.state c.args.table.now) c.args.global.now scope
+    (with_place this (Some c.args.object.now)) in
+    let new : State _ _ = state_of (g.T.NativeTable.state c.ask_set-result.new.table) c.ask_set-result.new.global scope
+    (with_place this (Some c.ask_set-result.new.object)) in
+    set_kept rules c.args.index.now c.args.pos old new c.args.is_ref_mut c.args.new_val.now c.ask_set-result.result
+    (c.ask_set-result.ensures.runs (offer_of c.args.self.now) scope (with_place this None))

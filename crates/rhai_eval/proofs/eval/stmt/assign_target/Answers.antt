@@ -1,0 +1,25 @@
+use Rattle.rhai_machine.specs.language.Frames.{NewValue}
+use Rattle.rhai_machine.specs.language.Setting.{Rules, rules_of}
+use Rattle.rhai_steps.specs.States.{state_of}
+use Rattle.rhai_methods.specs.Methods.{lending}
+use Rattle.rhai_eval.proofs.Assigned.{part_follows}
+use Rattle.rhai_eval.proofs.eval.stmt.assign_target.Goals as goal
+
+pub returns-in-Whole-clause-follows : goal.returns-in-Whole-clause-follows
+returns-in-Whole-clause-follows g c offer scope held fast = rw c.in-Whole.is (c.assign_value.ensures.follows offer scope held fast)
+
+pub returns-in-Temporary-clause-follows : goal.returns-in-Temporary-clause-follows
+returns-in-Temporary-clause-follows g c offer scope held fast =
+    rw c.in-Temporary.is (c.assign_value-in-Temporary.ensures.follows offer scope held fast)
+
+pub returns-in-Of-clause-follows : goal.returns-in-Of-clause-follows
+returns-in-Of-clause-follows g c offer scope held fast =
+    let rules : Rules _ _ = rules_of c.args.limits.now g.H.Host.name_of offer g.T.NativeTable.natives in
+    let new : NewValue _ = record { op = c.args.op; value = c.args.value } in
+    rw (c.in-Of.is, c.put_assigned.ensures.part) (part_follows rules c.args.root.now new c.in-Of.field-0 c.args.target.now.at.now
+    c.in-Of.shown c.assign_value-outcome.new.place c.put_assigned.new.target.at.now
+    (state_of (g.T.NativeTable.state c.args.table.now) c.args.global.now scope (lending held c.in-Of.shown))
+    (state_of (g.T.NativeTable.state c.assign_value-outcome.new.table) c.assign_value-outcome.new.global scope
+    (lending held c.assign_value-outcome.new.place))
+    c.assign_value-outcome.result c.put_assigned.result (c.assign_value-outcome.ensures.follows offer scope held fast)
+    c.put_assigned.ensures.comes)

@@ -1,0 +1,128 @@
+//! Chains of indices and dots. Ports upstream's `eval/chaining.rs` as far as it is public; the contracts
+//! speak of the machine's runs and of specs/Chains.antt.
+
+ghost use Rattle.std.specs.Prelude.{◌≡◌, IfSome, OnOk, is_some, true};
+ghost use Rattle.rhai_tree.specs.declared.expr.Expr.{out-Expr};
+ghost use Rattle.rhai_state.specs.Native.{was};
+ghost use Rattle.rhai_state.specs.Scope.{names_in};
+ghost use Rattle.rhai_machine.specs.language.Links.{first_in};
+ghost use Rattle.rhai_steps.specs.States.{holding, state_of};
+ghost use Rattle.rhai_laws.specs.Kept.{Kept};
+ghost use Rattle.rhai_chains.specs.Chains.{new_of};
+ghost use Rattle.rhai_eval.specs.Chains.{assigned_in, chain_type, whole_chain};
+ghost use Rattle.rhai_eval.specs.Chains.{AssignsAlong, AssignsNoHandle, ChainResolves};
+ghost use Rattle.rhai_eval.specs.Ends.{EndsAs};
+ghost use Rattle.rhai_eval.specs.Plain.{Plain};
+ghost use Rattle.rhai_eval.specs.States.{under};
+
+use crate::engine::Engine;
+use rhai_chains::chain::NewValue;
+use rhai_chains::links::first_of;
+use rhai_context::{give_back, take};
+use rhai_state::caches::Caches;
+use rhai_state::error::EvalAltResult;
+use rhai_state::scope::Scope;
+use rhai_state::state::GlobalRuntimeState;
+use rhai_state::table::NativeTable;
+use rhai_tree::expr::{Expr, OpAssignment};
+use rhai_values::base::value::{Dynamic, Host};
+use std::alloc::Global;
+
+/// How an expression goes on from its first part. Ports upstream's `ChainType`.
+#[derive(Clone, Copy, Debug, PartialEq, Eq)]
+pub enum ChainType {
+    /// By an index.
+    Indexing,
+    /// By a dot.
+    Dotting,
+}
+
+/// `Indexing` for an index, and `Dotting` for any other expression. It takes no memory.
+impl<'e> From<&'e Expr> for ChainType {
+    ghost from_gives = { λ expr kind. kind ≡ chain_type (out-Expr expr.now) };
+
+    fn from(expr: &'e Expr) -> ChainType {
+        match expr {
+            Expr::Index(..) => ChainType::Indexing,
+            _ => ChainType::Dotting,
+        }
+    }
+}
+
+/// What a chain is assigned, as its walk takes it.
+fn new_value<H: Host>(new_val: Option<(Dynamic<H>, &OpAssignment)>) -> Option<NewValue<H>>
+    ensures same { new_of result ≡ assigned_in new_val.entry }
+    ensures given { is_some result ≡ is_some new_val.entry }
+{
+    match new_val {
+        Some((value, op)) => Some(NewValue { op: *op, value }),
+        None => None,
+    }
+}
+
+impl<H: Host> Engine<H> {
+    /// The value of a whole chain, or an assignment to what it leads to where there is a value to assign;
+    /// its own charge is made already. First comes what all its links ask for, from left to right, each
+    /// charged behind its operator; then its root, charged where it is a variable; and then the walk from
+    /// link to link. What a variable holds is changed in its place, on errors too, and of a property or an
+    /// item that a native got the changed value is set again. An assignment answers `()`, or what a
+    /// property's setter gave. Ports upstream's `eval_dot_index_chain`.
+    ///
+    /// An assignment without an operator that comes to a value, through indexes and properties of arrays
+    /// and maps that are not shared, leaves the value assigned, read-write, at the path that it went down
+    /// from its variable, and all that is off the path as it was just before (`assigns`).
+    ///
+    /// The chain is a part of a checked tree, above the variables that the scope has there: an expression,
+    /// or with a value to assign the left side of an assignment. No form that is there reads or writes
+    /// `this`, so it is left alone. Asked besides: a value to assign is no handle of a cell; no modules,
+    /// libraries or imports, of which the machine has no rule yet (`Plain`).
+    ///
+    /// # Errors
+    /// Those of what the links ask for, and of the root: at a variable `ErrorVariableNotFound`, and
+    /// `ErrorDataRace` where its cell is held. `ErrorTooManyOperations` at each charge that the limit
+    /// refuses. At an index or a key those of `rhai_places::indexing::get_indexed_mut`; where no native
+    /// has a property or an item `ErrorDotExpr` and `ErrorIndexingType`; at a method those of
+    /// `make_method_call`. Of an assignment besides those of `eval_op_assignment`, with
+    /// `ErrorAssignmentToConstant` for a new key of a constant map, and at the operator
+    /// `ErrorDataTooLarge` for an item, a map or a part above a limit.
+    pub fn eval_dot_index_chain<T: NativeTable<H>>(
+        &self,
+        alloc: Global,
+        global: &mut GlobalRuntimeState<H>,
+        _caches: &mut Caches<H>,
+        table: &mut T,
+        scope: &mut Scope<H>,
+        _this: Option<&mut Dynamic<H>>,
+        expr: &Expr,
+        new_val: Option<(Dynamic<H>, &OpAssignment)>,
+    ) -> Result<Dynamic<H>, EvalAltResult<H>>
+        requires chain { is_some (first_in (out-Expr expr.now)) ≡ true }
+        requires resolves { ChainResolves (is_some new_val) expr.now (names_in scope.old) }
+        requires value { AssignsNoHandle new_val }
+        requires plain { Plain self.now global.old }
+        ensures ends { EndsAs (under H.name_of self.now T.natives)
+            (whole_chain expr.now (assigned_in new_val.entry))
+            (state_of (T.state table.old) global.old scope.old (holding (was _this.entry))) result
+            (state_of (T.state table.new) global.new scope.new (holding (was _this.entry))) }
+        ensures kept { Kept (under H.name_of self.now T.natives)
+            (state_of (T.state table.old) global.old scope.old (holding (was _this.entry)))
+            (state_of (T.state table.new) global.new scope.new (holding (was _this.entry))) }
+        ensures assigns { OnOk result (IfSome (assigned_in new_val.entry) (λ given.
+            AssignsAlong (under H.name_of self.now T.natives) expr.now given
+            (state_of (T.state table.old) global.old scope.old (holding (was _this.entry)))
+            (state_of (T.state table.new) global.new scope.new (holding (was _this.entry))))) }
+        ensures names { names_in scope.new ≡ names_in scope.old }
+        ensures caches { _caches.new ≡ _caches.old }
+        ensures search { global.new.always_search_scope ≡ global.old.always_search_scope }
+    {
+        let Some(root) = first_of(expr) else {
+            unreachable!()
+        };
+        let new = new_value(new_val);
+        let mut run = take(alloc, global, scope);
+        let evaluator = self.evaluator();
+        let result = evaluator.run_chain(alloc, &mut run, table, root, expr, new);
+        give_back(run, global, scope);
+        result
+    }
+}

@@ -1,0 +1,12 @@
+use Rattle.std.proofs.Common.{refl}
+use Rattle.rhai_tables.specs.Tables.{none_leaves}
+use Rattle.rhai_tables.proofs.tables.NoNativesNativeTablePair.call.Goals as goal
+
+pub returns-in-Some-clause-obeys : goal.returns-in-Some-clause-obeys
+returns-in-Some-clause-obeys c = rw (c.in-Some.is, c.missing_at.ensures.first, c.missing_at.ensures.reply) refl
+
+pub returns-in-Some-clause-no_handle : goal.returns-in-Some-clause-no_handle
+returns-in-Some-clause-no_handle c = rw (c.in-Some.is, c.missing_at.ensures.first) (rw c.in-Some.is at c.requires)
+
+pub returns-in-Some-clause-leaves : goal.returns-in-Some-clause-leaves
+returns-in-Some-clause-leaves c = rw (c.in-Some.is, c.missing_at.ensures.first) (none_leaves _ _)

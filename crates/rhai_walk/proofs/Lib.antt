@@ -1,0 +1,9 @@
+mod Beginning
+mod Below
+mod Descending
+mod Entering
+mod Inside
+mod PartCalls
+mod RootLemmas
+mod Temporaries
+mod Walked
