@@ -1,0 +1,23 @@
+use Rattle.std.proofs.Common.{◌≡◌, ◌+◌, ◌++◌, ◌∷◌, [], slice_set, suc, ap, ◌∙◌, arith}
+use Rattle.rhai_values.specs.declared.base.value.AccessMode.TheVariants.{ReadWrite}
+use Rattle.rhai_state.specs.Scope.{entries_of, new_entry}
+use Rattle.rhai_functions.specs.Entering.{unit}
+use Rattle.rhai_functions.proofs.Pushing.{begins_on, pushed_on, set_next}
+use Rattle.rhai_functions.proofs.entering.push_parameters.Goals as goal
+
+pub params-preserved : goal.params-preserved
+params-preserved g c =
+    let pushed = c.in_ok-push_shared.ensures.ok ∙ ap (λ name. entries_of c.params.scope ++ new_entry name ReadWrite c.taken-value.result ∷ [])
+    c.in_ok-share.ensures in
+    let step : c.params.at + 1 ≡ suc c.params.at = omega arith in
+    record {
+      pushed = rw (pushed, step)
+          (pushed_on (entries_of c.params.scope) _ c.args.params.now c.params.args c.taken-value.new.args c.params.at
+          c.index-params-at.result c.taken-value.result (omega arith) c.index-params-at.is c.taken-value.ensures.taken c.taken-value.ensures.others
+          c.params.invariant.pushed);
+      begins = rw pushed (begins_on (entries_of c.args.scope.now) (entries_of c.params.scope) _ c.params.invariant.begins);
+      within = omega arith;
+      left = rw step (c.taken-value.ensures.left ∙ ap (λ xs. slice_set xs c.params.at unit) c.params.invariant.left
+          ∙ set_next unit c.args.args.now c.params.at (omega (arith, c.requires)));
+      args = c.taken-value.ensures.length ∙ c.params.invariant.args;
+    }

@@ -1,0 +1,18 @@
+-- The variables that a function starts with.
+use Rattle.std.specs.Prelude.{ℕ, List, [], ◌∷◌}
+use Rattle.rhai_values.specs.declared.base.value.AccessMode.TheVariants.{ReadWrite}
+use Rattle.rhai_values.specs.declared.base.value.Dynamic.{Dynamic}
+use Rattle.rhai_values.specs.declared.base.value.Union.TheVariants as value
+use Rattle.rhai_values.specs.Copy.{plain}
+use Rattle.rhai_state.specs.declared.scope.ScopeEntry.{ScopeEntry}
+use Rattle.rhai_state.specs.Scope.{new_entry}
+
+module _ {H : Type 0} where
+  -- what is left of an argument that was taken
+  abbrev pub unit : Dynamic H
+  unit = plain value.Unit
+
+  -- the parameters are variables that may be written
+  abbrev pub parameters : List (List ℕ) → List (Dynamic H) → List (ScopeEntry H)
+  parameters (name ∷ names) (v ∷ args) = new_entry name ReadWrite v ∷ parameters names args
+  parameters _ _ = []

@@ -1,0 +1,7 @@
+-- The key of a function in code as the definitions have it.
+use Rattle.std.specs.Option.{option_copied}
+use Rattle.rhai_functions.specs.declared.key.FnKey.{FnKey}
+use Rattle.rhai_functions.specs.Functions.{FunctionKey}
+
+abbrev pub key_seen : FnKey → FunctionKey
+key_seen key = record { name = key.name.now; arity = key.arity; this_type = option_copied key.this_type }
