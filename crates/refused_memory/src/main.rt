@@ -1,6 +1,7 @@
 //! Runs `a[0][1] = 5` over an array of two arrays, and prints what the script gave and what the array has
 //! become. Nothing on the way to the item is copied and no list of indices grows, so the run itself takes no
-//! memory: with any request of the program refused, it ends either before the script runs, or as with all of them granted.
+//! memory: with any request of the program refused, it ends either before the script runs, or as with all of
+//! them granted.
 #![tactic(auto)]
 
 use rhai_build::Builder;

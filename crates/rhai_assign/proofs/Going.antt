@@ -1,5 +1,5 @@
 -- An assignment at a place of the code, which is taken from there and goes back, and one to the focus of a chain.
-use Rattle.std.proofs.Common.{◌≡◌, Bool, true, false, List, Option, Some, None, Result, Ok, Err, refl, sym, ap, ◌∙◌}
+use Rattle.std.proofs.Common.{◌≡◌, Bool, true, false, List, [], Option, Some, None, Result, Ok, Err, refl, sym, ap, ◌∙◌}
 use Rattle.rhai_tree.specs.declared.position.Position.{Position}
 use Rattle.rhai_tree.specs.declared.expr.Expr.{Expr, out-Expr}
 use Rattle.rhai_tree.specs.declared.expr.OpAssignment.{OpAssignment}
@@ -21,16 +21,16 @@ use Rattle.rhai_machine.specs.machine.Memory.{◌⨾◌}
 use Rattle.rhai_machine.specs.language.Setting.{Rules}
 use Rattle.rhai_machine.specs.language.State.{Held, Local, State}
 use Rattle.rhai_machine.specs.language.Values.{unit_value}
-use Rattle.rhai_machine.specs.language.Places.{InFocus, Target, focus_target, target, while_lent}
+use Rattle.rhai_machine.specs.language.Places.{InFocus, Target, focus_target, target, this_target, while_lent}
 use Rattle.rhai_machine.specs.language.Links.{name_in}
 use Rattle.rhai_machine.specs.language.Members.{focus_of}
-use Rattle.rhai_machine.specs.language.Assignment.{assign_core, if_fast, update_core}
+use Rattle.rhai_machine.specs.language.Assignment.{assign_core, if_fast, store_this, update_core}
 use Rattle.rhai_machine.specs.language.Chains.{assign_focus}
 use Rattle.rhai_machine.specs.language.Frames.{Assignment, AskUpdate, Core, Frame, InPlace, Update, on_value}
 use Rattle.rhai_machine.specs.language.Runs.{Runs, Steps}
 use Rattle.rhai_steps.specs.States.{state_of}
 use Rattle.rhai_assign.specs.declared.place.Place as code
-use Rattle.rhai_assign.specs.Chains.{AssignsAtOnce, FollowsFocus}
+use Rattle.rhai_assign.specs.Chains.{AssignsAtOnce, FollowsFocus, FollowsThis}
 use Rattle.rhai_assign.specs.Follows.{Follows, FollowsAssign, Does, Wants}
 use Rattle.rhai_assign.specs.Lending.{placed}
 use Rattle.rhai_assign.specs.Targets.{IsPut, entries_put, place_in, there_at}
@@ -94,6 +94,31 @@ module _ {S H : Type 0} (rules : Rules S H) where
         FollowsFocus rules root op v old (Err e) old
     focus_fails (error.ErrorOutOfMemory pos) is = Wants pos refl refl
     focus_fails e is = Does (λ k. same_core rules _ _ old (starts (Err e) (is refl) k))
+
+  module _ (op : OpAssignment) (pos : Position) (v : Dynamic H) (old : State S H) where
+    -- where `this` is assigned to
+    abbrev wanted_this : Result (Target H) (EvalAltResult H)
+    wanted_this = this_target old.local.around.cells pos old.local.this
+
+    abbrev of_this : Assignment
+    of_this = record { name = []; at = pos; op = op }
+
+    starts_this : (found : Result (Target H) (EvalAltResult H)) → wanted_this ≡ found → (k : List (Frame H)) →
+        store_this rules.setting op pos v k old.local
+        ≡ on_value found (λ target. assign_core rules.setting op.op of_this target v k old.local) k old.local
+    starts_this found is k = ap (λ (r : Result (Target H) (EvalAltResult H)). on_value r
+        (λ target. assign_core rules.setting op.op of_this target v k old.local) k old.local) is
+
+    -- its target is found
+    pub this_found : (new : State S H) (target : Target H) (result : Result (Dynamic H) (EvalAltResult H)) →
+        wanted_this ≡ Ok target → FollowsAssign rules of_this target v old result new → FollowsThis rules op pos v old result new
+    this_found new target result is follows = follows_alike rules _ _ old new result (starts_this (Ok target) is) follows
+
+    -- or it may not be assigned to
+    pub this_fails : (e : EvalAltResult H) → (is_out_of_memory e ≡ false → wanted_this ≡ Err e) →
+        FollowsThis rules op pos v old (Err e) old
+    this_fails (error.ErrorOutOfMemory at) is = Wants at refl refl
+    this_fails e is = Does (λ k. same_core rules _ _ old (starts_this (Err e) (is refl) k))
 
   module _ (root : Expr) (op : OpAssignment) (v t : Dynamic H) (s : State S H) (is_unit : t ≡ unit_value) where
     -- the target of a `()` that was just inserted is the focus itself

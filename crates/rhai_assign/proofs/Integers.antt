@@ -13,6 +13,7 @@ use Rattle.rhai_check.specs.Forms.{is_unqualified}
 use Rattle.rhai_check.specs.Frame.{resolves_expr}
 use Rattle.rhai_check.specs.Names.{Name}
 use Rattle.rhai_values.specs.declared.base.value.Dynamic.{Dynamic}
+use Rattle.rhai_values.specs.declared.base.value.Module.{Module}
 use Rattle.rhai_values.specs.declared.base.value.Union.{Union}
 use Rattle.rhai_values.specs.declared.base.value.Union.TheVariants as value
 use Rattle.rhai_values.specs.Cells.{cells_of}
@@ -28,7 +29,9 @@ use Rattle.rhai_operators.specs.Operators.{Outcome, op_assign_at}
 use Rattle.rhai_machine.specs.language.State.{Held}
 use Rattle.rhai_machine.specs.language.Setting.{Rules, limit_under}
 use Rattle.rhai_machine.specs.language.Values.{Cells, unit_value}
-use Rattle.rhai_machine.specs.language.Places.{InEntry, is_constant, target, target_at, target_found, target_of, unless_constant}
+use Rattle.rhai_machine.specs.language.Places.{InEntry, is_constant, no_variable, target, target_at, target_found, target_of}
+use Rattle.rhai_machine.specs.language.Places.{unless_constant}
+use Rattle.rhai_machine.specs.language.Functions.{meant_function}
 use Rattle.rhai_machine.specs.language.Calls.{applied}
 use Rattle.rhai_machine.specs.language.Assignment.{written_core}
 use Rattle.rhai_machine.specs.language.Frames.{OpenStmt, Back, core}
@@ -109,12 +112,12 @@ module _ {H : Type 0} where
   knows_by token v o w (Some m) (Some n) left right is = knows_two token v o w m n left right is
 
   -- the target of a variable whose entry holds an integer
-  entry_found : (cells : Cells H) (name : Name) (pos : Position) (entries : List (ScopeEntry H)) (i : ℕ) (v : Dynamic H) (m : ℤ) →
+  entry_found : (cells : Cells H) (lib : List (Module H)) (name : Name) (pos : Position) (entries : List (ScopeEntry H)) (i : ℕ) (v : Dynamic H) (m : ℤ) →
       index_of name entries ≡ Some i → option_map value_of (slice_get entries i) ≡ Some v → is_constant v.mode ≡ false →
-      v.value ≡ value.Int m → target_of cells name pos entries ≡ Ok (target (InEntry i) v)
-  entry_found cells name pos entries i v m at stands writable holds =
-      ap (λ (o : Option ℕ). target_found cells name pos o (value_in entries o)) at
-      ∙ ap (λ (o : Option (Dynamic H)). target_found cells name pos (Some i) o) stands
+      v.value ≡ value.Int m → target_of cells lib name pos entries ≡ Ok (target (InEntry i) v)
+  entry_found cells lib name pos entries i v m at stands writable holds =
+      ap (λ (o : Option ℕ). target_found cells (no_variable (meant_function lib name) name pos) name pos o (value_in entries o)) at
+      ∙ ap (λ (o : Option (Dynamic H)). target_found cells (no_variable (meant_function lib name) name pos) name pos (Some i) o) stands
       ∙ ap (λ (u : Union H). target_at cells name pos i u v) holds
       ∙ ap (λ (b : Bool). unless_constant b name pos (target (InEntry i) v)) writable
 
@@ -148,7 +151,7 @@ module _ {S H : Type 0} (rules : Rules S H) (t : S) (scope : Scope H) (held : He
       old middle (omega arith) refl new (omega arith)
       (charges ∙ ap (λ (n : ℕ). record old { num_operations = n }) (omega arith)) token is_token fast
       (place.InEntry i) (Ok w) (Ok unit_value) new later
-      (rw holder (entry_found (cells_of old.cells) name pos (entries_of scope) i v knows.m at stands knows.writable knows.holds))
+      (rw holder (entry_found (cells_of old.cells) old.lib name pos (entries_of scope) i v knows.m at stands knows.writable knows.holds))
       (λ memory. rw holder knows.answers) refl
       (integer_written rules.setting.limits scope later held new op.position i w knows.z knows.number put_there) tt tt
 
@@ -160,22 +163,22 @@ module _ {S H : Type 0} (rules : Rules S H) (t : S) (scope : Scope H) (held : He
       (writable_in v) (integer_of (standing (out-Expr rhs) (entries_of scope))) refl refl known) put_there
 
 -- it is an assignment by a built-in
-module _ {H : Type 0} (scope : Scope H) (cells : Cells H) (op : OpAssignment) (lhs rhs : Expr) (offset : Option NonZeroUsize) (name : Name)
+module _ {H : Type 0} (scope : Scope H) (lib : List (Module H)) (cells : Cells H) (op : OpAssignment) (lhs rhs : Expr) (offset : Option NonZeroUsize) (name : Name)
     (namespace : Namespace) (pos : Position) (form : out-Expr lhs ≡ layer.Variable offset name namespace pos) (token : Token)
     (is_token : op.op ≡ Some token) (i : ℕ) (v w : Dynamic H) (at : index_of name (entries_of scope) ≡ Some i)
     (stands : option_map value_of (slice_get (entries_of scope) i) ≡ Some v) where
   found_by : Knows token v (standing (out-Expr rhs) (entries_of scope)) w →
-      is_some (assigned op.op (out-Expr lhs) (out-Expr rhs) (entries_of scope) cells) ≡ true
+      is_some (assigned op.op (out-Expr lhs) (out-Expr rhs) (entries_of scope) lib cells) ≡ true
   found_by knows = rw (
     form,
     is_token,
-    entry_found cells name pos (entries_of scope) i v knows.m at stands knows.writable knows.holds,
+    entry_found cells lib name pos (entries_of scope) i v knows.m at stands knows.writable knows.holds,
     knows.given,
     ← knows.answers,
   ) refl
 
   pub integer_found : assigned_known token (writable_in v) (integer_of (standing (out-Expr rhs) (entries_of scope))) ≡ Some w →
-      is_some (assigned op.op (out-Expr lhs) (out-Expr rhs) (entries_of scope) cells) ≡ true
+      is_some (assigned op.op (out-Expr lhs) (out-Expr rhs) (entries_of scope) lib cells) ≡ true
   integer_found known = found_by (knows_by token v (standing (out-Expr rhs) (entries_of scope)) w
       (writable_in v) (integer_of (standing (out-Expr rhs) (entries_of scope))) refl refl known)
 

@@ -21,7 +21,7 @@ use Rattle.rhai_state.specs.Native.{Natives, OfName}
 use Rattle.rhai_state.specs.Scope.{entries_of, name_of, names_in, revalued, value_of}
 use Rattle.rhai_machine.specs.language.State.{Held, Local}
 use Rattle.rhai_machine.specs.language.Values.{Cells, is_handle, unit_value}
-use Rattle.rhai_machine.specs.language.Places.{Place, InEntry, InCell, InFocus, is_barred, is_constant, put, while_lent}
+use Rattle.rhai_machine.specs.language.Places.{Place, InEntry, InCell, InThis, InFocus, is_barred, is_constant, put, rebound, while_lent}
 use Rattle.rhai_machine.specs.language.Assignment.{written_core}
 use Rattle.rhai_machine.specs.language.Frames.{Frame, Back, core}
 use Rattle.rhai_steps.specs.States.{local_of, surroundings_of}
@@ -45,12 +45,17 @@ lent_from (place.InEntry i) = refl
 lent_from (place.InCell id) = refl
 
 module _ {H : Type 0} where
+  rebound_twice : (v w : Dynamic H) (this : Option (Dynamic H)) → rebound w (rebound v this) ≡ rebound w this
+  rebound_twice v w None = refl
+  rebound_twice v w (Some x) = refl
+
   -- of two values that are written to a place the last one stays
   pub put_twice : (place : Place) (v w : Dynamic H) (l : Local H) → put place w (put place v l) ≡ put place w l
   put_twice (InEntry i) v w l =
       ap (λ (entries : List (ScopeEntry H)). record l { scope = entries }) (revalued_twice l.scope i (slice_get l.scope i) w v refl)
   put_twice (InCell n) v w l = ap (λ (cells : Cells H). record l { around = record l.around { cells = cells } })
       (set-set l.around.cells n (Some v) (Some w))
+  put_twice InThis v w l = ap (λ (this : Option (Dynamic H)). record l { this = this }) (rebound_twice v w l.this)
   put_twice InFocus v w l = refl
 
   held_again : (cells : Cells H) (n m : ℕ) (v : Dynamic H) → n ≡ m → IsHeld cells m → with_held (with_value cells n v) n ≡ cells
@@ -63,6 +68,7 @@ module _ {H : Type 0} where
   lent_cells (InEntry i) cell v l from own = refl
   lent_cells (InCell n) None v l from own = cc
   lent_cells (InCell n) (Some id) v l from own = let same : n ≡ id.number = cc in held_again l.around.cells n id.number v same own
+  lent_cells InThis cell v l from own = refl
   lent_cells InFocus cell v l from own = refl
 
   -- and with the target back in its own cell they are those of the machine
@@ -73,6 +79,8 @@ module _ {H : Type 0} where
   seen_cells (InCell n) None v l from = cc
   seen_cells (InCell n) (Some id) v l from =
       let same : n ≡ id.number = cc in ap (λ (i : ℕ). with_value l.around.cells i v) (sym same)
+  seen_cells InThis None v l from = refl
+  seen_cells InThis (Some id) v l from = cc
   seen_cells InFocus None v l from = refl
   seen_cells InFocus (Some id) v l from = cc
 

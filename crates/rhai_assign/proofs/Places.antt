@@ -13,7 +13,7 @@ use Rattle.rhai_values.specs.Cells.{cells_of}
 use Rattle.rhai_state.specs.Scope.{name_of, entries_of, names_in, revalued}
 use Rattle.rhai_machine.specs.language.State.{Held}
 use Rattle.rhai_machine.specs.language.Values.{Cells, unit_value}
-use Rattle.rhai_machine.specs.language.Places.{Place, InEntry, InCell, InFocus, put}
+use Rattle.rhai_machine.specs.language.Places.{Place, InEntry, InCell, InThis, InFocus, put}
 use Rattle.rhai_steps.specs.States.{local_of}
 use Rattle.rhai_assign.specs.declared.place.Place as code
 use Rattle.rhai_assign.specs.declared.place.Place.TheVariants as place
@@ -52,6 +52,7 @@ module _ {H : Type 0} where
       map name_of (entries_put place v entries) ≡ map name_of entries
   names_put (InEntry i) v entries = revalued_names entries i (slice_get entries i) v refl
   names_put (InCell n) v entries = refl
+  names_put InThis v entries = refl
   names_put InFocus v entries = refl
 
   pub keeps_names : (place : code.Place) (v : Dynamic H) (before after : Scope H) (old new : CellStore H) →

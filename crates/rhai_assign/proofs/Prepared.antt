@@ -13,6 +13,7 @@ use Rattle.rhai_check.specs.Forms.{is_unqualified}
 use Rattle.rhai_check.specs.Frame.{resolves_expr}
 use Rattle.rhai_check.specs.Names.{Name}
 use Rattle.rhai_values.specs.declared.base.value.Dynamic.{Dynamic}
+use Rattle.rhai_values.specs.declared.base.value.Module.{Module}
 use Rattle.rhai_values.specs.declared.cells.CellStore.{CellStore}
 use Rattle.rhai_values.specs.Cells.{cells_of}
 use Rattle.rhai_values.specs.Copy.{copy_of}
@@ -101,10 +102,13 @@ module _ {S H : Type 0} (rules : Rules S H) where
         same_cells : second.cells ≡ old.cells
         same_cells = ap (λ (g : GlobalRuntimeState H). g.cells) last ∙ ap (λ (g : GlobalRuntimeState H). g.cells) is
 
+        same_lib : second.lib ≡ old.lib
+        same_lib = ap (λ (g : GlobalRuntimeState H). g.lib) last ∙ ap (λ (g : GlobalRuntimeState H). g.lib) is
+
         module _ (place : code.Place) (outcome result : Result (Dynamic H) (EvalAltResult H)) (new : GlobalRuntimeState H) (later :
             Scope H)
-            (finds : target_of (cells_of old.cells) name pos (entries_of scope) ≡ Ok (target (place_in place) (standing_at place scope
-            old.cells)))
+            (finds : target_of (cells_of old.cells) old.lib name pos (entries_of scope)
+            ≡ Ok (target (place_in place) (standing_at place scope old.cells)))
             (answers : operators.HasMemory (Some outcome) → Some outcome ≡ op_assign_of token (standing_at place scope old.cells) y)
             (counts : new.num_operations ≡ second.num_operations)
             (written : Becomes (written_core (applied rules.setting.limits outcome op.position) (place_in place)) (local_of second
@@ -150,5 +154,7 @@ module _ {S H : Type 0} (rules : Rules S H) where
           unfolding Steps
           updates_in_place k = value_comes k ⨾ assigns rules t mid second scope held assignment (copy_of y) more last
               (target (place_in place) before) result (state_of t new later held)
-              (subst (λ (cells : CellStore H). target_of (cells_of cells) name pos (entries_of scope) ≡ Ok (target (place_in place)
-              (standing_at place scope cells))) (sym same_cells) finds) follows k
+              (subst (λ (cells : CellStore H). target_of (cells_of cells) second.lib name pos (entries_of scope)
+              ≡ Ok (target (place_in place) (standing_at place scope cells))) (sym same_cells)
+              (subst (λ (lib : List (Module H)). target_of (cells_of old.cells) lib name pos (entries_of scope)
+              ≡ Ok (target (place_in place) (standing_at place scope old.cells))) (sym same_lib) finds)) follows k

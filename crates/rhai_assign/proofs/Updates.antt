@@ -194,7 +194,7 @@ module _ {S H : Type 0} (rules : Rules S H) where
   -- where the target of a charged assignment is found, or is not
   store_step : (assignment : Assignment) (v : Dynamic H) (k : List (Frame H)) (now : State S H)
       (found : Result (Target H) (EvalAltResult H)) →
-      target_of now.local.around.cells assignment.name assignment.at now.local.scope ≡ found →
+      target_of now.local.around.cells now.local.around.lib assignment.name assignment.at now.local.scope ≡ found →
       Goes rules (at (Store assignment v) k now) (with_core (store_core rules.setting found assignment v k now.local) now)
   unfolding after
   store_step assignment v k now found is = next (rw is here)
@@ -212,7 +212,7 @@ module _ {S H : Type 0} (rules : Rules S H) where
     module _ (room : old.num_operations < limit_under rules) (counted : mid ≡ record old { num_operations = old.num_operations + 1 }) where
       -- or whose target is not found
       pub misses : (e : EvalAltResult H) → (is_out_of_memory e ≡ false →
-          target_of (cells_of mid.cells) assignment.name assignment.at (entries_of scope) ≡ Err e) →
+          target_of (cells_of mid.cells) mid.lib assignment.name assignment.at (entries_of scope) ≡ Err e) →
           Steps rules (Assign assignment v) (state_of t old scope held) (Fail e) (state_of t mid scope held)
       unfolding Steps
       misses e is k =
@@ -222,7 +222,7 @@ module _ {S H : Type 0} (rules : Rules S H) where
 
       -- or whose target is found, and goes on from there
       pub assigns : (target : Target H) (result : Result (Dynamic H) (EvalAltResult H)) (new : State S H) →
-          target_of (cells_of mid.cells) assignment.name assignment.at (entries_of scope) ≡ Ok target →
+          target_of (cells_of mid.cells) mid.lib assignment.name assignment.at (entries_of scope) ≡ Ok target →
           FollowsAssign rules assignment target v (state_of t mid scope held) result new →
           Runs rules (Assign assignment v) (state_of t old scope held) result new
       unfolding Steps

@@ -2,6 +2,7 @@
 use Rattle.std.specs.Prelude.{◌≡◌, false, List, Option, Some, None, Result, Ok, Err}
 use Rattle.rhai_tree.specs.declared.expr.Expr.{Expr}
 use Rattle.rhai_tree.specs.declared.expr.OpAssignment.{OpAssignment}
+use Rattle.rhai_tree.specs.declared.position.Position.{Position}
 use Rattle.rhai_values.specs.declared.base.value.CellId.{CellId}
 use Rattle.rhai_values.specs.declared.base.value.Dynamic.{Dynamic}
 use Rattle.rhai_values.specs.Cells.{value_of_cell}
@@ -10,7 +11,8 @@ use Rattle.rhai_state.specs.Errors.{is_out_of_memory}
 use Rattle.rhai_machine.specs.language.Setting.{Rules}
 use Rattle.rhai_machine.specs.language.State.{State}
 use Rattle.rhai_machine.specs.language.Values.{Cells, is_handle}
-use Rattle.rhai_machine.specs.language.Places.{InCell, InFocus, Target, is_constant, target}
+use Rattle.rhai_machine.specs.language.Places.{InCell, InThis, InFocus, Target, is_constant, target}
+use Rattle.rhai_machine.specs.language.Assignment.{store_this}
 use Rattle.rhai_machine.specs.language.Chains.{assign_focus}
 use Rattle.rhai_machine.specs.language.Frames.{Frame, ended}
 use Rattle.rhai_machine.specs.language.Runs.{at, with_core, Goes}
@@ -40,6 +42,24 @@ module _ {H : Type 0} where
   FindsFocus (Ok (Some id)) cells focus wanted = InOwnCell id cells wanted
   FindsFocus (Ok None) cells focus wanted = InItself focus wanted
   FindsFocus (Err e) cells focus wanted = is_out_of_memory e ≡ false → wanted ≡ Err e
+
+module _ {H : Type 0} where
+  -- the target is `this` itself, which may be changed and is no handle
+  pub record IsThis (this : Dynamic H) (wanted : Result (Target H) (EvalAltResult H)) : Type 0 where
+    pub plain : is_handle this.value ≡ false
+    pub is : wanted ≡ Ok (target InThis this)
+
+  -- where the target of an assignment to `this` is, likewise
+  abbrev pub FindsThis : Result (Option CellId) (EvalAltResult H) → Cells H → (this : Dynamic H) → Result (Target H) (EvalAltResult H) →
+      Type 0
+  FindsThis (Ok (Some id)) cells this wanted = InOwnCell id cells wanted
+  FindsThis (Ok None) cells this wanted = IsThis this wanted
+  FindsThis (Err e) cells this wanted = is_out_of_memory e ≡ false → wanted ≡ Err e
+
+-- an assignment to `this`, once it is charged
+abbrev pub FollowsThis : {S H : Type 0} → Rules S H → OpAssignment → Position → Dynamic H → State S H →
+    Result (Dynamic H) (EvalAltResult H) → State S H → Type 0
+FollowsThis rules op at v = Follows rules (store_this rules.setting op at v)
 
 -- an assignment to the focus, by an operator or as it is
 abbrev pub FollowsFocus : {S H : Type 0} → Rules S H → (root : Expr) → OpAssignment → Dynamic H → State S H →

@@ -12,6 +12,7 @@ use Rattle.rhai_values.specs.Cells.{cells_of}
 use Rattle.rhai_state.specs.declared.scope.Scope.{Scope}
 use Rattle.rhai_state.specs.Scope.{entries_of}
 use Rattle.rhai_state.specs.declared.scope.ScopeEntry.{ScopeEntry}
+use Rattle.rhai_values.specs.declared.base.value.Module.{Module}
 use Rattle.rhai_state.specs.declared.error.EvalAltResult.{EvalAltResult}
 use Rattle.rhai_operators.specs.Answers.{Answer, IsAnswer, op_assign_of}
 use Rattle.rhai_operators.specs.Direct.{integer_given, integer_in}
@@ -23,11 +24,10 @@ use Rattle.rhai_assign.specs.declared.in_place.Ready as code
 use Rattle.rhai_assign.specs.Targets.{place_in, standing_at, stands_at}
 
 -- the target of a name is at the place, an operand stands, and the built-in answers for the two
-pub record IsReady {H : Type 0} (ready : code.Ready H) (name : List ℕ) (at : Position) (token : Token) (form : ExprLayer) (scope :
-    Scope H)
-    (cells : CellStore H) : Type 0 where
-  pub finds : target_of (cells_of cells) name at (entries_of scope) ≡ Ok (target (place_in ready.place) (standing_at ready.place scope
-      cells))
+pub record IsReady {H : Type 0} (ready : code.Ready H) (name : List ℕ) (at : Position) (token : Token) (form : ExprLayer)
+    (scope : Scope H) (lib : List (Module H)) (cells : CellStore H) : Type 0 where
+  pub finds : target_of (cells_of cells) lib name at (entries_of scope)
+      ≡ Ok (target (place_in ready.place) (standing_at ready.place scope cells))
   pub stands : stands_at ready.place scope cells ≡ true
   pub operand : Dynamic H
   pub given : standing form (entries_of scope) ≡ Some operand
@@ -53,7 +53,7 @@ module _ {H : Type 0} where
   assigned_by _ _ _ = None
 
   -- what an assignment to a variable is given so
-  abbrev pub assigned : Option Token → (lhs rhs : ExprLayer) → List (ScopeEntry H) → Cells H → Answer H
-  assigned op (layer.Variable offset name namespace pos) rhs entries cells =
-      assigned_by op (target_of cells name pos entries) (standing rhs entries)
-  assigned op lhs rhs entries cells = None
+  abbrev pub assigned : Option Token → (lhs rhs : ExprLayer) → List (ScopeEntry H) → List (Module H) → Cells H → Answer H
+  assigned op (layer.Variable offset name namespace pos) rhs entries lib cells =
+      assigned_by op (target_of cells lib name pos entries) (standing rhs entries)
+  assigned op lhs rhs entries lib cells = None

@@ -6,12 +6,13 @@ use Rattle.rhai_values.specs.declared.base.value.Dynamic.{Dynamic}
 use Rattle.rhai_values.specs.Cells.{IsHeld, with_value}
 use Rattle.rhai_machine.specs.language.State.{State}
 use Rattle.rhai_machine.specs.language.Values.{Cells, is_handle}
-use Rattle.rhai_machine.specs.language.Places.{Place, InEntry, InCell, InFocus, is_constant, put}
+use Rattle.rhai_machine.specs.language.Places.{Place, InEntry, InCell, InThis, InFocus, is_constant, put}
 
 -- the cell of a place, if it is one
 abbrev pub cell_of : Place → Option ℕ
 cell_of (InEntry index) = None
 cell_of (InCell number) = Some number
+cell_of InThis = None
 cell_of InFocus = None
 
 -- the code took the target from the cell of its place, or from no cell where the place is none

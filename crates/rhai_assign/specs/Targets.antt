@@ -11,7 +11,7 @@ use Rattle.rhai_values.specs.Cells.{cells_of, value_of_cell, with_value}
 use Rattle.rhai_state.specs.Errors.{is_out_of_memory}
 use Rattle.rhai_state.specs.Scope.{entries_of, value_in, revalued}
 use Rattle.rhai_machine.specs.language.Values.{Cells, unit_value}
-use Rattle.rhai_machine.specs.language.Places.{Place, InEntry, InCell, InFocus, Target, target}
+use Rattle.rhai_machine.specs.language.Places.{Place, InEntry, InCell, InThis, InFocus, Target, target}
 use Rattle.rhai_assign.specs.declared.place.Place as code
 use Rattle.rhai_assign.specs.declared.place.Place.TheVariants as place
 
@@ -29,6 +29,7 @@ module _ {H : Type 0} where
   abbrev pub there : Place → List (ScopeEntry H) → Cells H → Option (Dynamic H)
   there (InEntry index) entries cells = value_in entries (Some index)
   there (InCell number) entries cells = value_of_cell cells number
+  there InThis entries cells = None
   there InFocus entries cells = None
 
   -- there is a value at a place
@@ -43,17 +44,20 @@ module _ {H : Type 0} where
   abbrev pub IsKnown : Place → List (ScopeEntry H) → Cells H → Type 0
   IsKnown (InEntry index) entries cells = index < length entries
   IsKnown (InCell number) entries cells = number < length cells
+  IsKnown InThis entries cells = ⊥
   IsKnown InFocus entries cells = ⊥
 
   -- the entries and the cells once a value is written to a place
   abbrev pub entries_put : Place → Dynamic H → List (ScopeEntry H) → List (ScopeEntry H)
   entries_put (InEntry index) v entries = revalued entries index (slice_get entries index) v
   entries_put (InCell number) v entries = entries
+  entries_put InThis v entries = entries
   entries_put InFocus v entries = entries
 
   abbrev pub cells_put : Place → Dynamic H → Cells H → Cells H
   cells_put (InEntry index) v cells = cells
   cells_put (InCell number) v cells = with_value cells number v
+  cells_put InThis v cells = cells
   cells_put InFocus v cells = cells
 
   -- the same of a place, a scope and a store of cells in the code

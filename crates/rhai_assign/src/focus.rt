@@ -36,7 +36,7 @@ use std::mem::replace;
 /// A constant without a name that is assigned to.
 #[cold]
 #[inline(never)]
-fn nameless_constant<H>(alloc: Global, pos: Position) -> EvalAltResult<H>
+pub(crate) fn nameless_constant<H>(alloc: Global, pos: Position) -> EvalAltResult<H>
     ensures { is_out_of_memory result ≡ false → result ≡ error.ErrorAssignmentToConstant [] pos }
 {
     match Shared::new(alloc, Text::new(alloc)) {
@@ -112,7 +112,7 @@ fn focus_target<H: Host>(
 }
 
 /// Assigns a value to that of a cell, which is taken from there and goes back whatever comes of it.
-fn assign_in_cell<H: Host, T: NativeTable<H>>(
+pub(crate) fn assign_in_cell<H: Host, T: NativeTable<H>>(
     limits: &Limits,
     alloc: Global,
     global: &mut GlobalRuntimeState<H>,

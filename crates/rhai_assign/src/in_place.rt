@@ -61,10 +61,10 @@ fn prepare<H: Host>(
     requires good { IsTrue (is_good offset name.now (names_in scope.now)) }
     requires resolves { IsTrue (resolves_expr operand.now (names_in scope.now)) }
     ensures found { is_some result ≡ is_some (assigned_by (Some token)
-        (target_of (cells_of global.now.cells) name.now pos (entries_of scope.now))
+        (target_of (cells_of global.now.cells) global.now.lib name.now pos (entries_of scope.now))
         (standing (out-Expr operand.now) (entries_of scope.now))) }
     ensures ready { IfSome result (λ ready. IsReady ready name.now pos token (out-Expr operand.now) scope.now
-        global.now.cells) }
+        global.now.lib global.now.cells) }
 {
     let place = match find_target(global, scope, offset, name, pos) {
         Ok(place) => place,
@@ -113,7 +113,7 @@ fn assign_integer<H: Host, T: NativeTable<H>>(
     requires resolves_target { IsTrue (target_resolves (tests_of lhs.now) (names_in scope.old)) }
     requires resolves { IsTrue (resolves_expr rhs.now (names_in scope.old)) }
     ensures found { result ≡ true → is_some (assigned op.op (out-Expr lhs.now) (out-Expr rhs.now)
-        (entries_of scope.old) (cells_of global.old.cells)) ≡ true }
+        (entries_of scope.old) global.old.lib (cells_of global.old.cells)) ≡ true }
     ensures left_global { result ≡ false → global.new ≡ global.old }
     ensures left_scope { result ≡ false → scope.new ≡ scope.old }
     ensures keeps { Keeps global.old global.new scope.old scope.new }
@@ -160,7 +160,7 @@ fn assign_prepared<H: Host, T: NativeTable<H>>(
     requires resolves_target { IsTrue (target_resolves (tests_of lhs.now) (names_in scope.old)) }
     requires resolves { IsTrue (resolves_expr rhs.now (names_in scope.old)) }
     ensures found { is_some result ≡ is_some (assigned op.op (out-Expr lhs.now) (out-Expr rhs.now)
-        (entries_of scope.old) (cells_of global.old.cells)) }
+        (entries_of scope.old) global.old.lib (cells_of global.old.cells)) }
     ensures left_global { result ≡ None → global.new ≡ global.old }
     ensures left_scope { result ≡ None → scope.new ≡ scope.old }
     ensures keeps { Keeps global.old global.new scope.old scope.new }
@@ -214,7 +214,7 @@ pub fn assign_in_place<H: Host, T: NativeTable<H>>(
     requires resolves_target { IsTrue (target_resolves (tests_of lhs.now) (names_in scope.old)) }
     requires resolves { IsTrue (resolves_expr rhs.now (names_in scope.old)) }
     ensures found { is_some result ≡ is_some (assigned op.op (out-Expr lhs.now) (out-Expr rhs.now)
-        (entries_of scope.old) (cells_of global.old.cells)) }
+        (entries_of scope.old) global.old.lib (cells_of global.old.cells)) }
     ensures left_global { result ≡ None → global.new ≡ global.old }
     ensures left_scope { result ≡ None → scope.new ≡ scope.old }
     ensures keeps { Keeps global.old global.new scope.old scope.new }

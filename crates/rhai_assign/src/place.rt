@@ -1,16 +1,20 @@
 //! Where the value of a variable stands, as it is assigned to: it is found, read, taken and
 //! written there.
 
-ghost use Rattle.std.specs.Prelude.{◌≡◌, ◌||◌, Some, IsTrue, true};
+ghost use Rattle.std.specs.Prelude.{◌≡◌, ◌||◌, Some, IsTrue, false, true};
 ghost use Rattle.rhai_check.specs.Names.{is_good};
 ghost use Rattle.rhai_values.specs.Cells.{cells_of, value_of_cell};
 ghost use Rattle.rhai_state.specs.Scope.{entries_of, names_in};
 ghost use Rattle.rhai_machine.specs.language.Values.{unit_value as unit};
 ghost use Rattle.rhai_machine.specs.language.Places.{is_constant as constant_at, target, target_in_cell};
-ghost use Rattle.rhai_machine.specs.language.Places.{target_of, unless_constant as allowed, while_lent};
+ghost use Rattle.rhai_machine.specs.language.Functions.{meant_function};
+ghost use Rattle.rhai_machine.specs.language.Places.{no_variable as no_variable_of, target_of};
+ghost use Rattle.rhai_machine.specs.language.Places.{unless_constant as allowed, while_lent};
+ghost use Rattle.rhai_state.specs.Errors.{is_out_of_memory};
 ghost use Rattle.rhai_assign.specs.Targets.{Finds, IsKnownAt, IsPut, entries_put, own_cell, place_in};
 ghost use Rattle.rhai_assign.specs.Targets.{stands_at, there, there_at};
 
+use rhai_functions::named::arity_named;
 use rhai_items::{Shared, Text};
 use rhai_state::error::EvalAltResult;
 use rhai_state::scope::Scope;
@@ -20,7 +24,7 @@ use rhai_steps::values::{let_go, unit_value};
 use rhai_steps::variables::place_of_variable;
 use rhai_tree::position::Position;
 use rhai_tree::token::Token;
-use rhai_values::base::value::{AccessMode, CellId, Dynamic, Host, Union};
+use rhai_values::base::value::{AccessMode, CellId, Dynamic, Host, Module, Union};
 use rhai_values::cells::CellStore;
 use std::num::NonZeroUsize;
 
@@ -97,6 +101,23 @@ fn find_in_cell<H: Host>(
     }
 }
 
+/// What a name is refused with that is no variable's: one that means a function is not assigned to.
+#[cold]
+#[inline(never)]
+fn no_variable<H: Host>(
+    lib: &[Shared<Module<H>>],
+    name: &Shared<Text>,
+    pos: Position,
+) -> EvalAltResult<H>
+    ensures { is_out_of_memory result ≡ false →
+        result ≡ no_variable_of (meant_function lib.now name.now) name.now pos }
+{
+    match arity_named(lib, name.get().as_str()) {
+        Some(_) => assignment_to_constant(name, pos),
+        None => variable_not_found(name, pos),
+    }
+}
+
 /// The place of a variable, as it is assigned to. It is found as `place_of_variable` says, which asks
 /// the same of its offset.
 pub(crate) fn find_target<H: Host>(
@@ -108,10 +129,10 @@ pub(crate) fn find_target<H: Host>(
 ) -> Result<Place, EvalAltResult<H>>
     requires { IsTrue (is_good offset name.now (names_in scope.now)) }
     ensures { Finds result (entries_of scope.now) (cells_of global.now.cells)
-        (target_of (cells_of global.now.cells) name.now pos (entries_of scope.now)) }
+        (target_of (cells_of global.now.cells) global.now.lib name.now pos (entries_of scope.now)) }
 {
     let Some(index) = place_of_variable(global, scope, offset, name) else {
-        return Err(variable_not_found(name, pos));
+        return Err(no_variable(global.lib.as_slice(), name, pos));
     };
     let value = scope.value_at(index);
     let mode = value.access_mode();

@@ -3,11 +3,14 @@
 ghost use Rattle.std.specs.Prelude.{◌≡◌, ◌≤◌, IfOk, is_some, false, map, string_bytes};
 ghost use Rattle.rhai_bench.specs.Arguments.{IsCall};
 
+use crate::outcome::Ending;
 use crate::print::write_line;
 use crate::rows::scripts;
 use crate::script::Script;
 use crate::settings::Way;
-use rhai_eval::base::Items;
+use rhai_eval::base::{Dynamic, Items, Shared, Text, Union};
+use rhai_samples::functions::private_function;
+use rhai_tables::host::Pair;
 use std::alloc::{AllocError, Global};
 use std::io;
 use std::io::Write;
@@ -32,21 +35,54 @@ fn run_arguments<W: Write>(alloc: Global, args: &[String], out: &mut W) -> io::R
     ensures status { IfOk result (λ s. s ≤ 3) }
     ensures wrong { ¬ IsCall (map string_bytes args.now) → IfOk result (λ s. s ≡ 3) }
 {
-    match row_of(alloc, args)? {
+    match row_asked(args) {
+        Some(row) => run_row(alloc, row, out),
+        None => print_usage(out),
+    }
+}
+
+/// The row that the arguments ask for, without arguments the first, None for wrong arguments.
+fn row_asked(args: &[String]) -> Option<&str>
+    ensures { ¬ IsCall (map string_bytes args.now) → is_some result ≡ false }
+{
+    match args {
+        [] => Some("1"),
+        [word, row] if word.as_str() == "row" => Some(row.as_str()),
+        _ => None,
+    }
+}
+
+/// Runs a row: its scripts, or where it has none shows a function. A row that is not there is a wrong argument.
+fn run_row<W: Write>(alloc: Global, row: &str, out: &mut W) -> io::Result<u8>
+    ensures { IfOk result (λ s. s ≤ 3) }
+{
+    if row == "25" {
+        return show_function(alloc, out);
+    }
+    match scripts(alloc, row)? {
         Some(scripts) => run_scripts(alloc, scripts, out),
         None => print_usage(out),
     }
 }
 
-/// The scripts that the arguments ask for, None for wrong arguments.
-fn row_of(alloc: Global, args: &[String]) -> Result<Option<Items<Script>>, AllocError>
-    ensures { ¬ IsCall (map string_bytes args.now) → IfOk result (λ found. is_some found ≡ false) }
+/// Prints the line of a function's text.
+fn show_function<W: Write>(alloc: Global, out: &mut W) -> io::Result<u8>
+    ensures { IfOk result (λ s. s ≤ 2) }
 {
-    match args {
-        [] => scripts(alloc, "1"),
-        [word, row] if word.as_str() == "row" => scripts(alloc, row.as_str()),
-        _ => Ok(None),
-    }
+    let ending = Ending::Value(function_text(alloc)?);
+    let wrote = write_line(out, &ending);
+    let status = ending.status();
+    drop(ending);
+    wrote.map(|()| status)
+}
+
+/// The text of a function, as its own `Display` writes it.
+fn function_text(alloc: Global) -> Result<Dynamic<Pair>, AllocError> {
+    let function = private_function(alloc)?;
+    let text = format!(in alloc; "{function}");
+    drop(function);
+    let text = Shared::new(alloc, Text::from_string(text?))?;
+    Ok(Dynamic::new(Union::Str(text)))
 }
 
 fn run_scripts<W: Write>(alloc: Global, scripts: Items<Script>, out: &mut W) -> io::Result<u8>

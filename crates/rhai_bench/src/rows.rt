@@ -1,12 +1,14 @@
 //! The rows of the bench: scripts under a number, run one after the other.
 
 use crate::script::Script;
+use rhai_build::functions::TreeParts;
 use rhai_eval::base::{Items, Stmt};
 use std::alloc::{AllocError, Global};
 
 mod calls;
 pub mod chains;
 pub mod data;
+pub mod functions;
 pub mod loops;
 mod operators;
 mod variables;
@@ -16,6 +18,7 @@ mod variables;
 pub fn scripts(alloc: Global, row: &str) -> Result<Option<Items<Script>>, AllocError> {
     let scripts = match row {
         "1" => operators::sum_under_limits(alloc),
+        "3" => functions::called_by_itself(alloc),
         "4" => chains::items(alloc),
         "5" => chains::bits(alloc),
         "6" => chains::slices(alloc),
@@ -37,6 +40,8 @@ pub fn scripts(alloc: Global, row: &str) -> Result<Option<Items<Script>>, AllocE
         "32" => calls::pointers_and_names(alloc),
         "33" => chains::pairs_assigned(alloc),
         "34" => chains::refused_by_natives(alloc),
+        "35" => functions::changes(alloc),
+        "36" => functions::found_and_too_deep(alloc),
         _ => return Ok(None),
     };
     scripts.map(Some)
@@ -74,6 +79,22 @@ impl Row {
     fn add(&mut self, tree: Result<Items<Stmt>, AllocError>) {
         match tree {
             Ok(statements) => self.push(Script::new(self.alloc, statements)),
+            Err(AllocError) => self.has_memory = false,
+        }
+    }
+
+    /// Adds a script with functions under the usual settings.
+    fn add_parts(&mut self, tree: Result<TreeParts, AllocError>) {
+        match tree {
+            Ok(parts) => self.push(Script::of_parts(parts)),
+            Err(AllocError) => self.has_memory = false,
+        }
+    }
+
+    /// Adds a script with functions under a limit of how deep its calls are.
+    fn add_with_max_call_levels(&mut self, tree: Result<TreeParts, AllocError>, levels: usize) {
+        match tree {
+            Ok(parts) => self.push(Script::with_max_call_levels(parts, levels)),
             Err(AllocError) => self.has_memory = false,
         }
     }

@@ -6,15 +6,16 @@ ghost use Rattle.rhai_check.specs.declared.check.CheckFault.TheVariants.{NoMemor
 ghost use Rattle.rhai_state.specs.Scope.{entries_of, names_in};
 ghost use Rattle.rhai_state.specs.Limits.{limit_of};
 ghost use Rattle.rhai_bench.specs.Outcome.{IfRefused};
-ghost use Rattle.rhai_bench.specs.Settings.{under_array_size, under_operations, usual};
+ghost use Rattle.rhai_bench.specs.Settings.{under_array_size, under_call_levels, under_operations, usual};
 
 use crate::outcome::{Ending, Outcome};
 use crate::settings::{Settings, Way};
-use rhai_eval::base::{Items, Scope, Stmt};
-use rhai_eval::check::check_tree;
+use rhai_build::functions::TreeParts;
+use rhai_eval::base::{Items, Scope, Shared, Stmt};
+use rhai_eval::check::{CheckedFn, check_tree};
 use rhai_eval::engine::Engine;
 use rhai_eval::script::ScriptFuncDef;
-use rhai_eval::state::GlobalRuntimeState;
+use rhai_eval::state::{GlobalRuntimeState, Module, ModuleFn};
 use rhai_tables::host::Pair;
 use rhai_tables::tables::counting::Counting;
 use std::alloc::{AllocError, Global};
@@ -25,6 +26,28 @@ pub struct Script {
     pub statements: Items<Stmt>,
     pub functions: Items<ScriptFuncDef>,
     pub settings: Settings,
+}
+
+/// Puts the functions of a tree into a state, as one library. Where there is none the state stays.
+pub fn add_library(
+    alloc: Global,
+    global: &mut GlobalRuntimeState<Pair>,
+    functions: &[Shared<CheckedFn>],
+) -> Result<(), AllocError>
+    ensures { global.new ≡ record global.old { lib = global.new.lib } }
+{
+    if functions.is_empty() {
+        return Ok(());
+    }
+    let mut library = Module::new(alloc);
+    'functions: for function in functions {
+        library.functions.push(ModuleFn {
+            def: function.share()?,
+            environ: None,
+            is_global: false,
+        })?;
+    }
+    global.lib.push(Shared::new(alloc, library)?)
 }
 
 impl Script {
@@ -64,6 +87,40 @@ impl Script {
         Script::with_settings(alloc, statements, Settings::without_fast_operators())
     }
 
+    /// A script with functions, under the usual settings.
+    pub fn of_parts(parts: TreeParts) -> Script
+        ensures statements { result.statements ≡ parts.statements }
+        ensures functions { result.functions ≡ parts.functions }
+        ensures settings { result.settings ≡ usual }
+    {
+        Script::of_parts_with(parts, Settings::USUAL)
+    }
+
+    /// A script with functions, under a limit of how deep its calls are.
+    pub fn with_max_call_levels(parts: TreeParts, levels: usize) -> Script
+        ensures statements { result.statements ≡ parts.statements }
+        ensures functions { result.functions ≡ parts.functions }
+        ensures settings { result.settings ≡ under_call_levels levels }
+    {
+        Script::of_parts_with(parts, Settings::with_max_call_levels(levels))
+    }
+
+    fn of_parts_with(parts: TreeParts, settings: Settings) -> Script
+        ensures statements { result.statements ≡ parts.statements }
+        ensures functions { result.functions ≡ parts.functions }
+        ensures settings { result.settings ≡ settings }
+    {
+        let TreeParts {
+            statements,
+            functions,
+        } = parts;
+        Script {
+            statements,
+            functions,
+            settings,
+        }
+    }
+
     fn with_settings(alloc: Global, statements: Items<Stmt>, settings: Settings) -> Script
         ensures statements { result.statements ≡ statements }
         ensures functions { result.functions ≡ [] }
@@ -77,7 +134,7 @@ impl Script {
     }
 
     /// Checks the script and runs it in one of the ways, in an empty scope and with the natives of
-    /// `Counting`.
+    /// `Counting`. Its functions are one library of the state.
     pub fn run(self, alloc: Global, way: Way) -> Result<Outcome, AllocError>
         ensures limit { IfOk result (λ o. o.num_operations ≤ limit_of self.settings.limits.max_operations) }
         ensures variables { IfOk result (λ o. length (names_in o.scope)
@@ -114,6 +171,7 @@ impl Script {
         let ending = match check_tree(alloc, self.statements, self.functions) {
             Err(fault) => Ending::Refused(fault),
             Ok(tree) => {
+                add_library(alloc, &mut global, tree.functions())?;
                 let engine: Engine<Pair> = self.settings.engine(alloc);
                 let exits = self.settings.map_exit_to_return_value;
                 match engine.eval_global_statements(

@@ -2,7 +2,7 @@
 
 ghost use Rattle.std.specs.Prelude.{◌≡◌, [], false};
 ghost use Rattle.rhai_state.specs.Caches.{depth_of, is_on};
-ghost use Rattle.rhai_bench.specs.Settings.{under_array_size, under_operations, usual};
+ghost use Rattle.rhai_bench.specs.Settings.{under_array_size, under_call_levels, under_operations, usual};
 
 use rhai_eval::engine::Engine;
 use rhai_eval::state::{Caches, Limits};
@@ -52,6 +52,15 @@ impl Settings {
     {
         let mut settings = Settings::USUAL;
         settings.limits.max_array_size = size;
+        settings
+    }
+
+    /// The usual settings, but for the limit of how deep calls are.
+    pub fn with_max_call_levels(levels: usize) -> Settings
+        ensures { result ≡ under_call_levels levels }
+    {
+        let mut settings = Settings::USUAL;
+        settings.limits.max_call_levels = levels;
         settings
     }
 

@@ -1,5 +1,5 @@
 -- The forms of the tree that the bench builds. A place is a column of the first line.
-use Rattle.std.specs.Prelude.{◌≡◌, ℕ, List, [], ◌∷◌, Option, Some, None, false, true, MatchOption}
+use Rattle.std.specs.Prelude.{◌≡◌, ℕ, Bool, List, [], ◌∷◌, Option, Some, None, false, true, MatchOption}
 use Rattle.std.specs.declared.num.NonZeroUsize.{NonZeroUsize}
 use Rattle.std.specs.Int.NonZero.{non_zero_usize_get}
 use Rattle.rhai_build.specs.declared.Builder.{Builder}
@@ -14,6 +14,9 @@ use Rattle.rhai_tree.specs.declared.expr.StmtBlock.{StmtBlock}
 use Rattle.rhai_tree.specs.declared.expr.Expr.{Expr}
 use Rattle.rhai_tree.specs.declared.expr.Expr.TheVariants as expr
 use Rattle.rhai_tree.specs.declared.expr.Stmt.{Stmt}
+use Rattle.rhai_tree.specs.declared.function.FnAccess.{FnAccess}
+use Rattle.rhai_tree.specs.declared.function.ScriptFuncDef.{ScriptFuncDef}
+use Rattle.rhai_tree.specs.declared.function.ScriptFuncPayload.TheVariants.{Statements}
 
 -- what was made is so, unless memory has run out by then
 abbrev pub Made : Builder → Builder → Type 0 → Type 0
@@ -43,11 +46,11 @@ operator_at token name column args =
     (record { namespace = unqualified; name = name; args = args; op_token = Some token; capture_parent_scope = false })
     (at 1 column)
 
--- a call by name
-abbrev pub call_at : List ℕ → ℕ → List Expr → Expr
-call_at name column args =
+-- a call by name, which may run on the caller's variables
+abbrev pub call_at : List ℕ → ℕ → (captures : Bool) → List Expr → Expr
+call_at name column captures args =
     expr.FnCall
-    (record { namespace = unqualified; name = name; args = args; op_token = None; capture_parent_scope = false })
+    (record { namespace = unqualified; name = name; args = args; op_token = None; capture_parent_scope = captures })
     (at 1 column)
 
 -- the namespace of a name behind one module
@@ -97,3 +100,8 @@ end_option = record { 0 = 2 }
 -- the option of a constant
 abbrev pub constant_option : ASTFlags
 constant_option = record { 0 = 4 }
+
+-- a function of statements, with the type that its `this` must have, if any
+abbrev pub function_of : FnAccess → Option (List ℕ) → (name : List ℕ) → (params : List (List ℕ)) → StmtBlock → ScriptFuncDef
+function_of access this_type name params body =
+    record { body = Statements body; name = name; access = access; this_type = this_type; params = params }

@@ -1,6 +1,6 @@
 //! Expressions.
 
-ghost use Rattle.std.specs.Prelude.{◌≡◌, ◌≢◌, [], ◌∷◌, ◌++◌};
+ghost use Rattle.std.specs.Prelude.{◌≡◌, ◌≢◌, [], ◌∷◌, ◌++◌, false, true};
 ghost use Rattle.rhai_items.specs.Lookup.{with_entry};
 ghost use Rattle.rhai_tree.specs.Position.{at as place};
 ghost use Rattle.rhai_tree.specs.declared.expr.Expr.TheVariants as expr;
@@ -45,6 +45,14 @@ pub fn unit(column: u16) -> Expr
     ensures { result ≡ expr.Unit (place 1 column) }
 {
     Expr::Unit(at(column))
+}
+
+/// `this`.
+pub fn this(column: u16) -> Expr
+    requires { column ≢ 0 }
+    ensures { result ≡ expr.ThisPtr (place 1 column) }
+{
+    Expr::ThisPtr(at(column))
 }
 
 /// The entries of a map, and the template that holds their keys.
@@ -168,9 +176,36 @@ impl Builder {
     /// A call of a function by its name.
     pub fn call<const N: usize>(&mut self, name: &str, column: u16, args: [Expr; N]) -> Expr
         requires { column ≢ 0 }
-        ensures { Made self.old self.new (result ≡ call_at name.now column args.entry) }
+        ensures { Made self.old self.new (result ≡ call_at name.now column false args.entry) }
     {
         let args = self.list(args);
+        self.call_with(name, column, args, false)
+    }
+
+    /// A call of a function by its name, which runs on the caller's variables.
+    pub fn capturing_call<const N: usize>(
+        &mut self,
+        name: &str,
+        column: u16,
+        args: [Expr; N],
+    ) -> Expr
+        requires { column ≢ 0 }
+        ensures { Made self.old self.new (result ≡ call_at name.now column true args.entry) }
+    {
+        let args = self.list(args);
+        self.call_with(name, column, args, true)
+    }
+
+    fn call_with(
+        &mut self,
+        name: &str,
+        column: u16,
+        args: Items<Expr>,
+        capture_parent_scope: bool,
+    ) -> Expr
+        requires { column ≢ 0 }
+        ensures { Made self.old self.new (result ≡ call_at name.now column capture_parent_scope args) }
+    {
         match self.name(name) {
             Some(name) => {
                 let call = FnCallExpr {
@@ -178,7 +213,7 @@ impl Builder {
                     name,
                     args,
                     op_token: None,
-                    capture_parent_scope: false,
+                    capture_parent_scope,
                 };
                 Expr::FnCall(call, at(column))
             }

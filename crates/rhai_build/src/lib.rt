@@ -2,17 +2,19 @@
 //! counted from 1.
 #![tactic(auto)]
 
-ghost use Rattle.std.specs.Prelude.{◌≡◌, ◌≢◌, IfOk, MatchOption, false, true};
+ghost use Rattle.std.specs.Prelude.{◌≡◌, ◌≢◌, [], IfOk, MatchOption, false, true};
 ghost use Rattle.rhai_tree.specs.Position.{at as place};
 ghost use Rattle.rhai_build.specs.Build.{Made, unqualified};
 
 use rhai_items::{Items, Shared, Text};
 use rhai_tree::expr::{Namespace, Stmt};
+use rhai_tree::function::ScriptFuncDef;
 use rhai_tree::position::Position;
 use std::alloc::{AllocError, Global};
 
 pub mod chains;
 pub mod expressions;
+pub mod functions;
 pub mod statements;
 
 /// The place at a column.
@@ -54,20 +56,24 @@ pub fn list<T: Drop, const N: usize>(alloc: Global, items: [T; N]) -> Result<Ite
 pub struct Builder {
     alloc: Global,
     has_memory: bool,
+    /// The functions that were added.
+    functions: Items<ScriptFuncDef>,
 }
 
 impl Builder {
     /// A builder that has made nothing.
     pub fn new(alloc: Global) -> Builder
-        ensures { result.has_memory ≡ true }
+        ensures fed { result.has_memory ≡ true }
+        ensures functions { result.functions ≡ [] }
     {
         Builder {
             alloc,
             has_memory: true,
+            functions: Items::new(alloc),
         }
     }
 
-    /// The statements of a tree, or want of memory for them or for one of their parts.
+    /// The statements of a tree without functions, or want of memory for them or for one of their parts.
     pub fn finish<const N: usize>(
         mut self,
         statements: [Stmt; N],

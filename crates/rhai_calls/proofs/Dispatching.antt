@@ -1,100 +1,173 @@
 -- A call by name whose arguments are there.
-use Rattle.std.proofs.Common.{◌≡◌, ℕ, Bool, true, false, List, [], ◌∷◌, Option, Some, None, Result, Err, refl, ap, ◌∙◌}
-use Rattle.std.specs.Prelude.{codes, if◌then◌else◌, IfOk, Ok}
+use Rattle.std.proofs.Common.{arith, sym, ◌≡◌, ◌+◌, ◌-◌, suc, ℕ, Bool, true, false, List, [], ◌∷◌, Option, Some, None, Result, Err, refl, ap, ◌∙◌}
+use Rattle.std.specs.Prelude.{ℤ, pos, ◌&&◌, codes, if◌then◌else◌, IfOk, Ok}
 use Rattle.std.specs.Str.{bytes_eq}
 use Rattle.rhai_tree.specs.declared.position.Position.{Position}
 use Rattle.rhai_values.specs.declared.base.value.Dynamic.{Dynamic}
+use Rattle.rhai_values.specs.declared.base.value.Union.{Union}
+use Rattle.rhai_values.specs.declared.base.value.Union.TheVariants as value
 use Rattle.rhai_state.specs.declared.error.EvalAltResult.{EvalAltResult}
 use Rattle.rhai_state.specs.declared.error.EvalAltResult.TheVariants as error
 use Rattle.rhai_state.specs.Errors.{is_out_of_memory}
+use Rattle.rhai_functions.specs.declared.function.Function.{Function}
 use Rattle.rhai_machine.specs.machine.Memory.{here, wanting}
 use Rattle.rhai_machine.specs.language.Setting.{Setting, Rules}
 use Rattle.rhai_machine.specs.language.State.{State, Local}
-use Rattle.rhai_machine.specs.language.Values.{Cells}
-use Rattle.rhai_machine.specs.language.Frames.{Operation, Call, Frame, Core, core, ended, marked, Ask, Fail}
-use Rattle.rhai_machine.specs.language.Calls.{dispatch_core, named_core, races}
+use Rattle.rhai_machine.specs.language.Values.{bool_value, through}
+use Rattle.rhai_machine.specs.language.Frames.{Operation, Dispatch, Call, Frame, Core, core, ended, marked, Ask, Back, Fail}
+use Rattle.rhai_machine.specs.language.Calls.{asks_function, call_of, called_core, called_function, dispatch_core, enter_core, found_core}
+use Rattle.rhai_machine.specs.language.Calls.{knows_asked, knows_function, named_core, names_function, plainly, races}
 use Rattle.rhai_machine.specs.language.Language.{want}
 use Rattle.rhai_machine.specs.language.Runs.{at, with_core, Goes, Steps}
 use Rattle.rhai_steps.proofs.Pieces.{faulted, told}
-use Rattle.rhai_calls.specs.Dispatch.{meant, Dispatches, Means}
-use Rattle.rhai_calls.specs.Marks.{with_mark, without_mark, MarkedDispatches, MarkedRuns}
+use Rattle.rhai_calls.specs.declared.dispatch.Called.TheVariants.{Enters}
+use Rattle.rhai_calls.specs.declared.dispatch.Called.TheVariants as called
+use Rattle.rhai_calls.specs.declared.dispatch.Dispatched.{Dispatched}
+use Rattle.rhai_calls.specs.declared.dispatch.Dispatched.TheVariants.{Ended, Found}
+use Rattle.rhai_calls.specs.declared.dispatch.Seeks.{Seeks}
+use Rattle.rhai_calls.specs.Called.{Calls}
+use Rattle.rhai_calls.specs.Dispatch.{how_of, knows, meant, number_of, script_function, seen_number, seen_text, text_of, told_of, Dispatches, IfEnded}
+use Rattle.rhai_calls.specs.Dispatch.{Means}
+use Rattle.rhai_calls.specs.Marks.{with_mark, without_mark, MarkedRuns}
 use Rattle.rhai_calls.proofs.NativeCalls.{plain_ends, plain_mark}
 
+-- a method's arguments without its object, and a call's with its first
+pub less_one : (n : ℕ) → suc n - 1 ≡ n
+less_one n = omega arith
+
+pub one_more : (n : ℕ) → suc n ≡ 1 + n
+one_more n = omega arith
+
+module _ {H : Type 0} (k : List (Frame H)) (l : Local H) where
+  -- where a name leads: to what it means, or on
+  abbrev leads_to : Option (Result (Dynamic H) (EvalAltResult H)) → Core H → Core H
+  leads_to (Some r) c = core (ended r) k l
+  leads_to None c = c
+
+  chosen : (first second : Bool) (r q : Result (Dynamic H) (EvalAltResult H)) (c : Core H) →
+      (if first then core (ended r) k l else if second then core (ended q) k l else c)
+      ≡ leads_to (if first then Some r else if second then Some q else None) c
+  chosen true second r q c = refl
+  chosen false true r q c = refl
+  chosen false false r q c = refl
+
+  module _ (s : Setting H) (c : Core H) where
+    knows_same : (name : List ℕ) (count : ℤ) →
+        knows_function s l.around (value.Str name) (value.Int count) ≡ knows s.offer l.around name count
+    knows_same name (pos count) = refl
+    knows_same name _ = refl
+
+    -- whether two values ask about a function
+    asked_values : (u w : Union H) →
+        (if names_function u w then core (Back (bool_value (knows_function s l.around u w))) k l else c)
+        ≡ leads_to (told_of s.offer l.around (text_of u) (number_of w)) c
+    asked_values (value.Str name) (value.Int count) = ap (λ (b : Bool). core (Back (bool_value b)) k l) (knows_same name count)
+    asked_values (value.Str name) _ = refl
+    asked_values _ w = refl
+
+    told_no_number : (text : Option (List ℕ)) → c ≡ leads_to (told_of s.offer l.around text None) c
+    told_no_number (Some name) = refl
+    told_no_number None = refl
+
+    asked_seen : (r q : Result (Dynamic H) (EvalAltResult H)) →
+        (if asks_function r q then core (Back (bool_value (knows_asked s l.around r q))) k l else c)
+        ≡ leads_to (told_of s.offer l.around (seen_text r) (seen_number q)) c
+    asked_seen (Ok v) (Ok w) = asked_values v.value w.value
+    asked_seen (Ok v) (Err e) = told_no_number (text_of v.value)
+    asked_seen (Err e) q = refl
+
+    asked : (b : Bool) (r q : Result (Dynamic H) (EvalAltResult H)) →
+        (if b && asks_function r q then core (Back (bool_value (knows_asked s l.around r q))) k l else c)
+        ≡ leads_to (if b then told_of s.offer l.around (seen_text r) (seen_number q) else None) c
+    asked true r q = asked_seen r q
+    asked false r q = refl
+
 module _ {H : Type 0} where
-  -- where a name leads: to what it means, or to the native of the name
-  abbrev comes_to : Option (Result (Dynamic H) (EvalAltResult H)) → Call H → List (Frame H) → Local H → Core H
-  comes_to (Some r) call k l = core (ended r) k l
-  comes_to None call k l = core (Ask call) k l
+  function_by : (s : Setting H) (alone of_method on_scope : Bool) (call : Call H) (l : Local H) →
+      script_function s.offer l.around s.host_type (record { of_method = of_method; natives_alone = alone }) call.operation.name call.args
+      ≡ called_function s (record { of_method = of_method; natives_alone = alone; on_scope = on_scope }) call l
+  function_by s true of_method on_scope call l = refl
+  function_by s false true on_scope call l = refl
+  function_by s false false on_scope call l = refl
 
-  chosen : (first second : Bool) (r q : Result (Dynamic H) (EvalAltResult H)) (call : Call H) (k : List (Frame H)) (l : Local H) →
-      (if first then core (ended r) k l else if second then core (ended q) k l else core (Ask call) k l)
-      ≡ comes_to (if first then Some r else if second then Some q else None) call k l
-  chosen true second r q call k l = refl
-  chosen false true r q call k l = refl
-  chosen false false r q call k l = refl
+  -- the function of a script that a call means
+  pub function_is : (s : Setting H) (seeks : Seeks) (on_scope : Bool) (call : Call H) (l : Local H) →
+      script_function s.offer l.around s.host_type seeks call.operation.name call.args ≡ called_function s (how_of seeks on_scope) call l
+  function_is s seeks on_scope call l = function_by s seeks.natives_alone seeks.of_method on_scope call l
 
-  chosen_one : (first : Bool) (r : Result (Dynamic H) (EvalAltResult H)) (call : Call H) (k : List (Frame H)) (l : Local H) →
-      (if first then core (ended r) k l else core (Ask call) k l) ≡ comes_to (if first then Some r else None) call k l
-  chosen_one true r call k l = refl
-  chosen_one false r call k l = refl
-
-  named_is : (s : Setting H) (args : List (Dynamic H)) (call : Call H) (k : List (Frame H)) (l : Local H) →
-      named_core s args call k l ≡ comes_to (meant l.around.cells call.operation s.host_type args) call k l
-  named_is s [] call k l = refl
-  named_is s (v ∷ []) call k l = chosen (bytes_eq call.operation.name (codes "type_of")) (bytes_eq call.operation.name (codes "eval")) _ _
-      call k l
-  named_is s (v ∷ w ∷ []) call k l = chosen_one _ _ call k l
-  named_is s (v ∷ w ∷ u ∷ args) call k l = refl
+  named_is : (s : Setting H) (how : Dispatch) (args : List (Dynamic H)) (call : Call H) (k : List (Frame H)) (l : Local H) →
+      named_core s how args call k l
+      ≡ leads_to k l (meant s.offer l.around call.operation s.host_type args) (called_core s how call k l)
+  named_is s how [] call k l = refl
+  named_is s how (v ∷ []) call k l =
+      chosen k l (bytes_eq call.operation.name (codes "type_of")) (bytes_eq call.operation.name (codes "eval")) _ _ _
+  named_is s how (v ∷ w ∷ []) call k l = asked k l s (called_core s how call k l) (bytes_eq call.operation.name (codes "is_def_fn"))
+      (through l.around.cells v call.operation.at) (through l.around.cells w call.operation.at)
+  named_is s how (v ∷ w ∷ u ∷ args) call k l = refl
 
   -- what a name means is not marked
   pub unmarks_meant : (marks : Bool) (r : Result (Dynamic H) (EvalAltResult H)) (q : Result (Dynamic H × Bool) (EvalAltResult H)) →
       q ≡ with_mark false r → IfOk q (λ answer. marks ≡ false → answer.1 ≡ false)
   unmarks_meant marks r q is = rw is (plain_mark marks false r (λ _. refl))
 
-  module _ (s : Setting H) (call : Call H) (k : List (Frame H)) (l : Local H) where
+  -- what holds of an answer holds of a call that ended with it
+  pub ended_unmarked : (marks : Bool) (q : Result (Dynamic H × Bool) (EvalAltResult H)) →
+      IfOk q (λ answer. marks ≡ false → answer.1 ≡ false) → IfEnded (Ended q) (λ answer. marks ≡ false → answer.1 ≡ false)
+  ended_unmarked marks (Ok v) h = h
+  ended_unmarked marks (Err e) h = tt
+
+  of_ended : (r : Result (Dynamic H × Bool) (EvalAltResult H)) → IfEnded (Ended r) (λ answer. false ≡ false → answer.1 ≡ false) →
+      IfOk r (λ answer. false ≡ false → answer.1 ≡ false)
+  of_ended (Ok v) h = h
+  of_ended (Err e) h = tt
+
+  module _ (s : Setting H) (how : Dispatch) (call : Call H) (k : List (Frame H)) (l : Local H) where
     abbrev race : Core H
     race = core (Fail (error.ErrorDataRace call.operation.name call.operation.at)) k l
 
-    dispatch_races : races l.around.cells call.args ≡ true → dispatch_core s call k l ≡ race
-    dispatch_races is = ap (λ (b : Bool). if b then race else named_core s call.args call k l) is
+    dispatch_races : races l.around.cells call.args ≡ true → dispatch_core s how call k l ≡ race
+    dispatch_races is = ap (λ (b : Bool). if b then race else named_core s how call.args call k l) is
 
     dispatch_is : races l.around.cells call.args ≡ false →
-        dispatch_core s call k l ≡ comes_to (meant l.around.cells call.operation s.host_type call.args) call k l
-    dispatch_is is = ap (λ (b : Bool). if b then race else named_core s call.args call k l) is ∙ named_is s call.args call k l
+        dispatch_core s how call k l
+        ≡ leads_to k l (meant s.offer l.around call.operation s.host_type call.args) (called_core s how call k l)
+    dispatch_is is =
+        ap (λ (b : Bool). if b then race else named_core s how call.args call k l) is ∙ named_is s how call.args call k l
 
-    wants_meant : (o : Option (Result (Dynamic H) (EvalAltResult H))) (pos : Position) →
-        want pos (comes_to o call k l) ≡ core (Fail (error.ErrorOutOfMemory pos)) k l
-    wants_meant None pos = refl
-    wants_meant (Some r) pos = refl
+    wants_entered : (of_method : Bool) (f : Function H) (at : Position) →
+        want at (enter_core of_method f how call k l) ≡ core (Fail (error.ErrorOutOfMemory at)) k l
+    wants_entered true f at = refl
+    wants_entered false f at = refl
 
-    wants_dispatched : (b : Bool) (pos : Position) →
-        want pos (if b then race else named_core s call.args call k l) ≡ core (Fail (error.ErrorOutOfMemory pos)) k l
-    wants_dispatched true pos = refl
-    wants_dispatched false pos = ap (want pos) (named_is s call.args call k l)
-        ∙ wants_meant (meant l.around.cells call.operation s.host_type call.args) pos
+    wants_found : (found : Option (Function H)) (at : Position) →
+        want at (found_core s found how call k l) ≡ core (Fail (error.ErrorOutOfMemory at)) k l
+    wants_found (Some f) at = wants_entered how.of_method f at
+    wants_found None at = refl
 
-module _ {S H : Type 0} (rules : Rules S H) where
-  -- a call that does not mark ends as it would by itself
-  pub dispatches_plainly : (call : Call H) (old new : State S H) (r : Result (Dynamic H × Bool) (EvalAltResult H))
-      (q : Result (Dynamic H) (EvalAltResult H)) →
-      IfOk r (λ answer. false ≡ false → answer.1 ≡ false) → q ≡ without_mark r → MarkedDispatches rules call old r new →
-      Dispatches rules call old q new
-  unfolding Dispatches MarkedDispatches
-  dispatches_plainly call old new r q plain is runs k = rw (is, ← plain_ends r plain) (runs k)
+    wants_meant : (o : Option (Result (Dynamic H) (EvalAltResult H))) (at : Position) →
+        want at (leads_to k l o (called_core s how call k l)) ≡ core (Fail (error.ErrorOutOfMemory at)) k l
+    wants_meant None at = wants_found (called_function s how call l) at
+    wants_meant (Some r) at = refl
 
-module _ {S H : Type 0} (rules : Rules S H) (call : Call H) (s : State S H) where
+    wants_dispatched : (b : Bool) (at : Position) →
+        want at (if b then race else named_core s how call.args call k l) ≡ core (Fail (error.ErrorOutOfMemory at)) k l
+    wants_dispatched true at = refl
+    wants_dispatched false at = ap (want at) (named_is s how call.args call k l)
+        ∙ wants_meant (meant s.offer l.around call.operation s.host_type call.args) at
+
+module _ {S H : Type 0} (rules : Rules S H) (how : Dispatch) (call : Call H) (s : State S H) where
   -- memory runs out before a call is dispatched
-  pub dispatch_wants : (pos : Position) → Dispatches rules call s (Err (error.ErrorOutOfMemory pos)) s
-  unfolding Dispatches
-  dispatch_wants pos k =
-      wanting {at = pos} (rw (wants_dispatched rules.setting call k s.local (races s.local.around.cells call.args) pos) here)
+  pub calls_want : (at : Position) → Calls rules how call s (called.Ended (Err (error.ErrorOutOfMemory at))) s
+  unfolding Calls
+  calls_want at k =
+      wanting {at = at} (rw (wants_dispatched rules.setting how call k s.local (races s.local.around.cells call.args) at) here)
 
   -- an argument's cell is held
-  pub dispatch_held : races s.local.around.cells call.args ≡ true → (e : EvalAltResult H) →
+  dispatch_held : races s.local.around.cells call.args ≡ true → (e : EvalAltResult H) →
       (is_out_of_memory e ≡ false → e ≡ error.ErrorDataRace call.operation.name call.operation.at) →
-      MarkedDispatches rules call s (Err e) s
-  unfolding MarkedDispatches
-  dispatch_held is e race_told k = rw (dispatch_races rules.setting call k s.local is)
+      Dispatches rules how call s (Ended (Err e)) s
+  unfolding Dispatches
+  dispatch_held is e race_told k = rw (dispatch_races rules.setting how call k s.local is)
       (faulted rules e (error.ErrorDataRace call.operation.name call.operation.at) race_told k s)
 
   -- what a name means is not marked
@@ -103,27 +176,77 @@ module _ {S H : Type 0} (rules : Rules S H) (call : Call H) (s : State S H) wher
   not_marked (Err e) = refl
 
   means_one : (o : Option (Result (Dynamic H) (EvalAltResult H))) (r : Result (Dynamic H) (EvalAltResult H)) → Means (Some r) o →
-      (k : List (Frame H)) → Goes rules (with_core (comes_to o call k s.local) s) (at (ended r) k s)
-  means_one None r means k = absurd means
-  means_one (Some x) r means k = told rules r x means k s
+      (c : Core H) (k : List (Frame H)) → Goes rules (with_core (leads_to k s.local o c) s) (at (ended r) k s)
+  means_one None r means c k = absurd means
+  means_one (Some x) r means c k = told rules r x means k s
 
-  -- the name means no native
-  pub dispatch_means : races s.local.around.cells call.args ≡ false → (r : Result (Dynamic H) (EvalAltResult H)) →
+  -- the name means no function
+  dispatch_means : races s.local.around.cells call.args ≡ false → (r : Result (Dynamic H) (EvalAltResult H)) →
       (q : Result (Dynamic H × Bool) (EvalAltResult H)) → q ≡ with_mark false r →
-      Means (Some r) (meant s.local.around.cells call.operation rules.setting.host_type call.args) → MarkedDispatches rules call s q s
-  unfolding MarkedDispatches
+      Means (Some r) (meant rules.setting.offer s.local.around call.operation rules.setting.host_type call.args) →
+      Dispatches rules how call s (Ended q) s
+  unfolding Dispatches
   dispatch_means free r q is means k =
-      rw (is, not_marked r, dispatch_is rules.setting call k s.local free) (means_one _ r means k)
+      rw (is, not_marked r, dispatch_is rules.setting how call k s.local free) (means_one _ r means _ k)
+
+module _ {S H : Type 0} (rules : Rules S H) (seeks : Seeks) (on_scope : Bool) (call : Call H) (s : State S H) where
+  abbrev meaning : Option (Result (Dynamic H) (EvalAltResult H))
+  meaning = meant rules.setting.offer s.local.around call.operation rules.setting.host_type call.args
+
+  abbrev wanted : Option (Function H)
+  wanted = script_function rules.setting.offer s.local.around rules.setting.host_type seeks call.operation.name call.args
+
+  -- a call that fails, or that has no memory
+  pub resolved_fails : (e : EvalAltResult H) → (is_out_of_memory e ≡ false → (races s.local.around.cells call.args ≡ true)
+      × (e ≡ error.ErrorDataRace call.operation.name call.operation.at)) → Dispatches rules (how_of seeks on_scope) call s (Ended (Err e)) s
+  unfolding Dispatches
+  resolved_fails (error.ErrorOutOfMemory at) h k = wanting {at = at}
+      (rw (wants_dispatched rules.setting (how_of seeks on_scope) call k s.local (races s.local.around.cells call.args) at) here)
+  resolved_fails e h k = dispatch_held rules (how_of seeks on_scope) call s (h refl).0 e (λ m. (h refl).1) k
+
+  -- one whose name means no function
+  pub resolved_means : (r : Result (Dynamic H) (EvalAltResult H)) (q : Result (Dynamic H × Bool) (EvalAltResult H)) →
+      q ≡ with_mark false r → (races s.local.around.cells call.args ≡ false) × Means (Some r) meaning →
+      Dispatches rules (how_of seeks on_scope) call s (Ended q) s
+  resolved_means r q is h = dispatch_means rules (how_of seeks on_scope) call s h.0 r q is h.1
 
   means_none : (o : Option (Result (Dynamic H) (EvalAltResult H))) → Means None o → o ≡ None
   means_none None means = refl
   means_none (Some x) means = absurd means
 
-  -- or the native of the name is called
-  pub dispatch_asks : races s.local.around.cells call.args ≡ false →
-      Means None (meant s.local.around.cells call.operation rules.setting.host_type call.args) →
+  -- one that is a function's leads to where that is found, or is not
+  looked_for : (found : Option (Function H)) → races s.local.around.cells call.args ≡ false → Means None meaning → found ≡ wanted →
+      (k : List (Frame H)) → dispatch_core rules.setting (how_of seeks on_scope) call k s.local
+      ≡ found_core rules.setting found (how_of seeks on_scope) call k s.local
+  looked_for found free means is k =
+      dispatch_is rules.setting (how_of seeks on_scope) call k s.local free
+      ∙ ap (λ o. leads_to k s.local o (called_core rules.setting (how_of seeks on_scope) call k s.local)) (means_none meaning means)
+      ∙ ap (λ o. found_core rules.setting o (how_of seeks on_scope) call k s.local)
+      (sym (is ∙ function_is rules.setting seeks on_scope call s.local))
+
+  pub resolved_found : (f : Function H) →
+      (races s.local.around.cells call.args ≡ false) × Means None meaning × (Some f ≡ wanted) →
+      Dispatches rules (how_of seeks on_scope) call s (Found f) s
+  unfolding Dispatches
+  resolved_found f h k = rw (looked_for (Some f) h.0 h.1 h.2 k) here
+
+  pub resolved_asks : (races s.local.around.cells call.args ≡ false) × Means None meaning × (None ≡ wanted) →
       (r : Result (Dynamic H × Bool) (EvalAltResult H)) (new : State S H) → MarkedRuns rules (Ask call) s r new →
-      MarkedDispatches rules call s r new
-  unfolding MarkedDispatches Steps
-  dispatch_asks free means r new runs k =
-      rw (dispatch_is rules.setting call k s.local free, means_none _ means) (runs k)
+      Dispatches rules (how_of seeks on_scope) call s (Ended r) new
+  unfolding Dispatches Steps
+  resolved_asks h r new runs k = rw (looked_for None h.0 h.1 h.2 k) (runs k)
+
+module _ {S H : Type 0} (rules : Rules S H) (s new : State S H) where
+  -- a call that lends nothing and does not mark ends as it would by itself
+  pub calls_ended : (how : Dispatch) (call : Call H) (r : Result (Dynamic H × Bool) (EvalAltResult H))
+      (q : Result (Dynamic H) (EvalAltResult H)) → IfEnded (Ended r) (λ answer. false ≡ false → answer.1 ≡ false) → q ≡ without_mark r →
+      Dispatches rules how call s (Ended r) new → Calls rules how call s (called.Ended q) new
+  unfolding Calls Dispatches
+  calls_ended how call r q plain is runs k = rw (is, ← plain_ends r (of_ended r plain)) (runs k)
+
+  -- or it enters the function that was found
+  pub calls_entered : (alone on_scope : Bool) (operation : Operation) (args : List (Dynamic H)) (f : Function H) →
+      Dispatches rules (plainly alone on_scope) (call_of operation args) s (Found f) new →
+      Calls rules (plainly alone on_scope) (call_of operation args) s (Enters f args) new
+  unfolding Calls Dispatches
+  calls_entered alone on_scope operation args f runs k = runs k

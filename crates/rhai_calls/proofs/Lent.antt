@@ -16,8 +16,8 @@ use Rattle.rhai_state.specs.declared.error.EvalAltResult.TheVariants as error
 use Rattle.rhai_state.specs.Scope.{revalued, value_of}
 use Rattle.rhai_machine.specs.language.State.{State, Local}
 use Rattle.rhai_machine.specs.language.Values.{Cells, is_handle}
-use Rattle.rhai_machine.specs.language.Places.{Place, InEntry, InCell, InFocus}
-use Rattle.rhai_machine.specs.language.Frames.{Operation, Lender, FromEntry, FromFocus}
+use Rattle.rhai_machine.specs.language.Places.{Place, InEntry, InCell, InThis, InFocus, rebound}
+use Rattle.rhai_machine.specs.language.Frames.{Operation, Lender, FromEntry, FromThis, FromFocus}
 use Rattle.rhai_machine.specs.language.Calls.{first_in, in_cell, lendable, place_of, put_left, while_from}
 use Rattle.rhai_calls.specs.Lending.{back_in, Stands}
 use Rattle.rhai_calls.specs.Natives.{cell_in, lends_from, StandsAt}
@@ -58,17 +58,22 @@ module _ {H : Type 0} where
   put_same (Some (InCell n)) v l stands =
       ap (λ (cells : Cells H). record l { around = record l.around { cells = cells } })
       (cells_same l.around.cells n (slice_get l.around.cells n) v refl stands)
+  put_same (Some InThis) v l stands =
+      ap (λ (this : Option (Dynamic H)). record l { this = rebound v this }) stands
+      ∙ ap (λ (this : Option (Dynamic H)). record l { this = this }) (sym stands)
   put_same (Some InFocus) v l stands = ap (λ (focus : Option (Dynamic H)). record l { focus = focus }) (sym stands)
 
   -- where it is lent from is such a place
   pub stands_at : (lender : Option Lender) (v : Dynamic H) (l : Local H) → Stands lender v l → StandsAt (option_map place_of lender) v l
   stands_at None v l stands = tt
   stands_at (Some (FromEntry i)) v l stands = stands
+  stands_at (Some FromThis) v l stands = stands
   stands_at (Some FromFocus) v l stands = stands
 
   pub while_lender : (lender : Option Lender) (cells : Cells H) → cells ≡ while_from (option_map place_of lender) cells
   while_lender None cells = refl
   while_lender (Some (FromEntry i)) cells = refl
+  while_lender (Some FromThis) cells = refl
   while_lender (Some FromFocus) cells = refl
 
   pub back_is : {S : Type 0} (lender : Option Lender) (v : Dynamic H) (s : State S H) →

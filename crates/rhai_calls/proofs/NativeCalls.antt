@@ -25,7 +25,7 @@ use Rattle.rhai_machine.specs.language.Setting.{Rules, limit_under}
 use Rattle.rhai_machine.specs.language.State.{Held, State, HasMemory, Answers}
 use Rattle.rhai_machine.specs.language.Values.{Cells, is_handle}
 use Rattle.rhai_machine.specs.language.Places.{Place, InCell, is_barred}
-use Rattle.rhai_machine.specs.language.Frames.{Operation, Lender, FromEntry, FromFocus, Call, Control, Frame, core, ended, marked, Ask, Question, Fire, Fail}
+use Rattle.rhai_machine.specs.language.Frames.{Operation, Lender, FromEntry, FromThis, FromFocus, Call, Control, Frame, core, ended, marked, Ask, Question, Fire, Fail}
 use Rattle.rhai_machine.specs.language.Calls.{answered, barred_call, fire_first, first_of, noted, place_of, put_left, question_first, replied}
 use Rattle.rhai_machine.specs.language.Calls.{while_from}
 use Rattle.rhai_machine.specs.language.Runs.{at, with_core, Goes, Runs, Steps}
@@ -84,6 +84,7 @@ module _ {H : Type 0} where
       Stands lender x (local_of old scope held) → Stands lender x (local_of new scope held)
   still_stands None x old new scope held stands = tt
   still_stands (Some (FromEntry index)) x old new scope held stands = stands
+  still_stands (Some FromThis) x old new scope held stands = stands
   still_stands (Some FromFocus) x old new scope held stands = stands
 
 module _ {S H : Type 0} (rules : Rules S H) where

@@ -11,19 +11,19 @@ use Rattle.rhai_machine.specs.machine.Memory.{here, wanting}
 use Rattle.rhai_machine.specs.language.Setting.{Rules}
 use Rattle.rhai_machine.specs.language.State.{State, HasMemory, Answers}
 use Rattle.rhai_machine.specs.language.Frames.{Call, Frame, ended, Fail}
-use Rattle.rhai_machine.specs.language.Calls.{applied, operator_core}
+use Rattle.rhai_machine.specs.language.Calls.{applied, operator_core, plainly}
 use Rattle.rhai_machine.specs.language.Runs.{at, with_core, Goes}
-use Rattle.rhai_calls.specs.Dispatch.{Dispatches}
-use Rattle.rhai_calls.proofs.Dispatching.{dispatch_wants}
+use Rattle.rhai_calls.specs.Called.{Calls}
+use Rattle.rhai_calls.proofs.Dispatching.{calls_want}
 
 module _ {S H : Type 0} (rules : Rules S H) where
   -- memory runs out before an operator is done
   starts_wanting : (wanted : Option (Result (Dynamic H) (EvalAltResult H))) (call : Call H) (k : List (Frame H)) (s : State S H)
       (pos : Position) →
       Goes rules (with_core (operator_core rules.setting wanted call k s.local) s) (at (Fail (error.ErrorOutOfMemory pos)) k s)
-  unfolding Dispatches
+  unfolding Calls
   starts_wanting (Some r) call k s pos = wanting {at = pos} here
-  starts_wanting None call k s pos = dispatch_wants rules call s pos k
+  starts_wanting None call k s pos = calls_want rules (plainly false false) call s pos k
 
 -- a position changes nothing of that
 placed_memory : {H : Type 0} (pos : Position) (e : EvalAltResult H) → is_out_of_memory (at_position pos e) ≡ is_out_of_memory e

@@ -1,70 +1,147 @@
--- A call by name whose arguments are there.
-use Rattle.std.specs.Prelude.{⊤, ℕ, Bool, true, false, ◌&&◌, List, [], ◌∷◌, Option, Some, None, Result, Ok, Err, codes, if◌then◌else◌}
+-- A call by name whose arguments are there: what its name means, and what it comes to.
+use Rattle.std.specs.Prelude.{◌≡◌, ⊤, ℕ, ◌-◌, ℤ, pos, Bool, true, false, List, [], ◌∷◌, length, Option, Some, None, Result, Ok, Err}
+use Rattle.std.specs.Prelude.{codes, is_some, if◌then◌else◌}
+use Rattle.std.specs.Option.{option_or}
 use Rattle.std.specs.Str.{bytes_eq}
 use Rattle.rhai_values.specs.declared.base.value.Dynamic.{Dynamic}
 use Rattle.rhai_values.specs.declared.base.value.Union.{Union}
 use Rattle.rhai_values.specs.declared.base.value.Union.TheVariants as value
 use Rattle.rhai_state.specs.declared.error.EvalAltResult.{EvalAltResult}
 use Rattle.rhai_state.specs.declared.error.EvalAltResult.TheVariants as error
+use Rattle.rhai_state.specs.Errors.{is_out_of_memory}
 use Rattle.rhai_values.specs.Copy.{plain}
 use Rattle.rhai_values.specs.TypeNames.{type_name_of}
-use Rattle.rhai_machine.specs.language.Setting.{Rules}
-use Rattle.rhai_machine.specs.language.State.{State, Answers}
+use Rattle.rhai_functions.specs.declared.function.Function.{Function}
+use Rattle.rhai_functions.specs.declared.function.Offered.{Offered}
+use Rattle.rhai_machine.specs.language.Setting.{Offer, Rules}
+use Rattle.rhai_machine.specs.language.State.{Local, State, Surroundings, Answers}
 use Rattle.rhai_machine.specs.language.Values.{Cells, bool_value, through}
-use Rattle.rhai_machine.specs.language.Frames.{Operation, Call, Frame, ended}
-use Rattle.rhai_machine.specs.language.Calls.{asks_function, dispatch_core, signature, types_of}
-use Rattle.rhai_machine.specs.language.Runs.{at, with_core, Goes}
+use Rattle.rhai_machine.specs.language.Functions.{found_function, key_by}
+use Rattle.rhai_machine.specs.language.Frames.{Operation, Dispatch, Call, Frame, Core, core, marked}
+use Rattle.rhai_machine.specs.language.Calls.{dispatch_core, enter_core, first_type, races, signature, types_of}
+use Rattle.rhai_machine.specs.language.Runs.{with_core, Goes}
+use Rattle.rhai_calls.specs.declared.dispatch.Dispatched.{Dispatched}
+use Rattle.rhai_calls.specs.declared.dispatch.Dispatched.TheVariants.{Ended, Found}
+use Rattle.rhai_calls.specs.declared.dispatch.Resolved.{Resolved}
+use Rattle.rhai_calls.specs.declared.dispatch.Resolved.TheVariants.{Failed, Meant, Found as FoundFunction, Native as OfNative}
+use Rattle.rhai_calls.specs.declared.dispatch.Seeks.{Seeks}
 
--- from where a call is dispatched, over any stack, to how it ended
-unfoldable pub Dispatches : {S H : Type 0} → Rules S H → Call H → State S H → Result (Dynamic H) (EvalAltResult H) → State S H → Type 0
-Dispatches {S} {H} rules call old result new = (k : List (Frame H)) →
-    Goes rules (with_core (dispatch_core rules.setting call k old.local) old) (at (ended result) k new)
+-- a call that looks for these functions of scripts is dispatched so
+abbrev pub how_of : Seeks → (on_scope : Bool) → Dispatch
+how_of seeks on_scope = record { of_method = seeks.of_method; natives_alone = seeks.natives_alone; on_scope = on_scope }
 
 module _ {H : Type 0} where
-  abbrev pub is_text : Union H → Bool
-  is_text (value.Str text) = true
-  is_text _ = false
+  -- the modules of an engine are these
+  abbrev pub Offers : Offer H → Offered H → Type 0
+  Offers offer offered =
+      (offer.global_modules ≡ offered.global_modules.now) × (offer.global_sub_modules.1 ≡ offered.global_sub_modules.now)
 
-  abbrev pub is_number : Union H → Bool
-  is_number (value.Int number) = true
-  is_number _ = false
+  -- ---- what a name means
+
+  abbrev pub text_of : Union H → Option (List ℕ)
+  text_of (value.Str text) = Some text
+  text_of _ = None
+
+  abbrev pub number_of : Union H → Option ℤ
+  number_of (value.Int number) = Some number
+  number_of _ = None
 
   -- a value that is seen is a text, or an integer
-  abbrev pub seen_text : Result (Dynamic H) (EvalAltResult H) → Bool
-  seen_text (Ok v) = is_text v.value
-  seen_text (Err e) = false
+  abbrev pub seen_text : Result (Dynamic H) (EvalAltResult H) → Option (List ℕ)
+  seen_text (Ok v) = text_of v.value
+  seen_text (Err e) = None
 
-  abbrev pub seen_number : Result (Dynamic H) (EvalAltResult H) → Bool
-  seen_number (Ok v) = is_number v.value
-  seen_number (Err e) = false
+  abbrev pub seen_number : Result (Dynamic H) (EvalAltResult H) → Option ℤ
+  seen_number (Ok v) = number_of v.value
+  seen_number (Err e) = None
 
-  module _ (cells : Cells H) (operation : Operation) where
-    -- a function's name and the number of its parameters
-    abbrev pub asks_about : Dynamic H → Dynamic H → Bool
-    asks_about v w = asks_function (through cells v operation.at) (through cells w operation.at)
+  -- what a name means with one argument: its type, or a compiler, which is not there
+  abbrev pub meant_of : Cells H → Operation → (H → List ℕ) → Dynamic H → Option (Result (Dynamic H) (EvalAltResult H))
+  meant_of cells operation host v =
+      if bytes_eq operation.name (codes "type_of") then Some (Ok (plain (value.Str (type_name_of host cells v))))
+      else if bytes_eq operation.name (codes "eval")
+      then Some (Err (error.ErrorFunctionNotFound (signature operation.name (types_of host cells (v ∷ []))) operation.at))
+      else None
 
-    -- what a name means with two arguments: whether that is a function of the script, which none is yet
-    abbrev pub meant_of_two : Dynamic H → Dynamic H → Option (Result (Dynamic H) (EvalAltResult H))
-    meant_of_two v w =
-        if bytes_eq operation.name (codes "is_def_fn") && asks_about v w then Some (Ok (bool_value false)) else None
+  module _ (offer : Offer H) (around : Surroundings H) where
+    -- the function of a script with a name and so many parameters
+    abbrev pub plain_found : List ℕ → (arity : ℕ) → Option (Function H)
+    plain_found name arity = found_function (key_by name arity None) offer around
 
-    module _ (host : H → List ℕ) where
-      -- what a name means with one argument: its type, or a compiler, which is not there
-      abbrev pub meant_of : Dynamic H → Option (Result (Dynamic H) (EvalAltResult H))
-      meant_of v =
-          if bytes_eq operation.name (codes "type_of") then Some (Ok (plain (value.Str (type_name_of host cells v))))
-          else if bytes_eq operation.name (codes "eval")
-          then Some (Err (error.ErrorFunctionNotFound (signature operation.name (types_of host cells (v ∷ []))) operation.at))
+    -- and that of a method: for the type of its object, and else for any type
+    abbrev pub method_found : List ℕ → (type : List ℕ) → (arity : ℕ) → Option (Function H)
+    method_found name type arity = option_or (found_function (key_by name arity (Some type)) offer around) (plain_found name arity)
+
+    -- whether there is a function of a name with so many parameters
+    abbrev pub knows : List ℕ → ℤ → Bool
+    knows name (pos count) = is_some (plain_found name count)
+    knows name _ = false
+
+    abbrev pub told_of : Option (List ℕ) → Option ℤ → Option (Result (Dynamic H) (EvalAltResult H))
+    told_of (Some name) (Some count) = Some (Ok (bool_value (knows name count)))
+    told_of _ _ = None
+
+    module _ (operation : Operation) where
+      -- what a name means with two arguments: whether a function is there
+      abbrev pub meant_of_two : Dynamic H → Dynamic H → Option (Result (Dynamic H) (EvalAltResult H))
+      meant_of_two v w =
+          if bytes_eq operation.name (codes "is_def_fn")
+          then told_of (seen_text (through around.cells v operation.at)) (seen_number (through around.cells w operation.at))
           else None
 
-      -- what a name means with these arguments, None where that is the native of the name
-      abbrev pub meant : List (Dynamic H) → Option (Result (Dynamic H) (EvalAltResult H))
-      meant (v ∷ []) = meant_of v
-      meant (v ∷ w ∷ []) = meant_of_two v w
-      meant _ = None
+      module _ (host : H → List ℕ) where
+        -- what a name means with these arguments, None where that is a function of the name
+        abbrev pub meant : List (Dynamic H) → Option (Result (Dynamic H) (EvalAltResult H))
+        meant (v ∷ []) = meant_of around.cells operation host v
+        meant (v ∷ w ∷ []) = meant_of_two v w
+        meant _ = None
+
+    module _ (host : H → List ℕ) where
+      abbrev pub found_as : (of_method : Bool) → List ℕ → List (Dynamic H) → Option (Function H)
+      found_as true name args = method_found name (first_type host around.cells args) (length args - 1)
+      found_as false name args = plain_found name (length args)
+
+      -- the function of a script that a call means
+      abbrev pub script_function : Seeks → List ℕ → List (Dynamic H) → Option (Function H)
+      script_function seeks name args = if seeks.natives_alone then None else found_as seeks.of_method name args
 
   -- a result where one is wanted, and it is that one, unless memory was wanting
   abbrev pub Means : Option (Result (Dynamic H) (EvalAltResult H)) → Option (Result (Dynamic H) (EvalAltResult H)) → Type 0
   Means None None = ⊤
   Means (Some result) (Some wanted) = Answers result wanted
   Means _ _ = ⊥
+
+  -- what a call means before anything is done for it: it fails for an argument in a held cell, unless memory was wanting; it is no
+  -- function's; it is a function of a script; or it is a native's
+  abbrev pub Resolves : (races : Bool) → (meant : Option (Result (Dynamic H) (EvalAltResult H))) → (found : Option (Function H)) →
+      Operation → Resolved H → Type 0
+  Resolves raced meaning found operation (Failed e) =
+      is_out_of_memory e ≡ false → (raced ≡ true) × (e ≡ error.ErrorDataRace operation.name operation.at)
+  Resolves raced meaning found operation (Meant r) = (raced ≡ false) × Means (Some r) meaning
+  Resolves raced meaning found operation (FoundFunction function) = (raced ≡ false) × Means None meaning × (Some function ≡ found)
+  Resolves raced meaning found operation OfNative = (raced ≡ false) × Means None meaning × (None ≡ found)
+
+  abbrev pub ResolvesCall : Offer H → Surroundings H → (H → List ℕ) → Seeks → Operation → List (Dynamic H) → Resolved H → Type 0
+  ResolvesCall offer around host seeks operation args resolved = Resolves (races around.cells args) (meant offer around operation host args)
+      (script_function offer around host seeks operation.name args) operation resolved
+
+  -- ---- what a call comes to
+
+  -- what holds of the answer of a call that has ended, and what holds where a function was found
+  abbrev pub IfEnded : Dispatched H → (Dynamic H × Bool → Type 0) → Type 0
+  IfEnded (Ended (Ok answer)) P = P answer
+  IfEnded _ P = ⊤
+
+  abbrev pub IfFound : Dispatched H → Type 0 → Type 0
+  IfFound (Found function) P = P
+  IfFound _ P = ⊤
+
+  -- a call that ended comes back with its mark, and a function that was found is entered
+  abbrev pub came_to : Dispatch → Call H → Dispatched H → List (Frame H) → Local H → Core H
+  came_to how call (Ended r) k l = core (marked r) k l
+  came_to how call (Found function) k l = enter_core how.of_method function how call k l
+
+  -- from where a call is dispatched, over any stack, to what it came to
+  unfoldable pub Dispatches : {S : Type 0} → Rules S H → Dispatch → Call H → State S H → Dispatched H → State S H → Type 0
+  Dispatches {S} rules how call old dispatched new = (k : List (Frame H)) →
+      Goes rules (with_core (dispatch_core rules.setting how call k old.local) old) (with_core (came_to how call dispatched k new.local) new)

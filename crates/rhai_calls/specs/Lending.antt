@@ -4,7 +4,7 @@ use Rattle.rhai_values.specs.declared.base.value.Dynamic.{Dynamic}
 use Rattle.rhai_state.specs.Scope.{value_in}
 use Rattle.rhai_machine.specs.language.State.{Local, State}
 use Rattle.rhai_machine.specs.language.Places.{put}
-use Rattle.rhai_machine.specs.language.Frames.{Operation, Lender, FromEntry, FromFocus, Call}
+use Rattle.rhai_machine.specs.language.Frames.{Operation, Lender, FromEntry, FromThis, FromFocus, Call}
 use Rattle.rhai_machine.specs.language.Calls.{call_of, place_of}
 
 module _ {H : Type 0} where
@@ -20,6 +20,7 @@ module _ {H : Type 0} where
   abbrev pub Stands : Option Lender → Dynamic H → Local H → Type 0
   Stands None v l = ⊤
   Stands (Some (FromEntry index)) v l = value_in l.scope (Some index) ≡ Some v
+  Stands (Some FromThis) v l = l.this ≡ Some v
   Stands (Some FromFocus) v l = l.focus ≡ Some v
 
   -- a state with a value written there

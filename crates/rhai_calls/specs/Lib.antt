@@ -1,3 +1,4 @@
+pub mod Called
 pub mod Dispatch
 pub mod Lending
 pub mod Marks

@@ -1,13 +1,12 @@
 -- Results that say whether a native may have changed its first argument.
-use Rattle.std.specs.Prelude.{Bool, true, false, List, Option, Some, Result, Ok, Err}
+use Rattle.std.specs.Prelude.{Bool, true, false, Option, Some, Result, Ok, Err}
 use Rattle.rhai_values.specs.declared.base.value.Dynamic.{Dynamic}
 use Rattle.rhai_state.specs.declared.error.EvalAltResult.{EvalAltResult}
 use Rattle.rhai_state.specs.Native.{Reply, Gives}
 use Rattle.rhai_machine.specs.language.Setting.{Rules}
 use Rattle.rhai_machine.specs.language.State.{State}
-use Rattle.rhai_machine.specs.language.Frames.{Call, Control, Frame, marked}
-use Rattle.rhai_machine.specs.language.Calls.{dispatch_core}
-use Rattle.rhai_machine.specs.language.Runs.{at, with_core, Goes, Steps}
+use Rattle.rhai_machine.specs.language.Frames.{Control, marked}
+use Rattle.rhai_machine.specs.language.Runs.{Steps}
 
 module _ {H : Type 0} where
   -- a result with its mark, and without
@@ -28,9 +27,3 @@ module _ {H : Type 0} where
   abbrev pub MarkedRuns : {S : Type 0} → Rules S H → Control H → State S H → Result (Dynamic H × Bool) (EvalAltResult H) → State S H →
       Type 0
   MarkedRuns rules c old result new = Steps rules c old (marked result) new
-
-  -- from where a call is dispatched, over any stack, to how it ended
-  unfoldable pub MarkedDispatches : {S : Type 0} → Rules S H → Call H → State S H → Result (Dynamic H × Bool) (EvalAltResult H) →
-      State S H → Type 0
-  MarkedDispatches {S} rules call old result new = (k : List (Frame H)) →
-      Goes rules (with_core (dispatch_core rules.setting call k old.local) old) (at (marked result) k new)

@@ -14,7 +14,7 @@ use Rattle.rhai_machine.specs.language.Setting.{Rules}
 use Rattle.rhai_machine.specs.language.State.{Local}
 use Rattle.rhai_machine.specs.language.Values.{Cells, is_handle}
 use Rattle.rhai_state.specs.Scope.{value_in}
-use Rattle.rhai_machine.specs.language.Places.{Place, InEntry, InCell, InFocus, is_barred}
+use Rattle.rhai_machine.specs.language.Places.{Place, InEntry, InCell, InThis, InFocus, is_barred}
 use Rattle.rhai_machine.specs.language.Frames.{Operation, Lender, Call, Question}
 use Rattle.rhai_machine.specs.language.Calls.{first_of, key_by, put_left, while_from}
 use Rattle.rhai_calls.specs.Lending.{passed_call}
@@ -57,6 +57,7 @@ module _ {H : Type 0} where
   StandsAt None v l = ⊤
   StandsAt (Some (InEntry index)) v l = value_in l.scope (Some index) ≡ Some v
   StandsAt (Some (InCell number)) v l = value_of_cell l.around.cells number ≡ Some v
+  StandsAt (Some InThis) v l = l.this ≡ Some v
   StandsAt (Some InFocus) v l = l.focus ≡ Some v
 
   -- a native is called with a value for its first argument, which is lent from a place and goes back there: with these cells

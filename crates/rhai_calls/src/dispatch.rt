@@ -1,23 +1,30 @@
-//! Calls by name whose arguments are there. Ports what upstream's `exec_fn_call` does where the name
-//! means no function of the script. The contracts cite specs/Dispatch.antt and specs/Lending.antt.
+//! Calls by name whose arguments are there. Ports what upstream's `exec_fn_call` does up to where a function
+//! of a script is entered. The contracts cite specs/Dispatch.antt, specs/Called.antt and specs/Lending.antt.
 
-ghost use Rattle.std.specs.Prelude.{◌≡◌, ◌≤◌, ◌∷◌, [], Ok, IfOk, false};
+ghost use Rattle.std.specs.Prelude.{◌≡◌, ◌≤◌, ◌∷◌, [], Ok, IfOk, None, false, if◌then◌else◌};
+ghost use Rattle.std.specs.Option.{option_copied};
 ghost use Rattle.rhai_values.specs.Cells.{cells_of};
 ghost use Rattle.rhai_values.specs.Copy.{plain};
 ghost use Rattle.rhai_values.specs.TypeNames.{type_name_of};
 ghost use Rattle.rhai_values.specs.declared.base.value.Union.TheVariants as kind;
-ghost use Rattle.rhai_machine.specs.language.Calls.{asks_function, call_of, is_held as held_in};
+ghost use Rattle.rhai_machine.specs.language.Calls.{call_of, is_held as held_in, plainly};
 ghost use Rattle.rhai_machine.specs.language.Calls.{races as races_in};
+ghost use Rattle.rhai_machine.specs.language.Frames.{Ask};
 ghost use Rattle.rhai_machine.specs.language.Setting.{rules_of};
 ghost use Rattle.rhai_machine.specs.language.State.{Answers};
 ghost use Rattle.rhai_machine.specs.language.Values.{through};
-ghost use Rattle.rhai_steps.specs.States.{local_of, state_of};
-ghost use Rattle.rhai_calls.specs.Dispatch.{Dispatches, meant, meant_of, meant_of_two, Means};
-ghost use Rattle.rhai_calls.specs.Dispatch.{seen_number, seen_text};
-ghost use Rattle.rhai_calls.specs.Marks.{MarkedDispatches};
-ghost use Rattle.rhai_calls.specs.Lending.{back_in, lent_call, passed_call, Stands};
+ghost use Rattle.rhai_steps.specs.States.{local_of, state_of, surroundings_of};
+ghost use Rattle.rhai_calls.specs.Called.{Calls};
+ghost use Rattle.rhai_calls.specs.Dispatch.{knows, meant, meant_of, meant_of_two, method_found, plain_found, script_function};
+ghost use Rattle.rhai_calls.specs.Dispatch.{seen_number, seen_text, how_of, Dispatches, IfEnded, IfFound};
+ghost use Rattle.rhai_calls.specs.Dispatch.{Means, Offers, ResolvesCall};
+ghost use Rattle.rhai_calls.specs.Marks.{MarkedRuns};
+ghost use Rattle.rhai_calls.specs.Lending.{back_in, passed_call, Stands};
 
 use crate::native::{Passing, marked, pass_native, pass_native_alone, unmarked};
+use rhai_functions::function::{Function, Offered, called_function};
+use rhai_functions::key::FnKey;
+use rhai_functions::lookup::find_function;
 use rhai_items::Items;
 use rhai_state::error::EvalAltResult;
 use rhai_state::limits::Limits;
@@ -30,7 +37,47 @@ use rhai_tree::position::Position;
 use rhai_tree::token::Token;
 use rhai_values::base::value::{Dynamic, Host, Union};
 use rhai_values::cells::CellStore;
-use std::alloc::Global;
+use std::alloc::{AllocError, Global};
+use std::mem::replace;
+
+/// Which functions of scripts a call by name looks for.
+#[derive(Clone, Copy)]
+pub struct Seeks {
+    /// Its first argument is the object of a method.
+    pub of_method: bool,
+    /// Natives alone are asked.
+    pub natives_alone: bool,
+}
+
+/// What a call by name comes to, whose arguments are there.
+#[derive(Drop)]
+pub enum Dispatched<H> {
+    /// It has ended, and a value has its mark.
+    Ended(Result<(Dynamic<H>, bool), EvalAltResult<H>>),
+    /// It is a call of a function of a script, and nothing is done yet.
+    Found(Function<H>),
+}
+
+/// What a call by name means, before anything is done for it.
+#[derive(Drop)]
+enum Resolved<H> {
+    /// Nothing: an argument is the handle of a cell that is held.
+    Failed(EvalAltResult<H>),
+    /// No function: this is its answer.
+    Meant(Result<Dynamic<H>, EvalAltResult<H>>),
+    /// A function of a script.
+    Found(Function<H>),
+    /// The native of the name.
+    Native,
+}
+
+/// What a call by name comes to that lends no argument.
+#[derive(Drop)]
+pub enum Called<H> {
+    Ended(Result<Dynamic<H>, EvalAltResult<H>>),
+    /// A function of a script is to be entered with these arguments.
+    Enters(Function<H>, Items<Dynamic<H>>),
+}
 
 /// Whether a value is the handle of a cell that is held.
 pub fn is_held<H: Host>(cells: &CellStore<H>, value: &Dynamic<H>) -> bool
@@ -61,32 +108,60 @@ fn call_races<H: Host>(cells: &CellStore<H>, first: &Dynamic<H>, rest: &[Dynamic
     is_held(cells, first) || races(cells, rest)
 }
 
-/// Whether a value is a text, through a handle.
-fn is_text<H: Host>(cells: &CellStore<H>, value: &Dynamic<H>) -> bool
-    ensures { (pos : _) → result ≡ seen_text (through (cells_of cells.now) value.now pos) }
+/// A text, through a handle.
+fn text_in<'v, H: Host>(cells: &'v CellStore<H>, value: &'v Dynamic<H>) -> Option<&'v str>
+    ensures { (pos : _) → option_copied result ≡ seen_text (through (cells_of cells.now) value.now pos) }
 {
     match &value.value {
-        Union::Str(_) => true,
-        Union::Cell(id) => match cells.get(*id) {
-            Some(inner) => matches!(&inner.value, Union::Str(_)),
-            None => false,
+        Union::Str(text) => Some(text.get().as_str()),
+        Union::Cell(id) => match &cells.get(*id)?.value {
+            Union::Str(text) => Some(text.get().as_str()),
+            _ => None,
         },
-        _ => false,
+        _ => None,
     }
 }
 
-/// Whether a value is an integer, through a handle.
-fn is_number<H: Host>(cells: &CellStore<H>, value: &Dynamic<H>) -> bool
+/// An integer, through a handle.
+fn number_in<H: Host>(cells: &CellStore<H>, value: &Dynamic<H>) -> Option<i64>
     ensures { (pos : _) → result ≡ seen_number (through (cells_of cells.now) value.now pos) }
 {
     match &value.value {
-        Union::Int(_) => true,
-        Union::Cell(id) => match cells.get(*id) {
-            Some(inner) => matches!(&inner.value, Union::Int(_)),
-            None => false,
+        Union::Int(number) => Some(*number),
+        Union::Cell(id) => match &cells.get(*id)?.value {
+            Union::Int(number) => Some(*number),
+            _ => None,
         },
-        _ => false,
+        _ => None,
     }
+}
+
+/// Whether a function of a script has a name and so many parameters.
+fn is_defined<H: Host>(
+    offered: &Offered<'_, H>,
+    global: &GlobalRuntimeState<H>,
+    name: &str,
+    count: i64,
+) -> bool
+    ensures { (offer : _) → Offers offer offered.now →
+        result ≡ knows offer (surroundings_of global.now) name.now count }
+{
+    let Ok(arity) = usize::try_from(count) else {
+        return false;
+    };
+    let key = FnKey {
+        name,
+        arity,
+        this_type: None,
+    };
+    let found = find_function(
+        key,
+        global.lib.as_slice(),
+        offered.global_modules,
+        global.imports.as_slice(),
+        offered.global_sub_modules,
+    );
+    found.is_some()
 }
 
 /// The name of a value's type, through a handle.
@@ -128,49 +203,154 @@ fn meaning_of<H: Host>(
     None
 }
 
-/// What a name means with two arguments: whether they say a function of the script, which none is yet.
-/// None where it is a native's.
+/// What a name means with two arguments: whether they say a function of the script. None where it is a
+/// function's.
 fn meaning_of_two<H: Host>(
-    cells: &CellStore<H>,
+    offered: &Offered<'_, H>,
+    global: &GlobalRuntimeState<H>,
     name: &str,
     token: Option<Token>,
     first: &Dynamic<H>,
     second: &Dynamic<H>,
     pos: Position,
 ) -> Option<Result<Dynamic<H>, EvalAltResult<H>>>
-    ensures { Means result (meant_of_two (cells_of cells.now)
+    ensures { (offer : _) → Offers offer offered.now → Means result (meant_of_two offer (surroundings_of global.now)
         (record { name = name.now; token = token; at = pos }) first.now second.now) }
 {
-    if name == "is_def_fn" && is_text(cells, first) && is_number(cells, second) {
-        return Some(Ok(bool_value(false)));
+    if name != "is_def_fn" {
+        return None;
     }
-    None
+    let asked = text_in(&global.cells, first)?;
+    let count = number_in(&global.cells, second)?;
+    Some(Ok(bool_value(is_defined(offered, global, asked, count))))
 }
 
-/// What a name means with these arguments, None where it is a native's.
+/// What a name means with these arguments, None where it is a function's.
 fn meaning<H: Host>(
     alloc: Global,
-    cells: &CellStore<H>,
+    offered: &Offered<'_, H>,
+    global: &GlobalRuntimeState<H>,
     name: &str,
     token: Option<Token>,
     first: &Dynamic<H>,
     rest: &[Dynamic<H>],
     pos: Position,
 ) -> Option<Result<Dynamic<H>, EvalAltResult<H>>>
-    ensures { Means result (meant (cells_of cells.now)
+    ensures { (offer : _) → Offers offer offered.now → Means result (meant offer (surroundings_of global.now)
         (record { name = name.now; token = token; at = pos }) H.name_of (first.now ∷ rest.now)) }
 {
     match rest {
-        [] => meaning_of(alloc, cells, name, token, first, pos),
-        [second] => meaning_of_two(cells, name, token, first, second, pos),
+        [] => meaning_of(alloc, &global.cells, name, token, first, pos),
+        [second] => meaning_of_two(offered, global, name, token, first, second, pos),
         _ => None,
     }
 }
 
-/// A call by name whose arguments are there: the type of a value, or else the native of the name. The
-/// first argument may be lent, as from a variable's entry or by a chain, and the native may change it. No
-/// compiler is there, and no function of a script. A marked answer says whether a native answered that
-/// is not pure. Ports upstream's `exec_fn_call`.
+/// The function of a script that has a name and so many parameters.
+fn function_by<H: Host>(
+    offered: &Offered<'_, H>,
+    global: &GlobalRuntimeState<H>,
+    name: &str,
+    arity: usize,
+) -> Result<Option<Function<H>>, AllocError>
+    ensures { (offer : _) → Offers offer offered.now →
+        IfOk result (λ found. found ≡ plain_found offer (surroundings_of global.now) name.now arity) }
+{
+    let key = FnKey {
+        name,
+        arity,
+        this_type: None,
+    };
+    called_function(
+        key,
+        offered,
+        global.lib.as_slice(),
+        global.imports.as_slice(),
+    )
+}
+
+/// The function of a script that a method means: for the type of its object, and else for any type.
+fn method_by<H: Host>(
+    offered: &Offered<'_, H>,
+    global: &GlobalRuntimeState<H>,
+    name: &str,
+    this_type: &str,
+    arity: usize,
+) -> Result<Option<Function<H>>, AllocError>
+    ensures { (offer : _) → Offers offer offered.now →
+        IfOk result (λ found. found ≡ method_found offer (surroundings_of global.now) name.now this_type.now arity) }
+{
+    let key = FnKey {
+        name,
+        arity,
+        this_type: Some(this_type),
+    };
+    match called_function(
+        key,
+        offered,
+        global.lib.as_slice(),
+        global.imports.as_slice(),
+    )? {
+        Some(function) => Ok(Some(function)),
+        None => function_by(offered, global, name, arity),
+    }
+}
+
+/// The function of a script that a call means, None where its native is meant.
+fn function_of<H: Host>(
+    offered: &Offered<'_, H>,
+    global: &GlobalRuntimeState<H>,
+    seeks: Seeks,
+    name: &str,
+    first: &Dynamic<H>,
+    rest: &[Dynamic<H>],
+) -> Result<Option<Function<H>>, AllocError>
+    ensures { (offer : _) → Offers offer offered.now →
+        IfOk result (λ found. found ≡ script_function offer (surroundings_of global.now) H.name_of seeks name.now
+        (first.now ∷ rest.now)) }
+{
+    if seeks.natives_alone {
+        return Ok(None);
+    }
+    if seeks.of_method {
+        let this_type = first.type_name(&global.cells);
+        return method_by(offered, global, name, this_type, rest.len());
+    }
+    function_by(offered, global, name, 1 + rest.len())
+}
+
+/// What a call by name means, whose arguments are there.
+fn resolve<H: Host>(
+    alloc: Global,
+    offered: &Offered<'_, H>,
+    global: &GlobalRuntimeState<H>,
+    seeks: Seeks,
+    name: &str,
+    token: Option<Token>,
+    first: &Dynamic<H>,
+    rest: &[Dynamic<H>],
+    pos: Position,
+) -> Resolved<H>
+    ensures { (offer : _) → Offers offer offered.now → ResolvesCall offer (surroundings_of global.now) H.name_of seeks
+        (record { name = name.now; token = token; at = pos }) (first.now ∷ rest.now) result }
+{
+    if call_races(&global.cells, first, rest) {
+        return Resolved::Failed(data_race_by(alloc, name, pos));
+    }
+    if let Some(result) = meaning(alloc, offered, global, name, token, first, rest, pos) {
+        return Resolved::Meant(result);
+    }
+    match function_of(offered, global, seeks, name, first, rest) {
+        Ok(Some(function)) => Resolved::Found(function),
+        Ok(None) => Resolved::Native,
+        Err(_) => Resolved::Failed(EvalAltResult::ErrorOutOfMemory(pos)),
+    }
+}
+
+/// A call by name whose arguments are there: the type of a value, whether a function is there, a function of
+/// a script, or else the native of the name. The first argument may be lent, as from a variable's entry or by
+/// a chain, and a native may change it. No compiler is there. A marked answer says whether a native answered
+/// that is not pure. A function that is found is for the caller to enter. Ports upstream's `exec_fn_call`.
 ///
 /// # Errors
 /// At the call: `ErrorDataRace` for an argument that is the handle of a cell which is held;
@@ -178,89 +358,205 @@ fn meaning<H: Host>(
 pub fn pass_call<H: Host, T: NativeTable<H>>(
     limits: &Limits,
     alloc: Global,
+    offered: &Offered<'_, H>,
     global: &mut GlobalRuntimeState<H>,
     table: &mut T,
+    seeks: Seeks,
     name: &str,
     token: Option<Token>,
     first: &mut Dynamic<H>,
     rest: &[Dynamic<H>],
     passing: Passing,
     pos: Position,
-) -> Result<(Dynamic<H>, bool), EvalAltResult<H>>
+) -> Dispatched<H>
     ensures counts { global.old.num_operations ≤ global.new.num_operations }
-    ensures runs { (offer : _) (scope : _) (held : _) (lender : _) →
+    ensures runs { (offer : _) (scope : _) (held : _) (lender : _) (on_scope : _) → Offers offer offered.now →
         Stands lender first.old (local_of global.old scope held) →
-        MarkedDispatches (rules_of limits.now H.name_of offer T.natives)
+        Dispatches (rules_of limits.now H.name_of offer T.natives) (how_of seeks on_scope)
         (passed_call (record { name = name.now; token = token; at = pos }) lender passing.guarded
         passing.marks (first.old ∷ rest.now))
         (state_of (T.state table.old) global.old scope held)
         result (back_in lender first.new (state_of (T.state table.new) global.new scope held)) }
-    ensures unmarked { IfOk result (λ answer. passing.marks ≡ false → answer.1 ≡ false) }
+    ensures same { IfFound result (first.new ≡ first.old) }
+    ensures unmarked { IfEnded result (λ answer. passing.marks ≡ false → answer.1 ≡ false) }
 {
-    if call_races(&global.cells, first, rest) {
-        return Err(data_race_by(alloc, name, pos));
-    }
-    match meaning(alloc, &global.cells, name, token, first, rest, pos) {
-        Some(result) => marked(result, false),
-        None => pass_native(
+    match resolve(
+        alloc, offered, &*global, seeks, name, token, &*first, rest, pos,
+    ) {
+        Resolved::Failed(error) => Dispatched::Ended(Err(error)),
+        Resolved::Meant(result) => Dispatched::Ended(marked(result, false)),
+        Resolved::Found(function) => Dispatched::Found(function),
+        Resolved::Native => Dispatched::Ended(pass_native(
             limits, alloc, global, table, name, token, first, rest, passing, pos,
-        ),
+        )),
     }
 }
 
-/// A call by name as `pass_call` makes it, whose answer is not marked.
+/// The function of a script that a call without arguments means, None where its native is meant.
+fn function_alone<H: Host>(
+    offered: &Offered<'_, H>,
+    global: &GlobalRuntimeState<H>,
+    natives_alone: bool,
+    name: &str,
+) -> Result<Option<Function<H>>, AllocError>
+    ensures { (offer : _) → Offers offer offered.now →
+        IfOk result (λ found. found ≡ (if natives_alone then None
+        else plain_found offer (surroundings_of global.now) name.now 0)) }
+{
+    if natives_alone {
+        return Ok(None);
+    }
+    function_by(offered, global, name, 0)
+}
+
+/// What a call by name means that is no method's, with any number of arguments.
+fn resolve_all<H: Host>(
+    alloc: Global,
+    offered: &Offered<'_, H>,
+    global: &GlobalRuntimeState<H>,
+    natives_alone: bool,
+    name: &str,
+    token: Option<Token>,
+    args: &[Dynamic<H>],
+    pos: Position,
+) -> Resolved<H>
+    ensures { (offer : _) → Offers offer offered.now → ResolvesCall offer (surroundings_of global.now) H.name_of
+        (record { of_method = false; natives_alone = natives_alone })
+        (record { name = name.now; token = token; at = pos }) args.now result }
+{
+    match args {
+        [] => match function_alone(offered, global, natives_alone, name) {
+            Ok(Some(function)) => Resolved::Found(function),
+            Ok(None) => Resolved::Native,
+            Err(_) => Resolved::Failed(EvalAltResult::ErrorOutOfMemory(pos)),
+        },
+        [first, rest @ ..] => {
+            let seeks = Seeks {
+                of_method: false,
+                natives_alone,
+            };
+            resolve(alloc, offered, global, seeks, name, token, first, rest, pos)
+        }
+    }
+}
+
+/// The native of a name, with any number of arguments, none of which is lent.
+fn native_all<H: Host, T: NativeTable<H>>(
+    limits: &Limits,
+    alloc: Global,
+    global: &mut GlobalRuntimeState<H>,
+    table: &mut T,
+    name: &str,
+    token: Option<Token>,
+    args: &mut [Dynamic<H>],
+    marks: bool,
+    pos: Position,
+) -> Result<(Dynamic<H>, bool), EvalAltResult<H>>
+    ensures counts { global.old.num_operations ≤ global.new.num_operations }
+    ensures runs { (offer : _) (scope : _) (held : _) →
+        MarkedRuns (rules_of limits.now H.name_of offer T.natives)
+        (Ask (passed_call (record { name = name.now; token = token; at = pos }) None false marks args.old))
+        (state_of (T.state table.old) global.old scope held)
+        result (state_of (T.state table.new) global.new scope held) }
+    ensures unmarked { IfOk result (λ answer. marks ≡ false → answer.1 ≡ false) }
+{
+    let [first, rest @ ..] = args else {
+        return pass_native_alone(limits, alloc, global, table, name, token, marks, pos);
+    };
+    let passing = Passing {
+        guarded: false,
+        marks,
+    };
+    pass_native(
+        limits, alloc, global, table, name, token, first, rest, passing, pos,
+    )
+}
+
+/// A call by name as `pass_call` makes it, with any number of arguments, none of which is lent. Where a
+/// function of a script is found they are as they were.
 ///
 /// # Errors
 /// Those of `pass_call`.
-pub fn dispatch<H: Host, T: NativeTable<H>>(
+pub fn pass_all<H: Host, T: NativeTable<H>>(
     limits: &Limits,
     alloc: Global,
+    offered: &Offered<'_, H>,
     global: &mut GlobalRuntimeState<H>,
     table: &mut T,
+    natives_alone: bool,
     name: &str,
     token: Option<Token>,
-    first: &mut Dynamic<H>,
-    rest: &[Dynamic<H>],
-    guarded: bool,
+    args: &mut [Dynamic<H>],
+    marks: bool,
     pos: Position,
-) -> Result<Dynamic<H>, EvalAltResult<H>>
+) -> Dispatched<H>
     ensures counts { global.old.num_operations ≤ global.new.num_operations }
-    ensures runs { (offer : _) (scope : _) (held : _) (lender : _) →
-        Stands lender first.old (local_of global.old scope held) →
-        Dispatches (rules_of limits.now H.name_of offer T.natives)
-        (lent_call (record { name = name.now; token = token; at = pos }) lender guarded
-        (first.old ∷ rest.now))
+    ensures runs { (offer : _) (scope : _) (held : _) (on_scope : _) → Offers offer offered.now →
+        Dispatches (rules_of limits.now H.name_of offer T.natives) (plainly natives_alone on_scope)
+        (passed_call (record { name = name.now; token = token; at = pos }) None false marks args.old)
         (state_of (T.state table.old) global.old scope held)
-        result (back_in lender first.new (state_of (T.state table.new) global.new scope held)) }
+        result (state_of (T.state table.new) global.new scope held) }
+    ensures same { IfFound result (args.new ≡ args.old) }
+    ensures unmarked { IfEnded result (λ answer. marks ≡ false → answer.1 ≡ false) }
 {
-    let passing = Passing {
-        guarded,
-        marks: false,
-    };
-    unmarked(pass_call(
-        limits, alloc, global, table, name, token, first, rest, passing, pos,
-    ))
+    match resolve_all(
+        alloc,
+        offered,
+        &*global,
+        natives_alone,
+        name,
+        token,
+        &*args,
+        pos,
+    ) {
+        Resolved::Failed(error) => Dispatched::Ended(Err(error)),
+        Resolved::Meant(result) => Dispatched::Ended(marked(result, false)),
+        Resolved::Found(function) => Dispatched::Found(function),
+        Resolved::Native => Dispatched::Ended(native_all(
+            limits, alloc, global, table, name, token, args, marks, pos,
+        )),
+    }
 }
 
-/// A call by name without arguments.
+/// A call by name whose arguments are there, none of which is lent. The list of arguments is taken where a
+/// function of a script gets it, and is else the caller's to use again. Ports upstream's `exec_fn_call`.
 ///
 /// # Errors
-/// Those of `rhai_calls::native::pass_native_alone`.
-pub fn dispatch_alone<H: Host, T: NativeTable<H>>(
+/// Those of `pass_call`.
+pub fn call_all<H: Host, T: NativeTable<H>>(
     limits: &Limits,
     alloc: Global,
+    offered: &Offered<'_, H>,
     global: &mut GlobalRuntimeState<H>,
     table: &mut T,
+    natives_alone: bool,
     name: &str,
     token: Option<Token>,
+    args: &mut Items<Dynamic<H>>,
     pos: Position,
-) -> Result<Dynamic<H>, EvalAltResult<H>>
+) -> Called<H>
     ensures counts { global.old.num_operations ≤ global.new.num_operations }
-    ensures runs { (offer : _) (scope : _) (held : _) →
-        Dispatches (rules_of limits.now H.name_of offer T.natives)
-        (call_of (record { name = name.now; token = token; at = pos }) [])
+    ensures runs { (offer : _) (scope : _) (held : _) (on_scope : _) → Offers offer offered.now →
+        Calls (rules_of limits.now H.name_of offer T.natives) (plainly natives_alone on_scope)
+        (call_of (record { name = name.now; token = token; at = pos }) args.old)
         (state_of (T.state table.old) global.old scope held)
         result (state_of (T.state table.new) global.new scope held) }
 {
-    unmarked(pass_native_alone(limits, alloc, global, table, name, token, false, pos))
+    let values = args.as_mut_slice();
+    match pass_all(
+        limits,
+        alloc,
+        offered,
+        global,
+        table,
+        natives_alone,
+        name,
+        token,
+        values,
+        false,
+        pos,
+    ) {
+        Dispatched::Ended(result) => Called::Ended(unmarked(result)),
+        Dispatched::Found(function) => Called::Enters(function, replace(args, Items::new(alloc))),
+    }
 }

@@ -53,7 +53,7 @@ pub fn marked<H>(
 }
 
 /// A result without its mark.
-pub(crate) fn unmarked<H>(
+pub fn unmarked<H>(
     marked: Result<(Dynamic<H>, bool), EvalAltResult<H>>,
 ) -> Result<Dynamic<H>, EvalAltResult<H>>
     ensures { result ≡ without_mark marked }

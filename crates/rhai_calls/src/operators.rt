@@ -1,14 +1,16 @@
 //! Operators whose operands are there: the built-in, or else a call of the operator's name. Ports what
-//! upstream's `func/call.rs` does for operators. The contracts cite specs/Operates.antt.
+//! upstream's `func/call.rs` does for operators. The contracts cite specs/Operates.antt and specs/Called.antt.
 
-ghost use Rattle.std.specs.Prelude.{◌≡◌, ◌≤◌, ◌∷◌, []};
-ghost use Rattle.rhai_machine.specs.language.Calls.{call_at};
+ghost use Rattle.std.specs.Prelude.{◌≡◌, ◌≤◌, ◌∷◌, [], IfOk, false};
+ghost use Rattle.rhai_machine.specs.language.Calls.{call_at, plainly};
 ghost use Rattle.rhai_machine.specs.language.Setting.{rules_of};
 ghost use Rattle.rhai_steps.specs.States.{state_of};
-ghost use Rattle.rhai_calls.specs.Dispatch.{Dispatches};
+ghost use Rattle.rhai_calls.specs.Called.{Calls};
+ghost use Rattle.rhai_calls.specs.Dispatch.{Offers};
 ghost use Rattle.rhai_calls.specs.Operates.{Operates};
 
-use crate::dispatch::dispatch;
+use crate::dispatch::{Called, call_all};
+use rhai_functions::function::Offered;
 use rhai_items::Items;
 use rhai_operators::{builtin_binary, builtin_unary};
 use rhai_state::error::EvalAltResult;
@@ -16,105 +18,96 @@ use rhai_state::limits::Limits;
 use rhai_state::state::GlobalRuntimeState;
 use rhai_state::table::NativeTable;
 use rhai_steps::replies::applied;
-use rhai_steps::values::{let_go, list_of};
+use rhai_steps::values::let_go;
 use rhai_tree::position::Position;
 use rhai_tree::token::Token;
 use rhai_values::base::value::{Dynamic, Host};
-use std::alloc::Global;
+use std::alloc::{AllocError, Global};
 
-/// A unary operator that is no built-in of its operand.
-fn call_one<H: Host, T: NativeTable<H>>(
-    limits: &Limits,
-    alloc: Global,
-    global: &mut GlobalRuntimeState<H>,
-    table: &mut T,
-    name: &str,
-    token: Token,
-    operand: Dynamic<H>,
-    pos: Position,
-) -> Result<Dynamic<H>, EvalAltResult<H>>
-    ensures counts { global.old.num_operations ≤ global.new.num_operations }
-    ensures runs { (offer : _) (scope : _) (held : _) →
-        Dispatches (rules_of limits.now H.name_of offer T.natives)
-        (call_at name.now token pos (operand ∷ []))
-        (state_of (T.state table.old) global.old scope held)
-        result (state_of (T.state table.new) global.new scope held) }
+/// A list of one value.
+fn one<H: Host>(alloc: Global, value: Dynamic<H>) -> Result<Items<Dynamic<H>>, AllocError>
+    ensures { IfOk result (λ list. list ≡ value ∷ []) }
 {
-    let mut operand = operand;
-    let rest = Items::new(alloc);
-    let rest = rest.as_slice();
-    let token = Some(token);
-    let result = dispatch(
-        limits,
-        alloc,
-        global,
-        table,
-        name,
-        token,
-        &mut operand,
-        rest,
-        false,
-        pos,
-    );
-    let_go(operand);
-    result
+    let mut list = Items::new(alloc);
+    list.push(value)?;
+    Ok(list)
 }
 
-/// A binary operator that is no built-in of its operands.
-fn call_two<H: Host, T: NativeTable<H>>(
+/// A list of two.
+fn two<H: Host>(
+    alloc: Global,
+    left: Dynamic<H>,
+    right: Dynamic<H>,
+) -> Result<Items<Dynamic<H>>, AllocError>
+    ensures { IfOk result (λ list. list ≡ left ∷ right ∷ []) }
+{
+    let mut list = one(alloc, left)?;
+    list.push(right)?;
+    Ok(list)
+}
+
+/// An operator that is no built-in of its operands, if there was memory for their list.
+fn call_listed<H: Host, T: NativeTable<H>>(
     limits: &Limits,
     alloc: Global,
+    offered: &Offered<'_, H>,
     global: &mut GlobalRuntimeState<H>,
     table: &mut T,
     name: &str,
     token: Token,
-    left: Dynamic<H>,
-    right: Dynamic<H>,
+    operands: Result<Items<Dynamic<H>>, AllocError>,
     pos: Position,
-) -> Result<Dynamic<H>, EvalAltResult<H>>
+) -> Called<H>
     ensures counts { global.old.num_operations ≤ global.new.num_operations }
-    ensures runs { (offer : _) (scope : _) (held : _) →
-        Dispatches (rules_of limits.now H.name_of offer T.natives)
-        (call_at name.now token pos (left ∷ right ∷ []))
+    ensures runs { (offer : _) (scope : _) (held : _) (values : _) → Offers offer offered.now →
+        IfOk operands (λ list. list ≡ values) →
+        Calls (rules_of limits.now H.name_of offer T.natives) (plainly false false)
+        (call_at name.now token pos values)
         (state_of (T.state table.old) global.old scope held)
         result (state_of (T.state table.new) global.new scope held) }
 {
-    let mut left = left;
-    match list_of(alloc, right) {
-        Ok(rest) => {
-            let rest = rest.as_slice();
+    match operands {
+        Ok(operands) => {
+            let mut operands = operands;
             let token = Some(token);
-            let result = dispatch(
-                limits, alloc, global, table, name, token, &mut left, rest, false, pos,
+            let called = call_all(
+                limits,
+                alloc,
+                offered,
+                global,
+                table,
+                false,
+                name,
+                token,
+                &mut operands,
+                pos,
             );
-            let_go(left);
-            result
+            drop(operands);
+            called
         }
-        Err(right) => {
-            let_go(left);
-            let_go(right);
-            Err(EvalAltResult::ErrorOutOfMemory(pos))
-        }
+        Err(_) => Called::Ended(Err(EvalAltResult::ErrorOutOfMemory(pos))),
     }
 }
 
-/// A unary operator whose operand is there: the built-in, or else a call of its name.
+/// A unary operator whose operand is there: the built-in, or else a call of its name. A function of a script
+/// that has it is for the caller to enter.
 ///
 /// # Errors
 /// The built-in's at the operator. `ErrorDataTooLarge` for a value above a limit. Of the call those
-/// of `rhai_calls::dispatch::dispatch`, at the operator.
+/// of `rhai_calls::dispatch::call_all`, at the operator.
 pub fn operate_one<H: Host, T: NativeTable<H>>(
     limits: &Limits,
     alloc: Global,
+    offered: &Offered<'_, H>,
     global: &mut GlobalRuntimeState<H>,
     table: &mut T,
     name: &str,
     token: Token,
     operand: Dynamic<H>,
     pos: Position,
-) -> Result<Dynamic<H>, EvalAltResult<H>>
+) -> Called<H>
     ensures counts { global.old.num_operations ≤ global.new.num_operations }
-    ensures runs { (offer : _) (scope : _) (held : _) → Operates
+    ensures runs { (offer : _) (scope : _) (held : _) → Offers offer offered.now → Operates
         (rules_of limits.now H.name_of offer T.natives)
         (call_at name.now token pos (operand ∷ []))
         (state_of (T.state table.old) global.old scope held)
@@ -123,19 +116,26 @@ pub fn operate_one<H: Host, T: NativeTable<H>>(
     match builtin_unary(alloc, token, &operand) {
         Some(outcome) => {
             let_go(operand);
-            applied(alloc, limits, outcome, pos)
+            Called::Ended(applied(alloc, limits, outcome, pos))
         }
-        None => call_one(limits, alloc, global, table, name, token, operand, pos),
+        None => {
+            let operands = one(alloc, operand);
+            call_listed(
+                limits, alloc, offered, global, table, name, token, operands, pos,
+            )
+        }
     }
 }
 
-/// A binary operator whose operands are there: the built-in, or else a call of its name.
+/// A binary operator whose operands are there: the built-in, or else a call of its name. A function of a
+/// script that has it is for the caller to enter.
 ///
 /// # Errors
 /// Those of `operate_one`.
 pub fn operate_two<H: Host, T: NativeTable<H>>(
     limits: &Limits,
     alloc: Global,
+    offered: &Offered<'_, H>,
     global: &mut GlobalRuntimeState<H>,
     table: &mut T,
     name: &str,
@@ -143,9 +143,9 @@ pub fn operate_two<H: Host, T: NativeTable<H>>(
     left: Dynamic<H>,
     right: Dynamic<H>,
     pos: Position,
-) -> Result<Dynamic<H>, EvalAltResult<H>>
+) -> Called<H>
     ensures counts { global.old.num_operations ≤ global.new.num_operations }
-    ensures runs { (offer : _) (scope : _) (held : _) → Operates
+    ensures runs { (offer : _) (scope : _) (held : _) → Offers offer offered.now → Operates
         (rules_of limits.now H.name_of offer T.natives)
         (call_at name.now token pos (left ∷ right ∷ []))
         (state_of (T.state table.old) global.old scope held)
@@ -155,8 +155,13 @@ pub fn operate_two<H: Host, T: NativeTable<H>>(
         Some(outcome) => {
             let_go(left);
             let_go(right);
-            applied(alloc, limits, outcome, pos)
+            Called::Ended(applied(alloc, limits, outcome, pos))
         }
-        None => call_two(limits, alloc, global, table, name, token, left, right, pos),
+        None => {
+            let operands = two(alloc, left, right);
+            call_listed(
+                limits, alloc, offered, global, table, name, token, operands, pos,
+            )
+        }
     }
 }

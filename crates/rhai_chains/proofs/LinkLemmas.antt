@@ -4,15 +4,11 @@ use Rattle.std.specs.Prelude.{◌≡◌, ◌≤◌, ⊤, ℕ, ◌+◌, Bool, tru
 use Rattle.rhai_tree.specs.declared.position.Position.{Position}
 use Rattle.rhai_tree.specs.declared.flags.ASTFlags.{ASTFlags}
 use Rattle.rhai_tree.specs.declared.expr.Expr.{Expr, out-Expr}
-use Rattle.rhai_tree.specs.declared.expr.Stmt.{Stmt}
-use Rattle.rhai_tree.specs.declared.expr.FnCallExpr.{FnCallExpr}
-use Rattle.rhai_tree.specs.declared.expr.StmtBlock.{StmtBlock}
-use Rattle.rhai_tree.specs.declared.expr.MapEntry.{MapEntry}
-use Rattle.rhai_tree.specs.declared.expr.ConditionalExpr.{ConditionalExpr}
-use Rattle.rhai_tree.specs.declared.expr.Expr.TheFolds.{fold-Expr, map-Expr, fold_out-Expr}
 use Rattle.rhai_tree.specs.declared.expr.Expr.TheOpen as layer
 use Rattle.rhai_tree.specs.Layers.{ExprLayer}
 use Rattle.rhai_tree.specs.Positions.{position_of}
+use Rattle.rhai_check.specs.Links.{left_by, links, links_in}
+use Rattle.rhai_check.proofs.Links.{links_same}
 use Rattle.rhai_machine.specs.language.Links.{Link, LinkForm, asked_by, breaks, dot_form, dot_link, dot_link_with, first_in, index_link}
 use Rattle.rhai_machine.specs.language.Links.{link_of}
 use Rattle.rhai_chains.specs.Chains.{at_end, goes_on, BehindWalks, MayEnd, Walks}
@@ -49,41 +45,6 @@ walks_behind assigned _ _ link (goes_on {rest = rest} {link = first} {count = co
     alike (count, goes_behind assigned first.form first.behind rest count some walks, refl)
 
 -- ---- how many links are left
-
-abbrev pub links_step : layer.Expr-F ℕ (Unit {0}) (Unit {0}) (Unit {0}) (Unit {0}) (Unit {0}) → ℕ
-links_step (layer.Index lhs rhs options pos) = 1 + rhs
-links_step (layer.Dot lhs rhs options pos) = 1 + rhs
-links_step _ = 0
-
--- the links of a chain, which stand behind one another on the right
-abbrev pub links_in : Expr → ℕ
-links_in = fold-Expr ℕ (Unit {0}) (Unit {0}) (Unit {0}) (Unit {0}) (Unit {0}) links_step (λ stmt. tt) (λ conditional. tt) (λ call. tt)
-    (λ entry. tt) (λ block. tt)
-
--- the same from one level of the tree
-abbrev pub links : ExprLayer → ℕ
-links (layer.Index lhs rhs options pos) = 1 + links_in rhs
-links (layer.Dot lhs rhs options pos) = 1 + links_in rhs
-links _ = 0
-
--- those of the chain behind a link, and that link itself; none where the chain ends
-abbrev pub left_by : (behind : Option ExprLayer) → ℕ
-left_by None = 0
-left_by (Some rest) = 1 + links rest
-
-abbrev links_of_parts : ExprLayer → layer.Expr-F ℕ (Unit {0}) (Unit {0}) (Unit {0}) (Unit {0}) (Unit {0})
-links_of_parts = map-Expr Expr Stmt ConditionalExpr FnCallExpr MapEntry StmtBlock ℕ (Unit {0}) (Unit {0}) (Unit {0}) (Unit {0}) (Unit {0})
-    links_in (λ stmt. tt) (λ conditional. tt) (λ call. tt) (λ entry. tt) (λ block. tt)
-
-links_at : (form : ExprLayer) → links_step (links_of_parts form) ≡ links form
-links_at (layer.Index lhs rhs options pos) = refl
-links_at (layer.Dot lhs rhs options pos) = refl
-links_at _ = refl
-
-links_same : (e : Expr) → links_in e ≡ links (out-Expr e)
-links_same e = fold_out-Expr ℕ (Unit {0}) (Unit {0}) (Unit {0}) (Unit {0}) (Unit {0}) links_step (λ stmt. tt) (λ conditional. tt)
-    (λ call. tt) (λ entry. tt) (λ block. tt) e
-    ∙ links_at (out-Expr e)
 
 abbrev Within : Option Link → ℕ → Type 0
 Within (Some link) n = left_by link.behind ≤ n

@@ -20,14 +20,14 @@ use Rattle.rhai_tree.specs.Layers.{ExprLayer}
 use Rattle.rhai_check.specs.Context.{Context}
 use Rattle.rhai_check.specs.Declares as declares
 use Rattle.rhai_check.specs.Declares.{declares_expr}
-use Rattle.rhai_check.specs.Frame.{tests_of, dot_resolves, name_resolves}
+use Rattle.rhai_check.specs.Frame.{tests_of, resolves_expr, dot_resolves, name_resolves, bracket_resolves}
 use Rattle.rhai_check.specs.Names.{Name}
 use Rattle.rhai_check.specs.Reading as walk
 use Rattle.rhai_check.specs.Reading.{faulty, sound}
-use Rattle.rhai_check.specs.Refusals.{Refuses}
+use Rattle.rhai_check.specs.Refusals.{IsFirst, Refuses}
 use Rattle.rhai_check.specs.WellFormed.{seen_expr, dot_faults, name_faults}
 use Rattle.rhai_check.proofs.Outcome.{ok_then}
-use Rattle.rhai_check.proofs.Refused.{refuses_first, refuses_later}
+use Rattle.rhai_check.proofs.Refused.{refuses_more, refuses_first, refuses_later}
 use Rattle.rhai_check.proofs.Walk.{expr_declares, declares-expr}
 
 module _ (r : walk.Reading) where
@@ -50,37 +50,42 @@ module _ (r : walk.Reading) where
       (walk.SeenEntry r) (walk.Seen r) (walk.expr_step r) (walk.stmt_step r) (λ conditional. tt) (walk.call_step r) (walk.entry_step r)
       (walk.block_step r) block)
 
-  -- behind a bracket the same is found as of the expression there by itself
-  bracket_level : (l : ExprLayer) (c : r.Around) →
-      walk.found_behind_bracket r false (level l).link (level l).value c ≡ (level l).value c
-  bracket_level (layer.DynamicConstant value pos) c = refl
-  bracket_level (layer.BoolConstant value pos) c = refl
-  bracket_level (layer.IntegerConstant value pos) c = refl
-  bracket_level (layer.CharConstant value pos) c = refl
-  bracket_level (layer.StringConstant value pos) c = refl
-  bracket_level (layer.Unit pos) c = refl
-  bracket_level (layer.InterpolatedString items pos) c = refl
-  bracket_level (layer.Array items pos) c = refl
-  bracket_level (layer.Map entries template pos) c = refl
-  bracket_level (layer.ThisPtr pos) c = refl
-  bracket_level (layer.Variable offset name namespace pos) c = refl
-  bracket_level (layer.Property name pos) c = refl
-  bracket_level (layer.MethodCall call pos) c = refl
-  bracket_level (layer.Expr::FnCall call pos) c = refl
-  bracket_level (layer.Stmt block) c =
-      ap (λ k. walk.found_behind_bracket r false k (walk.seen_block r block).value c) (block_apart block)
-  bracket_level (layer.Dot lhs rhs options pos) c = refl
-  bracket_level (layer.Index lhs rhs options pos) c = refl
-  bracket_level (layer.And items pos) c = refl
-  bracket_level (layer.Or items pos) c = refl
-  bracket_level (layer.Coalesce items pos) c = refl
+  -- where a chain ends at a bracket, what is behind it is an expression by itself
+  pub bracket_last : (ends : Bool) (e : Expr) (c : r.Around) → ends ≡ true
+      → walk.found_behind_bracket r ends (walk.seen_expr r e).link (walk.seen_expr r e).value c ≡ (walk.seen_expr r e).value c
+  bracket_last ends e c is = ap (λ (b : Bool). walk.found_behind_bracket r b (walk.seen_expr r e).link (walk.seen_expr r e).value c) is
 
-  pub bracket_same : (ends : Bool) (e : Expr) (c : r.Around) →
-      walk.found_behind_bracket r ends (walk.seen_expr r e).link (walk.seen_expr r e).value c ≡ (walk.seen_expr r e).value c
-  bracket_same true e c = refl
-  bracket_same false e c =
-      subst (λ (s : walk.Seen r). walk.found_behind_bracket r false s.link s.value c ≡ s.value c) (sym (seen_level e))
-      (bracket_level (out-Expr e) c)
+  -- where one goes on behind a bracket, what is found of the index, and behind that
+  pub bracket_on : (e : Expr) (l : ExprLayer) (ends : Bool) (first : walk.Seen r) (behind : walk.Finds r) (method : Bool) (c : r.Around)
+      → ends ≡ false → out-Expr e ≡ l → (level l).link ≡ walk.GoesOn first.value (walk.named_in r first.link) behind method
+      → walk.found_behind_bracket r ends (walk.seen_expr r e).link (walk.seen_expr r e).value c ≡ r.both (first.value c) (behind c)
+  bracket_on e l ends first behind method c goes is linked =
+      ap (λ (b : Bool). walk.found_behind_bracket r b (walk.seen_expr r e).link (walk.seen_expr r e).value c) goes
+      ∙ ap (λ (s : walk.Seen r). walk.found_behind_bracket r false s.link s.value c) (seen_level e)
+      ∙ ap (λ (k : ExprLayer). walk.found_behind_bracket r false (level k).link (level k).value c) is
+      ∙ ap (λ (k : walk.Link r). walk.found_behind_bracket r false k (level l).value c) linked
+
+  -- an expression that is no chain is found behind a bracket as by itself
+  bracket_level : (l : ExprLayer) (c : r.Around)
+      → ((lhs rhs : Expr) (options : ASTFlags) (at : Position) → l ≡ layer.Dot lhs rhs options at → ⊥)
+      → ((lhs rhs : Expr) (options : ASTFlags) (at : Position) → l ≡ layer.Index lhs rhs options at → ⊥)
+      → walk.found_behind_bracket r false (level l).link (level l).value c ≡ (level l).value c
+  bracket_level (layer.Dot lhs rhs options pos) c dot index = absurd (dot lhs rhs options pos refl)
+  bracket_level (layer.Index lhs rhs options pos) c dot index = absurd (index lhs rhs options pos refl)
+  bracket_level (layer.Stmt block) c dot index =
+      ap (λ k. walk.found_behind_bracket r false k (walk.seen_block r block).value c) (block_apart block)
+  bracket_level _ c dot index = refl
+
+  pub bracket_apart : (e : Expr) (ends : Bool) (c : r.Around) → ends ≡ false
+      → ((lhs rhs : Expr) (options : ASTFlags) (at : Position) → e ≡ Dot lhs rhs options at → ⊥)
+      → ((lhs rhs : Expr) (options : ASTFlags) (at : Position) → e ≡ Index lhs rhs options at → ⊥)
+      → walk.found_behind_bracket r ends (walk.seen_expr r e).link (walk.seen_expr r e).value c ≡ (walk.seen_expr r e).value c
+  bracket_apart e ends c goes dot index =
+      ap (λ (b : Bool). walk.found_behind_bracket r b (walk.seen_expr r e).link (walk.seen_expr r e).value c) goes
+      ∙ subst (λ (s : walk.Seen r). walk.found_behind_bracket r false s.link s.value c ≡ s.value c) (sym (seen_level e))
+      (bracket_level (out-Expr e) c
+      (λ lhs rhs options at is. dot lhs rhs options at (sym (roll-out-Expr e) ∙ ap roll-Expr is ∙ rolls-Dot lhs rhs options at))
+      (λ lhs rhs options at is. index lhs rhs options at (sym (roll-out-Expr e) ∙ ap roll-Expr is ∙ rolls-Index lhs rhs options at)))
 
   -- where a chain goes on behind a dot, what is found of its first as a property or a method, and behind that
   pub goes_on : (e : Expr) (l : ExprLayer) (ends : Bool) (first : walk.Seen r) (behind : walk.Finds r) (method : Bool) (pos : Position)
@@ -146,6 +151,19 @@ module _ (r : walk.Reading) where
         (λ lhs rhs options at is. index lhs rhs options at (sym (roll-out-Expr e) ∙ ap roll-Expr is ∙ rolls-Index lhs rhs options at)))
         ∙ named_last (walk.seen_expr r e).link pos c
 
+-- behind a bracket stand the same faults as in the expression there by itself
+faults_level : (l : ExprLayer) (c : Context) →
+    walk.found_behind_bracket faulty false (level faulty l).link (level faulty l).value c ≡ (level faulty l).value c
+faults_level (layer.Stmt block) c =
+    ap (λ k. walk.found_behind_bracket faulty false k (walk.seen_block faulty block).value c) (block_apart faulty block)
+faults_level _ c = refl
+
+pub bracket_same : (ends : Bool) (e : Expr) (c : Context) →
+    walk.found_behind_bracket faulty ends (seen_expr e).link (seen_expr e).value c ≡ (seen_expr e).value c
+bracket_same true e c = refl
+bracket_same false e c = subst (λ (s : walk.Seen faulty). walk.found_behind_bracket faulty false s.link s.value c ≡ s.value c)
+    (sym (seen_level faulty e)) (faults_level (out-Expr e) c)
+
 pub and_true : (a : Bool) → (a && true) ≡ a
 and_true true = refl
 and_true false = refl
@@ -210,12 +228,11 @@ module _ (e first rest : Expr) (l : ExprLayer) (ends : Bool) (behind : walk.Find
     chain_passes r none h =
         ok_then r (λ other. whole ∙ name_passes (walk.named_in faulty (seen_expr first).link) behind pos c none other) h
 
-    module _ (declared : declares.expr_step (expr_declares l) ≡ (declares_expr first || declares_expr rest)) (fault : CheckFault) where
+    module _ (declared : declares.expr_step (expr_declares l) ≡ true) (fault : CheckFault) where
       refuses_whole : Refuses (first_faults first behind pos c) (declares_expr first || declares_expr rest) fault
           → Refuses (dot_faults ends (seen_expr e).link pos c) (declares_expr e) fault
-      refuses_whole h =
-          subst (λ (fs : List CheckFault). Refuses fs (declares_expr e) fault) (sym whole)
-          (subst (λ (d : Bool). Refuses (first_faults first behind pos c) d fault) (sym (declares-expr e l is ∙ declared)) h)
+      refuses_whole h = refuses_more _ _ _ _ fault (λ k. subst (λ (fs : List CheckFault). IsFirst fs fault) (sym whole) k)
+          (λ k. declares-expr e l is ∙ declared) h
 
       pub chain_refused : Refuses (name_faults (seen_expr first).link pos c) (declares_expr first) fault
           → Refuses (dot_faults ends (seen_expr e).link pos c) (declares_expr e) fault
@@ -237,3 +254,14 @@ pub chain_runs : {A : Type 0} (r : Result A CheckFault) (e first : Expr) (l : Ex
 chain_runs r e first l ends behind method pos names goes is linked one h =
     ok_then r (λ other base. goes_on sound e l ends (tests_of first) behind method pos (base ++ names) goes is linked
     ∙ name_runs (walk.named_in sound (tests_of first).link) behind pos (base ++ names) (one base) (other base)) h
+
+-- a chain that goes on behind a bracket may run where its index and what is behind that may
+pub bracket_runs : {A : Type 0} (r : Result A CheckFault) (e first : Expr) (l : ExprLayer) (ends : Bool) (behind : walk.Finds sound)
+    → (method : Bool) (names : List Name) → ends ≡ false → out-Expr e ≡ l
+    → (level sound l).link ≡ walk.GoesOn (tests_of first).value (walk.named_in sound (tests_of first).link) behind method
+    → ((base : List Name) → IsTrue (resolves_expr first (base ++ names)))
+    → OnOk r ((base : List Name) → IsTrue (behind (base ++ names)))
+    → OnOk r ((base : List Name) → IsTrue (bracket_resolves ends (tests_of e) (base ++ names)))
+bracket_runs r e first l ends behind method names goes is linked one h =
+    ok_then r (λ other base. bracket_on sound e l ends (tests_of first) behind method (base ++ names) goes is linked
+    ∙ both_true (resolves_expr first (base ++ names)) (behind (base ++ names)) (and_true _ ∙ one base) (other base)) h

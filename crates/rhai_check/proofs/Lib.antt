@@ -1,4 +1,5 @@
 pub mod Chains
+pub mod Links
 pub mod MapKeys
 pub mod Offsets
 pub mod Outcome

@@ -52,6 +52,16 @@ refuses_first fs gs a b e h = refuses_more fs (fs ++ gs) a (a || b) e (first_of 
 pub refuses_later : (fs gs : List CheckFault) (a b : Bool) (e : CheckFault) → fs ≡ [] → Refuses gs b e → Refuses (fs ++ gs) (a || b) e
 refuses_later fs gs a b e none h = refuses_more gs (fs ++ gs) b (a || b) e (λ k. rw none k) (either_right a b) h
 
+-- of a form that may need memory
+pub refuses_front : (fs gs : List CheckFault) (a : Bool) (e : CheckFault) → Refuses fs a e → Refuses (fs ++ gs) true e
+refuses_front fs gs a e h = refuses_more fs (fs ++ gs) a true e (first_of fs gs e) (λ k. refl) h
+
+pub refuses_behind : (fs gs : List CheckFault) (b : Bool) (e : CheckFault) → fs ≡ [] → Refuses gs b e → Refuses (fs ++ gs) true e
+refuses_behind fs gs b e none h = refuses_more gs (fs ++ gs) b true e (λ k. rw none k) (λ k. refl) h
+
+pub refuses_memory : (fs : List CheckFault) (declares : Bool) (e : CheckFault) → e ≡ NoMemory → declares ≡ true → Refuses fs declares e
+refuses_memory fs declares e is h = subst (λ (z : CheckFault). Refuses fs declares z) (sym is) h
+
 -- an error that is handed on
 pub refused : {A : Type 0} (r : Result A CheckFault) (faults : List CheckFault) (declares : Bool) (e : CheckFault)
     → IsErr r × IsErrAnd r (λ y. y ≡ e) → Refuses faults declares e → IfErr r (λ fault. Refuses faults declares fault)

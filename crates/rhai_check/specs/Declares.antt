@@ -1,4 +1,4 @@
--- Whether a part of a tree declares a variable or makes a map: the checker needs memory for names and keys alone.
+-- Whether a part of a tree declares a variable, makes a map or is a chain: the checker needs memory for names, keys and links alone.
 use Rattle.std.specs.Prelude.{Bool, true, false, ◌||◌, List, [], ◌∷◌, map, Option, Some, None}
 use Rattle.rhai_check.specs.Types.{Expr, FnCallExpr, ScriptFuncDef, Stmt, StmtBlock}
 use Rattle.rhai_tree.specs.declared.expr.Expr.TheOpen as layer
@@ -22,8 +22,8 @@ expr_step (layer.Map entries template pos) = true
 expr_step (layer.Expr::FnCall call pos) = call
 expr_step (layer.Stmt block) = block
 expr_step (layer.MethodCall call pos) = call
-expr_step (layer.Dot lhs rhs options pos) = lhs || rhs
-expr_step (layer.Index lhs rhs options pos) = lhs || rhs
+expr_step (layer.Dot lhs rhs options pos) = true
+expr_step (layer.Index lhs rhs options pos) = true
 expr_step (layer.And parts pos) = any_of parts
 expr_step (layer.Or parts pos) = any_of parts
 expr_step (layer.Coalesce parts pos) = any_of parts
@@ -63,6 +63,6 @@ abbrev pub has_functions : List ScriptFuncDef → Bool
 has_functions [] = false
 has_functions (def ∷ defs) = true
 
--- the check of a tree needs memory only where the tree declares a variable or has functions
+-- the check of a tree needs memory only where the tree declares a variable, makes a map, has a chain or has functions
 abbrev pub needs_memory : List Stmt → List ScriptFuncDef → Bool
 needs_memory statements functions = any_of (map declares_stmt statements) || has_functions functions

@@ -1,5 +1,5 @@
--- What a run may rely on in a part of a checked tree: it has forms that are there alone, and each offset is that of the newest variable
--- of its name in the scope, whose names are taken oldest first.
+-- What a run may rely on in a part of a checked tree: it has forms that are there alone, a list counts the links of each chain, and each
+-- offset is that of the newest variable of its name in the scope, whose names are taken oldest first.
 use Rattle.std.specs.Prelude.{Bool, false, IsTrue, List, [], ◌∷◌, ◌++◌, map, Option}
 use Rattle.rhai_check.specs.Types.{ASTFlags, Expr, FnCallExpr, MapEntry, Position, ScriptFuncDef, ScriptFuncPayload, Stmt, StmtBlock}
 use Rattle.rhai_tree.specs.declared.function.ScriptFuncPayload.TheVariants.{Statements}
@@ -55,6 +55,10 @@ dot_resolves = walk.found_behind_dot sound
 
 abbrev pub name_resolves : walk.Link sound → Position → walk.Finds sound
 name_resolves link = walk.found_from_name sound (walk.named_in sound link) (walk.nothing sound)
+
+-- of what stands behind a bracket
+abbrev pub bracket_resolves : Bool → walk.Seen sound → walk.Finds sound
+bracket_resolves ends seen = walk.found_behind_bracket sound ends seen.link seen.value
 
 -- and of a variable, which stands after the names before it
 abbrev pub var_resolves : walk.Seen sound → ASTFlags → Position → Name → walk.SeenStmt sound

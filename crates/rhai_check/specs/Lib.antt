@@ -4,6 +4,7 @@ pub mod Faults
 pub mod Forms
 pub mod Frame
 pub mod Keys
+pub mod Links
 pub mod Names
 pub mod Reading
 pub mod Refusals

@@ -1,5 +1,5 @@
 -- One walk over a tree, which is read in two ways: for the faults that stand in it, and for whether a part may run above some names.
-use Rattle.std.specs.Prelude.{Bool, true, false, not, ◌&&◌, if◌then◌else◌, List, [], ◌∷◌, ◌++◌, length, map, Option, Some, None}
+use Rattle.std.specs.Prelude.{ℕ, ◌+◌, Bool, true, false, not, ◌&&◌, if◌then◌else◌, List, [], ◌∷◌, ◌++◌, length, map, Option, Some, None}
 use Rattle.std.specs.declared.num.NonZeroUsize.{NonZeroUsize}
 use Rattle.rhai_check.specs.Types.{ASTFlags, CheckFault, Expr, FnCallExpr, MapEntry, Position, Stmt, StmtBlock}
 use Rattle.rhai_check.specs.declared.check.CheckFault.TheVariants.{BadOffset, BadChain, BadAssignment, BadMapKey}
@@ -9,10 +9,12 @@ use Rattle.rhai_tree.specs.declared.expr.Expr.TheFolds.{fold-Expr, fold-FnCallEx
 use Rattle.rhai_check.specs.Context.{Context, inside, looping, declaring}
 use Rattle.rhai_check.specs.Forms.{is_unqualified, is_eval_call, is_exported, is_throw, ends_chain}
 use Rattle.rhai_check.specs.Keys.{are_keys}
+use Rattle.rhai_check.specs.Links.{is_counted}
 use Rattle.rhai_check.specs.Names.{Name, is_good}
 use Rattle.rhai_tree.specs.Positions.{first_or, start_of_name, start_of_operands, start_of_call, first_shared}
 
--- A way of reading a tree: what it keeps of what surrounds a form, and what it gathers of a form's parts.
+-- A way of reading a tree: what it keeps of what surrounds a form, what it gathers of a form's parts, and what it finds of how many links
+-- a chain has.
 pub record Reading : Type 1 where
   pub Around : Type 0
   pub names : Around → List Name
@@ -24,8 +26,9 @@ pub record Reading : Type 1 where
   pub none : Found
   pub both : Found → Found → Found
   pub fault : CheckFault → Found
+  pub counted : (links : ℕ) → Found
 
--- the faults that stand, in the order of the tree
+-- the faults that stand, in the order of the tree; that a chain is long is none
 abbrev pub faulty : Reading
 faulty = record {
   Around = Context;
@@ -38,9 +41,10 @@ faulty = record {
   none = [];
   both = λ one other. one ++ other;
   fault = λ fault. fault ∷ [];
+  counted = λ links. [];
 }
 
--- whether none stands above some names, wherever the form is
+-- whether none stands above some names, wherever the form is, and a list counts the links of each chain
 abbrev pub sound : Reading
 sound = record {
   Around = List Name;
@@ -53,6 +57,7 @@ sound = record {
   none = true;
   both = λ one other. one && other;
   fault = λ fault. false;
+  counted = is_counted;
 }
 
 module _ (r : Reading) where
@@ -67,11 +72,12 @@ module _ (r : Reading) where
     Named : (is_method : Bool) → Finds → Link
     GoesOn : (first : Finds) → (named : Option Finds) → (behind : Finds) → (ends_in_method : Bool) → Link
 
-  -- what is seen of an expression or a block: where it starts, whether it may be assigned to, what is found of it, and what it is in a
-  -- chain
+  -- what is seen of an expression or a block: where it starts, whether it may be assigned to, how many links it has, what is found of it,
+  -- and what it is in a chain
   pub record Seen : Type 0 where
     pub start : Position
     pub is_place : Bool
+    pub links : ℕ
     pub value : Finds
     pub link : Link
 
@@ -97,25 +103,23 @@ module _ (r : Reading) where
   abbrev pub start_in : Seen → Position
   start_in seen = seen.start
 
-  -- a form of which nothing is found, and one that is not there yet
+  -- a form of which nothing is found
   abbrev pub nothing : Finds
   nothing c = r.none
 
-  abbrev pub not_yet : Position → Finds
-  not_yet pos c = r.fault (NotYet pos)
-
   -- variables, `this` and chains from them are places, and nothing else is
   abbrev pub place : Position → Finds → Seen
-  place start value = record { start = start; is_place = true; value = value; link = IndexAlone }
+  place start value = record { start = start; is_place = true; links = 0; value = value; link = IndexAlone }
 
   abbrev pub plain : Position → Finds → Seen
-  plain start value = record { start = start; is_place = false; value = value; link = IndexAlone }
+  plain start value = record { start = start; is_place = false; links = 0; value = value; link = IndexAlone }
 
   -- a property or a method is no expression by itself
   abbrev pub named : (is_method : Bool) → Position → Finds → Seen
   named is_method pos value = record {
     start = pos;
     is_place = false;
+    links = 0;
     value = λ c. r.fault (NotAnExpression pos);
     link = Named is_method value;
   }
@@ -158,12 +162,13 @@ module _ (r : Reading) where
   index_ends false (GoesOn first named behind ends_in_method) = ends_in_method
   index_ends _ _ = false
 
-  -- a chain: its root, and what is behind its operator
-  abbrev pub chain : (root : Seen) → (behind : Finds) → (ends_in_method : Bool) → Seen
-  chain root behind ends_in_method = record {
+  -- a chain: its root, its links, and what is behind its operator
+  abbrev pub chain : (root : Seen) → (links : ℕ) → (behind : Finds) → (ends_in_method : Bool) → Seen
+  chain root links behind ends_in_method = record {
     start = root.start;
     is_place = is_root root.is_place root.link && not ends_in_method;
-    value = λ c. r.both (root.value c) (behind c);
+    links = links;
+    value = λ c. r.both (r.counted links) (r.both (root.value c) (behind c));
     link = GoesOn root.value (named_in root.link) behind ends_in_method;
   }
 
@@ -223,7 +228,7 @@ module _ (r : Reading) where
   expr_step (layer.InterpolatedString parts pos) = plain pos (found_in_all parts)
   expr_step (layer.Array items pos) = plain pos (found_in_all items)
   expr_step (layer.Map entries template pos) = plain pos (found_in_map entries template.0 pos)
-  expr_step (layer.ThisPtr pos) = place pos (not_yet pos)
+  expr_step (layer.ThisPtr pos) = place pos nothing
   expr_step (layer.Variable offset name namespace pos) =
       place (start_of_name namespace.path namespace.position pos) (found_in_variable offset name namespace.path pos)
   expr_step (layer.Property name pos) = named false pos nothing
@@ -231,9 +236,9 @@ module _ (r : Reading) where
   expr_step (layer.Expr::FnCall call pos) = plain (start_of_call call.operand pos) (call.value pos)
   expr_step (layer.Stmt block) = block
   expr_step (layer.Dot lhs rhs options pos) =
-      chain lhs (found_behind_dot (ends_chain options) rhs.link pos) (method_ends (ends_chain options) rhs.link)
+      chain lhs (1 + rhs.links) (found_behind_dot (ends_chain options) rhs.link pos) (method_ends (ends_chain options) rhs.link)
   expr_step (layer.Index lhs rhs options pos) =
-      chain lhs (found_behind_bracket (ends_chain options) rhs.link rhs.value) (index_ends (ends_chain options) rhs.link)
+      chain lhs (1 + rhs.links) (found_behind_bracket (ends_chain options) rhs.link rhs.value) (index_ends (ends_chain options) rhs.link)
   expr_step (layer.And parts pos) = plain (first_or pos (map start_in parts)) (found_in_all parts)
   expr_step (layer.Or parts pos) = plain (first_or pos (map start_in parts)) (found_in_all parts)
   expr_step (layer.Coalesce parts pos) = plain (first_or pos (map start_in parts)) (found_in_all parts)

@@ -10,7 +10,7 @@ abbrev pub IsFirst : List CheckFault → CheckFault → Type 0
 IsFirst [] fault = ⊥
 IsFirst (first ∷ rest) fault = first ≡ fault
 
--- the first fault of the part, or want of memory, where the part declares a name
+-- the first fault of the part, or want of memory, where the part may need some
 abbrev pub Refuses : List CheckFault → Bool → CheckFault → Type 0
 Refuses faults declares (BadOffset pos) = IsFirst faults (BadOffset pos)
 Refuses faults declares (BadImportOffset pos) = IsFirst faults (BadImportOffset pos)

@@ -85,8 +85,8 @@ impl CheckFault {
 }
 
 /// Passes a tree with the functions that stand beside it, where it is well formed. Otherwise it
-/// answers one of the faults that stand in it. Where the tree declares a variable or has functions
-/// it may answer `NoMemory`.
+/// answers one of the faults that stand in it. Where the tree declares a variable, makes a map, has a
+/// chain or has functions it may answer `NoMemory`.
 pub fn check_tree(
     alloc: Global,
     statements: Items<Stmt>,

@@ -3,6 +3,7 @@
 #![tactic(auto)]
 
 ghost use Rattle.std.specs.Prelude.{◌≡◌, [], None};
+ghost use Rattle.rhai_state.specs.Scope.{entries_of};
 
 use rhai_items::Items;
 use rhai_state::room::Room;
@@ -94,4 +95,34 @@ pub fn give_back<H: Host>(run: Context<H>, global: &mut GlobalRuntimeState<H>, s
     left.room.keep(run.spare);
     drop(replace(global, left));
     drop(replace(scope, run.scope));
+}
+
+/// The variables and `this` of a caller, while a function of a script has its own.
+#[derive(Drop)]
+pub struct Aside<H> {
+    pub scope: Scope<H>,
+    pub this: Option<Dynamic<H>>,
+}
+
+/// Puts the variables and `this` of a run aside: it has no variables then, and this `this`.
+pub fn put_aside<H: Host>(alloc: Global, run: &mut Context<H>, this: Option<Dynamic<H>>) -> Aside<H>
+    ensures aside { result ≡ record { scope = run.old.scope; this = run.old.this } }
+    ensures this { run.new.this ≡ this }
+    ensures scope { entries_of run.new.scope ≡ [] }
+    ensures rest { run.new ≡ record run.old { scope = run.new.scope; this = this } }
+{
+    Aside {
+        scope: replace(&mut run.scope, Scope::new(alloc)),
+        this: replace(&mut run.this, this),
+    }
+}
+
+/// Gives a run its caller's variables and `this` back. What it had of its own is let go of but for `this`.
+pub fn take_up<H: Host>(run: &mut Context<H>, aside: Aside<H>) -> Option<Dynamic<H>>
+    ensures this { result ≡ run.old.this }
+    ensures run { run.new ≡ record run.old { scope = aside.scope; this = aside.this } }
+{
+    let Aside { scope, this } = aside;
+    drop(replace(&mut run.scope, scope));
+    replace(&mut run.this, this)
 }

@@ -1,7 +1,7 @@
 -- Steps of calls.
 use Rattle.std.proofs.Common.{◌≡◌, ◌<◌, ◌≤◌, ◌+◌, ℕ, Bool, true, false, List, [], ◌∷◌, ◌++◌, Option, Some, None, Result, Ok, Err}
 use Rattle.std.proofs.Common.{refl, sym, ap, ◌∙◌, arith, codes, is_some, length, suc}
-use Rattle.std.specs.Prelude.{IfErr, OnOk}
+use Rattle.std.specs.Prelude.{IfErr, OnOk, if◌then◌else◌}
 use Rattle.std.proofs.lemmas.Bool.{lt-ltb, le-ltb}
 use Rattle.rhai_tree.specs.declared.position.Position.{Position}
 use Rattle.rhai_tree.specs.declared.token.Token.{Token}
@@ -21,15 +21,16 @@ use Rattle.rhai_state.specs.declared.error.EvalAltResult.{EvalAltResult}
 use Rattle.rhai_state.specs.declared.error.EvalAltResult.TheVariants as error
 use Rattle.rhai_state.specs.Errors.{is_out_of_memory}
 use Rattle.rhai_machine.specs.machine.Machine.{Go, Charge}
-use Rattle.rhai_machine.specs.machine.Memory.{here}
+use Rattle.rhai_machine.specs.machine.Memory.{here, wanting}
 use Rattle.rhai_machine.specs.machine.Point.{Point}
 use Rattle.rhai_machine.specs.language.Setting.{Rules, limit_under}
 use Rattle.rhai_machine.specs.language.State.{Held, Local, State}
-use Rattle.rhai_machine.specs.language.Frames.{Operation, Control, Frame, Core, core, on_value, Argument, Back, CallNamed, Fail, OpenExpr}
+use Rattle.rhai_machine.specs.language.Frames.{Operation, Control, Frame, Core, core, on_value, Argument, Back, CallNamed, EnterFunction, Fail, OpenExpr}
 use Rattle.rhai_machine.specs.language.Frames.{CallArgument, KeywordArgument, Keyword, CallPointer, Curry, IsDefinedVariable, MakePointer}
-use Rattle.rhai_machine.specs.language.Frames.{Purpose, ToCallNumber, ToCurry, ended}
-use Rattle.rhai_machine.specs.language.Arguments.{arguments_core, flattens, function_core, keyword_of, operation_named}
-use Rattle.rhai_machine.specs.language.Arguments.{pointer_core, taken, pointer_of as pointer_named_by, pointer_wanted, text_wanted}
+use Rattle.rhai_machine.specs.language.Frames.{Purpose, ToCallFunction, ToCallNumber, ToCurry, ended}
+use Rattle.rhai_machine.specs.language.Arguments.{arguments_core, flattens, function_core, keyword_of, linked_core, natives_alone, operation_named}
+use Rattle.rhai_machine.specs.language.Arguments.{pointer_core, taken, pointer_of as pointer_named_by, pointer_wanted, text_wanted, unlinked_core}
+use Rattle.rhai_machine.specs.language.Functions.{Function}
 use Rattle.rhai_machine.specs.language.Values.{bool_value}
 use Rattle.rhai_state.specs.Scope.{index_of}
 use Rattle.rhai_machine.specs.language.Language.{move}
@@ -38,9 +39,15 @@ use Rattle.rhai_steps.specs.States.{local_of, state_of}
 use Rattle.rhai_steps.proofs.Pieces.{step_by}
 use Rattle.rhai_pointers.specs.Forms.{is_operator_form}
 use Rattle.rhai_pointers.proofs.FormLemmas.{function_goes}
+use Rattle.rhai_calls.specs.Called.{came_out}
+use Rattle.rhai_calls.specs.declared.dispatch.Called.{Called}
+use Rattle.rhai_calls.specs.declared.dispatch.Called.TheVariants.{Ended, Enters}
+use Rattle.rhai_machine.specs.language.Activations.{NoObject}
+use Rattle.rhai_machine.specs.language.Calls.{entry_of, races}
 use Rattle.rhai_dispatch.specs.Kept.{HasKept}
+use Rattle.rhai_dispatch.specs.Linked.{linked_call, Comes}
 use Rattle.rhai_dispatch.specs.Pointers.{number_in}
-use Rattle.rhai_cycle.specs.Calls.{called, has_taken}
+use Rattle.rhai_cycle.specs.Calls.{called, has_taken, pointer_called}
 use Rattle.rhai_cycle.proofs.Chain.{fails_on}
 
 -- a first argument is one more than the others
@@ -66,13 +73,13 @@ module _ {S H : Type 0} (rules : Rules S H) where
   -- without arguments there is no keyword
   module _ (operation : Operation) (captures : Bool) (k : List (Frame H)) (l : Local H) where
     pub named_alone : (word : Option Keyword) →
-        function_core word operation [] captures k l ≡ core (CallNamed operation [] [] captures) k l
+        function_core word operation [] captures k l ≡ core (CallNamed operation [] [] captures false) k l
     named_alone None = refl
     named_alone (Some word) = refl
 
     -- with arguments it is a keyword, or a call by name
     pub named_so : (word : Option Keyword) (args : List Expr) → word ≡ None →
-        function_core word operation args captures k l ≡ core (CallNamed operation [] args captures) k l
+        function_core word operation args captures k l ≡ core (CallNamed operation [] args captures false) k l
     named_so word args is = rw is refl
 
     pub worded : (word : Option Keyword) (found : Keyword) (arg : Expr) (args : List Expr) → word ≡ Some found →
@@ -124,19 +131,65 @@ module _ {S H : Type 0} (rules : Rules S H) where
   takes_told purpose made v pos rest k l flattened more (Err e) is kept refused = taken_fails purpose made v pos rest k l flattened e is
       refused
 
-  -- a pointer is called by its number, or by its name
+  -- a pointer is called as the function that it is linked to; and else by its number, or by its name
   module _ (pointer : FnPtr H) (pos : Position) (args : List Expr) (captures : Bool) (k : List (Frame H)) (l : Local H) where
     pub by_number : (lead : FnPtrKind H) (id : NativeId) → number_in lead ≡ Some id →
-        pointer_core rules.setting lead pointer pos args captures k l
+        unlinked_core rules.setting lead pointer pos args captures k l
         ≡ arguments_core rules.setting (ToCallNumber id.number (operation_named (codes "call") pos) (out-FnPtr H pointer).curry) [] args k l
     by_number (kind.Native found) id is = let same : found ≡ id = cc in rw same refl
     by_number _ id is = cc
 
     pub by_name : (lead : FnPtrKind H) → number_in lead ≡ None →
-        pointer_core rules.setting lead pointer pos args captures k l
-        ≡ core (CallNamed (operation_named (out-FnPtr H pointer).name pos) (out-FnPtr H pointer).curry args captures) k l
+        unlinked_core rules.setting lead pointer pos args captures k l
+        ≡ core (CallNamed (operation_named (out-FnPtr H pointer).name pos) (out-FnPtr H pointer).curry args captures
+        (natives_alone (out-FnPtr H pointer).name)) k l
     by_name (kind.Native found) is = cc
     by_name _ is = refl
+
+  module _ (pointer : FnPtr H) (pos : Position) (args : List Expr) (captures : Bool) (k : List (Frame H)) (s : State S H) where
+    -- it is called as the function that it is linked to
+    pub calls_linked : {q : Point S (Core H)} (found : Option (Function H)) (function : Function H) → found ≡ Some function →
+        Goes rules (with_core (arguments_core rules.setting (ToCallFunction function pos (out-FnPtr H pointer).curry) [] args k s.local) s) q →
+        Goes rules (with_core (pointer_core rules.setting found pointer pos args captures k s.local) s) q
+    calls_linked found function is goes = rw is goes
+
+    -- or by itself
+    pub calls_itself : {q : Point S (Core H)} (found : Option (Function H)) → found ≡ None →
+        Goes rules (with_core (unlinked_core rules.setting (out-FnPtr H pointer).kind pointer pos args captures k s.local) s) q →
+        Goes rules (with_core (pointer_core rules.setting found pointer pos args captures k s.local) s) q
+    calls_itself found is goes = rw is goes
+
+  -- a function that a pointer is linked to, unless memory was wanting
+  module _ (function : Function H) (all : List (Dynamic H)) (pos : Position) (k : List (Frame H)) (s : State S H) where
+    abbrev outcome_of : (raced : Bool) → Called H
+    outcome_of raced = if raced then Ended (Err (error.ErrorDataRace function.def.name pos)) else Enters function all
+
+    abbrev entered_by : (raced : Bool) → Core H
+    entered_by raced = if raced then core (Fail (error.ErrorDataRace function.def.name pos)) k s.local
+        else core (EnterFunction (entry_of function NoObject true all pos s.local)) k s.local
+
+    abbrev out_of : Called H → Point S (Core H)
+    out_of called = with_core (came_out true pos called k s.local) s
+
+    linked_as : (raced : Bool) (called : Called H) → called ≡ outcome_of raced →
+        Goes rules (with_core (entered_by raced) s) (out_of called)
+    linked_as true called is = rw is here
+    linked_as false called is = rw is here
+
+    linked_wants : (raced : Bool) (p : Position) → Goes rules (with_core (entered_by raced) s) (at (Fail (error.ErrorOutOfMemory p)) k s)
+    linked_wants true p = wanting {at = p} here
+    linked_wants false p = wanting {at = p} here
+
+    linked_by : (raced : Bool) (called : Called H) → Comes called (outcome_of raced) →
+        Goes rules (with_core (entered_by raced) s) (out_of called)
+    linked_by raced (Ended (Err (error.ErrorOutOfMemory p))) is = linked_wants raced p
+    linked_by raced (Ended (Err e)) is = linked_as raced (Ended (Err e)) (is refl)
+    linked_by raced (Ended (Ok v)) is = linked_as raced (Ended (Ok v)) (is tt)
+    linked_by raced (Enters found args) is = linked_as raced (Enters found args) (is tt)
+
+    pub linked_goes : (called : Called H) → Comes called (linked_call s.local.around.cells function all pos) →
+        Goes rules (with_core (linked_core function pos all k s.local) s) (with_core (came_out true pos called k s.local) s)
+    linked_goes called is = linked_by (races s.local.around.cells all) called is
 
   -- a keyword's first argument is what is wanted, and the keyword goes on with that; or it is not, and fails
   module _ (v : Dynamic H) (pos start : Position) (rest : List Expr) (captures : Bool) (k : List (Frame H)) (l : State S H) where
@@ -163,7 +216,7 @@ module _ {S H : Type 0} (rules : Rules S H) where
     curries pointer = arguments_core rules.setting (ToCurry pointer) [] rest k l.local
 
     abbrev calls : FnPtr H → Core H
-    calls pointer = pointer_core rules.setting (out-FnPtr H pointer).kind pointer pos rest captures k l.local
+    calls pointer = pointer_called rules pointer pos rest captures k l.local
 
     pub defined_goes : {q : Point S (Core H)} (text : List ℕ) → Ok text ≡ a_text → Goes rules (with_core (defined text) l) q →
         Goes rules (Awaits IsDefinedVariable) q

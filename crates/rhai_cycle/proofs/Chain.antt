@@ -20,7 +20,7 @@ use Rattle.rhai_machine.specs.machine.Memory.{here, next, wanting, ◌⨾◌}
 use Rattle.rhai_machine.specs.language.Setting.{Rules, limit_under}
 use Rattle.rhai_machine.specs.language.State.{Held, State}
 use Rattle.rhai_state.specs.Errors.{is_out_of_memory}
-use Rattle.rhai_machine.specs.language.Frames.{StatementValue, RightOperand, AssignChain, AssignValue}
+use Rattle.rhai_machine.specs.language.Frames.{StatementValue, RightOperand, AssignChain, AssignThisValue, AssignValue}
 use Rattle.rhai_machine.specs.language.Frames.{ReturnValue, Control, Frame, Core, core, ended, UnaryOperand, LeftOperand}
 use Rattle.rhai_machine.specs.language.Frames.{DefineValue, Eval, Exec, Argument, OpenExpr, OpenStmt, Enter, Run, Back, Fail, RestoreList}
 use Rattle.rhai_machine.specs.language.Frames.{Saved}
@@ -158,11 +158,12 @@ module _ {S H : Type 0} (rules : Rules S H) where
   -- where a frame flattens its value
   abbrev pub flattens : Frame H → Option Position
   flattens (StatementValue value_at) = Some value_at
-  flattens (DefineValue ident options value_at) = Some value_at
+  flattens (DefineValue ident options restoring value_at) = Some value_at
   flattens (UnaryOperand operation operand_at) = Some operand_at
   flattens (LeftOperand operation left_at right) = Some left_at
   flattens (RightOperand operation left right_at) = Some right_at
   flattens (AssignValue assignment value_at) = Some value_at
+  flattens (AssignThisValue op pos value_at) = Some value_at
   flattens (ReturnValue value_at pos) = Some value_at
   flattens (AssignChain root chain op value_at) = Some value_at
   flattens _ = None
@@ -171,11 +172,12 @@ module _ {S H : Type 0} (rules : Rules S H) where
     flat_core : (f : Frame H) → flattens f ≡ Some pos → Err e ≡ flat l.local.around.cells v pos →
         up_core rules.setting f v k l.local ≡ core (Fail e) k l.local
     flat_core (StatementValue value_at) is told = let same : value_at ≡ pos = cc in rw (same, ← told) refl
-    flat_core (DefineValue ident options value_at) is told = let same : value_at ≡ pos = cc in rw (same, ← told) refl
+    flat_core (DefineValue ident options restoring value_at) is told = let same : value_at ≡ pos = cc in rw (same, ← told) refl
     flat_core (UnaryOperand operation operand_at) is told = let same : operand_at ≡ pos = cc in rw (same, ← told) refl
     flat_core (LeftOperand operation left_at right) is told = let same : left_at ≡ pos = cc in rw (same, ← told) refl
     flat_core (RightOperand operation left right_at) is told = let same : right_at ≡ pos = cc in rw (same, ← told) refl
     flat_core (AssignValue assignment value_at) is told = let same : value_at ≡ pos = cc in rw (same, ← told) refl
+    flat_core (AssignThisValue op this_at value_at) is told = let same : value_at ≡ pos = cc in rw (same, ← told) refl
     flat_core (ReturnValue value_at at) is told = let same : value_at ≡ pos = cc in rw (same, ← told) refl
     flat_core (AssignChain root chain op value_at) is told = let same : value_at ≡ pos = cc in rw (same, ← told) refl
     flat_core _ is told = cc
@@ -183,11 +185,12 @@ module _ {S H : Type 0} (rules : Rules S H) where
     flat_passes : (f : Frame H) → flattens f ≡ Some pos → (x : EvalAltResult H) →
         down_core rules.setting f x k l.local ≡ core (Fail x) k l.local
     flat_passes (StatementValue value_at) is x = refl
-    flat_passes (DefineValue ident options value_at) is x = refl
+    flat_passes (DefineValue ident options restoring value_at) is x = refl
     flat_passes (UnaryOperand operation operand_at) is x = refl
     flat_passes (LeftOperand operation left_at right) is x = refl
     flat_passes (RightOperand operation left right_at) is x = refl
     flat_passes (AssignValue assignment value_at) is x = refl
+    flat_passes (AssignThisValue op this_at value_at) is x = refl
     flat_passes (ReturnValue value_at at) is x = refl
     flat_passes (AssignChain root chain op value_at) is x = refl
     flat_passes _ is x = cc
@@ -200,7 +203,7 @@ module _ {S H : Type 0} (rules : Rules S H) where
   -- a variable without a path is read
   pub reads : (offset : Option NonZeroUsize) (name : Name) (namespace : Namespace) (pos : Position) (k : List (Frame H)) (l : State S H)
       {q : Point S (Core H)} → is_unqualified namespace.path ≡ true →
-      Goes rules (at (ended (read l.local.around.cells name pos l.local.scope)) k l) q →
+      Goes rules (at (ended (read l.local.around.cells l.local.around.lib name pos l.local.scope)) k l) q →
       Goes rules (at (OpenExpr (layer.Variable offset name namespace pos)) k l) q
   unfolding after
   reads offset name namespace pos k l plain goes = next (rw plain goes)
@@ -209,7 +212,7 @@ module _ {S H : Type 0} (rules : Rules S H) where
   module _ (ident : Ident) (value : Expr) (options : ASTFlags) (pos : Position) (restoring : Bool) (k : List (Frame H))
       (l : State S H) where
     refused_core : (taken full : Bool) (e : EvalAltResult H) → Err e ≡ declarable ident.name pos taken full →
-        define_core rules.setting taken full ident value options pos k l.local ≡ core (Fail e) k l.local
+        define_core rules.setting taken full ident value options restoring pos k l.local ≡ core (Fail e) k l.local
     refused_core true full e is = let same : e ≡ error.ErrorVariableExists ident.name pos = cc in
         ap (λ (x : EvalAltResult H). core (Fail x) k l.local) (sym same)
     refused_core false true e is = let same : e ≡ error.ErrorTooManyVariables pos = cc in
@@ -217,8 +220,8 @@ module _ {S H : Type 0} (rules : Rules S H) where
     refused_core false false e is = cc
 
     declared_core : (taken full : Bool) → Ok tt ≡ declarable {H = H} ident.name pos taken full →
-        define_core rules.setting taken full ident value options pos k l.local ≡ core (Eval value)
-        (DefineValue ident options (position_of value) ∷ k) l.local
+        define_core rules.setting taken full ident value options restoring pos k l.local ≡ core (Eval value)
+        (DefineValue ident options restoring (position_of value) ∷ k) l.local
     declared_core true full is = cc
     declared_core false true is = cc
     declared_core false false is = refl
@@ -238,31 +241,13 @@ module _ {S H : Type 0} (rules : Rules S H) where
 
     pub begins_value : Ok tt ≡ declarable {H = H} ident.name pos taken full → is_exported options ≡ false →
         Goes rules (at (OpenStmt (layer.Var ident value None options pos) restoring) k l)
-        (at (Eval value) (DefineValue ident options (position_of value) ∷ k) l)
-    begins_value is kept = step_by rules _ _ (Go (core (Eval value) (DefineValue ident options (position_of value) ∷ k) l.local))
+        (at (Eval value) (DefineValue ident options restoring (position_of value) ∷ k) l)
+    begins_value is kept = step_by rules _ _ (Go (core (Eval value) (DefineValue ident options restoring (position_of value) ∷ k) l.local))
         (rw kept (ap Go (declared_core taken full is))) here
-
-  -- the variable is there, or there was no memory for it
-  module _ (t : S) (g : GlobalRuntimeState H) (old new : Scope H) (held : Held H) (ident : Ident) (options : ASTFlags)
-      (given v : Dynamic H) (value_at : Position)
-      (flattened : Ok v ≡ flat (cells_of g.cells) given value_at) (mode : AccessMode) (asked : mode ≡ mode_of options)
-      (k : List (Frame H)) where
-    pub defines : (r : Result (Dynamic H) (EvalAltResult H)) → IfOk r (λ x. x ≡ unit_value) → IfErr r (λ e. is_out_of_memory e ≡ true) →
-        OnOk r (entries_of new ≡ entries_of old ++ new_entry ident.name mode v ∷ []) → OnErr r (entries_of new ≡ entries_of old) →
-        Goes rules (at (Back given) (DefineValue ident options value_at ∷ k) (state_of t g old held))
-        (at (ended r) k (state_of t g new held))
-    unfolding after
-    defines (Ok x) value fault pushed same = next (rw (← flattened, value, pushed, asked) here)
-    defines (Err (error.ErrorOutOfMemory at)) value fault pushed same = wanting {at = at} (next (rw same here))
-    defines (Err e) value fault pushed same = cc
 
 pub still_none : {A : Type 0} (o : Option A) → is_some o ≡ false → o ≡ None
 still_none None h = refl
 still_none (Some x) h = cc
-
-pub on_ok_map : {A E P Q : Type 0} (r : Result A E) → OnOk r P → (P → Q) → OnOk r Q
-on_ok_map (Ok v) p f = f p
-on_ok_map (Err e) p f = tt
 
 pub on_ok_given : {A E : Type 0} (B P : Type 0) (r : Result A E) → OnOk r P → OnOk r (B → P)
 on_ok_given B P (Ok v) p = λ b. p

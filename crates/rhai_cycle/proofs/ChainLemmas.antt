@@ -14,18 +14,19 @@ use Rattle.rhai_tree.specs.declared.flags.ASTFlags.{ASTFlags}
 use Rattle.rhai_tree.specs.declared.position.Position.{Position}
 use Rattle.rhai_tree.specs.Layers.{ExprLayer}
 use Rattle.rhai_tree.specs.Positions.{position_of}
+use Rattle.rhai_check.specs.Links.{is_counted}
 use Rattle.rhai_check.specs.Forms.{ends_chain, is_unqualified}
 use Rattle.rhai_check.specs.Frame.{all_resolve_exprs, dot_resolves, resolves_expr, target_resolves, tests_of}
 use Rattle.rhai_check.specs.Names.{Name}
 use Rattle.rhai_check.specs.Reading as walk
 use Rattle.rhai_check.specs.Reading.{sound}
-use Rattle.rhai_check.proofs.Chains.{bracket_same}
 use Rattle.rhai_check.proofs.Walk.{expr_tests, resolves-expr}
 use Rattle.rhai_operands.proofs.Names.{both, holds_then}
 use Rattle.rhai_machine.specs.language.Links.{Link, LinkForm, AtIndex, AtProperty, AtMethod, asked_by, breaks, dot_form, dot_link}
 use Rattle.rhai_machine.specs.language.Links.{dot_link_with, first_in, index_link, link_of}
 use Rattle.rhai_chains.specs.Chains.{at_end, goes_on, MayEnd, Walks}
-use Rattle.rhai_chains.proofs.LinkLemmas.{fewer_behind, left_by, links}
+use Rattle.rhai_check.specs.Links.{left_by, links}
+use Rattle.rhai_chains.proofs.LinkLemmas.{fewer_behind}
 use Rattle.rhai_cycle.specs.Chains.{MayWalk, StartsFrom, behind_resolves}
 
 -- what is seen of one level
@@ -50,11 +51,15 @@ root_at : (l : ExprLayer) (root : Expr) (names : List Name) → first_in l ≡ S
 root_at (layer.Dot lhs rhs options pos) root names is h =
     let same : lhs ≡ root = cc in
     subst (λ (e : Expr). IsTrue (resolves_expr e names) × IsTrue (behind_resolves (layer.Dot lhs rhs options pos) names)) same
-    (both (resolves_expr lhs names) (behind_resolves (layer.Dot lhs rhs options pos) names) h)
+    (both (resolves_expr lhs names) (behind_resolves (layer.Dot lhs rhs options pos) names)
+    (both (is_counted (level (layer.Dot lhs rhs options pos)).links)
+    (resolves_expr lhs names && behind_resolves (layer.Dot lhs rhs options pos) names) h).1)
 root_at (layer.Index lhs rhs options pos) root names is h =
     let same : lhs ≡ root = cc in
     subst (λ (e : Expr). IsTrue (resolves_expr e names) × IsTrue (behind_resolves (layer.Index lhs rhs options pos) names)) same
-    (both (resolves_expr lhs names) (behind_resolves (layer.Index lhs rhs options pos) names) h)
+    (both (resolves_expr lhs names) (behind_resolves (layer.Index lhs rhs options pos) names)
+    (both (is_counted (level (layer.Index lhs rhs options pos)).links)
+    (resolves_expr lhs names && behind_resolves (layer.Index lhs rhs options pos) names) h).1)
 root_at _ root names is h = cc
 
 -- the root of a chain that may run may, and so may what stands behind its operator
@@ -83,13 +88,38 @@ one_resolves : (b : Bool) → IsTrue b → IsTrue (b && true)
 one_resolves true h = refl
 one_resolves false h = h
 
--- behind a bracket
+-- behind a bracket: a chain that goes on there
+bracket_first : (l : ExprLayer) (first : Expr) (value : walk.Finds sound) (names : List Name) → first_in l ≡ Some first →
+    IsTrue (walk.found_behind_bracket sound false (level l).link value names) →
+    IsTrue (resolves_expr first names) × IsTrue (behind_resolves l names)
+bracket_first (layer.Dot lhs rhs options pos) first value names is h =
+    let same : lhs ≡ first = cc in
+    subst (λ (e : Expr). IsTrue (resolves_expr e names) × IsTrue (behind_resolves (layer.Dot lhs rhs options pos) names)) same
+    (both (resolves_expr lhs names) (behind_resolves (layer.Dot lhs rhs options pos) names) h)
+bracket_first (layer.Index lhs rhs options pos) first value names is h =
+    let same : lhs ≡ first = cc in
+    subst (λ (e : Expr). IsTrue (resolves_expr e names) × IsTrue (behind_resolves (layer.Index lhs rhs options pos) names)) same
+    (both (resolves_expr lhs names) (behind_resolves (layer.Index lhs rhs options pos) names) h)
+bracket_first _ first value names is h = cc
+
+-- and any other value
+bracket_plain : (l : ExprLayer) (value : walk.Finds sound) (names : List Name) → first_in l ≡ None →
+    IsTrue (walk.found_behind_bracket sound false (level l).link value names) → IsTrue (value names)
+bracket_plain (layer.Dot lhs rhs options pos) value names is h = cc
+bracket_plain (layer.Index lhs rhs options pos) value names is h = cc
+bracket_plain (layer.Stmt block) value names is h =
+    subst (λ (k : walk.Link sound). IsTrue (walk.found_behind_bracket sound false k value names)) (block_apart block) h
+bracket_plain _ value names is h = h
+
 index_resolves : (broken : Bool) (first : Option Expr) (rhs : Expr) (options : ASTFlags) (at : Position) (names : List Name) →
-    first_in (out-Expr rhs) ≡ first → IsTrue (resolves_expr rhs names) →
+    first_in (out-Expr rhs) ≡ first →
+    IsTrue (walk.found_behind_bracket sound broken (level (out-Expr rhs)).link (tests_of rhs).value names) →
     LinkResolves (Some (index_link broken first rhs options at)) names
 index_resolves false (Some first) rhs options at names is h =
-    let parts = root_resolves rhs first names is h in (one_resolves (resolves_expr first names) parts.0, parts.1)
-index_resolves false None rhs options at names is h = (one_resolves (resolves_expr rhs names) h, tt)
+    let parts = bracket_first (out-Expr rhs) first (tests_of rhs).value names is h in
+    (one_resolves (resolves_expr first names) parts.0, parts.1)
+index_resolves false None rhs options at names is h =
+    (one_resolves (resolves_expr rhs names) (bracket_plain (out-Expr rhs) (tests_of rhs).value names is h), tt)
 index_resolves true first rhs options at names is h = (one_resolves (resolves_expr rhs names) h, tt)
 
 -- a method without a path, whose arguments may run
@@ -187,7 +217,8 @@ link_at (layer.Dot lhs rhs options pos) names h =
     (resolves-expr rhs (out-Expr rhs) refl) h)
 link_at (layer.Index lhs rhs options pos) names h =
     index_resolves (breaks options) (first_in (out-Expr rhs)) rhs options pos names refl
-    (subst (λ (b : Bool). IsTrue b) (bracket_same sound (ends_chain options) rhs names) h)
+    (subst (λ (s : walk.Seen sound). IsTrue (walk.found_behind_bracket sound (ends_chain options) s.link (tests_of rhs).value names))
+    (resolves-expr rhs (out-Expr rhs) refl) h)
 link_at _ names h = cc
 
 pub link_resolves : (form : ExprLayer) (names : List Name) (o : Option Link) → link_of form ≡ o → IsTrue (behind_resolves form names) →
@@ -345,7 +376,7 @@ no_chain_root false first behind named ends is = cc
 starts_at : (l : ExprLayer) (names : List Name) → walk.is_root sound (level l).is_place (level l).link ≡ true →
     IsTrue ((level l).value names) → StartsFrom true l
 starts_at (layer.Variable offset name namespace pos) names is h = tt
-starts_at (layer.ThisPtr pos) names is h = cc
+starts_at (layer.ThisPtr pos) names is h = tt
 starts_at (layer.Stmt block) names is h =
     let none : false ≡ true = subst (λ (b : Bool). walk.is_root sound b (walk.seen_block sound block).link ≡ true) (block_no_place block) is
     in cc
@@ -357,7 +388,7 @@ starts_at (layer.Index lhs rhs options pos) names is h = no_chain_root (level (l
     (ends_in_method (layer.Index lhs rhs options pos)) is
 starts_at _ names is h = cc
 
--- a chain that may be assigned to: its root is a variable, all of it may run, and it ends in no method
+-- a chain that may be assigned to: its root is a variable or `this`, all of it may run, and it ends in no method
 pub record TargetParts (root : Expr) (form : ExprLayer) (names : List Name) : Type 0 where
   pub root_runs : IsTrue (resolves_expr root names)
   pub behind_runs : IsTrue (behind_resolves form names)
@@ -398,31 +429,35 @@ target_parts e root names is h =
     (subst (λ (s : walk.Seen sound). s.is_place ≡ true) (resolves-expr e (out-Expr e) refl) parts.0)
     (subst (λ (s : walk.Seen sound). IsTrue (s.value names)) (resolves-expr e (out-Expr e) refl) parts.1)
 
--- what may be assigned to and is no variable is a chain
-abbrev pub IsNoVariable : ExprLayer → Type 0
-IsNoVariable (layer.Variable offset name namespace pos) = ⊥
-IsNoVariable _ = ⊤
+-- what may be assigned to and is neither a variable nor `this` is a chain
+abbrev pub IsNoName : ExprLayer → Type 0
+IsNoName (layer.Variable offset name namespace pos) = ⊥
+IsNoName (layer.ThisPtr pos) = ⊥
+IsNoName _ = ⊤
 
-no_variable_at : (l : ExprLayer) → ((offset : Option NonZeroUsize) (name : Name) (namespace : Namespace) (pos : Position) →
-    l ≡ layer.Variable offset name namespace pos → ⊥) → IsNoVariable l
-no_variable_at (layer.Variable offset name namespace pos) clear = clear offset name namespace pos refl
-no_variable_at _ clear = tt
+no_name_at : (l : ExprLayer) → ((offset : Option NonZeroUsize) (name : Name) (namespace : Namespace) (pos : Position) →
+    l ≡ layer.Variable offset name namespace pos → ⊥) → ((pos : Position) → l ≡ layer.ThisPtr pos → ⊥) → IsNoName l
+no_name_at (layer.Variable offset name namespace pos) clear bare = clear offset name namespace pos refl
+no_name_at (layer.ThisPtr pos) clear bare = bare pos refl
+no_name_at _ clear bare = tt
 
-pub no_variable : (e : Expr) → ((offset : Option NonZeroUsize) (name : Name) (namespace : Namespace) (pos : Position) →
-    e ≡ exprs.Variable offset name namespace pos → ⊥) → IsNoVariable (out-Expr e)
-no_variable e clear = no_variable_at (out-Expr e) (λ offset name namespace pos is. clear offset name namespace pos
+pub no_name : (e : Expr) → ((offset : Option NonZeroUsize) (name : Name) (namespace : Namespace) (pos : Position) →
+    e ≡ exprs.Variable offset name namespace pos → ⊥) → ((pos : Position) → e ≡ exprs.ThisPtr pos → ⊥) → IsNoName (out-Expr e)
+no_name e clear bare = no_name_at (out-Expr e)
+    (λ offset name namespace pos is. clear offset name namespace pos
     (sym (roll-out-Expr e) ∙ ap roll-Expr is ∙ exprs.rolls-Variable offset name namespace pos))
+    (λ pos is. bare pos (sym (roll-out-Expr e) ∙ ap roll-Expr is ∙ exprs.rolls-ThisPtr pos))
 
-left_at : (l : ExprLayer) (names : List Name) → IsNoVariable l → (level l).is_place ≡ true → IsTrue ((level l).value names) →
+left_at : (l : ExprLayer) (names : List Name) → IsNoName l → (level l).is_place ≡ true → IsTrue ((level l).value names) →
     is_some (first_in l) ≡ true
 left_at (layer.Variable offset name namespace pos) names none place h = absurd none
 left_at (layer.Dot lhs rhs options pos) names none place h = refl
 left_at (layer.Index lhs rhs options pos) names none place h = refl
-left_at (layer.ThisPtr pos) names none place h = cc
+left_at (layer.ThisPtr pos) names none place h = absurd none
 left_at (layer.Stmt block) names none place h = let clear = block_no_place block in cc
 left_at _ names none place h = cc
 
-pub left_chain : (e : Expr) (names : List Name) → IsNoVariable (out-Expr e) → IsTrue (target_resolves (tests_of e) names) →
+pub left_chain : (e : Expr) (names : List Name) → IsNoName (out-Expr e) → IsTrue (target_resolves (tests_of e) names) →
     is_some (first_in (out-Expr e)) ≡ true
 left_chain e names none h =
     let parts = placed (tests_of e).is_place ((tests_of e).value names) h in

@@ -31,6 +31,7 @@ use Rattle.rhai_machine.specs.language.Frames.{NewValue, OpenChain, OpenStmt, Re
 use Rattle.rhai_machine.specs.language.Arguments.{arguments_core, arguments_there}
 use Rattle.rhai_machine.specs.language.Assignment.{assignment_move}
 use Rattle.rhai_machine.specs.language.Chains.{asked_move, open_move, opened_core, ready, root_move}
+use Rattle.rhai_machine.specs.language.Chains.{this_root_core}
 use Rattle.rhai_machine.specs.language.Expressions.{literal_of}
 use Rattle.rhai_machine.specs.language.Language.{move}
 use Rattle.rhai_machine.specs.language.Runs.{at, with_core, Goes}
@@ -43,7 +44,7 @@ use Rattle.rhai_chains.specs.declared.arguments.Ready.TheVariants as code
 use Rattle.rhai_chains.specs.Ready.{alone, at_once, IsReady}
 use Rattle.rhai_chains.proofs.LinkLemmas.{walks_behind}
 use Rattle.rhai_cycle.specs.Chains.{gathered, HasAsked, IsGiven, MayWalk, StartsFrom}
-use Rattle.rhai_cycle.proofs.ChainLemmas.{IsNoVariable}
+use Rattle.rhai_cycle.proofs.ChainLemmas.{IsNoName}
 
 -- what is none of the things that might stand there is nothing
 pub nothing_there : {A : Type 0} (o : Option A) → ((x : A) → o ≡ Some x → ⊥) → o ≡ None
@@ -221,19 +222,26 @@ module _ {S H : Type 0} (rules : Rules S H) where
   variable_root root offset name namespace pos is plain chain same k l =
       ap (λ (x : Expr). root_move (out-Expr x) chain k l) same ∙ ap (λ (x : ExprLayer). root_move x chain k l) is ∙ rw plain refl
 
-module _ {H : Type 0} where
-  -- ---- a root that is no variable
+  -- and so is `this`
+  pub this_root : (root : Expr) (pos : Position) → out-Expr root ≡ layer.ThisPtr pos → (chain : Chain H) → chain.root ≡ root →
+      (k : List (Frame H)) (l : Local H) →
+      move rules.setting (core (ChainRoot chain) k l) ≡ Charge pos (this_root_core pos chain k l)
+  this_root root pos is chain same k l =
+      ap (λ (x : Expr). root_move (out-Expr x) chain k l) same ∙ ap (λ (x : ExprLayer). root_move x chain k l) is
 
-  root_at : (l : ExprLayer) (names : List Name) → IsNoVariable l → IsTrue ((walk.expr_step sound (expr_tests l)).value names) →
+module _ {H : Type 0} where
+  -- ---- a root that is no variable and not `this`
+
+  root_at : (l : ExprLayer) (names : List Name) → IsNoName l → IsTrue ((walk.expr_step sound (expr_tests l)).value names) →
       (chain : Chain H) (k : List (Frame H)) (s : Local H) → is_none chain.new ≡ true →
       root_move l chain k s ≡ Go (core (Eval chain.root) (RootValue chain ∷ k) s)
   root_at (layer.Variable offset name namespace pos) names other h chain k s none = absurd other
-  root_at (layer.ThisPtr pos) names other h chain k s none = cc
+  root_at (layer.ThisPtr pos) names other h chain k s none = absurd other
   root_at _ names other h chain k s none = rw none refl
 
 module _ {S H : Type 0} (rules : Rules S H) where
   -- it is evaluated
-  pub evaluates_root : (root : Expr) (names : List Name) → IsNoVariable (out-Expr root) → IsTrue (resolves_expr root names) →
+  pub evaluates_root : (root : Expr) (names : List Name) → IsNoName (out-Expr root) → IsTrue (resolves_expr root names) →
       (chain : Chain H) → chain.root ≡ root → is_none chain.new ≡ true → (k : List (Frame H)) (s : State S H) →
       Goes rules (at (ChainRoot chain) k s) (at (Eval root) (RootValue chain ∷ k) s)
   evaluates_root root names other h chain same none k s = step_by rules _ _ (Go (core (Eval root) (RootValue chain ∷ k) s.local))
@@ -261,11 +269,12 @@ module _ {S H : Type 0} (rules : Rules S H) where
       step_by rules _ _ (Go (core (Eval rhs) (AssignChain root (out-Expr lhs) op (position_of rhs) ∷ k) s.local))
       (assigned_at (out-Expr lhs) root is op rhs k s.local) here
 
-never : (l : ExprLayer) → IsNoVariable l → StartsFrom true l → ⊥
+never : (l : ExprLayer) → IsNoName l → StartsFrom true l → ⊥
 never (layer.Variable offset name namespace pos) other starts = other
+never (layer.ThisPtr pos) other starts = other
 never _ other starts = starts
 
--- what is assigned to starts from a variable, so where the root is none nothing is
-pub not_assigned : {A : Type 0} (o : Option A) (l : ExprLayer) → IsNoVariable l → StartsFrom (is_some o) l → o ≡ None
+-- what is assigned to starts from a variable or from `this`, so where the root is neither nothing is
+pub not_assigned : {A : Type 0} (o : Option A) (l : ExprLayer) → IsNoName l → StartsFrom (is_some o) l → o ≡ None
 not_assigned None l other starts = refl
 not_assigned (Some v) l other starts = absurd (never l other starts)

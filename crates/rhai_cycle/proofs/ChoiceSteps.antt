@@ -1,19 +1,23 @@
--- How a part of a `??` leads on.
-use Rattle.std.proofs.Common.{◌≡◌, true, false, List, ◌∷◌, Result, Ok, Err, refl, sym, ap}
+-- How a part of an `&&`, an `||` or a `??` leads on.
+use Rattle.std.proofs.Common.{◌≡◌, Bool, true, false, not, if◌then◌else◌, List, [], ◌∷◌, Result, Ok, Err, refl, sym, ap}
 use Rattle.rhai_tree.specs.declared.position.Position.{Position}
 use Rattle.rhai_tree.specs.declared.expr.Expr.{Expr}
+use Rattle.rhai_tree.specs.declared.expr.Expr.TheOpen as layer
+use Rattle.rhai_tree.specs.Positions.{position_of}
 use Rattle.rhai_values.specs.declared.base.value.Dynamic.{Dynamic}
 use Rattle.rhai_values.specs.declared.base.value.Union.{Union}
 use Rattle.rhai_values.specs.declared.base.value.Union.TheVariants as value
 use Rattle.rhai_state.specs.declared.error.EvalAltResult.{EvalAltResult}
 use Rattle.rhai_machine.specs.machine.Machine.{Go}
-use Rattle.rhai_machine.specs.machine.Memory.{here}
+use Rattle.rhai_machine.specs.machine.Point.{after}
+use Rattle.rhai_machine.specs.machine.Memory.{here, next}
 use Rattle.rhai_machine.specs.language.Setting.{Rules}
 use Rattle.rhai_machine.specs.language.State.{State, Local}
-use Rattle.rhai_machine.specs.language.Values.{through}
-use Rattle.rhai_machine.specs.language.Frames.{Frame, core, Back, Fail, CoalescePart}
-use Rattle.rhai_machine.specs.language.Expressions.{coalesce_core, coalesce_seen, coalesce_next}
+use Rattle.rhai_machine.specs.language.Values.{bool_value, through}
+use Rattle.rhai_machine.specs.language.Frames.{Frame, Core, core, Back, Fail, OpenExpr, AndPart, OrPart, CoalescePart}
+use Rattle.rhai_machine.specs.language.Expressions.{and_core, or_core, coalesce_core, coalesce_seen, coalesce_next}
 use Rattle.rhai_machine.specs.language.Runs.{at, with_core, Goes}
+use Rattle.rhai_operands.specs.Tests.{Tests}
 use Rattle.rhai_steps.specs.Values.{is_unit_union, unit_seen}
 use Rattle.rhai_state.specs.Errors.{is_out_of_memory}
 use Rattle.rhai_cycle.proofs.Chain.{fails_on}
@@ -58,3 +62,42 @@ module _ {S H : Type 0} (rules : Rules S H)
   pub coalesce_fails : (e : EvalAltResult H) → (is_out_of_memory e ≡ false → Err e ≡ unit_seen (through l.local.around.cells v pos)) →
       Goes rules (at (Back v) (CoalescePart pos parts ∷ k) l) (at (Fail e) k l)
   coalesce_fails e is = fails_on rules v (CoalescePart pos parts) k l e (λ x. refl) (λ m. seen_fails v parts k l.local _ e (is m))
+
+module _ {H : Type 0} where
+  -- the parts of an `||` or an `&&`, by the truth value that stops it
+  abbrev pub until_core : Bool → List Expr → List (Frame H) → Local H → Core H
+  until_core true parts k l = or_core parts k l
+  until_core false parts k l = and_core parts k l
+
+  pub until_ends : (stop : Bool) (k : List (Frame H)) (l : Local H) → until_core stop [] k l ≡ core (Back (bool_value (not stop))) k l
+  until_ends true k l = refl
+  until_ends false k l = refl
+
+module _ {S H : Type 0} (rules : Rules S H) where
+  pub until_opens : (stop : Bool) (parts : List Expr) (pos : Position) (k : List (Frame H)) (l : State S H) →
+      Goes rules (at (OpenExpr (if stop then layer.Or parts pos else layer.And parts pos)) k l) (with_core (until_core stop parts k l.local) l)
+  unfolding after
+  until_opens true parts pos k l = next here
+  until_opens false parts pos k l = next here
+
+  -- a part leads to the next, or stops, or fails
+  pub until_on : (stop : Bool) (part : Expr) (parts : List Expr) (k : List (Frame H)) (old new : State S H) (holds : Bool) →
+      Tests rules part old (Ok holds) new → holds ≡ not stop →
+      Goes rules (with_core (until_core stop (part ∷ parts) k old.local) old) (with_core (until_core stop parts k new.local) new)
+  unfolding Tests
+  until_on true part parts k old new holds tests is = (rw is at tests) (OrPart (position_of part) parts) k refl
+  until_on false part parts k old new holds tests is = (rw is at tests) (AndPart (position_of part) parts) k refl
+
+  pub until_stops : (stop : Bool) (part : Expr) (parts : List Expr) (k : List (Frame H)) (old new : State S H) (holds : Bool) →
+      Tests rules part old (Ok holds) new → holds ≡ stop →
+      Goes rules (with_core (until_core stop (part ∷ parts) k old.local) old) (at (Back (bool_value stop)) k new)
+  unfolding Tests
+  until_stops true part parts k old new holds tests is = (rw is at tests) (OrPart (position_of part) parts) k refl
+  until_stops false part parts k old new holds tests is = (rw is at tests) (AndPart (position_of part) parts) k refl
+
+  pub until_fails : (stop : Bool) (part : Expr) (parts : List Expr) (k : List (Frame H)) (old new : State S H) (e : EvalAltResult H) →
+      Tests rules part old (Err e) new →
+      Goes rules (with_core (until_core stop (part ∷ parts) k old.local) old) (at (Fail e) k new)
+  unfolding Tests
+  until_fails true part parts k old new e tests = tests (OrPart (position_of part) parts) k refl
+  until_fails false part parts k old new e tests = tests (AndPart (position_of part) parts) k refl

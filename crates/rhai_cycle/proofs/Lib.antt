@@ -1,3 +1,4 @@
+mod BodyLemmas
 mod CallSteps
 pub mod Chain
 pub mod ChainLemmas
@@ -5,6 +6,10 @@ mod ChainSteps
 mod ChoiceSteps
 mod Conditions
 mod DataSteps
+mod FocusSteps
 mod LoopSteps
 mod NameLemmas
+mod RootLemmas
+mod ThisSteps
 mod Turns
+mod VariableSteps

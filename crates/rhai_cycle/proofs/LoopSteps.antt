@@ -23,7 +23,7 @@ use Rattle.rhai_machine.specs.machine.Memory.{Leads, here, next, wanting, starve
 use Rattle.rhai_machine.specs.language.Setting.{Rules, limit_under}
 use Rattle.rhai_machine.specs.language.State.{Held, State, Local}
 use Rattle.rhai_machine.specs.language.Frames.{Control, Frame, Core, core, ended, OpenStmt, Eval, Enter, WhileTurn, DoTurn, Back, Fail}
-use Rattle.rhai_machine.specs.language.Frames.{WhileCondition, WhileBody, DoBody, DoCondition, ReturnValue}
+use Rattle.rhai_machine.specs.language.Frames.{WhileCondition, WhileBody, DoBody, DoCondition, BreakValue, ReturnValue}
 use Rattle.rhai_machine.specs.language.Loops.{is_endless, while_move}
 use Rattle.rhai_machine.specs.language.Statements.{has_option, return_move}
 use Rattle.rhai_machine.specs.language.Values.{unit_value}
@@ -131,6 +131,13 @@ module _ {S H : Type 0} (rules : Rules S H) where
   unfolding after
   breaks_unit options is_break v e pos restoring k l asked unit told =
       or_wants rules (OpenStmt (layer.BreakLoop None options pos) restoring) k l e (λ m. next (rw (told m, unit, asked) here))
+
+  -- one with a value
+  pub breaks_value : (value : Expr) (options : ASTFlags) (pos : Position) (restoring : Bool) (k : List (Frame H)) (l : State S H) →
+      Goes rules (at (OpenStmt (layer.BreakLoop (Some value) options pos) restoring) k l)
+      (at (Eval value) (BreakValue (has_option 2 options) pos ∷ k) l)
+  unfolding after
+  breaks_value value options pos restoring k l = next here
 
   -- a `return` without a value, and one with a value
   pub returns_unit : (options : _) (pos : Position) (restoring : Bool) (k : List (Frame H)) (l : State S H) → is_throw options ≡ false →

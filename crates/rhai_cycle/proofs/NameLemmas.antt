@@ -23,7 +23,9 @@ use Rattle.rhai_tree.specs.declared.position.Position.{Position}
 use Rattle.rhai_check.specs.Forms.{is_exported, is_throw}
 use Rattle.rhai_check.specs.Frame.{resolves_stmt, target_resolves}
 use Rattle.rhai_check.proofs.Walk.{resolves-expr, resolves-stmt}
-use Rattle.std.proofs.Common.{Option, None}
+use Rattle.std.proofs.Common.{Option, None, Some}
+use Rattle.rhai_values.specs.declared.base.value.Dynamic.{Dynamic}
+use Rattle.rhai_pointers.specs.Leading.{all_args, this_lent}
 use Rattle.rhai_tree.specs.declared.expr.Ident.{Ident}
 use Rattle.rhai_tree.specs.declared.expr.OpAssignment.{OpAssignment}
 use Rattle.rhai_operands.proofs.Names.{both, fails_then}
@@ -61,6 +63,14 @@ pub first_resolves : (args : List Expr) (arg : Expr) (rest : List Expr) (names :
     IsTrue (resolves_expr arg names) × IsTrue (all_resolve_exprs (map tests_of rest) names)
 first_resolves args arg rest names is h = both (resolves_expr arg names) (all_resolve_exprs (map tests_of rest) names) (rw is at h)
 
+-- where `this` comes first, the arguments behind it do
+pub this_resolves : {H : Type 0} (by_value : Bool) (first : Option Expr) (rest : List Expr) (this : Option (Dynamic H)) (at : Position)
+    (names : List Name) → this_lent by_value first this ≡ Some at → IsTrue (all_resolve_exprs (map tests_of (all_args first rest)) names) →
+    IsTrue (all_resolve_exprs (map tests_of rest) names)
+this_resolves true first rest this at names found h = absurd cc
+this_resolves false None rest this at names found h = absurd cc
+this_resolves false (Some arg) rest this at names found h = (first_resolves (arg ∷ rest) arg rest names refl h).1
+
 -- so does the value of each entry of a map
 entry_resolves : (entry : MapEntry) (names : List Name) → IsTrue ((tests_of_entry entry).value names) →
     IsTrue (resolves_expr entry.value names)
@@ -84,14 +94,6 @@ value_resolves entries i entry names lt is h =
     (later_entries (take i entries) (drop i entries) names split) in
     entry_resolves entry names
     (both ((tests_of_entry entry).value names) (entries_resolve (map tests_of_entry (drop (i + 1) entries)) names) later).0
-
-pub map_resolves : (e : Expr) (entries : List MapEntry) (template : List Name × List Literal) (pos : Position) (names : List Name) →
-    out-Expr e ≡ layer.Map entries template pos → IsTrue (resolves_expr e names) →
-    IsTrue (entries_resolve (map tests_of_entry entries) names)
-map_resolves e entries template pos names is h =
-    (both (walk.found_in_keys sound (are_keys (map (walk.key_in sound) (map tests_of_entry entries)) template.0) pos names)
-    (entries_resolve (map tests_of_entry entries) names)
-    (subst (λ (t : walk.Seen sound). IsTrue (t.value names)) (resolves-expr e (layer.Map entries template pos) is) h)).1
 
 -- the rest of a list resolves above the names after its first statement
 rest_of_list : (first : Bool) (rest whole : Bool × List Name) → (first && rest.0, rest.1) ≡ whole → IsTrue whole.0 → rest ≡ whole

@@ -1,5 +1,5 @@
 -- A list that is not empty has charged when its value, a `break` or a `continue` comes out of it.
-use Rattle.std.proofs.Common.{◌≡◌, ◌<◌, ◌⊎◌, inl, inr, Bool, true, false, List, [], ◌∷◌, length, Option, Result, Ok, Err, OnOk, refl, arith}
+use Rattle.std.proofs.Common.{◌≡◌, ◌≢◌, ◌<◌, ◌⊎◌, inl, inr, Bool, true, false, List, [], ◌∷◌, Result, Ok, Err, OnOk, refl, arith}
 use Rattle.std.specs.Prelude.{⊤}
 use Rattle.rhai_tree.specs.declared.position.Position.{Position}
 use Rattle.rhai_tree.specs.declared.expr.Stmt.{Stmt, out-Stmt}
@@ -26,7 +26,6 @@ use Rattle.rhai_laws.proofs.MemoryLaws.{wants_on, counts}
 use Rattle.rhai_laws.proofs.WantLaws.{wants}
 use Rattle.rhai_steps.specs.declared.loops.BodyEnd.{BodyEnd}
 use Rattle.rhai_steps.specs.declared.loops.BodyEnd.TheVariants.{Done, Continue, Break}
-use Rattle.rhai_cycle.proofs.Chain.{on_ok_given}
 use Rattle.rhai_steps.specs.Loops.{after_body, leaves_turn, turn_in}
 
 -- a value has come back, or an error has come down
@@ -170,18 +169,11 @@ module _ {S H : Type 0} (rules : Rules S H) where
   ended_charges stmt rest old new (Err (error.LoopBreak v true pos)) (inr lt) = lt
   ended_charges stmt rest old new (Err e) charged = tt
 
-  empty_charges : (old new : State S H) (r : Result (Option (Dynamic H)) (EvalAltResult H)) →
-      OnOk r (0 < length {A = Stmt} [] → old.count < new.count)
-  empty_charges old new (Ok o) = λ some. absurd (omega arith)
-  empty_charges old new (Err e) = tt
-
-  pub body_charges : (stmts : List Stmt) (old new : State S H) (r : Result (Dynamic H) (EvalAltResult H)) →
-      Runs rules (Enter stmts true) old r new →
-      OnOk (after_body (turn_in r)) (0 < length stmts → old.count < new.count)
+  pub body_charges : (stmts : List Stmt) (old new : State S H) (r : Result (Dynamic H) (EvalAltResult H)) → stmts ≢ [] →
+      Runs rules (Enter stmts true) old r new → OnOk (after_body (turn_in r)) (old.count < new.count)
   unfolding Steps
-  body_charges [] old new r runs = empty_charges old new (after_body (turn_in r))
-  body_charges (stmt ∷ rest) old new r runs = on_ok_given _ _ _
-      (ended_charges stmt rest old new r (enter_charges stmt rest old (done r) (runs [])))
+  body_charges [] old new r some runs = absurd (some refl)
+  body_charges (stmt ∷ rest) old new r some runs = ended_charges stmt rest old new r (enter_charges stmt rest old (done r) (runs []))
 
   -- a `break` or a `continue` comes out of a body only after a charge
   leaves_after : (stmts : List Stmt) (old new : State S H) (e : EvalAltResult H) → leaves_turn e ≡ true →

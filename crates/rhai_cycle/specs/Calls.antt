@@ -1,15 +1,18 @@
 -- How the parts of a call are told.
-use Rattle.std.specs.Prelude.{◌≡◌, Bool, List, ◌∷◌, Result, Ok, Err, length}
+use Rattle.std.specs.Prelude.{◌≡◌, ◌+◌, Bool, List, ◌∷◌, Result, Ok, Err, length}
 use Rattle.rhai_tree.specs.declared.expr.Expr.{Expr}
 use Rattle.rhai_tree.specs.declared.position.Position.{Position}
 use Rattle.rhai_values.specs.declared.base.value.Dynamic.{Dynamic}
 use Rattle.rhai_values.specs.declared.base.value.FnPtr.{FnPtr, out-FnPtr}
 use Rattle.rhai_state.specs.declared.error.EvalAltResult.{EvalAltResult}
+use Rattle.rhai_machine.specs.machine.Machine.{Charge}
 use Rattle.rhai_machine.specs.machine.Point.{Point}
 use Rattle.rhai_machine.specs.language.Setting.{Rules}
 use Rattle.rhai_machine.specs.language.State.{Local, State}
-use Rattle.rhai_machine.specs.language.Frames.{Operation, Control, Purpose, Frame, Core, Fail, ended}
-use Rattle.rhai_machine.specs.language.Arguments.{arguments_core, arguments_there, flattens, function_core, keyword_of, pointer_core}
+use Rattle.rhai_machine.specs.language.Frames.{Operation, Control, Purpose, Frame, Core, core, Fail, ended}
+use Rattle.rhai_machine.specs.language.Arguments.{arguments_core, arguments_there, flattens, function_core, keyword_of, linked_to}
+use Rattle.rhai_machine.specs.language.Arguments.{pointer_core}
+use Rattle.rhai_machine.specs.language.Language.{move}
 use Rattle.rhai_machine.specs.language.Runs.{at, with_core, Goes}
 
 module _ {S H : Type 0} (rules : Rules S H) where
@@ -18,13 +21,21 @@ module _ {S H : Type 0} (rules : Rules S H) where
       Type 0
   StartsAs start old result new = (k : List (Frame H)) → Goes rules (with_core (start k old.local) old) (at (ended result) k new)
 
+  -- from any control that charges and then begins so, over any stack, to how it ended
+  unfoldable pub ChargesFirst : Position → (start : List (Frame H) → Local H → Core H) → State S H →
+      Result (Dynamic H) (EvalAltResult H) → State S H → Type 0
+  ChargesFirst pos start old result new = (c : Control H) (k : List (Frame H)) →
+      move rules.setting (core c k old.local) ≡ Charge pos (start k old.local) → Goes rules (at c k old) (at (ended result) k new)
+
   -- from a control over a frame to what comes of the frame
   unfoldable pub RunsUnder : Control H → Frame H → State S H → Result (Dynamic H) (EvalAltResult H) → State S H → Type 0
   RunsUnder c f old result new = (k : List (Frame H)) → Goes rules (at c (f ∷ k) old) (at (ended result) k new)
 
   -- a pointer that is called
   abbrev pub pointer_called : FnPtr H → Position → List Expr → (captures : Bool) → List (Frame H) → Local H → Core H
-  pointer_called pointer at args captures k l = pointer_core rules.setting (out-FnPtr H pointer).kind pointer at args captures k l
+  pointer_called pointer at args captures k l =
+      pointer_core rules.setting (linked_to pointer (length (out-FnPtr H pointer).curry + length args) l.around.lib) pointer at args captures
+      k l
 
   -- all arguments are there for what they are for, or an error comes down
   abbrev pub collected : Purpose H → Result (List (Dynamic H)) (EvalAltResult H) → List (Frame H) → State S H → Point S (Core H)

@@ -12,7 +12,7 @@ use Rattle.rhai_state.specs.declared.error.EvalAltResult.{EvalAltResult}
 use Rattle.rhai_machine.specs.machine.Point.{Point}
 use Rattle.rhai_machine.specs.language.Setting.{Rules}
 use Rattle.rhai_machine.specs.language.State.{State}
-use Rattle.rhai_machine.specs.language.Frames.{Chain, Frame, Core, ChainArguments, ChainRoot, Fail, OpenChain}
+use Rattle.rhai_machine.specs.language.Frames.{Chain, Frame, Core, ChainArguments, ChainRoot, Fail}
 use Rattle.rhai_machine.specs.language.Expressions.{literal_of}
 use Rattle.rhai_machine.specs.language.Runs.{at, Goes}
 use Rattle.rhai_chains.specs.Chains.{Walks}
@@ -33,9 +33,10 @@ pub record MayWalk (assigned : Bool) (form : ExprLayer) : Type 0 where
   pub count : ℕ
   pub walks : Walks assigned form count
 
--- a chain that is assigned to starts from a variable
+-- a chain that is assigned to starts from a variable or from `this`
 abbrev pub StartsFrom : (assigned : Bool) → (root : ExprLayer) → Type 0
 StartsFrom true (layer.Variable offset name namespace pos) = ⊤
+StartsFrom true (layer.ThisPtr pos) = ⊤
 StartsFrom true _ = ⊥
 StartsFrom false root = ⊤
 
@@ -61,8 +62,3 @@ module _ {S H : Type 0} (rules : Rules S H) where
       State S H → Type 0
   Gathers rest made old result new = (chain : Chain H) (k : List (Frame H)) →
       Goes rules (at (ChainArguments chain rest made) k old) (gathered chain result k new)
-
-  -- and from where the chain is entered
-  unfoldable pub Opens : (form : ExprLayer) → State S H → Result (List (Dynamic H)) (EvalAltResult H) → State S H → Type 0
-  Opens form old result new = (chain : Chain H) → chain.rest ≡ form → (k : List (Frame H)) →
-      Goes rules (at (OpenChain chain) k old) (gathered chain result k new)

@@ -1,3 +1,4 @@
+pub mod Bodies
 pub mod Calls
 pub mod Chains
 pub mod Memory

@@ -1,23 +1,29 @@
 //! The arguments of calls, and calls by name. Ports upstream's `func/call.rs`; the contracts speak of
 //! the machine's runs and of specs/Calls.antt.
 
-ghost use Rattle.std.specs.Prelude.{◌≡◌, ◌≤◌, ◌+◌, [], IfOk, IsTrue, OnOk, length, map, true};
+ghost use Rattle.std.specs.Prelude.{◌≡◌, ◌≤◌, ◌+◌, [], IfOk, IsTrue, OnOk, false, length, map, true};
 ghost use Rattle.std.specs.Option.{option_copied};
 ghost use Rattle.rhai_check.specs.Frame.{all_resolve_exprs, resolves_expr, tests_of};
-ghost use Rattle.rhai_machine.specs.language.Frames.{CallNamed};
+ghost use Rattle.rhai_check.specs.Names.{is_good};
+ghost use Rattle.rhai_state.specs.Scope.{entries_of};
+ghost use Rattle.rhai_machine.specs.language.Arguments.{arguments_core, is_captured};
+ghost use Rattle.rhai_machine.specs.language.Calls.{plainly};
+ghost use Rattle.rhai_machine.specs.language.Frames.{CallNamed, ToCall, ToCallOn, ToCallOnThis};
 ghost use Rattle.rhai_machine.specs.language.Runs.{Runs};
 ghost use Rattle.rhai_pointers.specs.Leading.{all_args};
-ghost use Rattle.rhai_cycle.specs.Calls.{Collects, TakesNext};
+ghost use Rattle.rhai_cycle.specs.Calls.{ChargesFirst, Collects, StartsAs, TakesNext};
 ghost use Rattle.rhai_cycle.specs.States.{names, state_in, under};
 
 use crate::evaluator::Evaluator;
 use rhai_context::{Context, keep_list, lend_list};
 use rhai_dispatch::arguments::take_argument;
 use rhai_dispatch::call_values;
+use rhai_dispatch::this::call_on_this;
 use rhai_dispatch::variable::call_on_variable;
 use rhai_items::Items;
-use rhai_pointers::arguments::first_variable;
+use rhai_pointers::arguments::{FirstVariable, first_variable, this_first};
 use rhai_state::error::EvalAltResult;
+use rhai_state::scope::Scope;
 use rhai_state::table::NativeTable;
 use rhai_steps::charges::track_operation;
 use rhai_tree::expr::Expr;
@@ -26,9 +32,18 @@ use rhai_tree::token::Token;
 use rhai_values::base::value::{Dynamic, Host};
 use std::alloc::Global;
 
+/// Whether a call that captures its caller's variables runs on them: there are some.
+fn is_on_scope<H>(scope: &Scope<H>, captures: bool) -> bool
+    ensures { result ≡ is_captured captures (entries_of scope.now) }
+{
+    captures && scope.len() != 0
+}
+
 impl<'e, H: Host> Evaluator<'e, H> {
-    /// A call by name. A variable that comes first is charged first and read last, and is lent to a
-    /// native where it may be written; any other argument is passed by its value.
+    /// A call by name. A variable that comes first, or `this`, is charged first and read last, and is lent to
+    /// a native where it may be written; any other argument is passed by its value. A call that captures a
+    /// scope which is not empty takes each argument by its value, and a function of a script runs on that
+    /// scope.
     #[cycle(eval)]
     pub(crate) fn run_named<T: NativeTable<H>>(
         &self,
@@ -41,6 +56,7 @@ impl<'e, H: Host> Evaluator<'e, H> {
         first: Option<&Expr>,
         rest: &[Expr],
         captures: bool,
+        natives_alone: bool,
         pos: Position,
     ) -> Result<Dynamic<H>, EvalAltResult<H>>
         requires { IsTrue (all_resolve_exprs (map tests_of (all_args (option_copied first) rest.now))
@@ -49,54 +65,196 @@ impl<'e, H: Host> Evaluator<'e, H> {
         ensures names { OnOk result (names run.new ≡ names run.old) }
         ensures runs { Runs (under H.name_of self.now T.natives)
             (CallNamed (record { name = name.now; token = token; at = pos }) curried
-            (all_args (option_copied first.entry) rest.now) captures)
+            (all_args (option_copied first.entry) rest.now) captures natives_alone)
             (state_in (T.state table.old) run.old) result (state_in (T.state table.new) run.new) }
     {
+        if let Some(this_at) = this_first(
+            &run.scope,
+            curried.as_slice(),
+            first,
+            &run.this,
+            captures,
+        ) {
+            drop(curried);
+            return self.run_on_this(
+                alloc,
+                run,
+                table,
+                name,
+                token,
+                this_at,
+                rest,
+                natives_alone,
+                pos,
+            );
+        }
         match first_variable(&run.scope, curried.as_slice(), first, rest, captures) {
             Some(variable) => {
                 drop(curried);
-                track_operation(self.limits, &mut run.global, variable.pos)?;
-                let made = lend_list(alloc, run);
-                let values = self.run_more_args(alloc, run, table, made, variable.rest, true)?;
-                let result = call_on_variable(
+                self.run_on_variable(alloc, run, table, name, token, variable, natives_alone, pos)
+            }
+            None => self.run_on_values(
+                alloc,
+                run,
+                table,
+                name,
+                token,
+                curried,
+                first,
+                rest,
+                captures,
+                natives_alone,
+                pos,
+            ),
+        }
+    }
+
+    /// A call by name with a variable before its other arguments.
+    #[cycle(eval)]
+    fn run_on_variable<T: NativeTable<H>>(
+        &self,
+        alloc: Global,
+        run: &mut Context<H>,
+        table: &mut T,
+        name: &str,
+        token: Option<Token>,
+        variable: FirstVariable<'_>,
+        natives_alone: bool,
+        pos: Position,
+    ) -> Result<Dynamic<H>, EvalAltResult<H>>
+        requires good { IsTrue (is_good variable.offset variable.name.now (names run.old)) }
+        requires resolves { IsTrue (all_resolve_exprs (map tests_of variable.rest.now) (names run.old)) }
+        ensures counts { OnOk result (run.old.global.num_operations ≤ run.new.global.num_operations) }
+        ensures names { OnOk result (names run.new ≡ names run.old) }
+        ensures runs { let rules = under H.name_of self.now T.natives in
+            ChargesFirst rules variable.entry.pos (arguments_core rules.setting
+            (ToCallOn (record { name = name.now; token = token; at = pos }) variable.entry.name.now variable.entry.pos
+            (plainly natives_alone false)) [] variable.entry.rest.now)
+            (state_in (T.state table.old) run.old) result (state_in (T.state table.new) run.new) }
+    {
+        track_operation(self.limits, &mut run.global, variable.pos)?;
+        let made = lend_list(alloc, run);
+        let values = self.run_more_args(alloc, run, table, made, variable.rest, true)?;
+        let mut values = values;
+        let offered = self.offered();
+        let called = call_on_variable(
+            self.limits,
+            alloc,
+            &offered,
+            &mut run.global,
+            table,
+            &mut run.scope,
+            natives_alone,
+            name,
+            token,
+            variable.offset,
+            variable.name,
+            variable.pos,
+            &mut values,
+            pos,
+        );
+        keep_list(run, values);
+        self.run_out(alloc, run, table, called, true, pos)
+    }
+
+    /// A call by name with `this` before its other arguments.
+    #[cycle(eval)]
+    fn run_on_this<T: NativeTable<H>>(
+        &self,
+        alloc: Global,
+        run: &mut Context<H>,
+        table: &mut T,
+        name: &str,
+        token: Option<Token>,
+        this_at: Position,
+        args: &[Expr],
+        natives_alone: bool,
+        pos: Position,
+    ) -> Result<Dynamic<H>, EvalAltResult<H>>
+        requires { IsTrue (all_resolve_exprs (map tests_of args.now) (names run.old)) }
+        ensures counts { OnOk result (run.old.global.num_operations ≤ run.new.global.num_operations) }
+        ensures names { OnOk result (names run.new ≡ names run.old) }
+        ensures runs { let rules = under H.name_of self.now T.natives in
+            ChargesFirst rules this_at (arguments_core rules.setting
+            (ToCallOnThis (record { name = name.now; token = token; at = pos }) this_at
+            (plainly natives_alone false)) [] args.now)
+            (state_in (T.state table.old) run.old) result (state_in (T.state table.new) run.new) }
+    {
+        track_operation(self.limits, &mut run.global, this_at)?;
+        let made = lend_list(alloc, run);
+        let values = self.run_more_args(alloc, run, table, made, args, true)?;
+        let mut values = values;
+        let offered = self.offered();
+        let called = call_on_this(
+            self.limits,
+            alloc,
+            &offered,
+            &mut run.global,
+            table,
+            &mut run.this,
+            natives_alone,
+            name,
+            token,
+            this_at,
+            &mut values,
+            pos,
+        );
+        keep_list(run, values);
+        self.run_out(alloc, run, table, called, true, pos)
+    }
+
+    /// A call by name whose arguments are all passed by their values, behind those that a pointer has.
+    #[cycle(eval)]
+    fn run_on_values<T: NativeTable<H>>(
+        &self,
+        alloc: Global,
+        run: &mut Context<H>,
+        table: &mut T,
+        name: &str,
+        token: Option<Token>,
+        curried: Items<Dynamic<H>>,
+        first: Option<&Expr>,
+        rest: &[Expr],
+        captures: bool,
+        natives_alone: bool,
+        pos: Position,
+    ) -> Result<Dynamic<H>, EvalAltResult<H>>
+        requires { IsTrue (all_resolve_exprs (map tests_of (all_args (option_copied first) rest.now))
+            (names run.old)) }
+        ensures counts { OnOk result (run.old.global.num_operations ≤ run.new.global.num_operations) }
+        ensures names { OnOk result (names run.new ≡ names run.old) }
+        ensures runs { let rules = under H.name_of self.now T.natives in
+            StartsAs rules (arguments_core rules.setting
+            (ToCall (record { name = name.now; token = token; at = pos }) curried
+            (plainly natives_alone (is_captured captures (entries_of run.old.scope)))) []
+            (all_args (option_copied first.entry) rest.now))
+            (state_in (T.state table.old) run.old) result (state_in (T.state table.new) run.new) }
+    {
+        let on_scope = is_on_scope(&run.scope, captures);
+        match self.run_args(alloc, run, table, first, rest) {
+            Ok(values) => {
+                let mut values = values;
+                let offered = self.offered();
+                let called = call_values(
                     self.limits,
                     alloc,
+                    &offered,
                     &mut run.global,
                     table,
-                    &mut run.scope,
+                    natives_alone,
                     name,
                     token,
-                    variable.offset,
-                    variable.name,
-                    variable.pos,
-                    values.as_slice(),
+                    curried,
+                    &mut values,
                     pos,
                 );
                 keep_list(run, values);
-                result
+                self.run_out(alloc, run, table, called, !on_scope, pos)
             }
-            None => match self.run_args(alloc, run, table, first, rest) {
-                Ok(values) => {
-                    let mut values = values;
-                    let result = call_values(
-                        self.limits,
-                        alloc,
-                        &mut run.global,
-                        table,
-                        name,
-                        token,
-                        curried,
-                        &mut values,
-                        pos,
-                    );
-                    keep_list(run, values);
-                    result
-                }
-                Err(error) => {
-                    drop(curried);
-                    Err(error)
-                }
-            },
+            Err(error) => {
+                drop(curried);
+                Err(error)
+            }
         }
     }
 

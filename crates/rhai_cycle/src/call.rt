@@ -8,8 +8,9 @@ ghost use Rattle.rhai_check.specs.Frame.{all_resolve_exprs, resolves_expr, resol
 ghost use Rattle.rhai_tree.specs.declared.expr.Expr.TheOpen as layer;
 ghost use Rattle.rhai_tree.specs.Positions.{start_of};
 ghost use Rattle.rhai_machine.specs.language.Frames.{Argument, Back, KeywordArgument, OpenExpr};
-ghost use Rattle.rhai_machine.specs.language.Frames.{ToCallNumber, ToCurry};
-ghost use Rattle.rhai_machine.specs.language.Arguments.{arguments_core, operation_named};
+ghost use Rattle.rhai_machine.specs.language.Frames.{ToCallFunction, ToCallNumber, ToCurry};
+ghost use Rattle.rhai_machine.specs.language.Arguments.{arguments_core, operation_named, unlinked_core};
+ghost use Rattle.rhai_values.specs.declared.base.value.FnPtr.{out-FnPtr};
 ghost use Rattle.rhai_machine.specs.language.Runs.{Runs};
 ghost use Rattle.rhai_pointers.specs.Forms.{is_operator_form};
 ghost use Rattle.rhai_pointers.specs.Keywords.{word_of};
@@ -20,14 +21,17 @@ ghost use Rattle.rhai_cycle.specs.States.{names, state_in, under};
 use crate::evaluator::Evaluator;
 use rhai_calls::operators::{operate_one, operate_two};
 use rhai_context::{Context, lend_list};
-use rhai_dispatch::call_number;
 use rhai_dispatch::pointer::parts_of;
+use rhai_dispatch::{call_function, call_number};
+use rhai_functions::function::Function;
 use rhai_items::Items;
 use rhai_operands::arguments::literal_arg;
 use rhai_operands::operators::operate_in_place;
 use rhai_pointers::arguments::parted;
 use rhai_pointers::forms::{CallForm, form_of};
 use rhai_pointers::keywords::{Keyword, keyword_of};
+use rhai_pointers::linked::function_linked;
+use rhai_pointers::names::natives_alone;
 use rhai_pointers::pointers::{
     is_defined, is_shared, make_pointer, pointer_of, text_of, with_curried,
 };
@@ -65,41 +69,23 @@ impl<'e, H: Host> Evaluator<'e, H> {
             CallForm::Binary(token, left, right) => {
                 self.run_operator(alloc, run, table, call, token, left, right, pos)
             }
-            CallForm::Function => self.run_function(alloc, run, table, call, pos),
+            CallForm::Function => {
+                let (first, rest) = parted(call.args.as_slice());
+                let name = call.name.get().as_str();
+                let captures = call.capture_parent_scope;
+                self.run_call(
+                    alloc,
+                    run,
+                    table,
+                    name,
+                    call.op_token,
+                    first,
+                    rest,
+                    captures,
+                    pos,
+                )
+            }
         }
-    }
-
-    /// A call that is no operator on its operands.
-    #[cycle(eval)]
-    fn run_function<T: NativeTable<H>>(
-        &self,
-        alloc: Global,
-        run: &mut Context<H>,
-        table: &mut T,
-        call: &FnCallExpr,
-        pos: Position,
-    ) -> Result<Dynamic<H>, EvalAltResult<H>>
-        requires resolves { IsTrue (resolves_call call.now pos (names run.old)) }
-        requires form { is_operator_form self.now.fast_operators call.now.op_token call.now.args ≡ false }
-        ensures counts { OnOk result (run.old.global.num_operations ≤ run.new.global.num_operations) }
-        ensures names { OnOk result (names run.new ≡ names run.old) }
-        ensures runs { Runs (under H.name_of self.now T.natives) (OpenExpr (layer.Expr::FnCall call.now pos))
-            (state_in (T.state table.old) run.old) result (state_in (T.state table.new) run.new) }
-    {
-        let (first, rest) = parted(call.args.as_slice());
-        let name = call.name.get().as_str();
-        let captures = call.capture_parent_scope;
-        self.run_call(
-            alloc,
-            run,
-            table,
-            name,
-            call.op_token,
-            first,
-            rest,
-            captures,
-            pos,
-        )
     }
 
     /// A call of a keyword, or of a function by its name.
@@ -129,45 +115,18 @@ impl<'e, H: Host> Evaluator<'e, H> {
             None => {
                 let curried = Items::new(alloc);
                 self.run_named(
-                    alloc, run, table, name, token, curried, first, rest, captures, pos,
+                    alloc, run, table, name, token, curried, first, rest, captures, false, pos,
                 )
             }
-            Some(arg) => {
-                self.run_called(alloc, run, table, name, token, arg, rest, captures, pos)
-            }
-        }
-    }
-
-    /// The same of a call with arguments.
-    #[cycle(eval)]
-    fn run_called<T: NativeTable<H>>(
-        &self,
-        alloc: Global,
-        run: &mut Context<H>,
-        table: &mut T,
-        name: &str,
-        token: Option<Token>,
-        first: &Expr,
-        rest: &[Expr],
-        captures: bool,
-        pos: Position,
-    ) -> Result<Dynamic<H>, EvalAltResult<H>>
-        requires { IsTrue (all_resolve_exprs (map tests_of (first.now ∷ rest.now)) (names run.old)) }
-        ensures counts { OnOk result (run.old.global.num_operations ≤ run.new.global.num_operations) }
-        ensures names { OnOk result (names run.new ≡ names run.old) }
-        ensures runs { StartsAs (under H.name_of self.now T.natives)
-            (called (record { name = name.now; token = token; at = pos }) (first.now ∷ rest.now) captures)
-            (state_in (T.state table.old) run.old) result (state_in (T.state table.new) run.new) }
-    {
-        match keyword_of(name, token, 1 + rest.len()) {
-            Some(word) => self.run_keyword(alloc, run, table, word, first, rest, captures, pos),
-            None => {
-                let curried = Items::new(alloc);
-                let first = Some(first);
-                self.run_named(
-                    alloc, run, table, name, token, curried, first, rest, captures, pos,
-                )
-            }
+            Some(arg) => match keyword_of(name, token, 1 + rest.len()) {
+                Some(word) => self.run_keyword(alloc, run, table, word, arg, rest, captures, pos),
+                None => {
+                    let curried = Items::new(alloc);
+                    self.run_named(
+                        alloc, run, table, name, token, curried, first, rest, captures, false, pos,
+                    )
+                }
+            },
         }
     }
 
@@ -234,7 +193,18 @@ impl<'e, H: Host> Evaluator<'e, H> {
             }
             Keyword::CallPointer => {
                 let pointer = pointer_of(alloc, &run.global.cells, value, start)?;
-                self.run_pointer(alloc, run, table, pointer, rest, captures, pos)
+                match function_linked(&pointer, rest.len(), run.global.lib.as_slice()) {
+                    Ok(Some(function)) => {
+                        let (name, curried, _) = parts_of(pointer);
+                        drop(name);
+                        self.run_linked(alloc, run, table, function, curried, rest, pos)
+                    }
+                    Ok(None) => self.run_unlinked(alloc, run, table, pointer, rest, captures, pos),
+                    Err(_) => {
+                        drop(pointer);
+                        Err(EvalAltResult::ErrorOutOfMemory(pos))
+                    }
+                }
             }
         }
     }
@@ -267,9 +237,9 @@ impl<'e, H: Host> Evaluator<'e, H> {
         }
     }
 
-    /// A pointer that is called: a native's number at once, anything else by the pointer's name.
+    /// A pointer that is linked to no function.
     #[cycle(eval)]
-    fn run_pointer<T: NativeTable<H>>(
+    fn run_unlinked<T: NativeTable<H>>(
         &self,
         alloc: Global,
         run: &mut Context<H>,
@@ -283,7 +253,8 @@ impl<'e, H: Host> Evaluator<'e, H> {
         ensures counts { OnOk result (run.old.global.num_operations ≤ run.new.global.num_operations) }
         ensures names { OnOk result (names run.new ≡ names run.old) }
         ensures runs { StartsAs (under H.name_of self.now T.natives)
-            (pointer_called (under H.name_of self.now T.natives) pointer pos args.now captures)
+            (unlinked_core (under H.name_of self.now T.natives).setting (out-FnPtr H pointer).kind pointer pos
+            args.now captures)
             (state_in (T.state table.old) run.old) result (state_in (T.state table.new) run.new) }
     {
         let (name, curried, number) = parts_of(pointer);
@@ -292,9 +263,46 @@ impl<'e, H: Host> Evaluator<'e, H> {
             None => {
                 let (first, rest) = parted(args);
                 let name = name.get().as_str();
+                let alone = natives_alone(name);
                 self.run_named(
-                    alloc, run, table, name, None, curried, first, rest, captures, pos,
+                    alloc, run, table, name, None, curried, first, rest, captures, alone, pos,
                 )
+            }
+        }
+    }
+
+    /// A function that a pointer is linked to, with the values that the pointer has before its arguments, which
+    /// are kept as they are.
+    #[cycle(eval)]
+    fn run_linked<T: NativeTable<H>>(
+        &self,
+        alloc: Global,
+        run: &mut Context<H>,
+        table: &mut T,
+        function: Function<H>,
+        curried: Items<Dynamic<H>>,
+        args: &[Expr],
+        pos: Position,
+    ) -> Result<Dynamic<H>, EvalAltResult<H>>
+        requires { IsTrue (all_resolve_exprs (map tests_of args.now) (names run.old)) }
+        ensures counts { OnOk result (run.old.global.num_operations ≤ run.new.global.num_operations) }
+        ensures names { OnOk result (names run.new ≡ names run.old) }
+        ensures runs { StartsAs (under H.name_of self.now T.natives)
+            (arguments_core (under H.name_of self.now T.natives).setting
+            (ToCallFunction function pos curried) [] args.now)
+            (state_in (T.state table.old) run.old) result (state_in (T.state table.new) run.new) }
+    {
+        let made = lend_list(alloc, run);
+        match self.run_more_args(alloc, run, table, made, args, false) {
+            Ok(values) => {
+                let cells = &run.global.cells;
+                let called = call_function(alloc, cells, function, curried, values, pos);
+                self.run_out(alloc, run, table, called, true, pos)
+            }
+            Err(error) => {
+                drop(curried);
+                drop(function);
+                Err(error)
             }
         }
     }
@@ -358,19 +366,23 @@ impl<'e, H: Host> Evaluator<'e, H> {
     {
         let value = self.run_arg(alloc, run, table, operand)?;
         let value = flatten(alloc, &run.global.cells, value, operand.position())?;
-        operate_one(
+        let offered = self.offered();
+        let called = operate_one(
             self.limits,
             alloc,
+            &offered,
             &mut run.global,
             table,
             call.name.get().as_str(),
             token,
             value,
             pos,
-        )
+        );
+        self.run_out(alloc, run, table, called, true, pos)
     }
 
-    /// A binary operator. On operands that stand a built-in is done in place.
+    /// A binary operator. On operands that stand a built-in is done in place; else they are evaluated, the left
+    /// one first.
     #[cycle(eval)]
     fn run_operator<T: NativeTable<H>>(
         &self,
@@ -406,57 +418,43 @@ impl<'e, H: Host> Evaluator<'e, H> {
             pos,
         ) {
             Some(result) => result,
-            None => self.run_binary(alloc, run, table, call, token, left, right, pos),
-        }
-    }
-
-    /// A binary operator whose operands are evaluated, the left one first.
-    #[cycle(eval)]
-    fn run_binary<T: NativeTable<H>>(
-        &self,
-        alloc: Global,
-        run: &mut Context<H>,
-        table: &mut T,
-        call: &FnCallExpr,
-        token: Token,
-        left: &Expr,
-        right: &Expr,
-        pos: Position,
-    ) -> Result<Dynamic<H>, EvalAltResult<H>>
-        requires token { call.now.op_token ≡ Some token }
-        requires args { call.now.args ≡ left.now ∷ right.now ∷ [] }
-        requires resolves_left { IsTrue (resolves_expr left.now (names run.old)) }
-        requires resolves_right { IsTrue (resolves_expr right.now (names run.old)) }
-        requires fast { self.now.fast_operators ≡ true }
-        ensures counts { OnOk result (run.old.global.num_operations ≤ run.new.global.num_operations) }
-        ensures names { OnOk result (names run.new ≡ names run.old) }
-        ensures runs { Runs (under H.name_of self.now T.natives) (OpenExpr (layer.Expr::FnCall call.now pos))
-            (state_in (T.state table.old) run.old) result (state_in (T.state table.new) run.new) }
-    {
-        let first = self.run_arg(alloc, run, table, left)?;
-        let first = flatten(alloc, &run.global.cells, first, left.position())?;
-        match self.run_arg(alloc, run, table, right) {
-            Err(error) => {
-                let_go(first);
-                Err(error)
-            }
-            Ok(second) => match flatten(alloc, &run.global.cells, second, right.position()) {
-                Err(error) => {
-                    let_go(first);
-                    Err(error)
+            None => {
+                let first = self.run_arg(alloc, run, table, left)?;
+                let first = flatten(alloc, &run.global.cells, first, left.position())?;
+                match self.run_arg(alloc, run, table, right) {
+                    Err(error) => {
+                        let_go(first);
+                        Err(error)
+                    }
+                    Ok(second) => match flatten(
+                        alloc,
+                        &run.global.cells,
+                        second,
+                        right.position(),
+                    ) {
+                        Err(error) => {
+                            let_go(first);
+                            Err(error)
+                        }
+                        Ok(second) => {
+                            let offered = self.offered();
+                            let called = operate_two(
+                                self.limits,
+                                alloc,
+                                &offered,
+                                &mut run.global,
+                                table,
+                                call.name.get().as_str(),
+                                token,
+                                first,
+                                second,
+                                pos,
+                            );
+                            self.run_out(alloc, run, table, called, true, pos)
+                        }
+                    },
                 }
-                Ok(second) => operate_two(
-                    self.limits,
-                    alloc,
-                    &mut run.global,
-                    table,
-                    call.name.get().as_str(),
-                    token,
-                    first,
-                    second,
-                    pos,
-                ),
-            },
+            }
         }
     }
 

@@ -10,15 +10,15 @@ ghost use Rattle.rhai_state.specs.Errors.{is_out_of_memory};
 ghost use Rattle.rhai_machine.specs.language.Frames.{ChainRoot, OpenChain, OpenStmt, chain_on};
 ghost use Rattle.rhai_machine.specs.language.Links.{first_in};
 ghost use Rattle.rhai_machine.specs.language.Runs.{Runs};
-ghost use Rattle.rhai_chains.specs.Chains.{HasSwitches, Walks, chain_at, new_of};
+ghost use Rattle.rhai_chains.specs.Chains.{Walks, chain_at, new_of};
 ghost use Rattle.rhai_chains.specs.Ready.{IsReady};
-ghost use Rattle.rhai_cycle.specs.Chains.{Gathers, HasAsked, IsGiven, MayWalk, Opens, StartsFrom};
+ghost use Rattle.rhai_cycle.specs.Chains.{Gathers, HasAsked, IsGiven, MayWalk, StartsFrom};
 ghost use Rattle.rhai_cycle.specs.Chains.{behind_resolves};
-ghost use Rattle.rhai_cycle.specs.States.{names, offer_of, state_in, under};
+ghost use Rattle.rhai_cycle.specs.States.{names, state_in, under};
 
 use crate::evaluator::Evaluator;
 use rhai_chains::arguments::{Ready, asked, needs_no_step, ready_value};
-use rhai_chains::chain::{NewValue, Switches};
+use rhai_chains::chain::NewValue;
 use rhai_chains::links::{first_of, link_of};
 use rhai_context::{Context, keep_list, lend_list};
 use rhai_items::Items;
@@ -29,7 +29,6 @@ use rhai_steps::charges::track_operation;
 use rhai_steps::values::{flatten, let_go, unit_value};
 use rhai_tree::expr::{Expr, OpAssignment};
 use rhai_values::base::value::{Dynamic, Host};
-use rhai_walk::root::{walk_value, walk_variable};
 use std::alloc::Global;
 
 /// What a chain is given at once, in the list that calls use again.
@@ -55,18 +54,8 @@ fn ready_args<H: Host>(
 }
 
 impl<'e, H: Host> Evaluator<'e, H> {
-    /// What the walk of a chain reads of an engine.
-    fn switches(&self) -> Switches
-        ensures { HasSwitches (offer_of self.now) result }
-    {
-        Switches {
-            fast_operators: self.fast_operators,
-            fail_on_invalid_map_property: self.fail_on_invalid_map_property,
-        }
-    }
-
     /// A chain that is read or assigned to: first what all its links ask for, then its root, and then the
-    /// walk.
+    /// walk. One link alone that asks for nothing, or for a literal, needs no step for what it asks for.
     #[cycle(eval)]
     pub fn run_chain<T: NativeTable<H>>(
         &self,
@@ -87,50 +76,35 @@ impl<'e, H: Host> Evaluator<'e, H> {
             (OpenChain (chain_on root.now (out-Expr chain.now) (new_of new)))
             (state_in (T.state table.old) run.old) result (state_in (T.state table.new) run.new) }
     {
-        match self.run_chain_args(alloc, run, table, chain) {
-            Ok(values) => {
-                let mut values = values;
-                let result = self.run_root(
-                    alloc,
-                    run,
-                    table,
-                    root,
-                    chain,
-                    values.as_mut_slice(),
-                    new,
-                );
-                keep_list(run, values);
-                result
-            }
-            Err(error) => {
-                drop(new);
-                Err(error)
-            }
-        }
-    }
-
-    /// What the links of a chain ask for. One link alone that asks for nothing, or for a literal, needs no
-    /// step.
-    #[cycle(eval)]
-    fn run_chain_args<T: NativeTable<H>>(
-        &self,
-        alloc: Global,
-        run: &mut Context<H>,
-        table: &mut T,
-        chain: &Expr,
-    ) -> Result<Items<Dynamic<H>>, EvalAltResult<H>>
-        requires { IsTrue (behind_resolves (out-Expr chain.now) (names run.old)) }
-        ensures counts { OnOk result (run.old.global.num_operations ≤ run.new.global.num_operations) }
-        ensures names { OnOk result (names run.new ≡ names run.old) }
-        ensures asked { HasAsked result 0 (out-Expr chain.now) }
-        ensures opens { Opens (under H.name_of self.now T.natives) (out-Expr chain.now)
-            (state_in (T.state table.old) run.old) result (state_in (T.state table.new) run.new) }
-    {
         match needs_no_step::<H>(chain) {
-            Some(ready) => ready_args(alloc, run, ready),
+            Some(ready) => match ready_args(alloc, run, ready) {
+                Ok(values) => {
+                    let mut values = values;
+                    let args = values.as_mut_slice();
+                    let result = self.run_root(alloc, run, table, root, chain, args, new);
+                    keep_list(run, values);
+                    result
+                }
+                Err(error) => {
+                    drop(new);
+                    Err(error)
+                }
+            },
             None => {
                 let made = lend_list(alloc, run);
-                self.run_link_args(alloc, run, table, made, chain)
+                match self.run_link_args(alloc, run, table, made, chain) {
+                    Ok(values) => {
+                        let mut values = values;
+                        let args = values.as_mut_slice();
+                        let result = self.run_root(alloc, run, table, root, chain, args, new);
+                        keep_list(run, values);
+                        result
+                    }
+                    Err(error) => {
+                        drop(new);
+                        Err(error)
+                    }
+                }
             }
         }
     }
@@ -189,41 +163,34 @@ impl<'e, H: Host> Evaluator<'e, H> {
             (ChainRoot (chain_at root.now (out-Expr chain.now) args.old new in_place))
             (state_in (T.state table.old) run.old) result (state_in (T.state table.new) run.new) }
     {
-        let limits = self.limits;
-        let switches = self.switches();
-        let Expr::Variable {
-            offset,
-            name,
-            pos,
-            ..
-        } = root
-        else {
-            drop(new);
-            let value = self.run_expr(alloc, run, table, root)?;
-            let global = &mut run.global;
-            return walk_value(
-                limits, switches, alloc, global, table, value, root, chain, args,
-            );
-        };
-        if let Err(error) = track_operation(limits, &mut run.global, *pos) {
-            drop(new);
-            return Err(error);
+        match root {
+            Expr::Variable {
+                offset,
+                name,
+                pos,
+                ..
+            } => {
+                if let Err(error) = track_operation(self.limits, &mut run.global, *pos) {
+                    drop(new);
+                    return Err(error);
+                }
+                self.walk_variable(
+                    alloc, run, table, *offset, name, *pos, root, chain, args, new,
+                )
+            }
+            Expr::ThisPtr(pos) => {
+                if let Err(error) = track_operation(self.limits, &mut run.global, *pos) {
+                    drop(new);
+                    return Err(error);
+                }
+                self.walk_this(alloc, run, table, *pos, root, chain, args, new)
+            }
+            _ => {
+                drop(new);
+                let value = self.run_expr(alloc, run, table, root)?;
+                self.walk_value(alloc, run, table, value, root, chain, args)
+            }
         }
-        walk_variable(
-            limits,
-            switches,
-            alloc,
-            &mut run.global,
-            table,
-            &mut run.scope,
-            *offset,
-            name,
-            *pos,
-            root,
-            chain,
-            args,
-            new,
-        )
     }
 
     /// An assignment to what a chain leads to, whose value is evaluated first.

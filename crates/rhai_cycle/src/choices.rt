@@ -1,7 +1,7 @@
 //! Expressions that stop early: `&&`, `||` and `??`. Ports these forms of upstream's
 //! `eval/expr.rs`; the contracts speak of the machine's runs.
 
-ghost use Rattle.std.specs.Prelude.{◌≡◌, ◌≤◌, IsTrue, OnOk, true, map};
+ghost use Rattle.std.specs.Prelude.{◌≡◌, ◌≤◌, IsTrue, OnOk, true, false, not, map, if◌then◌else◌};
 ghost use Rattle.rhai_check.specs.Frame.{tests_of, all_resolve_exprs};
 ghost use Rattle.rhai_tree.specs.declared.expr.Expr.TheOpen as layer;
 ghost use Rattle.rhai_machine.specs.language.Frames.{OpenExpr};
@@ -17,55 +17,40 @@ use rhai_tree::expr::Expr;
 use rhai_values::base::value::{Dynamic, Host};
 use std::alloc::Global;
 
-impl<'e, H: Host> Evaluator<'e, H> {
-    /// The parts of an `&&` from left to right, up to the first that is false.
-    #[cycle(eval)]
-    pub(crate) fn run_and<T: NativeTable<H>>(
-        &self,
-        alloc: Global,
-        run: &mut Context<H>,
-        table: &mut T,
-        parts: &[Expr],
-    ) -> Result<Dynamic<H>, EvalAltResult<H>>
-        requires resolves { IsTrue (all_resolve_exprs (map tests_of parts.now) (names run.old)) }
-        ensures counts { OnOk result (run.old.global.num_operations ≤ run.new.global.num_operations) }
-        ensures names { OnOk result (names run.new ≡ names run.old) }
-        ensures runs { (pos : _) → Runs (under H.name_of self.now T.natives)
-            (OpenExpr (layer.And parts.now pos))
-            (state_in (T.state table.old) run.old) result (state_in (T.state table.new) run.new) }
-    {
-        'each_part: for part in parts {
-            let holds = self.run_condition(alloc, run, table, part)?;
-            if !holds {
-                return Ok(bool_value(false));
-            }
-        }
-        Ok(bool_value(true))
-    }
+/// Whether two truth values are the same.
+fn is_same(left: bool, right: bool) -> bool
+    ensures same { result ≡ true → left ≡ right }
+    ensures other { result ≡ false → left ≡ not right }
+{
+    if right { left } else { !left }
+}
 
-    /// The parts of an `||` from left to right, up to the first that is true.
+impl<'e, H: Host> Evaluator<'e, H> {
+    /// The parts of an `&&` or an `||` from left to right, up to the first with the truth value that stops it:
+    /// false for `&&`, true for `||`.
     #[cycle(eval)]
-    pub(crate) fn run_or<T: NativeTable<H>>(
+    pub(crate) fn run_until<T: NativeTable<H>>(
         &self,
         alloc: Global,
         run: &mut Context<H>,
         table: &mut T,
         parts: &[Expr],
+        stop: bool,
     ) -> Result<Dynamic<H>, EvalAltResult<H>>
         requires resolves { IsTrue (all_resolve_exprs (map tests_of parts.now) (names run.old)) }
         ensures counts { OnOk result (run.old.global.num_operations ≤ run.new.global.num_operations) }
         ensures names { OnOk result (names run.new ≡ names run.old) }
         ensures runs { (pos : _) → Runs (under H.name_of self.now T.natives)
-            (OpenExpr (layer.Or parts.now pos))
+            (OpenExpr (if stop then layer.Or parts.now pos else layer.And parts.now pos))
             (state_in (T.state table.old) run.old) result (state_in (T.state table.new) run.new) }
     {
         'each_part: for part in parts {
             let holds = self.run_condition(alloc, run, table, part)?;
-            if holds {
-                return Ok(bool_value(true));
+            if is_same(holds, stop) {
+                return Ok(bool_value(stop));
             }
         }
-        Ok(bool_value(false))
+        Ok(bool_value(!stop))
     }
 
     /// The parts of a `??` from left to right, up to the first that is not `()`, whose value comes

@@ -1,11 +1,16 @@
 //! Expressions. Ports upstream's `eval/expr.rs`; the contracts speak of the machine's runs.
 
-ghost use Rattle.std.specs.Prelude.{◌≡◌, ◌<◌, OnOk, IfOk, IfErr, IsTrue, true, false};
+ghost use Rattle.std.specs.Prelude.{◌≡◌, ◌<◌, ◌&&◌, OnOk, IfOk, IfErr, IfSome, IsTrue, None, is_some, true, false};
+ghost use Rattle.rhai_tree.specs.declared.expr.Expr.{out-Expr};
 ghost use Rattle.rhai_check.specs.Frame.{resolves_expr};
 ghost use Rattle.rhai_state.specs.Errors.{is_out_of_memory};
+ghost use Rattle.rhai_state.specs.Scope.{entries_of, names_in};
 ghost use Rattle.rhai_machine.specs.language.Values.{is_handle, is_truth};
 ghost use Rattle.rhai_machine.specs.language.Frames.{Eval};
 ghost use Rattle.rhai_machine.specs.language.Runs.{Runs};
+ghost use Rattle.rhai_machine.specs.language.Setting.{rules_of};
+ghost use Rattle.rhai_steps.specs.States.{state_of};
+ghost use Rattle.rhai_operands.specs.Standing.{said};
 ghost use Rattle.rhai_operands.specs.Tests.{Tests};
 ghost use Rattle.rhai_cycle.specs.Memory.{asks_expr};
 ghost use Rattle.rhai_cycle.specs.States.{names, state_in, under};
@@ -14,15 +19,50 @@ use crate::evaluator::Evaluator;
 use rhai_context::Context;
 use rhai_operands::operators::holds_in_place;
 use rhai_state::error::EvalAltResult;
+use rhai_state::limits::Limits;
+use rhai_state::scope::Scope;
+use rhai_state::state::GlobalRuntimeState;
 use rhai_state::table::NativeTable;
 use rhai_steps::charges::track_operation;
 use rhai_steps::values::{
     bool_value, char_value, constant_value, int_value, text_value, truth_value, unit_value,
 };
-use rhai_steps::variables::read_variable;
+use rhai_steps::variables::{read_this, read_variable};
 use rhai_tree::expr::Expr;
 use rhai_values::base::value::{Dynamic, Host};
 use std::alloc::Global;
+
+/// Whether a condition holds that is answered in place: under fast operators, one that compares operands
+/// which stand. None for any other: then nothing is charged. The table is not called.
+///
+/// # Errors
+/// `ErrorTooManyOperations` at the operator or an operand where the count has reached the limit.
+fn holds_at_once<H: Host, T: NativeTable<H>>(
+    limits: &Limits,
+    alloc: Global,
+    global: &mut GlobalRuntimeState<H>,
+    table: &T,
+    scope: &Scope<H>,
+    test: &Expr,
+    is_fast: bool,
+) -> Option<Result<bool, EvalAltResult<H>>>
+    requires { IsTrue (resolves_expr test.now (names_in scope.now)) }
+    ensures found { is_some result ≡ (is_fast && is_some (said (out-Expr test.now) (entries_of scope.now))) }
+    ensures left_alone { result ≡ None → global.new ≡ global.old }
+    ensures charges { IfSome result (λ result. OnOk result
+        (global.old.num_operations < global.new.num_operations)) }
+    ensures memory { IfSome result (λ result. IfErr result (λ error. is_out_of_memory error ≡ false)) }
+    ensures runs { (offer : _) (held : _) → offer.fast_operators ≡ is_fast →
+        IfSome result (λ result. Tests (rules_of limits.now H.name_of offer T.natives) test.now
+        (state_of (T.state table.now) global.old scope.now held)
+        result (state_of (T.state table.now) global.new scope.now held)) }
+{
+    if is_fast {
+        holds_in_place(limits, alloc, global, table, scope, test)
+    } else {
+        None
+    }
+}
 
 impl<'e, H: Host> Evaluator<'e, H> {
     /// The value of an expression.
@@ -58,12 +98,13 @@ impl<'e, H: Host> Evaluator<'e, H> {
                 pos,
                 ..
             } => read_variable(alloc, &run.global, &run.scope, *offset, name, *pos),
+            Expr::ThisPtr(pos) => read_this(alloc, &run.this, *pos),
             Expr::FnCall(call, pos) => self.run_fn_call_expr(alloc, run, table, call, *pos),
             Expr::Stmt(block) => {
                 self.run_stmt_block(alloc, run, table, block.statements.as_slice(), true)
             }
-            Expr::And(parts, _) => self.run_and(alloc, run, table, parts.as_slice()),
-            Expr::Or(parts, _) => self.run_or(alloc, run, table, parts.as_slice()),
+            Expr::And(parts, _) => self.run_until(alloc, run, table, parts.as_slice(), false),
+            Expr::Or(parts, _) => self.run_until(alloc, run, table, parts.as_slice(), true),
             Expr::Coalesce(parts, _) => self.run_coalesce(alloc, run, table, parts.as_slice()),
             Expr::Array(items, pos) => self.run_array(alloc, run, table, items.as_slice(), *pos),
             Expr::Map(entries, _, pos) => {
@@ -96,41 +137,20 @@ impl<'e, H: Host> Evaluator<'e, H> {
         ensures memory { IfErr result (λ error. is_out_of_memory error ≡ true →
             IsTrue (asks_expr test.now).1) }
     {
-        let is_fast = self.fast_operators;
-        if !is_fast {
-            return self.run_test(alloc, run, table, test);
-        }
-        match holds_in_place(
+        match holds_at_once(
             self.limits,
             alloc,
             &mut run.global,
             &*table,
             &run.scope,
             test,
+            self.fast_operators,
         ) {
             Some(result) => result,
-            None => self.run_test(alloc, run, table, test),
+            None => {
+                let value = self.run_expr(alloc, run, table, test)?;
+                truth_value(alloc, &run.global.cells, value, test.position())
+            }
         }
-    }
-
-    /// Whether the value of a condition holds.
-    #[cycle(eval)]
-    fn run_test<T: NativeTable<H>>(
-        &self,
-        alloc: Global,
-        run: &mut Context<H>,
-        table: &mut T,
-        test: &Expr,
-    ) -> Result<bool, EvalAltResult<H>>
-        requires resolves { IsTrue (resolves_expr test.now (names run.old)) }
-        ensures charges { OnOk result (run.old.global.num_operations < run.new.global.num_operations) }
-        ensures names { OnOk result (names run.new ≡ names run.old) }
-        ensures runs { Tests (under H.name_of self.now T.natives) test.now
-            (state_in (T.state table.old) run.old) result (state_in (T.state table.new) run.new) }
-        ensures memory { IfErr result (λ error. is_out_of_memory error ≡ true →
-            IsTrue (asks_expr test.now).1) }
-    {
-        let value = self.run_expr(alloc, run, table, test)?;
-        truth_value(alloc, &run.global.cells, value, test.position())
     }
 }

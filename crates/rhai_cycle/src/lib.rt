@@ -4,6 +4,7 @@
 #![tactic(auto)]
 
 mod arguments;
+pub mod bodies;
 pub mod call;
 mod chains;
 mod choices;
@@ -11,4 +12,6 @@ mod data;
 pub mod evaluator;
 pub mod expr;
 mod loops;
+mod roots;
 pub mod stmt;
+mod walk;

@@ -1,16 +1,13 @@
 //! Loops, and the ways out of them. Ports the loops of upstream's `eval/stmt.rs`; the contracts
 //! speak of the machine's runs.
 
-ghost use Rattle.std.specs.Prelude.{◌≡◌, ◌<◌, ◌≤◌, ◌∷◌, OnOk, IsTrue, true, false, length, Option, Some};
+ghost use Rattle.std.specs.Prelude.{◌≡◌, ◌<◌, ◌≤◌, OnOk, IsTrue, false};
 ghost use Rattle.std.specs.Option.{option_map};
 ghost use Rattle.rhai_check.specs.Forms.{is_throw};
 ghost use Rattle.rhai_check.specs.Frame.{tests_of, option_resolves, resolves_expr, resolves_block};
-ghost use Rattle.rhai_tree.specs.declared.expr.Expr.{out-Expr};
 ghost use Rattle.rhai_tree.specs.declared.expr.Expr.TheOpen as layer;
-ghost use Rattle.rhai_machine.specs.language.Loops.{is_endless as without_end};
-ghost use Rattle.rhai_machine.specs.language.Frames.{Eval, Enter, OpenStmt, WhileTurn, WhileBody, DoTurn};
-ghost use Rattle.rhai_machine.specs.language.Frames.{DoCondition};
-ghost use Rattle.rhai_machine.specs.language.Runs.{at, Goes, Steps, Runs};
+ghost use Rattle.rhai_machine.specs.language.Frames.{OpenStmt, WhileTurn, DoTurn};
+ghost use Rattle.rhai_machine.specs.language.Runs.{Steps, Runs};
 ghost use Rattle.rhai_steps.specs.Loops.{after_turn};
 ghost use Rattle.rhai_cycle.specs.States.{names, state_in, under};
 
@@ -54,7 +51,8 @@ impl<'e, H: Host> Evaluator<'e, H> {
         }
     }
 
-    /// A turn of a `while`: None where another one follows, else the loop's value.
+    /// A turn of a `while`: None where another one follows, else the loop's value. Without a condition an
+    /// empty body is charged at its brace.
     #[cycle(eval)]
     fn while_turn<T: NativeTable<H>>(
         &self,
@@ -73,64 +71,19 @@ impl<'e, H: Host> Evaluator<'e, H> {
             (after_turn result (WhileTurn test.now body.now)) (state_in (T.state table.new) run.new) }
     {
         if is_endless(test) {
-            return self.endless_turn(alloc, run, table, test, body);
+            if body.statements.is_empty() {
+                track_operation(self.limits, &mut run.global, body.position)?;
+                return Ok(None);
+            }
+            let outcome = self.run_stmt_block(alloc, run, table, body.statements.as_slice(), true);
+            return while_next(outcome);
         }
         let holds = self.run_condition(alloc, run, table, test)?;
         if holds {
-            self.while_body(alloc, run, table, test, body)
-        } else {
-            Ok(Some(unit_value()))
+            let outcome = self.run_stmt_block(alloc, run, table, body.statements.as_slice(), true);
+            return while_next(outcome);
         }
-    }
-
-    /// A turn of a `while` without a condition; an empty body is charged at its brace.
-    #[cycle(eval)]
-    fn endless_turn<T: NativeTable<H>>(
-        &self,
-        alloc: Global,
-        run: &mut Context<H>,
-        table: &mut T,
-        test: &Expr,
-        body: &StmtBlock,
-    ) -> Result<Option<Dynamic<H>>, EvalAltResult<H>>
-        requires endless { without_end (out-Expr test.now) ≡ true }
-        requires resolves_body { IsTrue (resolves_block body.now (names run.old)) }
-        ensures charges { OnOk result (run.old.global.num_operations < run.new.global.num_operations) }
-        ensures names { OnOk result (names run.new ≡ names run.old) }
-        ensures runs { Steps (under H.name_of self.now T.natives) (WhileTurn test.now body.now)
-            (state_in (T.state table.old) run.old)
-            (after_turn result (WhileTurn test.now body.now)) (state_in (T.state table.new) run.new) }
-    {
-        if body.statements.is_empty() {
-            track_operation(self.limits, &mut run.global, body.position)?;
-            return Ok(None);
-        }
-        self.while_body(alloc, run, table, test, body)
-    }
-
-    /// The body of a `while`, once.
-    #[cycle(eval)]
-    fn while_body<T: NativeTable<H>>(
-        &self,
-        alloc: Global,
-        run: &mut Context<H>,
-        table: &mut T,
-        test: &Expr,
-        body: &StmtBlock,
-    ) -> Result<Option<Dynamic<H>>, EvalAltResult<H>>
-        requires resolves_body { IsTrue (resolves_block body.now (names run.old)) }
-        ensures counts { OnOk result (run.old.global.num_operations ≤ run.new.global.num_operations) }
-        ensures charges { OnOk result (0 < length body.now.statements →
-            run.old.global.num_operations < run.new.global.num_operations) }
-        ensures names { OnOk result (names run.new ≡ names run.old) }
-        ensures runs { (k : _) → Goes (under H.name_of self.now T.natives)
-            (at (Enter body.now.statements true) (WhileBody test.now body.now ∷ k)
-            (state_in (T.state table.old) run.old))
-            (at (after_turn result (WhileTurn test.now body.now)) k (state_in (T.state table.new) run.new)) }
-    {
-        let statements = body.statements.as_slice();
-        let outcome = self.run_stmt_block(alloc, run, table, statements, true);
-        while_next(outcome)
+        Ok(Some(unit_value()))
     }
 
     /// A `do`, turn by turn.
@@ -183,30 +136,11 @@ impl<'e, H: Host> Evaluator<'e, H> {
         match body_end(outcome)? {
             BodyEnd::Break(value) => Ok(Some(value)),
             BodyEnd::Continue => Ok(None),
-            BodyEnd::Done => self.do_test(alloc, run, table, test, options),
+            BodyEnd::Done => {
+                let holds = self.run_condition(alloc, run, table, test)?;
+                Ok(do_next(options, holds))
+            }
         }
-    }
-
-    /// The condition of a `do`: None where another turn follows.
-    #[cycle(eval)]
-    fn do_test<T: NativeTable<H>>(
-        &self,
-        alloc: Global,
-        run: &mut Context<H>,
-        table: &mut T,
-        test: &Expr,
-        options: ASTFlags,
-    ) -> Result<Option<Dynamic<H>>, EvalAltResult<H>>
-        requires resolves { IsTrue (resolves_expr test.now (names run.old)) }
-        ensures charges { OnOk result (run.old.global.num_operations < run.new.global.num_operations) }
-        ensures names { OnOk result (names run.new ≡ names run.old) }
-        ensures runs { (body : _) (k : _) → Goes (under H.name_of self.now T.natives)
-            (at (Eval test.now) (DoCondition test.now body options ∷ k)
-            (state_in (T.state table.old) run.old))
-            (at (after_turn result (DoTurn test.now body options)) k (state_in (T.state table.new) run.new)) }
-    {
-        let holds = self.run_condition(alloc, run, table, test)?;
-        Ok(do_next(options, holds))
     }
 
     /// A `break` or a `continue`: an error on its way to its loop, with its value as it is.
@@ -229,30 +163,11 @@ impl<'e, H: Host> Evaluator<'e, H> {
     {
         match value {
             None => Err(loop_break(alloc, unit_value(), breaks(options), pos)),
-            Some(value) => self.break_with(alloc, run, table, value, options, pos),
+            Some(value) => {
+                let value = self.run_expr(alloc, run, table, value)?;
+                Err(loop_break(alloc, value, breaks(options), pos))
+            }
         }
-    }
-
-    /// A `break` with a value.
-    #[cycle(eval)]
-    fn break_with<T: NativeTable<H>>(
-        &self,
-        alloc: Global,
-        run: &mut Context<H>,
-        table: &mut T,
-        value: &Expr,
-        options: ASTFlags,
-        pos: Position,
-    ) -> Result<Dynamic<H>, EvalAltResult<H>>
-        requires resolves { IsTrue (resolves_expr value.now (names run.old)) }
-        ensures counts { OnOk result (run.old.global.num_operations ≤ run.new.global.num_operations) }
-        ensures names { OnOk result (names run.new ≡ names run.old) }
-        ensures runs { (restoring : _) → Runs (under H.name_of self.now T.natives)
-            (OpenStmt (layer.BreakLoop (Some value.now) options pos) restoring)
-            (state_in (T.state table.old) run.old) result (state_in (T.state table.new) run.new) }
-    {
-        let value = self.run_expr(alloc, run, table, value)?;
-        Err(loop_break(alloc, value, breaks(options), pos))
     }
 
     /// A `return`: an error on its way to the end of its function or script.
@@ -275,31 +190,12 @@ impl<'e, H: Host> Evaluator<'e, H> {
     {
         match value {
             None => Err(returned(alloc, unit_value(), pos)),
-            Some(value) => self.return_with(alloc, run, table, value, pos),
+            Some(value) => {
+                let place = value.position();
+                let value = self.run_expr(alloc, run, table, value)?;
+                let value = flatten(alloc, &run.global.cells, value, place)?;
+                Err(returned(alloc, value, pos))
+            }
         }
-    }
-
-    /// A `return` with a value.
-    #[cycle(eval)]
-    fn return_with<T: NativeTable<H>>(
-        &self,
-        alloc: Global,
-        run: &mut Context<H>,
-        table: &mut T,
-        value: &Expr,
-        pos: Position,
-    ) -> Result<Dynamic<H>, EvalAltResult<H>>
-        requires resolves { IsTrue (resolves_expr value.now (names run.old)) }
-        ensures counts { OnOk result (run.old.global.num_operations ≤ run.new.global.num_operations) }
-        ensures names { OnOk result (names run.new ≡ names run.old) }
-        ensures runs { (options : _) (restoring : _) → is_throw options ≡ false →
-            Runs (under H.name_of self.now T.natives) (OpenStmt (layer.Return (Some value.now) options pos)
-            restoring)
-            (state_in (T.state table.old) run.old) result (state_in (T.state table.new) run.new) }
-    {
-        let place = value.position();
-        let value = self.run_expr(alloc, run, table, value)?;
-        let value = flatten(alloc, &run.global.cells, value, place)?;
-        Err(returned(alloc, value, pos))
     }
 }

@@ -1,21 +1,32 @@
 -- Calls whose arguments are there: where they lead.
-use Rattle.std.proofs.Common.{◌≡◌, ℕ, Bool, true, false, List, [], ◌++◌, Some, Result, Ok, Err, refl, sym, subst, ◌∙◌}
+use Rattle.std.proofs.Common.{◌≡◌, ℕ, Bool, true, false, not, List, [], ◌∷◌, ◌++◌, Option, Some, None, Result, Ok, Err, refl, sym, subst}
+use Rattle.std.proofs.Common.{ap, ◌∙◌}
 use Rattle.std.specs.Prelude.{if◌then◌else◌}
 use Rattle.rhai_tree.specs.declared.position.Position.{Position}
 use Rattle.rhai_values.specs.declared.base.value.Dynamic.{Dynamic}
 use Rattle.rhai_state.specs.declared.error.EvalAltResult.{EvalAltResult}
 use Rattle.rhai_state.specs.declared.error.EvalAltResult.TheVariants as error
 use Rattle.rhai_state.specs.Errors.{is_out_of_memory}
+use Rattle.rhai_functions.specs.declared.function.Function.{Function}
+use Rattle.rhai_machine.specs.machine.Memory.{◌⨾◌, here, wanting}
 use Rattle.rhai_machine.specs.language.Setting.{Rules}
-use Rattle.rhai_machine.specs.language.State.{State}
-use Rattle.rhai_machine.specs.language.Frames.{Operation, Call, Purpose, ToCall, ToCallOn, ToCallNumber, core, on_value, ended}
-use Rattle.rhai_machine.specs.language.Frames.{Question, Fail}
-use Rattle.rhai_machine.specs.language.Calls.{call_of, dispatch_core, races}
-use Rattle.rhai_machine.specs.language.Arguments.{arguments_there, call_on, numbered_core}
+use Rattle.rhai_machine.specs.language.State.{Local, State}
+use Rattle.rhai_machine.specs.language.Activations.{NoObject}
+use Rattle.rhai_machine.specs.language.Frames.{Operation, Lender, Dispatch, Call, Purpose, ToCall, ToCallOn, ToCallFunction, ToCallNumber}
+use Rattle.rhai_machine.specs.language.Frames.{Frame, core, on_value, ended, EnterFunction, Question, Fail}
+use Rattle.rhai_machine.specs.language.Calls.{args_given, call_of, dispatch_core, entry_of, plainly, races}
+use Rattle.rhai_machine.specs.language.Arguments.{arguments_there, call_on, linked_core, numbered_core}
+use Rattle.rhai_machine.specs.language.Language.{want}
 use Rattle.rhai_machine.specs.language.Runs.{at, with_core, Goes, Runs, Steps}
 use Rattle.rhai_steps.proofs.Pieces.{faulted}
+use Rattle.rhai_calls.specs.declared.dispatch.Called.{Called}
+use Rattle.rhai_calls.specs.declared.dispatch.Called.TheVariants.{Ended, Enters}
+use Rattle.rhai_calls.specs.declared.dispatch.Dispatched.TheVariants.{Found}
+use Rattle.rhai_calls.specs.Called.{came_out, Calls}
 use Rattle.rhai_calls.specs.Dispatch.{Dispatches}
-use Rattle.rhai_dispatch.specs.Going.{GoesOn}
+use Rattle.rhai_calls.specs.Lending.{lent_call}
+use Rattle.rhai_dispatch.specs.Going.{GoesOn, GoesOut}
+use Rattle.rhai_dispatch.specs.Linked.{linked_call, Comes}
 use Rattle.rhai_dispatch.proofs.Levels.{there_level, wants_at}
 
 module _ {S H : Type 0} (rules : Rules S H) where
@@ -27,32 +38,74 @@ module _ {S H : Type 0} (rules : Rules S H) where
       wants_at rules k s (arguments_there rules.setting purpose args k s.local) (there_level k s.local rules.setting purpose args) pos
   there_wants purpose args s e wants k = cc
 
-  module _ (operation : Operation) (curried args all : List (Dynamic H)) (is : all ≡ curried ++ args) (old new : State S H)
-      (r : Result (Dynamic H) (EvalAltResult H)) where
-    -- a call by name, behind what a pointer has already
-    pub goes_joined : GoesOn rules (ToCall operation []) all old r new → GoesOn rules (ToCall operation curried) args old r new
-    unfolding GoesOn
-    goes_joined goes k =
-        subst (λ (xs : List (Dynamic H)).
-        Goes rules (with_core (dispatch_core rules.setting (call_of operation xs) k old.local) old) (at (ended r) k new)) is (goes k)
+  pub there_wants_out : (purpose : Purpose H) (args : List (Dynamic H)) (is_fresh : Bool) (pos : Position) (s : State S H)
+      (e : EvalAltResult H) → is_out_of_memory e ≡ true → GoesOut rules purpose args is_fresh pos s (Ended (Err e)) s
+  unfolding GoesOut GoesOn
+  there_wants_out purpose args is_fresh pos s e wants k = there_wants purpose args s e wants k
 
-    pub number_joined : (number : ℕ) → GoesOn rules (ToCallNumber number operation []) all old r new →
-        GoesOn rules (ToCallNumber number operation curried) args old r new
+  -- ---- what came of a call, unless memory was wanting
+
+  module _ (is_fresh : Bool) (pos : Position) (k : List (Frame H)) (s : State S H) where
+    wants_came : (called : Called H) (where_ : Position) →
+        want where_ (came_out is_fresh pos called k s.local) ≡ core (Fail (error.ErrorOutOfMemory where_)) k s.local
+    wants_came (Ended r) where_ = refl
+    wants_came (Enters f args) where_ = refl
+
+    pub came_told : (called wanted : Called H) → Comes called wanted →
+        Goes rules (with_core (came_out is_fresh pos wanted k s.local) s) (with_core (came_out is_fresh pos called k s.local) s)
+    came_told (Ended (Ok v)) wanted comes = rw (← comes tt) here
+    came_told (Ended (Err (error.ErrorOutOfMemory there))) wanted comes = wanting {at = there} (rw (wants_came wanted there) here)
+    came_told (Ended (Err e)) wanted comes = rw (← comes refl) here
+    came_told (Enters f args) wanted comes = rw (← comes tt) here
+
+  -- a function that a pointer is linked to
+  linked_is : (f : Function H) (all : List (Dynamic H)) (pos : Position) (k : List (Frame H)) (l : Local H) (b : Bool) →
+      (if b then core (Fail (error.ErrorDataRace f.def.name pos)) k l
+      else core (EnterFunction (entry_of f NoObject true all pos l)) k l)
+      ≡ came_out true pos (if b then Ended (Err (error.ErrorDataRace f.def.name pos)) else Enters f all) k l
+  linked_is f all pos k l true = refl
+  linked_is f all pos k l false = refl
+
+  pub linked_goes : (f : Function H) (pos : Position) (curried args : List (Dynamic H)) (s : State S H) (called : Called H) →
+      Comes called (linked_call s.local.around.cells f (curried ++ args) pos) →
+      GoesOut rules (ToCallFunction f pos curried) args true pos s called s
+  unfolding GoesOut
+  linked_goes f pos curried args s called comes k =
+      rw (linked_is f (curried ++ args) pos k s.local (races s.local.around.cells (curried ++ args)))
+      (came_told true pos k s called (linked_call s.local.around.cells f (curried ++ args) pos) comes)
+
+  -- a function of a script gets the first argument before the others
+  pub calls_given : (alone on_scope guarded : Bool) (operation : Operation) (lender : Option Lender) (v : Dynamic H)
+      (args : List (Dynamic H)) (f : Function H) (old new : State S H) (called : Called H) →
+      Dispatches rules (plainly alone on_scope) (lent_call operation lender guarded (v ∷ args)) old (Found f) new →
+      Comes called (Enters f (args_given lender (v ∷ args))) →
+      Calls rules (plainly alone on_scope) (lent_call operation lender guarded (v ∷ args)) old called new
+  unfolding Calls Dispatches
+  calls_given alone on_scope guarded operation lender v args f old new called runs comes k =
+      runs k ⨾ came_told (not on_scope) operation.at k new called (Enters f (args_given lender (v ∷ args))) comes
+
+  -- ---- a call by name
+
+  module _ (operation : Operation) (curried args all : List (Dynamic H)) (is : all ≡ curried ++ args) (old new : State S H) where
+    -- behind what a pointer has already
+    pub calls_joined : (how : Dispatch) (called : Called H) → Calls rules how (call_of operation all) old called new →
+        GoesOut rules (ToCall operation curried how) args (not how.on_scope) operation.at old called new
+    unfolding GoesOut Calls
+    calls_joined how called goes k =
+        subst (λ (xs : List (Dynamic H)).
+        Goes rules (with_core (dispatch_core rules.setting how (call_of operation xs) k old.local) old)
+        (with_core (came_out (not how.on_scope) operation.at called k new.local) new)) is (goes k)
+
+    pub number_joined : (r : Result (Dynamic H) (EvalAltResult H)) (number : ℕ) →
+        GoesOn rules (ToCallNumber number operation []) all old r new → GoesOn rules (ToCallNumber number operation curried) args old r new
     unfolding GoesOn
-    number_joined number goes k =
+    number_joined r number goes k =
         subst (λ (xs : List (Dynamic H)).
         Goes rules (with_core (numbered_core (record (call_of operation xs) { number = Some number }) k old.local) old)
         (at (ended r) k new)) is (goes k)
 
   module _ (operation : Operation) (args all : List (Dynamic H)) (is : args ≡ all) (old new : State S H)
       (r : Result (Dynamic H) (EvalAltResult H)) where
-    -- a call by name is dispatched
-    pub goes_dispatched : Dispatches rules (call_of operation all) old r new → GoesOn rules (ToCall operation []) args old r new
-    unfolding GoesOn Dispatches
-    goes_dispatched runs k =
-        subst (λ (xs : List (Dynamic H)).
-        Goes rules (with_core (dispatch_core rules.setting (call_of operation xs) k old.local) old) (at (ended r) k new)) (sym is) (runs k)
-
     -- a native's number is asked about
     pub number_asks : (number : ℕ) (found : Bool) → found ≡ races old.local.around.cells args → found ≡ false →
         Runs rules (Question (record (call_of operation all) { number = Some number })) old r new →
@@ -78,31 +131,34 @@ module _ {S H : Type 0} (rules : Rules S H) where
 
   -- ---- a variable that comes first
 
-  module _ (operation : Operation) (variable : List ℕ) (variable_at : Position) (args : List (Dynamic H)) (old : State S H) where
+  module _ (operation : Operation) (variable : List ℕ) (variable_at : Position) (how : Dispatch) (args : List (Dynamic H))
+      (old : State S H) where
     -- what the call is
     abbrev asked : Result (Call H) (EvalAltResult H)
-    asked = call_on old.local.around.cells old.local.scope operation variable variable_at args
+    asked = call_on old.local.around.cells old.local.around.lib old.local.scope operation variable variable_at args
 
-    pub on_dispatched : (call : Call H) → asked ≡ Ok call → (r : Result (Dynamic H) (EvalAltResult H)) (new : State S H) →
-        Dispatches rules call old r new → GoesOn rules (ToCallOn operation variable variable_at) args old r new
-    unfolding GoesOn Dispatches
-    on_dispatched call is r new runs k =
+    pub on_called : (call : Call H) → asked ≡ Ok call → (called : Called H) (new : State S H) → Calls rules how call old called new →
+        GoesOut rules (ToCallOn operation variable variable_at how) args (not how.on_scope) call.operation.at old called new
+    unfolding GoesOut Calls
+    on_called call is called new runs k =
         subst (λ (x : Result (Call H) (EvalAltResult H)).
-        Goes rules (with_core (on_value x (λ (c : Call H). dispatch_core rules.setting c k old.local) k old.local) old) (at (ended r) k new))
+        Goes rules (with_core (on_value x (λ (c : Call H). dispatch_core rules.setting how c k old.local) k old.local) old)
+        (with_core (came_out (not how.on_scope) call.operation.at called k new.local) new))
         (sym is) (runs k)
 
     -- or why there is none
-    pub on_refused : (x e : EvalAltResult H) → asked ≡ Err x → (is_out_of_memory e ≡ false → e ≡ x) →
-        GoesOn rules (ToCallOn operation variable variable_at) args old (Err e) old
-    unfolding GoesOn
-    on_refused x e is told k =
+    pub on_refused : (x e : EvalAltResult H) → asked ≡ Err x → (is_out_of_memory e ≡ false → e ≡ x) → (is_fresh : Bool) (pos : Position) →
+        GoesOut rules (ToCallOn operation variable variable_at how) args is_fresh pos old (Ended (Err e)) old
+    unfolding GoesOut
+    on_refused x e is told is_fresh pos k =
         subst (λ (y : Result (Call H) (EvalAltResult H)).
-        Goes rules (with_core (on_value y (λ (c : Call H). dispatch_core rules.setting c k old.local) k old.local) old) (at (Fail e) k old))
+        Goes rules (with_core (on_value y (λ (c : Call H). dispatch_core rules.setting how c k old.local) k old.local) old)
+        (at (Fail e) k old))
         (sym is) (faulted rules e x told k old)
 
     -- or memory runs out in its place
-    pub on_failed : (e : EvalAltResult H) → (is_out_of_memory e ≡ false → asked ≡ Err e) →
-        GoesOn rules (ToCallOn operation variable variable_at) args old (Err e) old
-    on_failed (error.ErrorOutOfMemory pos) is =
-        there_wants (ToCallOn operation variable variable_at) args old (error.ErrorOutOfMemory pos) refl
-    on_failed e is = on_refused e e (is refl) (λ m. refl)
+    pub on_failed : (e : EvalAltResult H) → (is_out_of_memory e ≡ false → asked ≡ Err e) → (is_fresh : Bool) (pos : Position) →
+        GoesOut rules (ToCallOn operation variable variable_at how) args is_fresh pos old (Ended (Err e)) old
+    on_failed (error.ErrorOutOfMemory there) is is_fresh pos =
+        there_wants_out (ToCallOn operation variable variable_at how) args is_fresh pos old (error.ErrorOutOfMemory there) refl
+    on_failed e is is_fresh pos = on_refused e e (is refl) (λ m. refl) is_fresh pos

@@ -1,5 +1,5 @@
 -- A value that is lent from its entry and goes back there.
-use Rattle.std.proofs.Common.{◌≡◌, ℕ, zero, suc, List, [], ◌∷◌, map, Option, Some, None, Result, slice_get, slice_set, refl, sym, ap}
+use Rattle.std.proofs.Common.{◌≡◌, ℕ, zero, suc, List, [], ◌∷◌, map, Option, Some, None, slice_get, slice_set, refl, sym, ap}
 use Rattle.std.proofs.Common.{subst, ◌∙◌}
 use Rattle.std.proofs.lemmas.List.{set-set}
 use Rattle.std.proofs.lemmas.Option.{get_or_from_slice_get}
@@ -8,14 +8,14 @@ use Rattle.rhai_values.specs.declared.base.value.Dynamic.{Dynamic}
 use Rattle.rhai_state.specs.declared.scope.Scope.{Scope}
 use Rattle.rhai_state.specs.declared.scope.ScopeEntry.{ScopeEntry}
 use Rattle.rhai_state.specs.declared.state.GlobalRuntimeState.{GlobalRuntimeState}
-use Rattle.rhai_state.specs.declared.error.EvalAltResult.{EvalAltResult}
 use Rattle.rhai_state.specs.Scope.{entries_of, name_of, names_in, revalued}
 use Rattle.rhai_steps.specs.States.{local_of, state_of}
 use Rattle.rhai_machine.specs.language.Setting.{Rules}
 use Rattle.rhai_machine.specs.language.State.{Held, State}
-use Rattle.rhai_machine.specs.language.Frames.{FromEntry, Call}
+use Rattle.rhai_machine.specs.language.Frames.{FromEntry, Dispatch, Call}
 use Rattle.rhai_calls.specs.Lending.{back_in}
-use Rattle.rhai_calls.specs.Dispatch.{Dispatches}
+use Rattle.rhai_calls.specs.declared.dispatch.Called.{Called}
+use Rattle.rhai_calls.specs.Called.{Calls}
 
 get_set : {A : Type 0} (xs : List A) (i : ℕ) (x y : A) → slice_get xs i ≡ Some x → slice_get (slice_set xs i y) i ≡ Some y
 get_set [] i x y is = cc
@@ -60,9 +60,9 @@ module _ {H : Type 0} where
           local = record (local_of global old held) { scope = entries };
         }) (sym lent_entries)
 
-    pub lent_runs : {S : Type 0} (rules : Rules S H) (call : Call H) (start : State S H) (r : Result (Dynamic H) (EvalAltResult H)) (t : S)
+    pub lent_runs : {S : Type 0} (rules : Rules S H) (how : Dispatch) (call : Call H) (start : State S H) (called : Called H) (t : S)
         (global : GlobalRuntimeState H) (held : Held H) →
-        Dispatches rules call start r (back_in (Some (FromEntry i)) v (state_of t global old held)) →
-        Dispatches rules call start r (state_of t global new held)
-    lent_runs {S} rules call start r t global held =
-        subst (λ (s : State S H). Dispatches rules call start r s) (lent_state t global held)
+        Calls rules how call start called (back_in (Some (FromEntry i)) v (state_of t global old held)) →
+        Calls rules how call start called (state_of t global new held)
+    lent_runs {S} rules how call start called t global held =
+        subst (λ (s : State S H). Calls rules how call start called s) (lent_state t global held)

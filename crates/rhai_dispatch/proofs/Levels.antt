@@ -1,5 +1,5 @@
 -- Where a call goes on once its arguments are there, the stack and the state stay: so memory may as well run out there.
-use Rattle.std.proofs.Common.{◌≡◌, ◌&&◌, Bool, true, false, List, [], ◌∷◌, ◌++◌, Some, None, Result, Ok, Err, refl}
+use Rattle.std.proofs.Common.{◌≡◌, ◌&&◌, Bool, true, false, List, [], ◌∷◌, ◌++◌, Option, Some, None, Result, Ok, Err, refl}
 use Rattle.std.specs.Prelude.{codes, if◌then◌else◌}
 use Rattle.std.specs.Str.{bytes_eq}
 use Rattle.rhai_tree.specs.declared.position.Position.{Position}
@@ -7,13 +7,17 @@ use Rattle.rhai_values.specs.declared.base.value.Dynamic.{Dynamic}
 use Rattle.rhai_state.specs.declared.error.EvalAltResult.{EvalAltResult}
 use Rattle.rhai_state.specs.declared.error.EvalAltResult.TheVariants as error
 use Rattle.rhai_machine.specs.machine.Memory.{here, wanting}
+use Rattle.rhai_functions.specs.declared.function.Function.{Function}
 use Rattle.rhai_machine.specs.language.Setting.{Setting, Rules}
 use Rattle.rhai_machine.specs.language.State.{Local, State}
 use Rattle.rhai_machine.specs.language.Values.{through}
-use Rattle.rhai_machine.specs.language.Frames.{Call, Purpose, ToCall, ToCallOn, ToCallNumber, ToCurry, ToChain, Frame, Core, core}
-use Rattle.rhai_machine.specs.language.Frames.{on_value, Question, Fail}
-use Rattle.rhai_machine.specs.language.Calls.{asks_function, call_of, dispatch_core, named_core, races}
-use Rattle.rhai_machine.specs.language.Arguments.{arguments_there, call_on, numbered_core}
+use Rattle.rhai_machine.specs.language.Names.{bound_this}
+use Rattle.rhai_machine.specs.language.Activations.{NoObject}
+use Rattle.rhai_machine.specs.language.Frames.{Dispatch, Call, Purpose, ToCall, ToCallOn, ToCallOnThis, ToCallFunction, ToCallNumber, ToCurry}
+use Rattle.rhai_machine.specs.language.Frames.{ToChain, Frame, Core, core, on_value, EnterFunction, Question, Fail}
+use Rattle.rhai_machine.specs.language.Calls.{asks_function, call_of, called_function, dispatch_core, enter_core, entry_of, found_core}
+use Rattle.rhai_machine.specs.language.Calls.{named_core, races}
+use Rattle.rhai_machine.specs.language.Arguments.{arguments_there, call_on, lent_this, linked_core, numbered_core}
 use Rattle.rhai_machine.specs.language.Runs.{at, with_core, Goes}
 
 -- a core on a stack in a state, whatever its control
@@ -31,32 +35,48 @@ module _ {H : Type 0} (k : List (Frame H)) (l : Local H) where
   on_level (Ok x) go h = h x
   on_level (Err e) go h = record { stack = refl; local = refl }
 
-  module _ (s : Setting H) where
-    named_level : (args : List (Dynamic H)) (call : Call H) → IsLevel k l (named_core s args call k l)
-    named_level [] call = record { stack = refl; local = refl }
-    named_level (v ∷ []) call = either (bytes_eq call.operation.name (codes "type_of")) _ _ (record { stack = refl; local = refl })
-        (either (bytes_eq call.operation.name (codes "eval")) _ _ (record { stack = refl; local = refl }) (record {
-          stack = refl;
-          local = refl;
-        }))
-    named_level (v ∷ w ∷ []) call = either (bytes_eq call.operation.name (codes "is_def_fn")
-        && asks_function (through l.around.cells v call.operation.at) (through l.around.cells w call.operation.at)) _ _
-        (record { stack = refl; local = refl }) (record { stack = refl; local = refl })
-    named_level (v ∷ w ∷ x ∷ args) call = record { stack = refl; local = refl }
+  entered_level : (of_method : Bool) (f : Function H) (how : Dispatch) (call : Call H) → IsLevel k l (enter_core of_method f how call k l)
+  entered_level true f how call = record { stack = refl; local = refl }
+  entered_level false f how call = record { stack = refl; local = refl }
 
-    pub dispatch_level : (call : Call H) → IsLevel k l (dispatch_core s call k l)
-    dispatch_level call = either (races l.around.cells call.args) _ _ (record { stack = refl; local = refl }) (named_level call.args call)
+  module _ (s : Setting H) where
+    found_level : (found : Option (Function H)) (how : Dispatch) (call : Call H) → IsLevel k l (found_core s found how call k l)
+    found_level (Some f) how call = entered_level how.of_method f how call
+    found_level None how call = record { stack = refl; local = refl }
+
+    named_level : (how : Dispatch) (args : List (Dynamic H)) (call : Call H) → IsLevel k l (named_core s how args call k l)
+    named_level how [] call = found_level (called_function s how call l) how call
+    named_level how (v ∷ []) call = either (bytes_eq call.operation.name (codes "type_of")) _ _ (record { stack = refl; local = refl })
+        (either (bytes_eq call.operation.name (codes "eval")) _ _ (record { stack = refl; local = refl })
+        (found_level (called_function s how call l) how call))
+    named_level how (v ∷ w ∷ []) call = either (bytes_eq call.operation.name (codes "is_def_fn")
+        && asks_function (through l.around.cells v call.operation.at) (through l.around.cells w call.operation.at)) _ _
+        (record { stack = refl; local = refl }) (found_level (called_function s how call l) how call)
+    named_level how (v ∷ w ∷ x ∷ args) call = found_level (called_function s how call l) how call
+
+    pub dispatch_level : (how : Dispatch) (call : Call H) → IsLevel k l (dispatch_core s how call k l)
+    dispatch_level how call =
+        either (races l.around.cells call.args) _ _ (record { stack = refl; local = refl }) (named_level how call.args call)
 
     pub number_level : (call : Call H) → IsLevel k l (numbered_core call k l)
     number_level call = either (races l.around.cells call.args)
         (core (Fail (error.ErrorDataRace call.operation.name call.operation.at)) k l) (core (Question call) k l)
         (record { stack = refl; local = refl }) (record { stack = refl; local = refl })
 
+    linked_level : (f : Function H) (pos : Position) (args : List (Dynamic H)) → IsLevel k l (linked_core f pos args k l)
+    linked_level f pos args = either (races l.around.cells args) (core (Fail (error.ErrorDataRace f.def.name pos)) k l)
+        (core (EnterFunction (entry_of f NoObject true args pos l)) k l)
+        (record { stack = refl; local = refl }) (record { stack = refl; local = refl })
+
     pub there_level : (purpose : Purpose H) (args : List (Dynamic H)) → IsLevel k l (arguments_there s purpose args k l)
-    there_level (ToCall operation curried) args = dispatch_level (call_of operation (curried ++ args))
-    there_level (ToCallOn operation variable variable_at) args =
-        on_level (call_on l.around.cells l.scope operation variable variable_at args) (λ call. dispatch_core s call k l)
-        (λ call. dispatch_level call)
+    there_level (ToCall operation curried how) args = dispatch_level how (call_of operation (curried ++ args))
+    there_level (ToCallOn operation variable variable_at how) args =
+        on_level (call_on l.around.cells l.around.lib l.scope operation variable variable_at args) (λ call. dispatch_core s how call k l)
+        (λ call. dispatch_level how call)
+    there_level (ToCallOnThis operation this_at how) args =
+        on_level (bound_this this_at l.this) (λ v. dispatch_core s how (lent_this operation args v) k l)
+        (λ v. dispatch_level how (lent_this operation args v))
+    there_level (ToCallFunction function pos curried) args = linked_level function pos (curried ++ args)
     there_level (ToCallNumber number operation curried) args =
         number_level (record (call_of operation (curried ++ args)) { number = Some number })
     there_level (ToCurry pointer) args = record { stack = refl; local = refl }

@@ -1,10 +1,11 @@
 -- A variable that comes first: what is passed of it.
 use Rattle.std.proofs.Common.{◌≡◌, ℕ, Bool, true, false, not, ◌&&◌, List, ◌∷◌, Option, Some, None, Result, Ok, Err, is_some, refl, sym, ap}
 use Rattle.std.proofs.Common.{◌∙◌}
-use Rattle.std.specs.Option.{option_map}
+use Rattle.std.specs.Option.{option_map, option_or}
 use Rattle.rhai_tree.specs.declared.position.Position.{Position}
 use Rattle.rhai_values.specs.declared.base.value.AccessMode.{AccessMode}
 use Rattle.rhai_values.specs.declared.base.value.Dynamic.{Dynamic}
+use Rattle.rhai_values.specs.declared.base.value.Module.{Module}
 use Rattle.rhai_values.specs.declared.base.value.Union.{Union}
 use Rattle.rhai_values.specs.declared.base.value.Union.TheVariants as value
 use Rattle.rhai_values.specs.Cells.{value_of_cell}
@@ -13,12 +14,15 @@ use Rattle.rhai_state.specs.declared.scope.ScopeEntry.{ScopeEntry}
 use Rattle.rhai_state.specs.declared.error.EvalAltResult.{EvalAltResult}
 use Rattle.rhai_state.specs.declared.error.EvalAltResult.TheVariants as error
 use Rattle.rhai_state.specs.Scope.{index_of, value_in}
-use Rattle.rhai_machine.specs.language.Values.{Cells, flat, is_handle}
+use Rattle.rhai_functions.specs.Functions.{named_in}
+use Rattle.rhai_machine.specs.language.Functions.{meant_function, pointer_to}
+use Rattle.rhai_machine.specs.language.Values.{Cells, copied, flat, is_handle}
 use Rattle.rhai_machine.specs.language.Names.{entered, looked_up, variable_of}
 use Rattle.rhai_machine.specs.language.Places.{is_constant}
-use Rattle.rhai_machine.specs.language.Frames.{Operation, FromEntry}
+use Rattle.rhai_machine.specs.language.Frames.{Operation, FromEntry, Call}
 use Rattle.rhai_machine.specs.language.Calls.{is_held}
 use Rattle.rhai_machine.specs.language.Arguments.{call_on, passed, passed_as, passed_flat, passed_seen}
+use Rattle.rhai_steps.proofs.FunctionNames.{copied_itself}
 use Rattle.rhai_calls.specs.Lending.{lent_call}
 use Rattle.rhai_dispatch.specs.Variables.{is_lendable}
 
@@ -71,38 +75,55 @@ module _ {H : Type 0} (cells : Cells H) (at : Position) where
         ap (λ (b : Bool). Ok (passed_as b operation args entry (record { value = u; mode = mode })))
         (constant_then (is_constant mode) is)
 
-  module _ (entries : List (ScopeEntry H)) (operation : Operation) (variable : List ℕ) (args : List (Dynamic H)) where
-    -- there is no variable of the name
-    pub on_missing : index_of variable entries ≡ None →
-        call_on cells entries operation variable at args ≡ Err (error.ErrorVariableNotFound variable at)
-    on_missing is =
-        ap (λ (o : Option ℕ). passed_seen cells at operation args o (variable_of cells variable at (value_in entries o))) is
+  -- a pointer to a function, or that there is none, as it is passed
+  abbrev passed_by : Operation → List (Dynamic H) → Result (Dynamic H) (EvalAltResult H) → Result (Call H) (EvalAltResult H)
+  passed_by operation args (Ok v) = Ok (lent_call operation None true (v ∷ args))
+  passed_by operation args (Err e) = Err e
+
+  module _ (lib : List (Module H)) (entries : List (ScopeEntry H)) (operation : Operation) (variable : List ℕ) (args : List (Dynamic H)) where
+    function_seen : (n : Option ℕ) (r : Result (Dynamic H) (EvalAltResult H)) →
+        r ≡ copied (variable_of cells variable at (option_map (pointer_to variable) n)) →
+        passed_seen cells at operation args None (variable_of cells variable at (option_map (pointer_to variable) n))
+        ≡ passed_by operation args r
+    function_seen None r is = rw is refl
+    function_seen (Some n) r is = rw (is, copied_itself {H = H} variable n) refl
+
+    -- there is no variable of the name, and a function of the name is meant if there is one
+    pub on_function : index_of variable entries ≡ None → (r : Result (Dynamic H) (EvalAltResult H)) →
+        r ≡ copied (variable_of cells variable at (meant_function lib variable)) →
+        call_on cells lib entries operation variable at args ≡ passed_by operation args r
+    on_function is r same =
+        ap (λ (o : Option ℕ). passed_seen cells at operation args o
+        (variable_of cells variable at (option_or (value_in entries o) (meant_function lib variable)))) is
+        ∙ function_seen (named_in variable lib) r same
 
     module _ (index : ℕ) (v : Dynamic H) (there : index_of variable entries ≡ Some index)
         (stands : value_in entries (Some index) ≡ Some v) where
-      seen : call_on cells entries operation variable at args
+      seen : call_on cells lib entries operation variable at args
           ≡ passed_seen cells at operation args (Some index) (looked_up cells variable at v.value v)
       seen =
-          ap (λ (o : Option ℕ). passed_seen cells at operation args o (variable_of cells variable at (value_in entries o))) there
-          ∙ ap (λ (o : Option (Dynamic H)). passed_seen cells at operation args (Some index) (variable_of cells variable at o)) stands
+          ap (λ (o : Option ℕ). passed_seen cells at operation args o
+          (variable_of cells variable at (option_or (value_in entries o) (meant_function lib variable)))) there
+          ∙ ap (λ (o : Option (Dynamic H)). passed_seen cells at operation args (Some index)
+          (variable_of cells variable at (option_or o (meant_function lib variable)))) stands
 
       -- its cell is held
       pub on_held : is_held cells v.value ≡ true →
-          call_on cells entries operation variable at args ≡ Err (error.ErrorDataRace variable at)
+          call_on cells lib entries operation variable at args ≡ Err (error.ErrorDataRace variable at)
       on_held is = seen ∙ ap (passed_seen cells at operation args (Some index)) (looked_held variable v.value v is)
 
       free : is_held cells v.value ≡ false →
-          call_on cells entries operation variable at args ≡ passed cells at operation args (Some index) v.value v
+          call_on cells lib entries operation variable at args ≡ passed cells at operation args (Some index) v.value v
       free is = seen ∙ ap (passed_seen cells at operation args (Some index)) (looked_free variable v.value v is)
 
       -- its value is lent
       pub on_lent : is_held cells v.value ≡ false → is_lendable v ≡ true →
-          call_on cells entries operation variable at args ≡ Ok (lent_call operation (Some (FromEntry index)) true (v ∷ args))
+          call_on cells lib entries operation variable at args ≡ Ok (lent_call operation (Some (FromEntry index)) true (v ∷ args))
       on_lent is lends = free is ∙ passed_lent operation args (Some index) v.value v lends
 
       -- a copy of it is passed
       pub on_passed : is_held cells v.value ≡ false → is_lendable v ≡ false → (r : Result (Dynamic H) (EvalAltResult H)) →
           r ≡ flat cells (copy_of v) at →
-          call_on cells entries operation variable at args ≡ passed_flat operation args r
+          call_on cells lib entries operation variable at args ≡ passed_flat operation args r
       on_passed is lends r same =
           free is ∙ passed_copied operation args (Some index) v.value v.mode lends ∙ ap (passed_flat operation args) (sym same)

@@ -1,21 +1,27 @@
-//! Calls whose arguments are there: by a name, with a variable that is read last, and by a native's
-//! number. Ports what upstream's `func/call.rs` does once it has the arguments. The contracts cite the
+//! Calls whose arguments are there: by a name, with a variable that is read last or with `this`, of a function
+//! that a pointer is linked to, and by a native's number. Ports what upstream's `func/call.rs` does once it has the arguments. The contracts cite the
 //! machine's specs/language/Arguments.antt and the crate's own specs/.
 #![tactic(auto)]
 
 pub mod arguments;
 pub mod pointer;
+pub mod this;
 pub mod variable;
 
-ghost use Rattle.std.specs.Prelude.{◌≤◌, [], None};
+ghost use Rattle.std.specs.Prelude.{◌≤◌, ◌++◌, [], None, not};
+ghost use Rattle.rhai_values.specs.Cells.{cells_of};
+ghost use Rattle.rhai_machine.specs.language.Calls.{plainly};
 ghost use Rattle.rhai_machine.specs.language.Frames.{ToCall, ToCallNumber};
 ghost use Rattle.rhai_machine.specs.language.Setting.{rules_of};
 ghost use Rattle.rhai_steps.specs.States.{state_of};
-ghost use Rattle.rhai_dispatch.specs.Going.{GoesOn};
+ghost use Rattle.rhai_calls.specs.Dispatch.{Offers};
+ghost use Rattle.rhai_dispatch.specs.Going.{GoesOn, GoesOut};
+ghost use Rattle.rhai_dispatch.specs.Linked.{linked_call, Comes};
 
 use crate::arguments::joined;
-use rhai_calls::dispatch::{dispatch, dispatch_alone, races};
+use rhai_calls::dispatch::{Called, call_all, races};
 use rhai_calls::native::{call_number as call_number_first, call_number_alone};
+use rhai_functions::function::{Function, Offered};
 use rhai_items::Items;
 use rhai_state::error::EvalAltResult;
 use rhai_state::limits::Limits;
@@ -27,98 +33,149 @@ use rhai_tree::literal::NativeId;
 use rhai_tree::position::Position;
 use rhai_tree::token::Token;
 use rhai_values::base::value::{Dynamic, Host};
+use rhai_values::cells::CellStore;
 use std::alloc::Global;
 use std::mem::replace;
-
-/// A call by name whose arguments are there, none of which is lent.
-fn call_all<H: Host, T: NativeTable<H>>(
-    limits: &Limits,
-    alloc: Global,
-    global: &mut GlobalRuntimeState<H>,
-    table: &mut T,
-    name: &str,
-    token: Option<Token>,
-    args: &mut Items<Dynamic<H>>,
-    pos: Position,
-) -> Result<Dynamic<H>, EvalAltResult<H>>
-    ensures counts { global.old.num_operations ≤ global.new.num_operations }
-    ensures runs { (offer : _) (scope : _) (held : _) → GoesOn (rules_of limits.now H.name_of offer T.natives)
-        (ToCall (record { name = name.now; token = token; at = pos }) []) args.old
-        (state_of (T.state table.old) global.old scope held)
-        result (state_of (T.state table.new) global.new scope held) }
-{
-    if args.is_empty() {
-        return dispatch_alone(limits, alloc, global, table, name, token, pos);
-    }
-    let mut first = args.remove(0);
-    let others = args.as_slice();
-    let result = dispatch(
-        limits, alloc, global, table, name, token, &mut first, others, false, pos,
-    );
-    let_go(first);
-    result
-}
 
 /// A call by name with the values that a pointer has already before its arguments.
 fn call_curried<H: Host, T: NativeTable<H>>(
     limits: &Limits,
     alloc: Global,
+    offered: &Offered<'_, H>,
     global: &mut GlobalRuntimeState<H>,
     table: &mut T,
+    natives_alone: bool,
     name: &str,
     token: Option<Token>,
     curried: Items<Dynamic<H>>,
     args: Items<Dynamic<H>>,
     pos: Position,
-) -> Result<Dynamic<H>, EvalAltResult<H>>
+) -> Called<H>
     ensures counts { global.old.num_operations ≤ global.new.num_operations }
-    ensures runs { (offer : _) (scope : _) (held : _) → GoesOn (rules_of limits.now H.name_of offer T.natives)
-        (ToCall (record { name = name.now; token = token; at = pos }) curried) args
-        (state_of (T.state table.old) global.old scope held)
+    ensures runs { (offer : _) (scope : _) (held : _) (on_scope : _) → Offers offer offered.now →
+        GoesOut (rules_of limits.now H.name_of offer T.natives)
+        (ToCall (record { name = name.now; token = token; at = pos }) curried (plainly natives_alone on_scope)) args
+        (not on_scope) pos (state_of (T.state table.old) global.old scope held)
         result (state_of (T.state table.new) global.new scope held) }
 {
     match joined(curried, args, pos) {
         Ok(all) => {
             let mut all = all;
-            let result = call_all(limits, alloc, global, table, name, token, &mut all, pos);
+            let called = call_all(
+                limits,
+                alloc,
+                offered,
+                global,
+                table,
+                natives_alone,
+                name,
+                token,
+                &mut all,
+                pos,
+            );
             drop(all);
-            result
+            called
         }
-        Err(error) => Err(error),
+        Err(error) => Called::Ended(Err(error)),
     }
 }
 
 /// A call by name whose arguments are there, behind the values that a pointer has already. The list of
-/// arguments is the caller's to use again. Ports what upstream's `make_function_call` does where it
-/// passes no argument by reference.
+/// arguments is taken where a function of a script gets it, and is else the caller's to use again. Ports what
+/// upstream's `make_function_call` does where it passes no argument by reference.
 ///
 /// # Errors
-/// Those of `rhai_calls::dispatch::dispatch`.
+/// Those of `rhai_calls::dispatch::pass_call`.
 pub fn call_values<H: Host, T: NativeTable<H>>(
     limits: &Limits,
     alloc: Global,
+    offered: &Offered<'_, H>,
     global: &mut GlobalRuntimeState<H>,
     table: &mut T,
+    natives_alone: bool,
     name: &str,
     token: Option<Token>,
     curried: Items<Dynamic<H>>,
     args: &mut Items<Dynamic<H>>,
     pos: Position,
-) -> Result<Dynamic<H>, EvalAltResult<H>>
+) -> Called<H>
     ensures counts { global.old.num_operations ≤ global.new.num_operations }
-    ensures runs { (offer : _) (scope : _) (held : _) → GoesOn (rules_of limits.now H.name_of offer T.natives)
-        (ToCall (record { name = name.now; token = token; at = pos }) curried) args.old
-        (state_of (T.state table.old) global.old scope held)
+    ensures runs { (offer : _) (scope : _) (held : _) (on_scope : _) → Offers offer offered.now →
+        GoesOut (rules_of limits.now H.name_of offer T.natives)
+        (ToCall (record { name = name.now; token = token; at = pos }) curried (plainly natives_alone on_scope))
+        args.old (not on_scope) pos (state_of (T.state table.old) global.old scope held)
         result (state_of (T.state table.new) global.new scope held) }
 {
     if curried.is_empty() {
         drop(curried);
-        return call_all(limits, alloc, global, table, name, token, args, pos);
+        return call_all(
+            limits,
+            alloc,
+            offered,
+            global,
+            table,
+            natives_alone,
+            name,
+            token,
+            args,
+            pos,
+        );
     }
     let args = replace(args, Items::new(alloc));
     call_curried(
-        limits, alloc, global, table, name, token, curried, args, pos,
+        limits,
+        alloc,
+        offered,
+        global,
+        table,
+        natives_alone,
+        name,
+        token,
+        curried,
+        args,
+        pos,
     )
+}
+
+/// A function that a pointer is linked to, whose arguments are there.
+fn function_all<H: Host>(
+    alloc: Global,
+    cells: &CellStore<H>,
+    function: Function<H>,
+    args: Items<Dynamic<H>>,
+    pos: Position,
+) -> Called<H>
+    ensures { Comes result (linked_call (cells_of cells.now) function args pos) }
+{
+    if races(cells, args.as_slice()) {
+        let error = data_race_by(alloc, function.def.get().def().name.get().as_str(), pos);
+        drop(args);
+        drop(function);
+        return Called::Ended(Err(error));
+    }
+    Called::Enters(function, args)
+}
+
+/// A function that a pointer is linked to, called at once with the values that the pointer has already and the
+/// arguments behind them. Its body is for the caller to enter.
+///
+/// # Errors
+/// `ErrorDataRace` at the call, under the function's name, for an argument that is the handle of a cell which
+/// is held.
+pub fn call_function<H: Host>(
+    alloc: Global,
+    cells: &CellStore<H>,
+    function: Function<H>,
+    curried: Items<Dynamic<H>>,
+    args: Items<Dynamic<H>>,
+    pos: Position,
+) -> Called<H>
+    ensures { Comes result (linked_call (cells_of cells.now) function (curried ++ args) pos) }
+{
+    match joined(curried, args, pos) {
+        Ok(all) => function_all(alloc, cells, function, all, pos),
+        Err(error) => Called::Ended(Err(error)),
+    }
 }
 
 /// A native by its number, whose arguments are there.

@@ -1,35 +1,42 @@
 //! A call by name whose first argument is a variable, which is read last.
 
-ghost use Rattle.std.specs.Prelude.{◌≡◌, ◌≤◌, ◌<◌, ◌∷◌, IsTrue, Some, length, true};
+ghost use Rattle.std.specs.Prelude.{◌≡◌, ◌≤◌, ◌<◌, ◌∷◌, IsTrue, None, Some, length, not, true};
 ghost use Rattle.rhai_check.specs.Names.{is_good};
 ghost use Rattle.rhai_values.specs.Cells.{cells_of};
 ghost use Rattle.rhai_values.specs.Copy.{copy_of};
 ghost use Rattle.rhai_state.specs.Scope.{entries_of, index_of, names_in, value_in};
 ghost use Rattle.rhai_machine.specs.language.State.{Answers};
 ghost use Rattle.rhai_machine.specs.language.Values.{flat};
+ghost use Rattle.rhai_machine.specs.language.Calls.{plainly};
 ghost use Rattle.rhai_machine.specs.language.Frames.{FromEntry, ToCallOn};
 ghost use Rattle.rhai_machine.specs.language.Setting.{rules_of};
-ghost use Rattle.rhai_steps.specs.States.{state_of};
-ghost use Rattle.rhai_dispatch.specs.Going.{GoesOn};
-ghost use Rattle.rhai_calls.specs.Dispatch.{Dispatches};
-ghost use Rattle.rhai_calls.specs.Lending.{lent_call};
+ghost use Rattle.rhai_steps.specs.States.{local_of, state_of};
+ghost use Rattle.rhai_calls.specs.Called.{Calls};
+ghost use Rattle.rhai_calls.specs.Dispatch.{Offers};
+ghost use Rattle.rhai_calls.specs.Lending.{back_in, lent_call, Stands};
+ghost use Rattle.rhai_calls.specs.declared.dispatch.Called.TheVariants.{Enters};
+ghost use Rattle.rhai_dispatch.specs.Going.{GoesOut};
+ghost use Rattle.rhai_dispatch.specs.Linked.{Comes};
 ghost use Rattle.rhai_dispatch.specs.Variables.{is_lendable as lendable};
 
-use rhai_calls::dispatch::{dispatch, is_held};
-use rhai_items::{Shared, Text};
+use rhai_calls::dispatch::{Called, Dispatched, Seeks, is_held, pass_call};
+use rhai_calls::native::{Passing, unmarked};
+use rhai_functions::function::{Function, Offered};
+use rhai_items::{Items, Shared, Text};
 use rhai_state::error::EvalAltResult;
 use rhai_state::limits::Limits;
 use rhai_state::scope::Scope;
 use rhai_state::state::GlobalRuntimeState;
 use rhai_state::table::NativeTable;
-use rhai_steps::errors::{data_race_of, variable_not_found};
+use rhai_steps::errors::data_race_of;
 use rhai_steps::values::{copy, flatten, is_bare_handle, let_go, unit_value};
-use rhai_steps::variables::place_of_variable;
+use rhai_steps::variables::{place_of_variable, read_function};
 use rhai_tree::position::Position;
 use rhai_tree::token::Token;
-use rhai_values::base::value::{AccessMode, Dynamic, Host, Union};
+use rhai_values::base::value::{AccessMode, Dynamic, Host};
 use rhai_values::cells::CellStore;
 use std::alloc::Global;
+use std::mem::replace;
 use std::num::NonZeroUsize;
 
 /// Whether a variable's value may be lent: it is no handle and no constant.
@@ -55,118 +62,344 @@ fn passed_value<H: Host>(
     flatten(alloc, cells, value, pos)
 }
 
+/// A function of a script that gets a value before the other arguments, if there is memory for their list.
+pub(crate) fn entered_with<H: Host>(
+    alloc: Global,
+    function: Function<H>,
+    first: Dynamic<H>,
+    args: &mut Items<Dynamic<H>>,
+    pos: Position,
+) -> Called<H>
+    ensures { Comes result (Enters function (first ∷ args.old)) }
+{
+    let mut all = replace(args, Items::new(alloc));
+    match all.insert(0, first) {
+        Ok(()) => Called::Enters(function, all),
+        Err(_) => {
+            drop(all);
+            drop(function);
+            Called::Ended(Err(EvalAltResult::ErrorOutOfMemory(pos)))
+        }
+    }
+}
+
+/// The same with a copy of a value that was lent.
+pub(crate) fn entered_with_copy<H: Host>(
+    alloc: Global,
+    function: Function<H>,
+    first: &Dynamic<H>,
+    args: &mut Items<Dynamic<H>>,
+    pos: Position,
+) -> Called<H>
+    ensures { Comes result (Enters function (copy_of first.now ∷ args.old)) }
+{
+    match copy(alloc, first, pos) {
+        Ok(first) => entered_with(alloc, function, first, args, pos),
+        Err(error) => {
+            drop(function);
+            Called::Ended(Err(error))
+        }
+    }
+}
+
 /// A call whose first argument is lent from the entry of a variable. It is taken out of there, and put
 /// back on every way out.
 fn call_lent<H: Host, T: NativeTable<H>>(
     limits: &Limits,
     alloc: Global,
+    offered: &Offered<'_, H>,
     global: &mut GlobalRuntimeState<H>,
     table: &mut T,
     scope: &mut Scope<H>,
     index: usize,
+    natives_alone: bool,
     name: &str,
     token: Option<Token>,
-    args: &[Dynamic<H>],
+    args: &mut Items<Dynamic<H>>,
     pos: Position,
-) -> Result<Dynamic<H>, EvalAltResult<H>>
+) -> Called<H>
     requires { index < length (entries_of scope.old) }
     ensures counts { global.old.num_operations ≤ global.new.num_operations }
     ensures names { names_in scope.new ≡ names_in scope.old }
-    ensures runs { (offer : _) (held : _) (v : _) → value_in (entries_of scope.old) (Some index) ≡ Some v →
-        Dispatches (rules_of limits.now H.name_of offer T.natives)
+    ensures runs { (offer : _) (held : _) (on_scope : _) (v : _) → Offers offer offered.now →
+        value_in (entries_of scope.old) (Some index) ≡ Some v →
+        Calls (rules_of limits.now H.name_of offer T.natives) (plainly natives_alone on_scope)
         (lent_call (record { name = name.now; token = token; at = pos }) (Some (FromEntry index)) true
-        (v ∷ args.now))
+        (v ∷ args.old))
         (state_of (T.state table.old) global.old scope.old held)
         result (state_of (T.state table.new) global.new scope.new held) }
 {
     let mut first = scope.replace_value(index, unit_value());
-    let result = dispatch(
-        limits, alloc, global, table, name, token, &mut first, args, true, pos,
+    let called = call_first(
+        limits,
+        alloc,
+        offered,
+        global,
+        table,
+        natives_alone,
+        name,
+        token,
+        &mut first,
+        args,
+        pos,
     );
     let_go(scope.replace_value(index, first));
-    result
+    called
+}
+
+/// A call by name with its first argument before the others, which may be lent. A function of a script gets a
+/// copy of it.
+pub(crate) fn call_first<H: Host, T: NativeTable<H>>(
+    limits: &Limits,
+    alloc: Global,
+    offered: &Offered<'_, H>,
+    global: &mut GlobalRuntimeState<H>,
+    table: &mut T,
+    natives_alone: bool,
+    name: &str,
+    token: Option<Token>,
+    first: &mut Dynamic<H>,
+    args: &mut Items<Dynamic<H>>,
+    pos: Position,
+) -> Called<H>
+    ensures counts { global.old.num_operations ≤ global.new.num_operations }
+    ensures runs { (offer : _) (scope : _) (held : _) (lender : _) (on_scope : _) → Offers offer offered.now →
+        Stands (Some lender) first.old (local_of global.old scope held) →
+        Calls (rules_of limits.now H.name_of offer T.natives) (plainly natives_alone on_scope)
+        (lent_call (record { name = name.now; token = token; at = pos }) (Some lender) true
+        (first.old ∷ args.old))
+        (state_of (T.state table.old) global.old scope held) result
+        (back_in (Some lender) first.new (state_of (T.state table.new) global.new scope held)) }
+{
+    let seeks = Seeks {
+        of_method: false,
+        natives_alone,
+    };
+    let passing = Passing {
+        guarded: true,
+        marks: false,
+    };
+    let rest = args.as_slice();
+    match pass_call(
+        limits, alloc, offered, global, table, seeks, name, token, first, rest, passing, pos,
+    ) {
+        Dispatched::Ended(result) => Called::Ended(unmarked(result)),
+        Dispatched::Found(function) => entered_with_copy(alloc, function, first, args, pos),
+    }
+}
+
+/// A call by name with a value of its own before the other arguments, which may be guarded.
+fn call_passed<H: Host, T: NativeTable<H>>(
+    limits: &Limits,
+    alloc: Global,
+    offered: &Offered<'_, H>,
+    global: &mut GlobalRuntimeState<H>,
+    table: &mut T,
+    natives_alone: bool,
+    name: &str,
+    token: Option<Token>,
+    first: Dynamic<H>,
+    args: &mut Items<Dynamic<H>>,
+    guarded: bool,
+    pos: Position,
+) -> Called<H>
+    ensures counts { global.old.num_operations ≤ global.new.num_operations }
+    ensures runs { (offer : _) (scope : _) (held : _) (on_scope : _) → Offers offer offered.now →
+        Calls (rules_of limits.now H.name_of offer T.natives) (plainly natives_alone on_scope)
+        (lent_call (record { name = name.now; token = token; at = pos }) None guarded (first ∷ args.old))
+        (state_of (T.state table.old) global.old scope held)
+        result (state_of (T.state table.new) global.new scope held) }
+{
+    let mut first = first;
+    let seeks = Seeks {
+        of_method: false,
+        natives_alone,
+    };
+    let passing = Passing {
+        guarded,
+        marks: false,
+    };
+    let rest = args.as_slice();
+    match pass_call(
+        limits, alloc, offered, global, table, seeks, name, token, &mut first, rest, passing, pos,
+    ) {
+        Dispatched::Ended(result) => {
+            let_go(first);
+            Called::Ended(unmarked(result))
+        }
+        Dispatched::Found(function) => entered_with(alloc, function, first, args, pos),
+    }
 }
 
 /// A call on the variable at an entry.
 fn call_found<H: Host, T: NativeTable<H>>(
     limits: &Limits,
     alloc: Global,
+    offered: &Offered<'_, H>,
     global: &mut GlobalRuntimeState<H>,
     table: &mut T,
     scope: &mut Scope<H>,
     index: usize,
+    natives_alone: bool,
     name: &str,
     token: Option<Token>,
     variable: &Shared<Text>,
     variable_at: Position,
-    args: &[Dynamic<H>],
+    args: &mut Items<Dynamic<H>>,
     pos: Position,
-) -> Result<Dynamic<H>, EvalAltResult<H>>
+) -> Called<H>
     requires { index < length (entries_of scope.old) }
     ensures counts { global.old.num_operations ≤ global.new.num_operations }
     ensures names { names_in scope.new ≡ names_in scope.old }
-    ensures runs { (offer : _) (held : _) → index_of variable.now (entries_of scope.old) ≡ Some index →
-        GoesOn (rules_of limits.now H.name_of offer T.natives)
-        (ToCallOn (record { name = name.now; token = token; at = pos }) variable.now variable_at) args.now
+    ensures runs { (offer : _) (held : _) (on_scope : _) → Offers offer offered.now →
+        index_of variable.now (entries_of scope.old) ≡ Some index →
+        GoesOut (rules_of limits.now H.name_of offer T.natives)
+        (ToCallOn (record { name = name.now; token = token; at = pos }) variable.now variable_at
+        (plainly natives_alone on_scope)) args.old (not on_scope) pos
         (state_of (T.state table.old) global.old scope.old held)
         result (state_of (T.state table.new) global.new scope.new held) }
 {
     let value = scope.value_at(index);
     if is_held(&global.cells, value) {
-        return Err(data_race_of(variable, variable_at));
+        return Called::Ended(Err(data_race_of(variable, variable_at)));
     }
     if is_lendable(value) {
         return call_lent(
-            limits, alloc, global, table, scope, index, name, token, args, pos,
+            limits,
+            alloc,
+            offered,
+            global,
+            table,
+            scope,
+            index,
+            natives_alone,
+            name,
+            token,
+            args,
+            pos,
         );
     }
-    let mut first = passed_value(alloc, &global.cells, value, variable_at)?;
-    let result = dispatch(
-        limits, alloc, global, table, name, token, &mut first, args, false, pos,
-    );
-    let_go(first);
-    result
+    match passed_value(alloc, &global.cells, value, variable_at) {
+        Ok(first) => call_passed(
+            limits,
+            alloc,
+            offered,
+            global,
+            table,
+            natives_alone,
+            name,
+            token,
+            first,
+            args,
+            false,
+            pos,
+        ),
+        Err(error) => Called::Ended(Err(error)),
+    }
+}
+
+/// A call on what a name means that is no variable's: a pointer to a function of the libraries.
+fn call_on_function<H: Host, T: NativeTable<H>>(
+    limits: &Limits,
+    alloc: Global,
+    offered: &Offered<'_, H>,
+    global: &mut GlobalRuntimeState<H>,
+    table: &mut T,
+    natives_alone: bool,
+    name: &str,
+    token: Option<Token>,
+    variable: &Shared<Text>,
+    variable_at: Position,
+    args: &mut Items<Dynamic<H>>,
+    pos: Position,
+) -> Called<H>
+    ensures counts { global.old.num_operations ≤ global.new.num_operations }
+    ensures runs { (offer : _) (scope : _) (held : _) (on_scope : _) → Offers offer offered.now →
+        index_of variable.now (entries_of scope) ≡ None →
+        GoesOut (rules_of limits.now H.name_of offer T.natives)
+        (ToCallOn (record { name = name.now; token = token; at = pos }) variable.now variable_at
+        (plainly natives_alone on_scope)) args.old (not on_scope) pos
+        (state_of (T.state table.old) global.old scope held)
+        result (state_of (T.state table.new) global.new scope held) }
+{
+    match read_function(alloc, global.lib.as_slice(), variable, variable_at) {
+        Ok(first) => call_passed(
+            limits,
+            alloc,
+            offered,
+            global,
+            table,
+            natives_alone,
+            name,
+            token,
+            first,
+            args,
+            true,
+            pos,
+        ),
+        Err(error) => Called::Ended(Err(error)),
+    }
 }
 
 /// A call by name with a variable before its arguments, which are there. The variable is read now: a
-/// constant or a handle is passed as a copy, and any other is lent, so that a native may change it.
-/// Asked: the offset leads to the newest variable of the name. Ports what upstream's
+/// constant or a handle is passed as a copy, and any other is lent, so that a native may change it. A function
+/// of a script gets a copy, and is for the caller to enter. A name that no variable has means a function of the
+/// libraries, if there is one. Asked: the offset leads to the newest variable of the name. Ports what upstream's
 /// `make_function_call` does with a variable that comes first.
 ///
 /// # Errors
 /// At the variable: `ErrorVariableNotFound`, and `ErrorDataRace` where it is the handle of a cell that is
-/// held. All others are those of `rhai_calls::dispatch::dispatch`.
+/// held. All others are those of `rhai_calls::dispatch::pass_call`.
 pub fn call_on_variable<H: Host, T: NativeTable<H>>(
     limits: &Limits,
     alloc: Global,
+    offered: &Offered<'_, H>,
     global: &mut GlobalRuntimeState<H>,
     table: &mut T,
     scope: &mut Scope<H>,
+    natives_alone: bool,
     name: &str,
     token: Option<Token>,
     offset: Option<NonZeroUsize>,
     variable: &Shared<Text>,
     variable_at: Position,
-    args: &[Dynamic<H>],
+    args: &mut Items<Dynamic<H>>,
     pos: Position,
-) -> Result<Dynamic<H>, EvalAltResult<H>>
+) -> Called<H>
     requires { IsTrue (is_good offset variable.now (names_in scope.old)) }
     ensures counts { global.old.num_operations ≤ global.new.num_operations }
     ensures names { names_in scope.new ≡ names_in scope.old }
-    ensures runs { (offer : _) (held : _) → GoesOn (rules_of limits.now H.name_of offer T.natives)
-        (ToCallOn (record { name = name.now; token = token; at = pos }) variable.now variable_at) args.now
+    ensures runs { (offer : _) (held : _) (on_scope : _) → Offers offer offered.now →
+        GoesOut (rules_of limits.now H.name_of offer T.natives)
+        (ToCallOn (record { name = name.now; token = token; at = pos }) variable.now variable_at
+        (plainly natives_alone on_scope)) args.old (not on_scope) pos
         (state_of (T.state table.old) global.old scope.old held)
         result (state_of (T.state table.new) global.new scope.new held) }
 {
     match place_of_variable(global, scope, offset, variable) {
-        None => Err(variable_not_found(variable, variable_at)),
+        None => call_on_function(
+            limits,
+            alloc,
+            offered,
+            global,
+            table,
+            natives_alone,
+            name,
+            token,
+            variable,
+            variable_at,
+            args,
+            pos,
+        ),
         Some(index) => call_found(
             limits,
             alloc,
+            offered,
             global,
             table,
             scope,
             index,
+            natives_alone,
             name,
             token,
             variable,

@@ -35,7 +35,7 @@ use Rattle.rhai_chains.specs.Chains as from
 use Rattle.rhai_chains.specs.Chains.{FollowsFrom}
 use Rattle.rhai_eval.specs.Assigned.{assigned, target_assigned, value_assigned, without_value}
 use Rattle.rhai_eval.specs.Ends.{EndsAssigned}
-use Rattle.rhai_eval.proofs.InPlace.{ends_marked}
+use Rattle.rhai_eval.proofs.Marked.{ends_marked}
 
 module _ {H : Type 0} where
   -- what comes of a part that is put back

@@ -1,13 +1,11 @@
--- A whole chain: what its run may rely on, how it runs over values that a caller lent, and what an assignment without an operator leaves.
-use Rattle.std.proofs.Common.{◌≡◌, Bool, true, false, IsTrue, List, [], Option, Some, None, Result, Ok, Err, sym, ap, subst}
+-- A whole chain: what its run may rely on, and what an assignment without an operator leaves.
+use Rattle.std.proofs.Common.{◌≡◌, Bool, true, false, IsTrue, List, Option, Some, None, Result, Ok, Err, sym, ap, subst}
 use Rattle.std.specs.Prelude.{IfSome, OnOk, unwrap_or}
 use Rattle.rhai_tree.specs.declared.expr.Expr.{Expr, out-Expr}
 use Rattle.rhai_tree.specs.Layers.{ExprLayer}
 use Rattle.rhai_check.specs.Frame.{resolves_expr}
 use Rattle.rhai_check.specs.Names.{Name}
 use Rattle.rhai_values.specs.declared.base.value.Dynamic.{Dynamic}
-use Rattle.rhai_state.specs.declared.scope.Scope.{Scope}
-use Rattle.rhai_state.specs.declared.state.GlobalRuntimeState.{GlobalRuntimeState}
 use Rattle.rhai_state.specs.declared.error.EvalAltResult.{EvalAltResult}
 use Rattle.rhai_machine.specs.language.Setting.{Rules}
 use Rattle.rhai_machine.specs.language.State.{State}
@@ -15,13 +13,9 @@ use Rattle.rhai_machine.specs.language.Frames.{NewValue, OpenChain, chain_on}
 use Rattle.rhai_machine.specs.language.Links.{first_in}
 use Rattle.rhai_machine.specs.language.Runs.{Runs}
 use Rattle.rhai_laws.proofs.AssignedLaws.{runs_assign_at_path}
-use Rattle.rhai_steps.specs.States.{holding, state_of}
-use Rattle.rhai_context.specs.declared.Context.{Context}
 use Rattle.rhai_cycle.specs.Chains.{MayWalk, StartsFrom, behind_resolves}
-use Rattle.rhai_cycle.specs.States.{state_in}
 use Rattle.rhai_cycle.proofs.ChainLemmas.{may_walk, root_resolves, target_parts}
 use Rattle.rhai_eval.specs.Chains.{AssignsAlong, ChainResolves, chain_with, whole_chain}
-use Rattle.rhai_eval.proofs.Public.{lent}
 
 -- what the run of a chain relies on
 pub record MayRun (assigned : Bool) (root : Expr) (form : ExprLayer) (names : List Name) : Type 0 where
@@ -52,7 +46,7 @@ chain_may_run false e root names is h =
 
 module _ {S H : Type 0} (rules : Rules S H) where
   -- a run over the chain's root is one of the whole chain
-  over_root : (e root : Expr) (code given : Option (NewValue H)) (old : State S H) (r : Result (Dynamic H) (EvalAltResult H))
+  pub over_root : (e root : Expr) (code given : Option (NewValue H)) (old : State S H) (r : Result (Dynamic H) (EvalAltResult H))
       (new : State S H) → first_in (out-Expr e) ≡ Some root → code ≡ given →
       Runs rules (OpenChain (chain_on root (out-Expr e) code)) old r new → Runs rules (whole_chain e given) old r new
   over_root e root code given old r new starts same runs =
@@ -67,15 +61,3 @@ module _ {S H : Type 0} (rules : Rules S H) where
       runs_assign_at_path rules (whole_chain e (Some n)) name pos (chain_with e n args) n path v old before new runs comes given
   chain_assigns e None old new (Ok v) runs = tt
   chain_assigns e given old new (Err x) runs = tt
-
--- and over values that were taken from a caller and given back, whatever the caller's `this`, by what is read of the engine
-pub chain_lent : {S H : Type 0} (rules : Rules S H) (e root : Expr) (code given : Option (NewValue H)) (t u : S)
-    (taken left : Context H) (global after : GlobalRuntimeState H) (scope names : Scope H) (r : Result (Dynamic H) (EvalAltResult H))
-    (this : Option (Dynamic H)) {search : Bool} {read : Rules S H} → read ≡ rules →
-    taken ≡ record { global = global; scope = scope; this = None; spare = [] } →
-    after ≡ record left.global { always_search_scope = search } → names ≡ left.scope → first_in (out-Expr e) ≡ Some root → code ≡ given →
-    Runs read (OpenChain (chain_on root (out-Expr e) code)) (state_in t taken) r (state_in u left) →
-    Runs rules (whole_chain e given) (state_of t global scope (holding this)) r (state_of u after names (holding this))
-chain_lent rules e root code given t u taken left global after scope names r this {read = read} reads is gives variables starts same runs =
-    lent rules (whole_chain e given) t u taken left global after scope names r this reads is gives variables tt
-    (over_root read e root code given (state_in t taken) r (state_in u left) starts same runs)

@@ -16,7 +16,7 @@ use Rattle.rhai_laws.proofs.WantLaws.{runs_up_to_memory, steps_with_memory}
 use Rattle.rhai_calls.specs.Marks.{MarkedRuns}
 use Rattle.rhai_eval.specs.Ends.{EndsFrom, EndsMarked}
 use Rattle.rhai_eval.specs.Indexing.{item_by}
-use Rattle.rhai_eval.proofs.InPlace.{ends_marked}
+use Rattle.rhai_eval.proofs.Marked.{ends_marked}
 
 -- a list of two items, each known
 pub both_are : {A : Type 0} (xs : List A) (a b x y : A) → xs ≡ a ∷ b ∷ [] → a ≡ x → b ≡ y → xs ≡ x ∷ y ∷ []

@@ -1,8 +1,11 @@
 mod Assigned
 mod Begun
 mod Chained
+mod Dispatching
 mod Indexed
-mod InPlace
+mod Marked
+mod NamedCalls
 mod OnTargets
 mod Public
 mod Scripts
+mod Variables

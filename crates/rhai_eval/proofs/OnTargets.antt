@@ -1,23 +1,27 @@
 -- A method on a target: how it ends, and what it keeps.
-use Rattle.std.proofs.Common.{Bool, List, [], Result, refl}
+use Rattle.std.proofs.Common.{Bool, List, [], ◌∷◌, Some, Result, refl}
 use Rattle.rhai_tree.specs.declared.position.Position.{Position}
 use Rattle.rhai_values.specs.declared.base.value.Dynamic.{Dynamic}
 use Rattle.rhai_state.specs.declared.error.EvalAltResult.{EvalAltResult}
+use Rattle.rhai_places.specs.declared.spot.Spot.{Spot}
 use Rattle.rhai_places.specs.declared.target.Part.{Part}
 use Rattle.rhai_places.specs.declared.target.Part.TheVariants as part
 use Rattle.rhai_places.specs.Targets.{shown}
 use Rattle.rhai_machine.specs.language.Setting.{Setting, Rules}
 use Rattle.rhai_machine.specs.language.State.{Local, State}
-use Rattle.rhai_machine.specs.language.Frames.{Frame, marked}
-use Rattle.rhai_machine.specs.language.Methods.{Method}
+use Rattle.rhai_machine.specs.machine.Memory.{◌⨾◌}
+use Rattle.rhai_machine.specs.language.Frames.{Frame, marked, PartMethod}
+use Rattle.rhai_machine.specs.language.Members.{focused_on}
+use Rattle.rhai_machine.specs.language.Methods.{Method, method_core}
 use Rattle.rhai_laws.specs.Kept.{Kept}
 use Rattle.rhai_laws.proofs.Keeping.{Asked, Keeps, calm, quiet, through}
 use Rattle.rhai_laws.proofs.KeptLaws.{kept_from}
 use Rattle.rhai_laws.proofs.KeptMethods.{method_keeps}
 use Rattle.rhai_methods.specs.Methods.{RunsFrom}
-use Rattle.rhai_methods.specs.Targets.{on_target, waiting}
+use Rattle.rhai_methods.specs.Targets.{ComesBack, on_target, waiting}
+use Rattle.rhai_methods.proofs.TargetLemmas.{answer_comes}
 use Rattle.rhai_eval.specs.Ends.{EndsMarked}
-use Rattle.rhai_eval.proofs.InPlace.{ends_marked}
+use Rattle.rhai_eval.proofs.Marked.{ends_marked}
 
 module _ {H : Type 0} (a : Asked) where
   -- what waits for a part changes nothing of what is kept
@@ -46,3 +50,18 @@ module _ {S H : Type 0} (rules : Rules S H) (method : Method) (args : List (Dyna
   unfolding RunsFrom
   target_kept = kept_from rules (on_target rules.setting method args what place [] old.local) (marked r) old new
       (λ a. begin_keeps a rules.setting method args what place [] old.local) (runs [])
+
+module _ {S H : Type 0} (rules : Rules S H) (method : Method) (args : List (Dynamic H)) (spot : Spot) (above x y left : Dynamic H)
+    (old new : State S H) where
+  -- a state where this is worked on
+  abbrev working : Dynamic H → State S H → State S H
+  working v s = record s { local = focused_on (Some v) s.local }
+
+  -- a method on a part runs with what comes of its answer
+  pub part_runs : (answer result : Result (Dynamic H × Bool) (EvalAltResult H)) →
+      RunsFrom rules (method_core rules.setting method args x) (working x old) answer (working y new) →
+      ComesBack rules.setting.host_type (part.Of spot y) above method.at answer result left →
+      RunsFrom rules (on_target rules.setting method args (part.Of spot x) above) (working x old) result (working left new)
+  unfolding RunsFrom
+  part_runs answer result runs comes k =
+      runs (PartMethod above spot method.at ∷ k) ⨾ answer_comes rules above y spot method.at k new answer result left comes

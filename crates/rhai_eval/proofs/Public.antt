@@ -1,5 +1,6 @@
 -- What a host is told of a part's run.
-use Rattle.std.proofs.Common.{◌≡◌, ◌∙◌, ℕ, Bool, List, [], Option, None, Result, refl, ap}
+use Rattle.std.proofs.Common.{◌≡◌, ◌∙◌, ℕ, Bool, List, [], Option, Some, None, Result, refl, sym, ap}
+use Rattle.std.specs.Prelude.{IfSome, is_some}
 use Rattle.rhai_state.specs.declared.scope.Scope.{Scope}
 use Rattle.rhai_values.specs.declared.base.value.Dynamic.{Dynamic}
 use Rattle.rhai_state.specs.declared.error.EvalAltResult.{EvalAltResult}
@@ -7,20 +8,18 @@ use Rattle.rhai_state.specs.declared.limits.Limits.{Limits}
 use Rattle.rhai_state.specs.declared.state.GlobalRuntimeState.{GlobalRuntimeState}
 use Rattle.rhai_state.specs.Native.{Natives}
 use Rattle.rhai_machine.specs.language.Setting.{Offer, Rules, rules_of}
-use Rattle.rhai_machine.specs.language.State.{State}
-use Rattle.rhai_machine.specs.language.Frames.{Control, ended}
+use Rattle.rhai_machine.specs.language.State.{Held, State}
+use Rattle.rhai_machine.specs.language.Frames.{Control}
 use Rattle.rhai_machine.specs.language.Runs.{Steps, Runs}
-use Rattle.rhai_machine.proofs.ThisLaws.{steps_with}
-use Rattle.rhai_laws.specs.Kept.{Sound}
-use Rattle.rhai_laws.proofs.KeptLaws.{kept}
+use Rattle.rhai_machine.proofs.LanguageLaws.{script_limits_agree}
 use Rattle.rhai_laws.proofs.WantLaws.{runs_up_to_memory, steps_with_memory}
-use Rattle.rhai_steps.specs.States.{holding, local_of, state_of}
+use Rattle.rhai_steps.specs.States.{holding, state_of}
 use Rattle.rhai_context.specs.declared.Context.{Context}
 use Rattle.rhai_cycle.specs.declared.evaluator.Evaluator.{Evaluator}
 use Rattle.rhai_cycle.specs.States.{offer_of as offered, state_in, under as under_what_is_read}
 use Rattle.rhai_cycle.proofs.Chain.{still_none}
 use Rattle.rhai_eval.specs.declared.engine.Engine.{Engine}
-use Rattle.rhai_eval.specs.Ends.{EndsAs}
+use Rattle.rhai_eval.specs.Ends.{AgreesAbove, EndsAs}
 use Rattle.rhai_eval.specs.States.{offer_of, under}
 
 -- what a run reads of an engine has the engine's rules
@@ -29,15 +28,57 @@ pub same_rules : {S H : Type 0} (host : H → List ℕ) (natives : Natives S H) 
 same_rules host natives engine read limits offer = ap (λ (l : Limits). rules_of l host (offered read) natives) limits
     ∙ ap (λ (o : Offer _). rules_of engine.limits host o natives) offer
 
-module _ {S H : Type 0} (rules : Rules S H) where
-  -- a run with nothing under `this` is the same with what the caller has there
-  with_this : (c : Control H) (t u : S) (g h : GlobalRuntimeState H) (old new : Scope H) (r : Result (Dynamic H) (EvalAltResult H))
-      (before after this : Option (Dynamic H)) →
-      before ≡ None → after ≡ None → Runs rules c (state_of t g old (holding before)) r (state_of u h new (holding after)) →
-      Runs rules c (state_of t g old (holding this)) r (state_of u h new (holding this))
-  with_this c t u g h old new r before after this is none runs =
-      steps_with this rules c (ended r) (state_of t g old (holding None)) (state_of u h new (holding None)) (rw (is, none) at runs)
+-- of so many places nothing is told
+abbrev pub five : {X : Type 0} → X → Unit {0} × (Unit {0} × (Unit {0} × (Unit {0} × (Unit {0} × X))))
+five x = (tt, (tt, (tt, (tt, (tt, x)))))
 
+-- what stands in a place is what was left, where something was
+left_there : {A : Type 0} (left : Option A) (w : A) → is_some left ≡ is_some (Some w) → IfSome left (λ v. w ≡ v) → left ≡ Some w
+left_there (Some v) w bound there = ap (λ (x : _). Some x) (sym there)
+left_there None w bound there = cc
+
+-- What holds of a run over values that were taken from a caller and given back holds over the caller's own, by what is read of the engine.
+module _ {S H : Type 0} {read rules : Rules S H} (reads : read ≡ rules) (P : Rules S H → State S H → State S H → Type 0) (t u : S)
+    (taken left : Context H) (global after : GlobalRuntimeState H) {search : Bool}
+    (gives : after ≡ record left.global { always_search_scope = search }) where
+  -- where its variables are none of his
+  pub handed_apart : (scope names : Scope H) (held still : Held H) → taken.global ≡ global →
+      P read (state_of t taken.global scope held) (state_of u left.global names still) →
+      P rules (state_of t global scope held) (state_of u after names still)
+  handed_apart scope names held still is holds = rw gives (rw (reads, is) at holds)
+
+  module _ (scope names : Scope H) (variables : names ≡ left.scope) where
+    -- whatever it has in hand
+    pub handed_held : (this : Option (Dynamic H)) (held still : Held H) →
+        taken ≡ record { global = global; scope = scope; this = this; spare = [] } →
+        P read (state_of t taken.global taken.scope held) (state_of u left.global left.scope still) →
+        P rules (state_of t global scope held) (state_of u after names still)
+    handed_held this held still is holds = rw (gives, variables) (rw (reads, is) at holds)
+
+    module _ (bound : is_some left.this ≡ is_some taken.this) where
+      handed : (this ends : Option (Dynamic H)) → taken ≡ record { global = global; scope = scope; this = this; spare = [] } →
+          left.this ≡ ends → P read (state_in t taken) (state_in u left) →
+          P rules (state_of t global scope (holding this)) (state_of u after names (holding ends))
+      handed this ends is there holds = rw (gives, variables) (rw (reads, is, there) at holds)
+
+      -- where he has no `this`
+      pub handed_free : (this ends : Option (Dynamic H)) → this ≡ None → ends ≡ None →
+          taken ≡ record { global = global; scope = scope; this = None; spare = [] } → P read (state_in t taken) (state_in u left) →
+          P rules (state_of t global scope (holding this)) (state_of u after names (holding ends))
+      handed_free this ends none still is holds =
+          let there = still_none left.this (bound ∙ ap (λ (run : Context H). is_some run.this) is) in
+          rw (none, still) (handed None None is there holds)
+
+      -- and where he has one in a place of his
+      pub handed_on : (this ends : Option (Dynamic H)) (v w : Dynamic H) → this ≡ Some v → ends ≡ Some w →
+          taken ≡ record { global = global; scope = scope; this = Some v; spare = [] } → IfSome left.this (λ x. w ≡ x) →
+          P read (state_in t taken) (state_in u left) →
+          P rules (state_of t global scope (holding this)) (state_of u after names (holding ends))
+      handed_on this ends v w some stands is back holds =
+          let there = left_there left.this w (bound ∙ ap (λ (run : Context H). is_some run.this) is) back in
+          rw (some, stands) (handed (Some v) (Some w) is there holds)
+
+module _ {S H : Type 0} (rules : Rules S H) where
   -- a run from a control is the end of its part
   pub ends_as : (c : Control H) (old new : State S H) (r : Result (Dynamic H) (EvalAltResult H)) → Runs rules c old r new →
       EndsAs rules c old r new
@@ -47,16 +88,12 @@ module _ {S H : Type 0} (rules : Rules S H) where
     up_to = λ k. runs_up_to_memory rules (runs k);
   }
 
-  -- a run over values that were taken from a caller and given back, whatever the caller's `this`, by what is read of the engine
-  pub lent : (c : Control H) (t u : S) (taken left : Context H) (global after : GlobalRuntimeState H)
-      (scope names : Scope H)
-      (r : Result (Dynamic H) (EvalAltResult H)) (this : Option (Dynamic H)) {search : Bool} {read : Rules S H} → read ≡ rules →
-      taken ≡ record { global = global; scope = scope; this = None; spare = [] } →
-      after ≡ record left.global { always_search_scope = search } → names ≡ left.scope →
-      Sound c (local_of global scope (holding None)) →
-      Runs read c (state_in t taken) r (state_in u left) →
-      Runs rules c (state_of t global scope (holding this)) r (state_of u after names (holding this))
-  lent c t u taken left global after scope names r this reads is given variables sound runs =
-      let start : Runs rules c (state_of t global scope (holding None)) r (state_in u left) = rw (reads, is) at runs in
-      let none = still_none left.this (kept rules c (ended r) _ _ sound start).bound in
-      rw (given, variables) (with_this c t u global left.global scope left.scope r None left.this this refl none start)
+  pub ends_as_told : (c : Control H) (old new : State S H) (r told : Result (Dynamic H) (EvalAltResult H)) → told ≡ r →
+      Runs rules c old r new → EndsAs rules c old told new
+  ends_as_told c old new r told is runs = rw is (ends_as c old new r runs)
+
+  -- and agrees with those under higher limits
+  pub agrees_above : (c : Control H) (old new : State S H) (r : Result (Dynamic H) (EvalAltResult H)) → Runs rules c old r new →
+      AgreesAbove rules c old r new
+  unfolding Steps
+  agrees_above c old new r runs memory = script_limits_agree rules c old new r (steps_with_memory rules r [] new memory (runs []))

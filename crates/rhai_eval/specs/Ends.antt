@@ -1,12 +1,14 @@
 -- How a part of a tree, or a call, ends: as the machine does, over any stack, or up to where memory ran out.
-use Rattle.std.specs.Prelude.{◌≡◌, ◌⊎◌, Bool, List, Result}
+use Rattle.std.specs.Prelude.{◌≡◌, ◌⊎◌, Bool, List, [], Result}
 use Rattle.rhai_values.specs.declared.base.value.Dynamic.{Dynamic}
 use Rattle.rhai_state.specs.declared.error.EvalAltResult.{EvalAltResult}
+use Rattle.rhai_machine.specs.machine.Laws.{LimitsAgree}
 use Rattle.rhai_machine.specs.machine.Point.{Reaches}
-use Rattle.rhai_machine.specs.language.Setting.{Rules, cut}
+use Rattle.rhai_machine.specs.language.Setting.{Rules, cut, limit_under}
 use Rattle.rhai_machine.specs.language.State.{Local, State, HasMemory}
 use Rattle.rhai_machine.specs.language.Frames.{Control, Frame, Core, core, ended, marked}
 use Rattle.rhai_machine.specs.language.Language.{machine}
+use Rattle.rhai_machine.specs.language.Limits.{IsRefused}
 use Rattle.rhai_machine.specs.language.Memory.{UpToMemory}
 use Rattle.rhai_machine.specs.language.Runs.{at, with_core}
 use Rattle.rhai_eval.specs.Assigned.{assigned}
@@ -22,6 +24,12 @@ module _ {S H : Type 0} (rules : Rules S H) where
   -- from a control to the value or error that came of it
   abbrev pub EndsAs : Control H → State S H → Result (Dynamic H) (EvalAltResult H) → State S H → Type 0
   EndsAs c old result new = Ends (λ k l. core c k l) old (HasMemory result) (ended result) new
+
+  -- Two limits, want of memory aside: under each higher limit, any whole number, what begins so ends too, and at the same end, or here a
+  -- charge was refused, and the calls of natives so far begin those under the higher limit.
+  abbrev pub AgreesAbove : Control H → State S H → Result (Dynamic H) (EvalAltResult H) → State S H → Type 0
+  AgreesAbove c old result new =
+      HasMemory result → LimitsAgree (machine rules) IsRefused (limit_under rules) (at c [] old) (at (ended result) [] new)
 
   -- from where a call begins to its value or error
   abbrev pub EndsFrom : (begins : List (Frame H) → Local H → Core H) → State S H → Result (Dynamic H) (EvalAltResult H) → State S H →

@@ -2,6 +2,7 @@ pub mod Assigned
 pub mod Calls
 pub mod Chains
 pub mod Ends
+pub mod Entering
 pub mod Indexing
 pub mod Lends
 pub mod Plain

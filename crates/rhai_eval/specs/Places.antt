@@ -4,7 +4,7 @@ use Rattle.std.specs.Borrow.{MutBor}
 use Rattle.std.specs.Prelude.{◌⊎◌, Bool, true, false, List, [], ◌∷◌, Option, Some, None}
 use Rattle.rhai_values.specs.declared.base.value.Dynamic.{Dynamic}
 use Rattle.rhai_machine.specs.language.State.{Held}
-use Rattle.rhai_machine.specs.language.Frames.{Operation, FromFocus, Call}
+use Rattle.rhai_machine.specs.language.Frames.{Operation, FromFocus, Call, Dispatch}
 use Rattle.rhai_calls.specs.Lending.{passed_call}
 
 -- what an optional place of the caller has, and what it has as its loan ends
@@ -17,6 +17,10 @@ left_of (inl _) = None
 left_of (inr (inl place)) = Some place.0.now
 left_of (inr (inr never)) = None
 
+-- how a call by name is dispatched, which may be a method's, and may run a function on a scope
+abbrev pub by_name : (of_method on_scope : Bool) → Dispatch
+by_name of_method on_scope = record { of_method = of_method; natives_alone = false; on_scope = on_scope }
+
 module _ {H : Type 0} where
   -- `this` in hand, and a value at which the call works
   abbrev pub with_place : (this place : Option (Dynamic H)) → Held H
@@ -26,3 +30,8 @@ module _ {H : Type 0} where
   abbrev pub on_place : Operation → (guarded : Bool) → (first : Option (Dynamic H)) → (rest : List (Dynamic H)) → Call H
   on_place operation guarded (Some v) rest = passed_call operation (Some FromFocus) guarded true (v ∷ rest)
   on_place operation guarded None rest = passed_call operation None false true []
+
+  -- the same with the value by itself
+  abbrev pub by_value : Operation → (first : Option (Dynamic H)) → (rest : List (Dynamic H)) → Call H
+  by_value operation (Some v) rest = passed_call operation None false true (v ∷ rest)
+  by_value operation None rest = passed_call operation None false true []

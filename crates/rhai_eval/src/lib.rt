@@ -5,5 +5,6 @@
 pub mod engine;
 pub mod eval;
 pub mod func;
+mod this;
 
 pub use rhai_eval_base::{base, cells, check, script, state, table, target};

@@ -1,2 +1,2 @@
-mod Pushing
+pub mod Pushing
 mod Searches

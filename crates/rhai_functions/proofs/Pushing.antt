@@ -1,11 +1,12 @@
 -- Parameters that are pushed one after the other.
-use Rattle.std.proofs.Common.{◌≡◌, ◌<◌, ◌++◌, ℕ, zero, suc, List, [], ◌∷◌, length, drop, map, take, slice_get, slice_set, Some, refl, sym, ap, ◌∙◌, arith, get_or}
+use Rattle.std.proofs.Common.{◌≡◌, ◌<◌, ◌≤◌, ◌++◌, ℕ, zero, suc, List, [], ◌∷◌, length, drop, map, take, slice_get, slice_set, refl, sym, ap, ◌∙◌, arith, get_or}
 use Rattle.std.proofs.lemmas.List.{append_assoc}
 use Rattle.rhai_values.specs.declared.base.value.AccessMode.TheVariants.{ReadWrite}
 use Rattle.rhai_values.specs.declared.base.value.Dynamic.{Dynamic}
 use Rattle.rhai_state.specs.declared.scope.ScopeEntry.{ScopeEntry}
-use Rattle.rhai_state.specs.Scope.{new_entry}
-use Rattle.rhai_functions.specs.Entering.{parameters}
+use Rattle.std.specs.Option.{unwrap_or}
+use Rattle.rhai_state.specs.Scope.{name_of, new_entry}
+use Rattle.rhai_functions.specs.Entering.{parameters, unit}
 
 -- what a list begins with it begins with when more is put behind it
 pub begins_on : {A : Type 0} (zs xs ys : List A) → take (length zs) xs ≡ zs → take (length zs) (xs ++ ys) ≡ zs
@@ -16,27 +17,52 @@ begins_on (z ∷ zs) (x ∷ xs) ys is =
     let rest : take (length zs) xs ≡ zs = cc in rw (first, begins_on zs xs ys rest) refl
 
 -- one more item is set
-pub set_next : {A : Type 0} (u : A) (xs : List A) (at : ℕ) → at < length xs →
+pub set_next : {A : Type 0} (u : A) (xs : List A) (at : ℕ) →
     slice_set (map (λ x. u) (take at xs) ++ drop at xs) at u ≡ map (λ x. u) (take (suc at) xs) ++ drop (suc at) xs
-set_next u [] at within = absurd (omega arith)
-set_next u (x ∷ xs) zero within = refl
-set_next u (x ∷ xs) (suc at) within = ap (λ ys. u ∷ ys) (set_next u xs at (omega arith))
+set_next u [] zero = refl
+set_next u [] (suc at) = refl
+set_next u (x ∷ xs) zero = refl
+set_next u (x ∷ xs) (suc at) = ap (λ ys. u ∷ ys) (set_next u xs at)
+
+all_set : {A : Type 0} (u : A) (xs : List A) (at : ℕ) → length xs ≤ at → map (λ x. u) (take at xs) ++ drop at xs ≡ map (λ x. u) xs
+all_set u [] zero most = refl
+all_set u [] (suc at) most = refl
+all_set u (x ∷ xs) zero most = absurd (omega (arith, most))
+all_set u (x ∷ xs) (suc at) most = ap (λ ys. u ∷ ys) (all_set u xs at (omega (arith, most)))
+
+-- all of them are
+pub set_whole : {A : Type 0} (u : A) (xs ys : List A) (at : ℕ) → ys ≡ map (λ x. u) (take at xs) ++ drop at xs → length xs ≤ at →
+    ys ≡ map (λ x. u) xs
+set_whole u xs ys at is most = is ∙ all_set u xs at most
 
 module _ {H : Type 0} where
+  abbrev none_of : List (Dynamic H)
+  none_of = []
+
+  none_left : (at : ℕ) → drop at (none_of) ≡ []
+  none_left zero = refl
+  none_left (suc at) = refl
+
+  none_there : (at : ℕ) → unwrap_or (slice_get none_of at) unit ≡ unit
+  none_there zero = refl
+  none_there (suc at) = refl
+
   -- the next parameter stands before those that are left
   next_parameter : (names : List (List ℕ)) (args : List (Dynamic H)) (at : ℕ) (d : List ℕ) (v : Dynamic H) → at < length names →
-      slice_get args at ≡ Some v →
+      v ≡ unwrap_or (slice_get args at) unit →
       parameters (drop at names) (drop at args)
       ≡ new_entry (get_or names at d) ReadWrite v ∷ parameters (drop (suc at) names) (drop (suc at) args)
   next_parameter [] args at d v within is = absurd (omega arith)
-  next_parameter (name ∷ names) [] at d v within is = cc
-  next_parameter (name ∷ names) (arg ∷ args) zero d v within is =
-      let same : arg ≡ v = cc in ap (λ x. new_entry name ReadWrite x ∷ parameters names args) same
+  next_parameter (name ∷ names) [] zero d v within is = ap (λ x. new_entry name ReadWrite x ∷ parameters names []) (sym is)
+  next_parameter (name ∷ names) [] (suc at) d v within is =
+      ap (parameters (drop at names)) (sym (none_left at))
+      ∙ next_parameter names [] at d v (omega arith) (is ∙ sym (none_there at))
+  next_parameter (name ∷ names) (arg ∷ args) zero d v within is = ap (λ x. new_entry name ReadWrite x ∷ parameters names args) (sym is)
   next_parameter (name ∷ names) (arg ∷ args) (suc at) d v within is = next_parameter names args at d v (omega arith) is
 
   -- and once it is pushed those behind it are left
   pub pushed_on : (entries whole : List (ScopeEntry H)) (names : List (List ℕ)) (args left : List (Dynamic H)) (at : ℕ) (name : List ℕ)
-      (v : Dynamic H) → at < length names → name ≡ get_or names at name → slice_get args at ≡ Some v →
+      (v : Dynamic H) → at < length names → name ≡ get_or names at name → v ≡ unwrap_or (slice_get args at) unit →
       drop (suc at) left ≡ drop (suc at) args → entries ++ parameters (drop at names) (drop at args) ≡ whole →
       (entries ++ new_entry name ReadWrite v ∷ []) ++ parameters (drop (suc at) names) (drop (suc at) left) ≡ whole
   pushed_on entries whole names args left at name v within is there same before =
@@ -45,3 +71,9 @@ module _ {H : Type 0} where
       ∙ ap (λ x. entries ++ (new_entry x ReadWrite v ∷ parameters (drop (suc at) names) (drop (suc at) args))) is
       ∙ ap (λ rest. entries ++ rest) (sym (next_parameter names args at name v within there))
       ∙ before
+
+  -- the variables of the parameters have their names
+  pub parameter_names : (names : List (List ℕ)) (args : List (Dynamic H)) → map name_of (parameters names args) ≡ names
+  parameter_names [] args = refl
+  parameter_names (name ∷ names) [] = ap (λ rest. name ∷ rest) (parameter_names names [])
+  parameter_names (name ∷ names) (v ∷ args) = ap (λ rest. name ∷ rest) (parameter_names names args)

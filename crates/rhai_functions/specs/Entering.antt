@@ -12,7 +12,8 @@ module _ {H : Type 0} where
   abbrev pub unit : Dynamic H
   unit = plain value.Unit
 
-  -- the parameters are variables that may be written
+  -- the parameters are variables that may be written; one without an argument is `()`
   abbrev pub parameters : List (List ℕ) → List (Dynamic H) → List (ScopeEntry H)
+  parameters [] args = []
+  parameters (name ∷ names) [] = new_entry name ReadWrite unit ∷ parameters names []
   parameters (name ∷ names) (v ∷ args) = new_entry name ReadWrite v ∷ parameters names args
-  parameters _ _ = []

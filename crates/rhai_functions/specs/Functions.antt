@@ -91,3 +91,16 @@ module _ {H : Type 0} where
       Option (ModuleFn H)
   found_in key lib global imports named =
       option_or (in_modules key lib) (option_or (in_modules key global) (option_or (in_imports key imports) (in_named key named)))
+
+  -- ---- a name that means a function
+
+  -- how many parameters a function has, where it is of the name
+  abbrev pub arity_by : List ℕ → ModuleFn H → Option ℕ
+  arity_by name f = if bytes_eq (def_of f).name name then Some (length (def_of f).params) else None
+
+  -- how many parameters the first function of a name has, whatever its key, in a module and in the first of some that have one
+  abbrev pub first_named : List ℕ → List (ModuleFn H) → Option ℕ
+  first_named name functions = first_given (arity_by name) functions
+
+  abbrev pub named_in : List ℕ → List (Module H) → Option ℕ
+  named_in name modules = first_given (λ m. first_named name (functions_of m)) modules

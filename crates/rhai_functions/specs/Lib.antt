@@ -1,3 +1,4 @@
+pub mod Called
 pub mod Entering
 pub mod Functions
 pub mod Keys

@@ -1,6 +1,7 @@
 //! The variables that a function starts with.
 
-ghost use Rattle.std.specs.Prelude.{◌≡◌, ◌<◌, ◌++◌, suc, drop, length, map, slice_get, slice_set, take, OnErr, OnOk, Some};
+ghost use Rattle.std.specs.Prelude.{◌≡◌, ◌++◌, suc, drop, length, map, slice_get, slice_set, take, OnErr, OnOk};
+ghost use Rattle.std.specs.Option.{unwrap_or};
 ghost use Rattle.rhai_state.specs.Scope.{entries_of};
 ghost use Rattle.rhai_functions.specs.Entering.{parameters, unit};
 
@@ -10,28 +11,31 @@ use rhai_values::base::value::{AccessMode, Dynamic, Host, Union};
 use std::alloc::AllocError;
 use std::mem::replace;
 
-/// Takes an argument, and leaves `()` in its place.
+/// Takes an argument, and leaves `()` in its place; `()` itself where there is none.
 fn taken<H: Host>(args: &mut [Dynamic<H>], at: usize) -> Dynamic<H>
-    requires { at < length args.old }
-    ensures taken { slice_get args.old at ≡ Some result }
+    ensures taken { result ≡ unwrap_or (slice_get args.old at) unit }
     ensures others { drop (suc at) args.new ≡ drop (suc at) args.old }
     ensures length { length args.new ≡ length args.old }
     ensures left { args.new ≡ slice_set args.old at unit }
 {
-    replace(&mut args[at], Dynamic::new(Union::Unit))
+    if at < args.len() {
+        replace(&mut args[at], Dynamic::new(Union::Unit))
+    } else {
+        Dynamic::new(Union::Unit)
+    }
 }
 
 /// Pushes the parameters of a function as variables that may be written, each with its argument, which is
-/// taken: `()` is left of it. Where there is no memory some of them may be there.
+/// taken: `()` is left of it. A parameter without an argument is `()`. Where there is no memory some of them
+/// may be there.
 pub fn push_parameters<H: Host>(
     scope: &mut Scope<H>,
     params: &[Shared<Text>],
     args: &mut [Dynamic<H>],
 ) -> Result<(), AllocError>
-    requires { length params.now ≡ length args.old }
     ensures ok { OnOk result (entries_of scope.new
         ≡ entries_of scope.old ++ parameters params.now args.old) }
-    ensures left { OnOk result (args.new ≡ map (λ _. unit) args.old) }
+    ensures left { OnOk result (length params.now ≡ length args.old → args.new ≡ map (λ _. unit) args.old) }
     ensures err { OnErr result (take (length (entries_of scope.old)) (entries_of scope.new)
         ≡ entries_of scope.old) }
 {

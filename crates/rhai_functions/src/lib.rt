@@ -4,8 +4,15 @@
 //! cite specs/Functions.antt.
 #![tactic(auto)]
 
+#[cfg(test)]
+mod tests;
+
+// What the crates above call.
+
 pub mod entering;
 pub mod environ;
+pub mod function;
 pub mod key;
 pub mod lookup;
 pub mod metadata;
+pub mod named;

@@ -2,9 +2,13 @@
 
 ghost use Rattle.std.specs.Prelude.{◌≡◌, map, IfOk};
 ghost use Rattle.std.specs.Option.{option_copied};
+ghost use Rattle.rhai_tree.specs.Signatures.{signature_text};
 
 use rhai_tree::function::{FnAccess, ScriptFuncDef};
+use rhai_tree::signature::write_signature;
 use std::alloc::{AllocError, Global};
+use std::fmt;
+use std::fmt::{Display, Formatter, Write};
 
 /// What is told of a function: its name and parameters, who may call it, and the type that its `this` must
 /// have, if any. Ports upstream's `ScriptFnMetadata`.
@@ -30,6 +34,23 @@ impl<'a> ScriptFnMetadata<'a> {
             access: self.access,
             this_type: self.this_type,
         })
+    }
+}
+
+/// The function as its own `Display` writes it, as `private "i64".f(a, b)`. Ports upstream's `Display` of
+/// `ScriptFnMetadata`.
+impl Display for ScriptFnMetadata<'_> {
+    ghost output = { λ told. signature_text told.access (option_copied told.this_type) told.name.now
+        (map (λ p. p.now) told.params.items) };
+
+    fn fmt<W: Write>(&self, f: &mut Formatter<W>) -> fmt::Result {
+        write_signature(
+            self.access,
+            self.this_type,
+            self.name,
+            self.params.as_slice(),
+            f,
+        )
     }
 }
 

@@ -2,7 +2,8 @@
 use Rattle.std.proofs.Common.{◌≡◌, inl, inr, ℕ, zero, suc, Bool, true, false, List, [], ◌∷◌, Option, Some, None, Ok}
 use Rattle.std.proofs.Common.{refl, sym, ap, subst, ◌∙◌}
 use Rattle.std.specs.List.{slice_get, slice_set}
-use Rattle.std.specs.Option.{option_map}
+use Rattle.std.specs.Option.{option_map, option_or}
+use Rattle.std.specs.Prelude.{is_some}
 use Rattle.std.specs.Str.{bytes_eq}
 use Rattle.rhai_tree.specs.Layers.{ExprLayer}
 use Rattle.rhai_values.specs.declared.base.value.AccessMode.TheVariants.{ReadWrite}
@@ -20,7 +21,8 @@ use Rattle.rhai_machine.specs.language.State.{State}
 use Rattle.rhai_machine.specs.language.Values.{Cells, is_handle, unit_value}
 use Rattle.rhai_machine.specs.language.Names.{looked_up, variable_of}
 use Rattle.rhai_machine.specs.language.Located.{index_by}
-use Rattle.rhai_machine.specs.language.Frames.{NewValue, Chain, Frame, Core, core, on_value, ReadRoot, Walk, Back, Changed, Fail}
+use Rattle.rhai_machine.specs.language.Functions.{meant_function}
+use Rattle.rhai_machine.specs.language.Frames.{FromEntry, NewValue, Chain, Frame, Core, core, on_value, ReadRoot, Walk, Back, Changed, Fail}
 use Rattle.rhai_machine.specs.language.Frames.{ChainEnd}
 use Rattle.rhai_machine.specs.language.Members.{focused_on}
 use Rattle.rhai_machine.specs.language.Chains.{begun_core, read_root_core}
@@ -138,17 +140,25 @@ module _ {S H : Type 0} (rules : Rules S H) (allows : ℕ → Bool) (name : List
   -- ---- the chain's begin
 
   abbrev ends_at : Option ℕ → List (Frame H)
-  ends_at index = ChainEnd index mid.local.focus ∷ []
+  ends_at index = ChainEnd (option_map FromEntry index) mid.local.focus ∷ []
 
   abbrev walked : Chain H
   walked = assigning rules allows chain.root new given.plain chain.rest chain.args true
 
+  there : Newest name scope
+  there = newest_of name scope given.root given.variable
+
+  abbrev begun_by : Dynamic H → Core H
+  begun_by v = begun_core (is_some (index_of name scope)) (option_map FromEntry (index_of name scope)) v chain [] mid.local
+
   begun_is : read_root_core name pos chain [] mid.local
       ≡ core (Walk walked) (ends_at (index_of name scope)) (focused_on (Some given.root) mid.local)
-  begun_is = ap (λ o. on_value (variable_of mid.local.around.cells name pos o)
-      (λ v. begun_core true (index_of name scope) v chain [] mid.local) [] mid.local) given.variable
-      ∙ ap (λ r. on_value r (λ v. begun_core true (index_of name scope) v chain [] mid.local) [] mid.local)
+  begun_is = ap (λ (o : Option (Dynamic H)). on_value
+      (variable_of mid.local.around.cells name pos (option_or o (meant_function mid.local.around.lib name))) begun_by [] mid.local)
+      given.variable
+      ∙ ap (λ r. on_value r begun_by [] mid.local)
       (looked_up_itself mid.local.around.cells name pos given.root.value given.root (root_no_handle given.leads))
+      ∙ ap (λ (b : Bool). begun_core b (option_map FromEntry (index_of name scope)) given.root chain [] mid.local) (ap is_some there.is)
       ∙ ap (λ (o : Option (NewValue H)). core (Walk (record chain { new = o; in_place = true })) (ends_at (index_of name scope))
       (focused_on (Some given.root) mid.local)) given.assigns
 
@@ -161,11 +171,8 @@ module _ {S H : Type 0} (rules : Rules S H) (allows : ℕ → Bool) (name : List
 
   -- ---- the chain's end
 
-  there : Newest name scope
-  there = newest_of name scope given.root given.variable
-
   abbrev left : State S H → State S H
-  left s = record s { local = ended_chain (Some there.index) mid.local.focus s.local }
+  left s = record s { local = ended_chain (Some (FromEntry there.index)) mid.local.focus s.local }
 
   fails_end : (e : EvalAltResult H) (s : State S H) → Comes (at (Fail e) (ends_at (Some there.index)) s) (at (Fail e) [] (left s))
   fails_end e s = step_by rules allows _ _ (Go (core (Fail e) [] (left s).local)) refl here

@@ -1,27 +1,36 @@
 -- The relation that each rule keeps: the surroundings that are left once the stack has been unwound, and what is asked of the names.
-use Rattle.std.proofs.Common.{refl, sym, ap, ◌∙◌}
+use Rattle.std.proofs.Common.{refl, sym, ap, ◌∙◌, arith}
 use Rattle.std.proofs.Math.Seq.{take-append_seam, take-length}
-use Rattle.std.proofs.lemmas.List.{take-map, length-map, append-nil}
+use Rattle.std.proofs.lemmas.List.{take-map, drop-map, length-map, length-append, append-nil, map-append}
 use Rattle.std.proofs.Common.{append_assoc}
 use Rattle.std.specs.Option.{option_flatten, unwrap_or}
-use Rattle.std.specs.Prelude.{◌≡◌, ℕ, zero, suc, Bool, true, false, List, [], ◌∷◌, ◌++◌, map, take, length, nat_le, Some, None, Result, Ok}
-use Rattle.std.specs.Prelude.{Err}
-use Rattle.std.specs.Prelude.{is_some, slice_get, slice_set}
+use Rattle.std.specs.Prelude.{◌≡◌, ◌≤◌, ◌+◌, ℕ, zero, suc, Bool, true, false, not, ◌&&◌, List, [], ◌∷◌, ◌++◌, map, take, drop, length}
+use Rattle.std.specs.Prelude.{Option, Some, None, Result, Ok, Err, is_some, slice_get, slice_set}
 use Rattle.rhai_check.specs.Names.{Name, Begins}
+use Rattle.rhai_tree.specs.declared.expr.Stmt.{Stmt}
+use Rattle.rhai_items.specs.Lookup.{with_entry}
 use Rattle.rhai_values.specs.declared.base.value.Dynamic.{Dynamic}
+use Rattle.rhai_values.specs.declared.base.value.EncapsulatedEnviron.{EncapsulatedEnviron, out-EncapsulatedEnviron}
 use Rattle.rhai_values.specs.Cells.{value_of_cell, with_held, with_value}
+use Rattle.rhai_values.specs.Copy.{copy_of}
 use Rattle.rhai_paths.specs.Paths.{Step, ToPlace, ToCell}
 use Rattle.rhai_state.specs.declared.error.EvalAltResult.{EvalAltResult}
+use Rattle.rhai_state.specs.declared.scope.ScopeEntry.{ScopeEntry}
 use Rattle.rhai_state.specs.Scope.{name_of}
 use Rattle.rhai_machine.specs.language.State.{Surroundings, Local}
 use Rattle.rhai_machine.specs.language.Values.{Cells, unit_value}
-use Rattle.rhai_machine.specs.language.Places.{Place, InEntry, InCell, InFocus, put}
+use Rattle.rhai_machine.specs.language.Places.{Place, InEntry, InCell, InThis, InFocus, rebound, put}
+use Rattle.rhai_machine.specs.language.Activations.{Object, NoObject, OwnThis, TheFocus, Entered, Variables, Caller, UpTo, Without}
+use Rattle.rhai_machine.specs.language.Activations.{CallExit}
 use Rattle.rhai_machine.specs.language.Frames.{Saved, Control, Frame, Core, core, ended, Exec, OpenStmt, Enter, Run, Back, DefineValue}
-use Rattle.rhai_machine.specs.language.Frames.{RestOfList, RestoreList, StepDown}
-use Rattle.rhai_machine.specs.language.Statements.{saved_by, restored_by, deeper}
+use Rattle.rhai_machine.specs.language.Frames.{RestOfList, RestoreList, StepDown, EnterFunction, CallEnd}
+use Rattle.rhai_functions.specs.Entering.{parameters}
+use Rattle.rhai_machine.specs.language.Bodies.{back_by, variables_before, this_by, with_environ, entered_local}
+use Rattle.rhai_machine.specs.language.Bodies.{variables_after, exit_of, variables_back, called_back}
+use Rattle.rhai_machine.specs.language.Statements.{saved_by, restored_by, deeper, with_constant, with_entry_at}
 use Rattle.rhai_machine.specs.language.Unwinding.{restored}
 use Rattle.rhai_machine.proofs.Places.{put_names}
-use Rattle.rhai_laws.specs.Kept.{forgotten_cell, forgotten, Stands, Sound, names_of}
+use Rattle.rhai_laws.specs.Kept.{forgotten_cell, forgotten_table, forgotten, Stands, Sound, names_of, adds_names}
 
 -- the surroundings, without the values of the cells, and what is restored along with them
 pub record Outline (H : Type 0) : Type 0 where
@@ -34,9 +43,10 @@ pub record Asked : Type 1 where
   pub along : List Name → Type 0
   pub last : List Name → Type 0
 
--- where there is room for one more name it may be added
-abbrev pub Grows : Asked → ℕ → Type 0
-Grows a most = (n : List Name) (name : Name) → a.along n → nat_le most (length n) ≡ false → a.along (n ++ name ∷ [])
+-- what is asked all along holds of so few names, and stays where names between others go
+pub record Grows (a : Asked) (most : ℕ) : Type 0 where
+  pub fits : (n : List Name) → length n ≤ most → a.along n
+  pub thins : (n : List Name) (i j : ℕ) → a.along n → a.along (take i n ++ drop (i + j) n)
 
 -- names begin with themselves
 pub begins_self : (n : List Name) → Begins n n
@@ -64,9 +74,23 @@ module _ {H : Type 0} where
   abbrev pub freed : ℕ → Outline H → Outline H
   freed n o = record o { around = record o.around { cells = with_value o.around.cells n unit_value } }
 
+  -- what the end of a function's call makes of it
+  abbrev pub ended_call : CallExit H → Outline H → Outline H
+  ended_call exit o = record {
+    around = record o.around {
+      lib = take exit.lib_length o.around.lib;
+      imports = take exit.imports_length o.around.imports;
+      constants = exit.constants;
+      level = exit.level;
+    };
+    scope_level = o.scope_level;
+    bound = back_by exit.object (is_some exit.this) o.bound;
+  }
+
   -- what is left of it once the whole stack has been unwound
   abbrev pub unwound : List (Frame H) → Outline H → Outline H
   unwound [] o = o
+  unwound (CallEnd exit ∷ k) o = unwound k (ended_call exit o)
   unwound (RestoreList saved ∷ k) o = unwound k (given_back saved o)
   unwound (StepDown above (ToCell n) ∷ k) o = unwound k (freed n o)
   unwound (_ ∷ k) o = unwound k o
@@ -120,10 +144,87 @@ module _ {H : Type 0} where
       freed n (outline (record l { focus = Some inner; around = record l.around { cells = with_held l.around.cells n } })) ≡ outline l
   entered_cell n inner l is = rw (free_again l.around.cells n is) refl
 
+  still_bound : (v : Dynamic H) (this : Option (Dynamic H)) → is_some (rebound v this) ≡ is_some this
+  still_bound v (Some w) = refl
+  still_bound v None = refl
+
   put_outline : (place : Place) (v : Dynamic H) (l : Local H) → Stands place l → outline (put place v l) ≡ outline l
   put_outline (InEntry index) v l is = refl
   put_outline (InCell n) v l is = rw (free_cell l.around.cells n v is) refl
+  put_outline InThis v l is = rw (still_bound v l.this) refl
   put_outline InFocus v l is = refl
+
+  -- whether `this` is bound comes back as `this` does
+  bound_back : (object : Object) (before now : Option (Dynamic H)) →
+      is_some (back_by object before now) ≡ back_by object (is_some before) (is_some now)
+  bound_back NoObject before now = refl
+  bound_back OwnThis before now = refl
+  bound_back TheFocus before now = refl
+
+  bound_again : (object : Object) (l : Local H) → back_by object (is_some l.this) (is_some (this_by object l)) ≡ is_some l.this
+  bound_again NoObject l = refl
+  bound_again OwnThis l = refl
+  bound_again TheFocus l = refl
+
+  -- what the end of a call makes of the outline
+  pub left_call : (exit : CallExit H) (l : Local H) → outline (called_back exit l) ≡ ended_call exit (outline l)
+  left_call exit l = rw (bound_back exit.object exit.this l.this) refl
+
+  -- and it gives back what its start had
+  pub entered_call : (e : Entered H) (environ : Option (EncapsulatedEnviron H)) (scope : List (ScopeEntry H)) (l : Local H) →
+      ended_call (exit_of e l) (outline (record l {
+        scope = scope;
+        this = this_by e.object l;
+        focus = None;
+        around = record (with_environ environ l.around) { level = e.level };
+      })) ≡ outline l
+  entered_call e None scope l = rw (bound_again e.object l, take-length l.around.lib, take-length l.around.imports) refl
+  entered_call e (Some environ) scope l = rw (
+    bound_again e.object l,
+    take-append_seam l.around.lib (out-EncapsulatedEnviron H environ).lib,
+    take-append_seam l.around.imports (out-EncapsulatedEnviron H environ).imports,
+  ) refl
+
+  -- a table of constants gets a value
+  table_forgotten : (tables : List (List (List ℕ) × List (Dynamic H))) (n : ℕ) (table : List (List ℕ) × List (Dynamic H)) →
+      map forgotten_table (slice_set tables n table) ≡ map forgotten_table tables
+  table_forgotten [] n table = refl
+  table_forgotten (t ∷ tables) zero table = refl
+  table_forgotten (t ∷ tables) (suc n) table = ap (λ rest. ([], []) ∷ rest) (table_forgotten tables n table)
+
+  tables_forgotten : (tables : List (List (List ℕ) × List (Dynamic H))) (n : ℕ) (there : Option (List (List ℕ) × List (Dynamic H)))
+      (name : List ℕ) (v : Dynamic H) →
+      map forgotten_table (with_entry_at name v tables n there) ≡ map forgotten_table tables
+  tables_forgotten tables n (Some table) name v = table_forgotten tables n (with_entry name v table)
+  tables_forgotten tables n None name v = refl
+
+  pub constant_outline : (name : List ℕ) (v : Dynamic H) (l : Local H) →
+      outline (record l { around = with_constant name v l.around }) ≡ outline l
+  constant_outline name v l = rw (tables_forgotten l.around.constant_tables l.around.constants
+      (slice_get l.around.constant_tables l.around.constants) name (copy_of v)) refl
+
+  -- ---- the names that the end of a call leaves
+
+  abbrev pub names_back : Variables H → List Name → List Name
+  names_back (Caller scope) n = map name_of scope
+  names_back (UpTo i) n = take i n
+  names_back (Without i j) n = take i n ++ drop (i + j) n
+
+  pub named_back : (variables : Variables H) (scope : List (ScopeEntry H)) →
+      map name_of (variables_back variables scope) ≡ names_back variables (map name_of scope)
+  named_back (Caller before) scope = refl
+  named_back (UpTo i) scope = sym (take-map name_of i scope)
+  named_back (Without i j) scope = rw (
+    map-append name_of (take i scope) (drop (i + j) scope),
+    ← take-map name_of i scope,
+    ← drop-map name_of (i + j) scope,
+  ) refl
+
+  -- a function starts with no more names than it has parameters, after those that it finds
+  pub few_parameters : (names : List (List ℕ)) (args : List (Dynamic H)) → length (parameters names args) ≤ length names
+  few_parameters [] args = omega arith
+  few_parameters (name ∷ names) [] = omega (arith, few_parameters names [])
+  few_parameters (name ∷ names) (v ∷ args) = omega (arith, few_parameters names args)
 
   still_free : (cells : Cells H) (n : ℕ) (v : Dynamic H) → is_some (option_flatten (slice_get cells n)) ≡ true →
       is_some (option_flatten (slice_get (slice_set cells n (Some v)) n)) ≡ true
@@ -135,6 +236,7 @@ module _ {H : Type 0} where
   pub put_stands : (place : Place) (v : Dynamic H) (l : Local H) → Stands place l → Stands place (put place v l)
   put_stands (InEntry index) v l is = tt
   put_stands (InCell n) v l is = still_free l.around.cells n v is
+  put_stands InThis v l is = tt
   put_stands InFocus v l is = tt
 
   module _ (a : Asked) where
@@ -143,7 +245,8 @@ module _ {H : Type 0} where
     Tight [] n = a.last n
     Tight (RestoreList saved ∷ k) n = a.along (take saved.scope_length n) × Tight k (take saved.scope_length n)
     Tight (RestOfList rest restoring ∷ k) n = (m : List Name) → Begins n m → a.along m → Tight k m
-    Tight (DefineValue ident options value_at ∷ k) n =
+    Tight (CallEnd exit ∷ k) n = a.along (names_back exit.variables n) × Tight k (names_back exit.variables n)
+    Tight (DefineValue ident options restoring value_at ∷ k) n =
         a.along (n ++ ident.name ∷ []) × ((m : List Name) → Begins n m → a.along m → Tight k m)
     Tight (_ ∷ k) n = Tight k n
 
@@ -151,8 +254,13 @@ module _ {H : Type 0} where
     abbrev pub Free : List (Frame H) → List Name → Type 0
     Free k n = (m : List Name) → Begins n m → a.along m → Tight k m
 
-    -- what is asked of them at a control: a statement and the rest of a list may add some
+    abbrev pub TightBy : (adds : Bool) → List (Frame H) → List Name → Type 0
+    TightBy true k n = Free k n
+    TightBy false k n = Tight k n
+
+    -- what is asked of them at a control: a statement, the rest of a list and some functions may add some
     abbrev pub TightAt : Control H → List (Frame H) → List Name → Type 0
+    TightAt (EnterFunction e) k n = TightBy (adds_names e) k n
     TightAt (Exec stmt restoring) k n = Free k n
     TightAt (OpenStmt form restoring) k n = Free k n
     TightAt (Run stmts restoring last) k n = Free k n
@@ -200,6 +308,68 @@ module _ {H : Type 0} where
     pub left_names : (saved : Saved) (k : List (Frame H)) (l : Local H) → Held (calm (RestoreList saved ∷ k) l) →
         Held (calm k (restored_by saved l))
     left_names saved k l t = rw (← take-map name_of saved.scope_length l.scope) t.1
+
+    -- a control that may add names, or may not, adds none
+    pub stopped_by : (adds : Bool) (k : List (Frame H)) (n : List Name) → a.along n → TightBy adds k n → Tight k n
+    stopped_by true k n w t = t n (begins_self n) w
+    stopped_by false k n w t = t
+
+    pub started_by : (adds : Bool) (k : List (Frame H)) (n : List Name) → Tight k n → Free k n → TightBy adds k n
+    started_by true k n t f = f
+    started_by false k n t f = t
+
+    -- a function's call is left
+    pub call_left : (exit : CallExit H) (k : List (Frame H)) (l : Local H) →
+        Keeps (calm (CallEnd exit ∷ k) l) (calm k (called_back exit l))
+    call_left exit k l = quiet tt (ap (unwound k) (left_call exit l)) (λ t. rw (named_back exit.variables l.scope) t.1)
+
+    -- a function that fits is entered
+    module _ (most : ℕ) (grows : Grows a most) where
+      -- where the first names are these, they stay as those of the parameters go
+      thinned : (l : Local H) (j : ℕ) (m : List Name) → Begins (names_of l) m →
+          Begins (names_of l) (take (length l.scope) m ++ drop (length l.scope + j) m)
+      thinned l j m b = (drop (length l.scope + j) m, ap (λ xs. xs ++ drop (length l.scope + j) m) (taken l m b))
+
+      entered_names_by : (is_fresh restores : Bool) (stmt : Stmt) (stmts : List Stmt) (exit : CallExit H) (n : List Name) (j : ℕ)
+          (k : List (Frame H)) (l : Local H) → exit.variables ≡ variables_after is_fresh restores l.scope j →
+          Begins (map name_of (variables_before is_fresh l.scope)) n → a.along (names_of l) →
+          TightBy (not restores && not is_fresh) k (names_of l) → TightAt (Enter (stmt ∷ stmts) restores) (CallEnd exit ∷ k) n
+      entered_names_by true true stmt stmts exit n j k l is b w t = rw is (w, t)
+      entered_names_by true false stmt stmts exit n j k l is b w t = λ m c v. rw is (w, t)
+      entered_names_by false true stmt stmts exit n j k l is b w t = rw (is, taken l n b) (w, t)
+      entered_names_by false false stmt stmts exit n j k l is b w t = λ m c v.
+          let thin : List Name = take (length l.scope) m ++ drop (length l.scope + j) m in
+          let x : a.along thin = grows.thins m (length l.scope) j v in
+          rw is (x, t thin (thinned l j m (begins_through (names_of l) n m b c)) x)
+
+      entered_begins : (is_fresh : Bool) (names : List (List ℕ)) (args : List (Dynamic H)) (scope : List (ScopeEntry H)) →
+          Begins (map name_of (variables_before is_fresh scope)) (map name_of (variables_before is_fresh scope ++ parameters names args))
+      entered_begins is_fresh names args scope = (
+        map name_of (parameters names args),
+        map-append name_of (variables_before is_fresh scope) (parameters names args),
+      )
+
+      few_names : (is_fresh : Bool) (names : List (List ℕ)) (args : List (Dynamic H)) (scope : List (ScopeEntry H)) →
+          length (variables_before is_fresh scope) + length names ≤ most →
+          length (map name_of (variables_before is_fresh scope ++ parameters names args)) ≤ most
+      few_names is_fresh names args scope le = omega (
+        arith,
+        length-map (variables_before is_fresh scope ++ parameters names args) name_of,
+        length-append (variables_before is_fresh scope) (parameters names args),
+        few_parameters names args,
+        le,
+      )
+
+      pub function_entered : (e : Entered H) (stmt : Stmt) (stmts : List Stmt) (k : List (Frame H)) (l : Local H) →
+          length (variables_before e.is_fresh l.scope) + length e.def.params ≤ most →
+          Keeps (core (EnterFunction e) k l) (core (Enter (stmt ∷ stmts) e.restores) (CallEnd (exit_of e l) ∷ k) (entered_local e l))
+      function_entered e stmt stmts k l le = quiet tt
+          (ap (unwound k) (entered_call e e.environ (entered_local e l).scope l))
+          (λ t. (
+            grows.fits (names_of (entered_local e l)) (few_names e.is_fresh e.def.params e.args l.scope le),
+            entered_names_by e.is_fresh e.restores stmt stmts (exit_of e l) (names_of (entered_local e l)) (length e.def.params) k l refl
+                (entered_begins e.is_fresh e.def.params e.args l.scope) t.0 t.1,
+          ))
 
     -- a step down is left
     pub step_left : (above : Dynamic H) (step : Step) (k : List (Frame H)) (l : Local H) →

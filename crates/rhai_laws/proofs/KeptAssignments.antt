@@ -21,13 +21,16 @@ use Rattle.rhai_state.specs.Scope.{index_of, found}
 use Rattle.rhai_operators.specs.Answers.{Answer, op_assign_of}
 use Rattle.rhai_machine.specs.language.Setting.{Setting}
 use Rattle.rhai_machine.specs.language.State.{Local}
-use Rattle.rhai_machine.specs.language.Places.{Place, InEntry, InCell, InFocus, Target, target, is_constant, unless_constant}
-use Rattle.rhai_machine.specs.language.Places.{target_in_cell, target_at, target_found, target_of, focus_in_cell, focus_at}
-use Rattle.rhai_machine.specs.language.Places.{focus_target, put}
+use Rattle.rhai_machine.specs.language.Functions.{meant_function}
+use Rattle.rhai_machine.specs.language.Names.{bound_this}
+use Rattle.rhai_machine.specs.language.Places.{Place, InEntry, InCell, InThis, InFocus, Target, target, is_constant, unless_constant}
+use Rattle.rhai_machine.specs.language.Places.{target_in_cell, target_at, no_variable, target_found, target_of, focus_in_cell, focus_at}
+use Rattle.rhai_machine.specs.language.Places.{focus_target, this_at, this_target, put}
 use Rattle.rhai_machine.specs.language.Frames.{Attempt, InPlace, AsValue, Assignment, Update, Frame}
 use Rattle.rhai_machine.specs.language.Frames.{Core, core, where_there, QuestionUpdate}
 use Rattle.rhai_machine.specs.language.Frames.{FireUpdate}
 use Rattle.rhai_machine.specs.language.Calls.{sized, applied, replied, placed_if_none}
+use Rattle.rhai_machine.specs.language.Assignment.{store_this, to_this}
 use Rattle.rhai_machine.specs.language.Assignment.{assignment_move, written_core, done, if_fast, says_missing, operation_of}
 use Rattle.rhai_machine.specs.language.Assignment.{native_of, left_in, update_core, assign_core, store_core, changed_core, fault_core}
 use Rattle.rhai_machine.specs.language.Assignment.{value_core, answered_core, lent_core, barred_core, fire_update}
@@ -53,15 +56,16 @@ module _ {H : Type 0} where
   at_stands name pos i (value.Cell id) v t l is = cell_stands name pos v.mode id.number (value_of_cell l.around.cells id.number) t l refl is
   at_stands name pos i _ v t l is = constant_stands (is_constant v.mode) name pos (target (InEntry i) v) t l tt is
 
-  found_stands : (name : List ℕ) (pos : Position) (index : Option ℕ) (there : Option (Dynamic H)) (t : Target H) (l : Local H) →
-      target_found l.around.cells name pos index there ≡ Ok t → Stands t.place l
-  found_stands name pos (Some i) (Some v) t l is = at_stands name pos i v.value v t l is
-  found_stands name pos (Some i) None t l is = cc
-  found_stands name pos None there t l is = cc
+  found_stands : (otherwise : EvalAltResult H) (name : List ℕ) (pos : Position) (index : Option ℕ) (there : Option (Dynamic H))
+      (t : Target H) (l : Local H) → target_found l.around.cells otherwise name pos index there ≡ Ok t → Stands t.place l
+  found_stands otherwise name pos (Some i) (Some v) t l is = at_stands name pos i v.value v t l is
+  found_stands otherwise name pos (Some i) None t l is = cc
+  found_stands otherwise name pos None there t l is = cc
 
-  pub target_stands : (name : List ℕ) (pos : Position) (t : Target H) (l : Local H) → target_of l.around.cells name pos l.scope ≡ Ok t →
-      Stands t.place l
-  target_stands name pos t l is = found_stands name pos (index_of name l.scope) (found name l.scope) t l is
+  pub target_stands : (name : List ℕ) (pos : Position) (t : Target H) (l : Local H) →
+      target_of l.around.cells l.around.lib name pos l.scope ≡ Ok t → Stands t.place l
+  target_stands name pos t l is = found_stands (no_variable (meant_function l.around.lib name) name pos) name pos (index_of name l.scope)
+      (found name l.scope) t l is
 
   -- and so does the focus of a chain that is assigned to
   focus_cell_stands : (name : List ℕ) (pos : Position) (mode : AccessMode) (n : ℕ) (there : Option (Dynamic H)) (t : Target H)
@@ -82,16 +86,34 @@ module _ {H : Type 0} where
       focus_target l.around.cells name pos v ≡ Ok t → Stands t.place l
   focus_stands name pos v t l is = focus_at_stands name pos v.value v t l is
 
+  -- and so does `this`
+  this_at_stands : (pos : Position) (u : Union H) (v : Dynamic H) (t : Target H) (l : Local H) → this_at l.around.cells pos u v ≡ Ok t →
+      Stands t.place l
+  this_at_stands pos (value.Cell id) v t l is =
+      focus_cell_stands [] pos v.mode id.number (value_of_cell l.around.cells id.number) t l refl is
+  this_at_stands pos _ v t l is = constant_stands (is_constant v.mode) [] pos (target InThis v) t l tt is
+
+  pub this_stands : (pos : Position) (this : Option (Dynamic H)) (t : Target H) (l : Local H) → this_target l.around.cells pos this ≡ Ok t →
+      Stands t.place l
+  this_stands pos (Some v) t l is = this_at_stands pos v.value v t l is
+  this_stands pos None t l is = cc
+
 module _ {H : Type 0} (a : Asked) where
   -- a form that may not be there
   pub there_keeps : (there : Bool) (c d : Core H) → Keeps a c d → Moves (Keeps a) c (where_there there d)
   there_keeps true c d h = h
   there_keeps false c d h = tt
 
+  to_this_keeps : (r : Result (Dynamic H) (EvalAltResult H)) (op : OpAssignment) (pos : Position) (rhs : Expr) (k : List (Frame H))
+      (l : Local H) → Keeps a (calm k l) (to_this r op pos rhs k l)
+  to_this_keeps (Ok v) op pos rhs k l = quiet a tt refl (λ t. t)
+  to_this_keeps (Err e) op pos rhs k l = quiet a tt refl (λ t. t)
+
   pub assignment_keeps : (form : ExprLayer) (op : OpAssignment) (rhs : Expr) (c : Core H) (k : List (Frame H)) (l : Local H) →
       Keeps a c (calm k l) → Moves (Keeps a) c (assignment_move form op rhs k l)
   assignment_keeps (layer.Variable offset name namespace pos) op rhs c k l h =
       there_keeps (is_unqualified namespace.path) c _ (through a h (quiet a tt refl (λ t. t)))
+  assignment_keeps (layer.ThisPtr pos) op rhs c k l h = through a h (to_this_keeps (bound_this pos l.this) op pos rhs k l)
   assignment_keeps (layer.Index lhs rest options pos) op rhs c k l h = through a h (quiet a tt refl (λ t. t))
   assignment_keeps (layer.Dot lhs rest options pos) op rhs c k l h = through a h (quiet a tt refl (λ t. t))
   assignment_keeps _ op rhs c k l h = tt
@@ -138,9 +160,15 @@ module _ {H : Type 0} (a : Asked) where
 
     pub store_keeps : (r : Result (Target H) (EvalAltResult H)) (assignment : Assignment) (v : Dynamic H)
         (k : List (Frame H)) (l : Local H) →
-        target_of l.around.cells assignment.name assignment.at l.scope ≡ r → Keeps a (calm k l) (store_core s r assignment v k l)
+        target_of l.around.cells l.around.lib assignment.name assignment.at l.scope ≡ r →
+        Keeps a (calm k l) (store_core s r assignment v k l)
     store_keeps r assignment v k l is =
         stored_keeps r assignment v k l (λ t ok. target_stands assignment.name assignment.at t l (is ∙ ok))
+
+    pub store_this_keeps : (op : OpAssignment) (pos : Position) (v : Dynamic H) (k : List (Frame H)) (l : Local H) →
+        Keeps a (calm k l) (store_this s op pos v k l)
+    store_this_keeps op pos v k l = stored_keeps (this_target l.around.cells pos l.this) (record { name = []; at = pos; op = op }) v k l
+        (λ t ok. this_stands pos l.this t l ok)
 
     changed_keeps : (r : Result (Dynamic H) (EvalAltResult H)) (u : Update H) (k : List (Frame H)) (l : Local H) →
         Keeps a (calm k l) (changed_core s r u k l)

@@ -1,9 +1,8 @@
 -- What the rules of calls keep: what a native leaves goes back to a place that stands, and no rule adds names.
 use Rattle.std.proofs.Common.{refl, ap, subst}
 use Rattle.std.specs.Option.{option_map}
-use Rattle.std.specs.Prelude.{◌≡◌, ⊤, ℕ, nat_eq, length, not, ◌&&◌, Bool, true, false, List, [], ◌∷◌, ◌++◌, Option, Some, None, Result}
+use Rattle.std.specs.Prelude.{◌≡◌, ⊤, ℕ, ◌+◌, length, ◌&&◌, Bool, true, false, List, [], ◌∷◌, ◌++◌, Option, Some, None, Result}
 use Rattle.std.specs.Prelude.{Ok, Err, codes, is_some, if◌then◌else◌}
-use Rattle.std.specs.Str.{bytes_eq}
 use Rattle.rhai_tree.specs.declared.position.Position.{Position}
 use Rattle.rhai_tree.specs.declared.token.Token.{Token}
 use Rattle.rhai_tree.specs.declared.expr.Expr.{Expr, out-Expr}
@@ -20,20 +19,23 @@ use Rattle.rhai_values.specs.Cells.{value_of_cell}
 use Rattle.rhai_state.specs.declared.error.EvalAltResult.{EvalAltResult}
 use Rattle.rhai_machine.specs.language.Setting.{Setting}
 use Rattle.rhai_machine.specs.language.State.{Local}
-use Rattle.rhai_machine.specs.language.Values.{through as seen_through}
 use Rattle.rhai_machine.specs.language.Places.{Place, InCell, is_barred}
-use Rattle.rhai_machine.specs.language.Frames.{Operation, Lender, FromEntry, FromFocus, Call, Frame, Core, core, changed, on_value}
-use Rattle.rhai_machine.specs.language.Frames.{CallNamed, Question, Fire, OpenExpr}
+use Rattle.rhai_functions.specs.declared.function.Function.{Function}
+use Rattle.rhai_machine.specs.language.Names.{bound_this}
+use Rattle.rhai_machine.specs.language.Frames.{Operation, Lender, FromEntry, FromThis, FromFocus, Dispatch, Call, Frame, Core, core}
+use Rattle.rhai_machine.specs.language.Frames.{changed, on_value, CallNamed, Question, Fire, OpenExpr}
 use Rattle.rhai_state.specs.Native.{Reply, Missing, Gives, Faults}
-use Rattle.rhai_machine.specs.language.Frames.{Purpose, ToCall, ToCallOn, ToCallNumber, ToCurry, ToChain}
+use Rattle.rhai_machine.specs.language.Frames.{Purpose, ToCall, ToCallOn, ToCallOnThis, ToCallNumber, ToCallFunction, ToCurry, ToChain}
 use Rattle.rhai_machine.specs.language.Frames.{Keyword, CallPointer, MakePointer, Curry, IsShared, IsDefinedVariable}
 use Rattle.rhai_machine.specs.language.Expressions.{call_move}
 use Rattle.rhai_machine.specs.language.Calls.{First, first_of, first_in, in_cell, lendable, place_of, while_from, put_left, call_native}
-use Rattle.rhai_machine.specs.language.Calls.{fire_first, fire_move, barred_call, question_first, question_move, call_of, races, named_core}
-use Rattle.rhai_machine.specs.language.Calls.{answered, dispatch_core, operator_core, asks_function, replied, applied}
-use Rattle.rhai_machine.specs.language.Arguments.{call_on, numbered_core, arguments_there, arguments_core, on_variable, captured_move}
-use Rattle.rhai_machine.specs.language.Arguments.{named_move, operation_named, pointer_of, pointer_wanted, text_wanted, pointer_core}
+use Rattle.rhai_machine.specs.language.Calls.{fire_first, fire_move, barred_call, question_first, question_move, call_of, plainly, races}
+use Rattle.rhai_machine.specs.language.Calls.{answered, dispatch_core, operator_core, replied, applied}
+use Rattle.rhai_machine.specs.language.Arguments.{call_on, lent_this, this_in, is_captured, linked_to, numbered_core, arguments_there}
+use Rattle.rhai_machine.specs.language.Arguments.{arguments_core, on_variable, on_this, captured_move, named_move, operation_named}
+use Rattle.rhai_machine.specs.language.Arguments.{pointer_of, pointer_wanted, text_wanted, unlinked_core, pointer_core}
 use Rattle.rhai_machine.specs.language.Arguments.{keyword_core, keyword_of, function_core, function_of, variable_in}
+use Rattle.rhai_machine.proofs.MethodLaws.{Dispatched, dispatch_ends, linked_ends}
 use Rattle.rhai_laws.specs.Kept.{Stands}
 use Rattle.rhai_laws.specs.Steady.{Moves}
 use Rattle.rhai_laws.proofs.Keeping.{Asked, Keeps, quiet, through, after, calm, ended_keeps, put_keeps}
@@ -45,10 +47,14 @@ module _ {H : Type 0} where
   GoesBack None l = ⊤
   GoesBack (Some place) l = Stands place l
 
+  pub lent_stands : (lender : Lender) (l : Local H) → Stands (place_of lender) l
+  lent_stands (FromEntry index) l = tt
+  lent_stands FromThis l = tt
+  lent_stands FromFocus l = tt
+
   lender_stands : (lender : Option Lender) (l : Local H) → GoesBack (option_map place_of lender) l
   lender_stands None l = tt
-  lender_stands (Some (FromEntry index)) l = tt
-  lender_stands (Some FromFocus) l = tt
+  lender_stands (Some lender) l = lent_stands lender l
 
   lendable_stands : (operation : Operation) (from : Option Place) (u : Union H) (v : Dynamic H) (first : First H) (l : Local H) →
       GoesBack from l → lendable operation from u v ≡ Ok first → GoesBack first.from l
@@ -81,6 +87,16 @@ module _ {H : Type 0} (a : Asked) where
       ((x : A) → Keeps a (calm k l) (go x)) → Keeps a (calm k l) (on_value r go k l)
   on_keeps (Ok x) go k l h = h x
   on_keeps (Err e) go k l h = quiet a tt refl (λ t. t)
+
+  -- the ends of a call by name
+  pub dispatched_keeps : (of_method : Bool) (k : List (Frame H)) (l : Local H) → Dispatched of_method k l (λ d. Keeps a (calm k l) d)
+  dispatched_keeps of_method k l = record {
+    fails = λ e. quiet a tt refl (λ t. t);
+    backs = λ v. quiet a tt refl (λ t. t);
+    asks = λ call. quiet a tt refl (λ t. t);
+    enters = λ f object is_fresh args at. quiet a tt refl (λ t. t);
+    on_focus = λ is f args at. quiet a tt refl (λ t. t);
+  }
 
   -- a call that was not written as an operator
   pub function_keeps : (keyword : Option Keyword) (operation : Operation) (args : List Expr) (captures : Bool) (k : List (Frame H))
@@ -165,24 +181,15 @@ module _ {H : Type 0} (a : Asked) where
     if_keeps true c d k l keeps other = keeps
     if_keeps false c d k l keeps other = other
 
-    named_core_keeps : (args : List (Dynamic H)) (call : Call H) (k : List (Frame H)) (l : Local H) →
-        Keeps a (calm k l) (named_core s args call k l)
-    named_core_keeps [] call k l = quiet a tt refl (λ t. t)
-    named_core_keeps (v ∷ []) call k l = if_keeps (bytes_eq call.operation.name (codes "type_of")) _ _ k l (quiet a tt refl (λ t. t))
-        (if_keeps (bytes_eq call.operation.name (codes "eval")) _ _ k l (quiet a tt refl (λ t. t)) (quiet a tt refl (λ t. t)))
-    named_core_keeps (v ∷ w ∷ []) call k l = if_keeps (bytes_eq call.operation.name (codes "is_def_fn") && asks_function
-        (seen_through l.around.cells v call.operation.at) (seen_through l.around.cells w call.operation.at)) _ _ k l
-        (quiet a tt refl (λ t. t)) (quiet a tt refl (λ t. t))
-    named_core_keeps (v ∷ w ∷ x ∷ args) call k l = quiet a tt refl (λ t. t)
-
-    pub dispatch_keeps : (call : Call H) (k : List (Frame H)) (l : Local H) → Keeps a (calm k l) (dispatch_core s call k l)
-    dispatch_keeps call k l =
-        if_keeps (races l.around.cells call.args) _ _ k l (quiet a tt refl (λ t. t)) (named_core_keeps call.args call k l)
+    pub dispatch_keeps : (how : Dispatch) (call : Call H) (k : List (Frame H)) (l : Local H) →
+        Keeps a (calm k l) (dispatch_core s how call k l)
+    dispatch_keeps how call k l =
+        dispatch_ends k l (λ d. Keeps a (calm k l) d) how.of_method (dispatched_keeps how.of_method k l) s how refl call
 
     pub operator_keeps : (builtin : Option (Result (Dynamic H) (EvalAltResult H))) (call : Call H) (k : List (Frame H)) (l : Local H) →
         Keeps a (calm k l) (operator_core s builtin call k l)
     operator_keeps (Some r) call k l = ended_keeps a (applied s.limits r call.operation.at) k l
-    operator_keeps None call k l = dispatch_keeps call k l
+    operator_keeps None call k l = dispatch_keeps (plainly false false) call k l
 
     -- the arguments of a call, and what is done once they are there
     pub numbered_keeps : (call : Call H) (k : List (Frame H)) (l : Local H) → Keeps a (calm k l) (numbered_core call k l)
@@ -191,9 +198,14 @@ module _ {H : Type 0} (a : Asked) where
 
     arguments_there_keep : (purpose : Purpose H) (args : List (Dynamic H)) (k : List (Frame H)) (l : Local H) →
         Keeps a (calm k l) (arguments_there s purpose args k l)
-    arguments_there_keep (ToCall operation curried) args k l = dispatch_keeps (call_of operation (curried ++ args)) k l
-    arguments_there_keep (ToCallOn operation variable variable_at) args k l =
-        on_keeps (call_on l.around.cells l.scope operation variable variable_at args) _ k l (λ call. dispatch_keeps call k l)
+    arguments_there_keep (ToCall operation curried how) args k l = dispatch_keeps how (call_of operation (curried ++ args)) k l
+    arguments_there_keep (ToCallOn operation variable variable_at how) args k l =
+        on_keeps (call_on l.around.cells l.around.lib l.scope operation variable variable_at args) _ k l
+        (λ call. dispatch_keeps how call k l)
+    arguments_there_keep (ToCallOnThis operation this_at how) args k l =
+        on_keeps (bound_this this_at l.this) _ k l (λ v. dispatch_keeps how (lent_this operation args v) k l)
+    arguments_there_keep (ToCallFunction function at curried) args k l =
+        linked_ends k l (λ d. Keeps a (calm k l) d) true (dispatched_keeps true k l) function at (curried ++ args)
     arguments_there_keep (ToCallNumber number operation curried) args k l =
         numbered_keeps (record (call_of operation (curried ++ args)) { number = Some number }) k l
     arguments_there_keep (ToCurry pointer) args k l = quiet a tt refl (λ t. t)
@@ -205,47 +217,65 @@ module _ {H : Type 0} (a : Asked) where
     arguments_keep purpose made [] k l = arguments_there_keep purpose made k l
     arguments_keep purpose made (arg ∷ args) k l = quiet a tt refl (λ t. t)
 
-    variable_keeps : (variable : Option (List ℕ × Position)) (c : Core H) (operation : Operation) (arg : Expr) (args : List Expr)
-        (k : List (Frame H)) (l : Local H) → Keeps a c (calm k l) →
-        Moves (Keeps a) c (on_variable s variable operation arg args k l)
-    variable_keeps (Some (variable, variable_at)) c operation arg args k l h =
-        through a h (arguments_keep (ToCallOn operation variable variable_at) [] args k l)
-    variable_keeps None c operation arg args k l h = through a h (arguments_keep (ToCall operation []) [] (arg ∷ args) k l)
+    variable_keeps : (variable : Option (List ℕ × Position)) (c : Core H) (operation : Operation) (how : Dispatch) (arg : Expr)
+        (args : List Expr) (k : List (Frame H)) (l : Local H) → Keeps a c (calm k l) →
+        Moves (Keeps a) c (on_variable s variable operation how arg args k l)
+    variable_keeps (Some (variable, variable_at)) c operation how arg args k l h =
+        through a h (arguments_keep (ToCallOn operation variable variable_at how) [] args k l)
+    variable_keeps None c operation how arg args k l h = through a h (arguments_keep (ToCall operation [] how) [] (arg ∷ args) k l)
 
-    captured_keeps : (captured : Bool) (c : Core H) (operation : Operation) (arg : Expr) (args : List Expr) (k : List (Frame H))
+    this_keeps : (there : Option Position) (c : Core H) (operation : Operation) (how : Dispatch) (arg : Expr) (args : List Expr)
+        (k : List (Frame H)) (l : Local H) → Keeps a c (calm k l) →
+        Moves (Keeps a) c (on_this s there operation how arg args k l)
+    this_keeps (Some at) c operation how arg args k l h = through a h (arguments_keep (ToCallOnThis operation at how) [] args k l)
+    this_keeps None c operation how arg args k l h = variable_keeps (variable_in (out-Expr arg)) c operation how arg args k l h
+
+    captured_keeps : (captured alone : Bool) (c : Core H) (operation : Operation) (arg : Expr) (args : List Expr) (k : List (Frame H))
         (l : Local H) → Keeps a c (calm k l) →
-        Moves (Keeps a) c (captured_move s captured operation arg args k l)
-    captured_keeps true c operation arg args k l h = through a h (arguments_keep (ToCall operation []) [] (arg ∷ args) k l)
-    captured_keeps false c operation arg args k l h = variable_keeps (variable_in (out-Expr arg)) c operation arg args k l h
+        Moves (Keeps a) c (captured_move s captured alone operation arg args k l)
+    captured_keeps true alone c operation arg args k l h =
+        through a h (arguments_keep (ToCall operation [] (plainly alone true)) [] (arg ∷ args) k l)
+    captured_keeps false alone c operation arg args k l h =
+        this_keeps (this_in (out-Expr arg) l.this) c operation (plainly alone false) arg args k l h
 
-    named_move_keeps : (c : Core H) (operation : Operation) (curried : List (Dynamic H)) (args : List Expr) (captures : Bool)
+    named_move_keeps : (c : Core H) (operation : Operation) (curried : List (Dynamic H)) (args : List Expr) (captures alone : Bool)
         (k : List (Frame H)) (l : Local H) → Keeps a c (calm k l) →
-        Moves (Keeps a) c (named_move s operation curried args captures k l)
-    named_move_keeps c operation [] (arg ∷ args) captures k l h =
-        captured_keeps (captures && not (nat_eq (length l.scope) 0)) c operation arg args k l h
-    named_move_keeps c operation [] [] captures k l h = through a h (arguments_keep (ToCall operation []) [] [] k l)
-    named_move_keeps c operation (v ∷ curried) args captures k l h =
-        through a h (arguments_keep (ToCall operation (v ∷ curried)) [] args k l)
+        Moves (Keeps a) c (named_move s operation curried args captures alone k l)
+    named_move_keeps c operation [] (arg ∷ args) captures alone k l h =
+        captured_keeps (is_captured captures l.scope) alone c operation arg args k l h
+    named_move_keeps c operation [] [] captures alone k l h =
+        through a h (arguments_keep (ToCall operation [] (plainly alone (is_captured captures l.scope))) [] [] k l)
+    named_move_keeps c operation (v ∷ curried) args captures alone k l h =
+        through a h (arguments_keep (ToCall operation (v ∷ curried) (plainly alone (is_captured captures l.scope))) [] args k l)
 
-    pub named_keeps : (operation : Operation) (curried : List (Dynamic H)) (args : List Expr) (captures : Bool) (k : List (Frame H))
+    pub named_keeps : (operation : Operation) (curried : List (Dynamic H)) (args : List Expr) (captures alone : Bool) (k : List (Frame H))
         (l : Local H) →
-        Moves (Keeps a) (core (CallNamed operation curried args captures) k l) (named_move s operation curried args captures k l)
-    named_keeps operation curried args captures k l = named_move_keeps (core (CallNamed operation curried args captures) k l) operation
-        curried args captures k l (quiet a tt refl (λ t. t))
+        Moves (Keeps a) (core (CallNamed operation curried args captures alone) k l)
+        (named_move s operation curried args captures alone k l)
+    named_keeps operation curried args captures alone k l = named_move_keeps (core (CallNamed operation curried args captures alone) k l)
+        operation curried args captures alone k l (quiet a tt refl (λ t. t))
 
     -- the first argument of a keyword
-    pointer_keeps : (of : FnPtrKind H) (pointer : FnPtr H) (pos : Position) (args : List Expr) (captures : Bool) (k : List (Frame H))
+    unlinked_keeps : (of : FnPtrKind H) (pointer : FnPtr H) (pos : Position) (args : List Expr) (captures : Bool) (k : List (Frame H))
         (l : Local H) →
-        Keeps a (calm k l) (pointer_core s of pointer pos args captures k l)
-    pointer_keeps (kind.Native id) pointer pos args captures k l =
+        Keeps a (calm k l) (unlinked_core s of pointer pos args captures k l)
+    unlinked_keeps (kind.Native id) pointer pos args captures k l =
         arguments_keep (ToCallNumber id.number (operation_named (codes "call") pos) (out-FnPtr H pointer).curry) [] args k l
-    pointer_keeps _ pointer pos args captures k l = quiet a tt refl (λ t. t)
+    unlinked_keeps _ pointer pos args captures k l = quiet a tt refl (λ t. t)
+
+    pointer_keeps : (function : Option (Function H)) (pointer : FnPtr H) (pos : Position) (args : List Expr) (captures : Bool)
+        (k : List (Frame H)) (l : Local H) →
+        Keeps a (calm k l) (pointer_core s function pointer pos args captures k l)
+    pointer_keeps (Some f) pointer pos args captures k l =
+        arguments_keep (ToCallFunction f pos (out-FnPtr H pointer).curry) [] args k l
+    pointer_keeps None pointer pos args captures k l = unlinked_keeps (out-FnPtr H pointer).kind pointer pos args captures k l
 
     pub keyword_keeps : (keyword : Keyword) (pos start : Position) (args : List Expr) (captures : Bool) (v : Dynamic H)
         (k : List (Frame H)) (l : Local H) →
         Keeps a (calm k l) (keyword_core s keyword pos start args captures v k l)
     keyword_keeps CallPointer pos start args captures v k l = on_keeps (pointer_wanted s.host_type l.around.cells v start) _ k l
-        (λ pointer. pointer_keeps (out-FnPtr H pointer).kind pointer pos args captures k l)
+        (λ pointer. pointer_keeps (linked_to pointer (length (out-FnPtr H pointer).curry + length args) l.around.lib) pointer pos args
+        captures k l)
     keyword_keeps MakePointer pos start args captures v k l =
         on_keeps (text_wanted s.host_type l.around.cells v start) _ k l (λ name. ended_keeps a (pointer_of name start) k l)
     keyword_keeps Curry pos start args captures v k l = on_keeps (pointer_wanted s.host_type l.around.cells v start) _ k l

@@ -15,45 +15,41 @@ use Rattle.rhai_values.specs.declared.base.value.Union.TheVariants as value
 use Rattle.rhai_values.specs.Cells.{value_of_cell}
 use Rattle.rhai_values.specs.Layers.{layer_of}
 use Rattle.rhai_state.specs.declared.error.EvalAltResult.{EvalAltResult}
-use Rattle.rhai_state.specs.Scope.{found}
 use Rattle.rhai_places.specs.declared.spot.Spot.{Spot}
 use Rattle.rhai_places.specs.declared.spot.Spot.TheVariants as spot
 use Rattle.rhai_places.specs.Parts.{part_of, value_at}
 use Rattle.rhai_machine.specs.machine.Machine.{Move, Halt}
 use Rattle.rhai_machine.specs.language.Setting.{Setting}
 use Rattle.rhai_machine.specs.language.State.{Local}
-use Rattle.rhai_machine.specs.language.Values.{used, through_union, through as seen_through, unit_value}
-use Rattle.rhai_machine.specs.language.Names.{variable_of}
-use Rattle.rhai_machine.specs.language.Places.{InEntry, focus_target}
+use Rattle.rhai_machine.specs.language.Values.{through_union, through as seen_through, unit_value}
+use Rattle.rhai_machine.specs.language.Names.{bound_this, meant, variable_of}
+use Rattle.rhai_machine.specs.language.Places.{focus_target}
 use Rattle.rhai_machine.specs.language.Links.{Link, LinkForm, AtIndex, AtProperty, AtMethod, asked_by, first_position, link_of, name_in}
-use Rattle.rhai_machine.specs.language.Frames.{NewValue, Chain, Member, Property, Item, MemberAccess, ToChain, Frame, Core, core, on_value}
+use Rattle.rhai_machine.specs.language.Frames.{Lender, NewValue, Chain, Member, Property, Item, MemberAccess, ToChain, Frame, Core, core}
+use Rattle.rhai_machine.specs.language.Frames.{on_value}
 use Rattle.rhai_machine.specs.language.Frames.{OpenChain, ChainArguments, ChainRoot, ReadRoot, Walk, Locate}
 use Rattle.rhai_machine.specs.language.Frames.{ChainEnd, PartMethod, PartAssigned, MemberLink, MemberGot}
 use Rattle.rhai_machine.specs.language.Frames.{MemberSet}
-use Rattle.rhai_machine.specs.language.Calls.{sized}
+use Rattle.rhai_machine.specs.language.Calls.{place_of, sized}
+use Rattle.rhai_machine.specs.language.Handles.{entered, entered_by}
 use Rattle.rhai_machine.specs.language.Members.{focus_of, focused_on, got_by, set_core, set_by, unless_ignored, getter_missing}
 use Rattle.rhai_machine.specs.language.Members.{setter_missing, indexer_missing}
 use Rattle.rhai_machine.specs.language.Located.{index_by, is_indexed, is_map, is_place_spot, is_unit, spot_of}
-use Rattle.rhai_machine.specs.language.Chains.{ready, opened_core, open_move, asked_move, root_move, read_root_core, entered_by}
-use Rattle.rhai_machine.specs.language.Chains.{entered, behind_link, after_method, kept_access, is_property, after_set, unless_barred}
+use Rattle.rhai_machine.specs.language.Chains.{ready, opened_core, open_move, asked_move, root_move, read_root_core}
+use Rattle.rhai_machine.specs.language.Chains.{behind_link, after_method, kept_access, is_property, after_set, unless_barred}
 use Rattle.rhai_machine.specs.language.Chains.{method_of, assign_member, member_core, assign_focus, measured_place, assign_spot, part_form}
 use Rattle.rhai_machine.specs.language.Chains.{part_core, descend, spot_core, indexed_core, locate_core, property_move, form_move}
 use Rattle.rhai_machine.specs.language.Chains.{stop_move, seen_move, walk_move}
 use Rattle.rhai_machine.specs.language.Unwinding.{restored, measured_part, part_assigned, part_changed, operated_core, got_none}
 use Rattle.rhai_machine.specs.language.Unwinding.{temporary_changed}
+use Rattle.rhai_machine.proofs.MethodLaws.{used_free}
 use Rattle.rhai_laws.specs.Steady.{Moves}
 use Rattle.rhai_laws.proofs.Keeping.{Asked, unwound, Keeps, quiet, through, after, calm, ended_keeps, put_keeps, entered_cell}
 use Rattle.rhai_laws.proofs.KeptAssignments.{there_keeps, stored_keeps, focus_stands}
-use Rattle.rhai_laws.proofs.KeptCalls.{on_keeps, arguments_keep}
+use Rattle.rhai_laws.proofs.KeptCalls.{on_keeps, arguments_keep, lent_stands}
 use Rattle.rhai_laws.proofs.KeptMethods.{method_keeps}
 
 module _ {H : Type 0} where
-  -- the cell of a handle that was looked through is free
-  used_free : (name : List ℕ) (at : Position) (there : Option (Dynamic H)) (inner : Dynamic H) → used name at there ≡ Ok inner →
-      is_some there ≡ true
-  used_free name at (Some v) inner is = refl
-  used_free name at None inner is = cc
-
   -- the focus, looked at through a handle
   abbrev Seen : Link → Dynamic H → Local H → Type 0
   Seen link inner l = seen_through l.around.cells (focus_of l) link.at ≡ Ok inner
@@ -86,20 +82,21 @@ module _ {H : Type 0} (a : Asked) where
       Moves (Keeps a) (core (ChainRoot chain) k l) (root_move form chain k l)
   root_keeps (layer.Variable offset name namespace pos) chain k l =
       if_there (is_unqualified namespace.path) (core (ChainRoot chain) k l) _ (quiet a tt refl (λ t. t))
-  root_keeps (layer.ThisPtr pos) chain k l = tt
+  root_keeps (layer.ThisPtr pos) chain k l = after a (calm k l) refl (λ t. t)
+      (on_keeps a (bound_this pos l.this) _ k l (λ v. quiet a tt refl (λ t. t)))
   root_keeps _ chain k l = there_keeps a (is_none chain.new) (core (ChainRoot chain) k l) _ (quiet a tt refl (λ t. t))
 
   pub read_root_keeps : (name : List ℕ) (pos : Position) (chain : Chain H) (k : List (Frame H)) (l : Local H) →
       Keeps a (core (ReadRoot name pos chain) k l) (read_root_core name pos chain k l)
   read_root_keeps name pos chain k l = after a (calm k l) refl (λ t. t)
-      (on_keeps a (variable_of l.around.cells name pos (found name l.scope)) _ k l (λ v. quiet a tt refl (λ t. t)))
+      (on_keeps a (variable_of l.around.cells name pos (meant l.around.lib name l.scope)) _ k l (λ v. quiet a tt refl (λ t. t)))
 
-  -- the focus of a chain goes back to its variable
-  pub chain_left : (entry : Option ℕ) (outer : Option (Dynamic H)) (k : List (Frame H)) (l : Local H) →
-      Keeps a (calm (ChainEnd entry outer ∷ k) l) (calm k (restored (ChainEnd entry outer) l))
+  -- the focus of a chain goes back to who lent its root
+  pub chain_left : (lender : Option Lender) (outer : Option (Dynamic H)) (k : List (Frame H)) (l : Local H) →
+      Keeps a (calm (ChainEnd lender outer ∷ k) l) (calm k (restored (ChainEnd lender outer) l))
   chain_left None outer k l = quiet a tt refl (λ t. t)
-  chain_left (Some index) outer k l = after a (calm k l) refl (λ t. t)
-      (through a (put_keeps a (InEntry index) (focus_of l) k l tt) (quiet a tt refl (λ t. t)))
+  chain_left (Some lender) outer k l = after a (calm k l) refl (λ t. t)
+      (through a (put_keeps a (place_of lender) (focus_of l) k l (lent_stands lender l)) (quiet a tt refl (λ t. t)))
 
   -- ---- handles
 

@@ -1,21 +1,21 @@
 -- What every run of the language keeps, whatever its end, want of memory included.
 use Rattle.std.proofs.Common.{refl, ap, arith}
-use Rattle.std.proofs.lemmas.Bool.Decides.{nat_tests}
-use Rattle.std.proofs.lemmas.List.{length-append}
-use Rattle.std.specs.Prelude.{◌≡◌, ◌≤◌, ◌<◌, ⊤, nat_le, length, true, false, List, [], ◌∷◌, ◌++◌}
+use Rattle.std.proofs.lemmas.List.{length-append, length-take, length-drop}
+use Rattle.std.specs.Prelude.{◌≡◌, ◌≤◌, ◌+◌, ℕ, ⊤, length, take, drop, true, false, List, [], ◌∷◌, ◌++◌}
 use Rattle.rhai_check.specs.Names.{Name, Begins}
 use Rattle.rhai_state.specs.declared.error.EvalAltResult.{EvalAltResult}
 use Rattle.rhai_state.specs.declared.error.EvalAltResult.TheVariants as error
 use Rattle.rhai_machine.specs.machine.Machine.{Move, Halt, Go, Charge, Native, AskPure}
 use Rattle.rhai_machine.specs.language.Setting.{Rules, cut, limit_under}
 use Rattle.rhai_machine.specs.language.State.{State}
-use Rattle.rhai_machine.specs.language.Frames.{Control, Frame, Core, core, Exec, OpenStmt, Enter, Run, Fail}
+use Rattle.rhai_machine.specs.language.Frames.{Control, Frame, Core, core, Exec, EnterFunction, OpenStmt, Enter, Run, Fail}
 use Rattle.rhai_machine.specs.language.Language.{machine}
 use Rattle.rhai_machine.specs.language.Runs.{at, with_core, Goes, Steps}
-use Rattle.rhai_laws.specs.Kept.{Sound, names_of, AddsNone, Kept}
+use Rattle.rhai_laws.specs.Kept.{Sound, names_of, adds_names, AddsNone, Kept}
 use Rattle.rhai_laws.specs.Steady.{Moves, Steady}
 use Rattle.rhai_laws.proofs.MemoryLaws.{keeps, counts, within}
 use Rattle.rhai_laws.proofs.Keeping.{Outline, Asked, Grows, begins_self, calm, Tight, Free, TightAt, Held, Keeps, quiet, through}
+use Rattle.rhai_laws.proofs.Keeping.{started_by, stopped_by}
 use Rattle.rhai_laws.proofs.KeptRules.{move_keeps}
 
 module _ {H : Type 0} (a : Asked) where
@@ -33,6 +33,7 @@ module _ {H : Type 0} (a : Asked) where
 
   -- at any control no more names may be added
   stopped : (c : Control H) (k : List (Frame H)) (n : List Name) → a.along n → TightAt a c k n → Tight a k n
+  stopped (EnterFunction e) k n w t = stopped_by a (adds_names e) k n w t
   stopped (Exec stmt restoring) k n w t = t n (begins_self n) w
   stopped (OpenStmt form restoring) k n w t = t n (begins_self n) w
   stopped (Run stmts restoring last) k n w t = t n (begins_self n) w
@@ -46,6 +47,7 @@ module _ {H : Type 0} (a : Asked) where
 
   -- what may add names may be started where any more names will do
   started : (c : Control H) (k : List (Frame H)) (n : List Name) → Tight a k n → Free a k n → TightAt a c k n
+  started (EnterFunction e) k n t f = started_by a (adds_names e) k n t f
   started (Exec stmt restoring) k n t f = f
   started (OpenStmt form restoring) k n t f = f
   started (Run stmts restoring last) k n t f = f
@@ -55,6 +57,7 @@ module _ {H : Type 0} (a : Asked) where
 
   -- what adds none may be started where these will do
   started_none : (c : Control H) (k : List (Frame H)) (n : List Name) → AddsNone c → Tight a k n → TightAt a c k n
+  started_none (EnterFunction e) k n none t = rw none t
   started_none (Exec stmt restoring) k n none t = absurd none
   started_none (OpenStmt form restoring) k n none t = absurd none
   started_none (Run stmts restoring last) k n none t = absurd none
@@ -96,6 +99,10 @@ module _ {S H : Type 0} (rules : Rules S H) where
   abbrev nothing : Asked
   nothing = record { along = λ n. ⊤; last = λ n. ⊤ }
 
+  -- where nothing is asked all along any names will do
+  any_names : (last : List Name → Type 0) (most : ℕ) → Grows (record { along = λ n. ⊤; last = last }) most
+  any_names last most = record { fits = λ n le. tt; thins = λ n i j w. tt }
+
   -- charges are only added
   pub counted : (c d : Control H) (old new : State S H) → Steps rules c old d new → old.count ≤ new.count
   unfolding Steps
@@ -110,7 +117,7 @@ module _ {S H : Type 0} (rules : Rules S H) where
   -- what every run keeps, want of memory included
   pub kept : (c d : Control H) (old new : State S H) → Sound c old.local → Steps rules c old d new → Kept rules old new
   kept c d old new h steps =
-      let same = (run_keeps nothing (λ n name w is. tt) c d old new h steps).around in
+      let same = (run_keeps nothing (any_names _ _) c d old new h steps).around in
       record {
         counts = counted c d old new steps;
         within = counted_within c d old new steps;
@@ -127,7 +134,7 @@ module _ {S H : Type 0} (rules : Rules S H) where
   pub names_stay : (c d : Control H) (old new : State S H) → AddsNone c → Sound c old.local → Steps rules c old d new →
       names_of new.local ≡ names_of old.local
   names_stay c d old new none h steps =
-      (at_end (exactly (names_of old.local)) (λ n name w is. tt) c d old new h steps tt
+      (at_end (exactly (names_of old.local)) (any_names _ _) c d old new h steps tt
       (started_none (exactly (names_of old.local)) c [] (names_of old.local) none refl)).1
 
   -- the same of a run from a core to which a rule led, whatever is asked of the names
@@ -135,7 +142,7 @@ module _ {S H : Type 0} (rules : Rules S H) where
       (goes : Goes rules (with_core c old) (at d [] new)) where
     pub kept_from : Kept rules old new
     kept_from =
-        let same = (goes_keep nothing (λ n name w is. tt) (calm [] old.local) c d old new (led nothing) goes).around in
+        let same = (goes_keep nothing (any_names _ _) (calm [] old.local) c d old new (led nothing) goes).around in
         record {
           counts = counts (machine rules) (cut rules) goes;
           within = within (machine rules) (limit_under rules) goes;
@@ -149,7 +156,7 @@ module _ {S H : Type 0} (rules : Rules S H) where
     names_stay_from =
         let a = exactly (names_of old.local) in
         let end : Held a (core d [] new.local) =
-        (goes_keep a (λ n name w is. tt) (calm [] old.local) c d old new (led a) goes).names (tt, refl) in
+        (goes_keep a (any_names _ _) (calm [] old.local) c d old new (led a) goes).names (tt, refl) in
         stopped a d [] (names_of new.local) end.0 end.1
 
   -- at the end the names begin with these
@@ -160,23 +167,27 @@ module _ {S H : Type 0} (rules : Rules S H) where
   pub names_begin : (c d : Control H) (old new : State S H) → Sound c old.local → Steps rules c old d new →
       Begins (names_of old.local) (names_of new.local)
   names_begin c d old new h steps =
-      (at_end (beginning (names_of old.local)) (λ n name w is. tt) c d old new h steps tt
+      (at_end (beginning (names_of old.local)) (any_names _ _) c d old new h steps tt
       (started (beginning (names_of old.local)) c [] (names_of old.local) (begins_self (names_of old.local)) (λ m b w. b))).1
 
   -- all along there are no more names than the limit allows
   abbrev so_few : Asked
   so_few = record { along = λ m. length m ≤ rules.setting.limits.max_variables; last = λ m. ⊤ }
 
-  -- where there is room for one more, one more is still within the limit
-  room : (n : List Name) (name : Name) → length n ≤ rules.setting.limits.max_variables →
-      nat_le rules.setting.limits.max_variables (length n) ≡ false →
-      length (n ++ name ∷ []) ≤ rules.setting.limits.max_variables
-  room n name le is =
-      let less : length n < rules.setting.limits.max_variables = grind (arith, nat_tests) in
-      omega (arith, less, length-append n (name ∷ []))
+  -- names between others go, and no more are left
+  thinner : (n : List Name) (i j : ℕ) → length (take i n ++ drop (i + j) n) ≤ length n
+  thinner n i j = omega (
+    arith,
+    length-append (take i n) (drop (i + j) n),
+    length-take i n,
+    length-drop (i + j) n,
+  )
+
+  few_grow : Grows so_few rules.setting.limits.max_variables
+  few_grow = record { fits = λ n le. le; thins = λ n i j le. omega (arith, thinner n i j, le) }
 
   -- there are never more variables than the limit allows
   pub variables_stay : (c d : Control H) (old new : State S H) → Sound c old.local → Steps rules c old d new →
       length (names_of old.local) ≤ rules.setting.limits.max_variables → length (names_of new.local) ≤ rules.setting.limits.max_variables
   variables_stay c d old new h steps le =
-      (at_end so_few room c d old new h steps le (started so_few c [] (names_of old.local) tt (λ m b w. tt))).0
+      (at_end so_few few_grow c d old new h steps le (started so_few c [] (names_of old.local) tt (λ m b w. tt))).0

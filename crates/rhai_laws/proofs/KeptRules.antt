@@ -1,8 +1,10 @@
 -- What each rule keeps.
-use Rattle.std.proofs.Common.{refl, ap}
-use Rattle.std.proofs.lemmas.List.{length-map, map-append}
-use Rattle.std.specs.Prelude.{◌≡◌, ℕ, nat_le, length, not, ◌&&◌, Bool, true, false, List, [], ◌∷◌, ◌++◌, map, Option, Some, None, Result}
-use Rattle.std.specs.Prelude.{Ok, Err, is_some}
+use Rattle.std.proofs.Common.{refl, ap, arith}
+use Rattle.std.proofs.lemmas.Bool.Decides.{nat_tests}
+use Rattle.std.proofs.lemmas.List.{length-append, length-map, map-append}
+use Rattle.std.specs.Prelude.{◌≡◌, ◌≤◌, ◌<◌, ◌+◌, ℕ, nat_le, nat_lt, length, not, ◌&&◌, Bool, true, false, List, [], ◌∷◌, ◌++◌, map}
+use Rattle.std.specs.Prelude.{Option, Some, None, Result, Ok, Err, is_some}
+use Rattle.rhai_check.specs.Names.{Name}
 use Rattle.rhai_tree.specs.declared.position.Position.{Position}
 use Rattle.rhai_tree.specs.declared.flags.ASTFlags.{ASTFlags}
 use Rattle.rhai_tree.specs.declared.expr.Ident.{Ident}
@@ -22,19 +24,23 @@ use Rattle.rhai_values.specs.declared.base.value.Union.TheVariants as value
 use Rattle.rhai_state.specs.declared.error.EvalAltResult.{EvalAltResult}
 use Rattle.rhai_state.specs.declared.error.EvalAltResult.TheVariants as error
 use Rattle.rhai_state.specs.Errors.{is_system}
+use Rattle.rhai_state.specs.declared.scope.ScopeEntry.{ScopeEntry}
 use Rattle.rhai_state.specs.Scope.{name_of, index_of, new_entry}
 use Rattle.rhai_places.specs.PutBack.{put_back}
 use Rattle.rhai_machine.specs.language.Setting.{Setting}
 use Rattle.rhai_machine.specs.language.State.{Local}
-use Rattle.rhai_machine.specs.language.Values.{flat, through as seen_through, truth, unit_value}
-use Rattle.rhai_machine.specs.language.Names.{read}
+use Rattle.rhai_machine.specs.language.Values.{copied, flat, through as seen_through, truth, unit_value}
+use Rattle.rhai_machine.specs.language.Names.{bound_this, read}
+use Rattle.rhai_machine.specs.language.Activations.{Entered}
 use Rattle.rhai_machine.specs.language.Frames.{on_value}
 use Rattle.rhai_machine.specs.language.Frames.{Operation, Control, Frame, Core, core, Eval, Exec, Ask, Assign, AskUpdate, Argument}
-use Rattle.rhai_machine.specs.language.Frames.{Question, Fire, QuestionUpdate, FireUpdate, OpenExpr, OpenStmt, Enter, Run, Store, WhileTurn}
+use Rattle.rhai_machine.specs.language.Frames.{Question, Fire, QuestionUpdate, FireUpdate, OpenExpr, OpenStmt, Enter, Run, Store, StoreThis, WhileTurn}
 use Rattle.rhai_machine.specs.language.Frames.{DoTurn, Back, Changed, Fail, StatementValue, DefineValue, IfCondition, RestOfList}
 use Rattle.rhai_machine.specs.language.Frames.{RestoreList, Top, UnaryOperand, LeftOperand, RightOperand, AndPart, OrPart, CoalescePart, AssignValue}
 use Rattle.rhai_machine.specs.language.Frames.{WhileCondition, WhileBody, DoCondition, DoBody, BreakValue, ReturnValue}
 use Rattle.rhai_machine.specs.language.Frames.{ArrayItem, EntryValue, TextPart, PrintedPart, CallNamed, CallArgument, KeywordArgument}
+use Rattle.rhai_machine.specs.language.Frames.{EnterFunction, EnterOnFocus, AssignThis, AssignThisValue, CallEnd}
+use Rattle.rhai_machine.specs.language.Bodies.{statements_of, variables_before, body_core, unless_deep, called_back, returned}
 use Rattle.rhai_machine.specs.language.Data.{with_item, with_value, with_part, items_core, entries_core, parts_core, part_core}
 use Rattle.rhai_machine.specs.language.Data.{joined_core, printed, unprinted_core}
 use Rattle.rhai_machine.specs.language.Places.{is_barred, target_of}
@@ -44,6 +50,7 @@ use Rattle.rhai_machine.specs.language.Expressions.{or_next, coalesce_core, coal
 use Rattle.rhai_machine.specs.language.Calls.{builtin_of, call_of, sized}
 use Rattle.rhai_machine.specs.language.Arguments.{flattens, taken}
 use Rattle.rhai_machine.specs.language.Statements.{has_option, mode_of, enter_core, run_core, chosen_core, defined_core, define_core}
+use Rattle.rhai_machine.specs.language.Statements.{added, constant_core, enters}
 use Rattle.rhai_machine.specs.language.Statements.{stmt_move, break_core, return_move}
 use Rattle.rhai_machine.specs.language.Links.{link_of}
 use Rattle.rhai_machine.specs.language.Frames.{AssignChain, AssignedChain, OpenChain, ChainArguments, ChainRoot, ReadRoot, Walk, Locate}
@@ -52,14 +59,16 @@ use Rattle.rhai_machine.specs.language.Frames.{MemberLink, MemberGot, MemberOper
 use Rattle.rhai_machine.specs.language.Members.{focus_of, focused_on, lacks_property, lacks_indexer}
 use Rattle.rhai_machine.specs.language.Unwinding.{up_core, down_core, marked_core, topped, operated, looked_at}
 use Rattle.rhai_machine.specs.language.Language.{move_at}
-use Rattle.rhai_laws.specs.Kept.{Sound, names_of}
+use Rattle.rhai_laws.specs.Kept.{Sound, names_of, adds_names}
 use Rattle.rhai_laws.specs.Steady.{Moves}
 use Rattle.rhai_laws.proofs.Keeping.{Asked, Grows, Free, Held, begins_through, unwound, Keeps, quiet, through, after, calm, eager, held}
-use Rattle.rhai_laws.proofs.Keeping.{ended_keeps, step_left}
+use Rattle.rhai_laws.proofs.Keeping.{ended_keeps, step_left, call_left, constant_outline, function_entered, stopped_by}
 use Rattle.rhai_laws.proofs.Keeping.{entered_around, entered_names, left_names}
-use Rattle.rhai_laws.proofs.KeptAssignments.{there_keeps, assignment_keeps, store_keeps, barred_keeps, fire_update_keeps}
+use Rattle.rhai_laws.proofs.KeptAssignments.{there_keeps, assignment_keeps, store_keeps, store_this_keeps, barred_keeps}
+use Rattle.rhai_laws.proofs.KeptAssignments.{fire_update_keeps}
 use Rattle.rhai_laws.proofs.KeptCalls.{on_keeps, call_keeps, fire_keeps, question_keeps, operator_keeps, arguments_keep, named_keeps}
 use Rattle.rhai_laws.proofs.KeptCalls.{keyword_keeps}
+use Rattle.rhai_laws.proofs.KeptMethods.{focus_keeps}
 use Rattle.rhai_laws.proofs.KeptChains.{open_keeps, asked_keeps, root_keeps, read_root_keeps, walk_keeps, locate_keeps, chain_left}
 use Rattle.rhai_laws.proofs.KeptChains.{assign_focus_keeps, operated_on_keeps, part_assigned_keeps, part_changed_keeps, temporary_keeps}
 use Rattle.rhai_laws.proofs.KeptChains.{got_none_keeps, getter_missing_keeps, setter_missing_keeps, indexer_missing_keeps}
@@ -140,7 +149,8 @@ module _ {H : Type 0} (a : Asked) where
   expr_keeps fast (layer.Unit pos) k l = quiet a tt refl (λ t. t)
   expr_keeps fast (layer.Variable offset name namespace pos) k l =
       there_keeps a (is_unqualified namespace.path) (core (OpenExpr (layer.Variable offset name namespace pos)) k l) _
-      (after a (calm k l) refl (λ t. t) (ended_keeps a (read l.around.cells name pos l.scope) k l))
+      (after a (calm k l) refl (λ t. t) (ended_keeps a (read l.around.cells l.around.lib name pos l.scope) k l))
+  expr_keeps fast (layer.ThisPtr pos) k l = after a (calm k l) refl (λ t. t) (ended_keeps a (copied (bound_this pos l.this)) k l)
   expr_keeps fast (layer.Expr::FnCall call pos) k l = call_keeps a fast call.op_token call call.args pos (layer.Expr::FnCall call pos) k l
   expr_keeps fast (layer.Stmt block) k l = quiet a tt refl (λ t. t)
   expr_keeps fast (layer.InterpolatedString parts pos) k l = after a (calm k l) refl (λ t. t) (parts_keep [] parts k l)
@@ -209,12 +219,22 @@ module _ {H : Type 0} (a : Asked) where
       rw (map-append name_of l.scope (new_entry ident.name mode w ∷ []))
       (t.1.0, t.1.1 (names_of l ++ ident.name ∷ []) (ident.name ∷ [], refl) t.1.0)
 
-  defined_keeps : (r : Result (Dynamic H) (EvalAltResult H)) (ident : Ident) (options : ASTFlags) (value_at : Position) (v : Dynamic H)
+  -- and a constant may be entered besides
+  entered_keeps : (enters : Bool) (ident : Ident) (options : ASTFlags) (restoring : Bool) (value_at : Position) (v w : Dynamic H)
       (k : List (Frame H)) (l : Local H) →
-      Keeps a (core (Back v) (DefineValue ident options value_at ∷ k) l) (on_value r (λ x. defined_core x ident options k l) k l)
-  defined_keeps (Ok w) ident options value_at v k l =
-      quiet a tt refl (added_names ident (mode_of options) w k l)
-  defined_keeps (Err e) ident options value_at v k l = quiet a tt refl (λ t. held a k l (t.0, t.1.1))
+      Keeps a (core (Back v) (DefineValue ident options restoring value_at ∷ k) l)
+      (core (Back unit_value) k (added w ident options (constant_core enters ident.name w l)))
+  entered_keeps true ident options restoring value_at v w k l =
+      quiet a tt (ap (unwound k) (constant_outline ident.name w l)) (added_names ident (mode_of options) w k l)
+  entered_keeps false ident options restoring value_at v w k l = quiet a tt refl (added_names ident (mode_of options) w k l)
+
+  defined_keeps : (r : Result (Dynamic H) (EvalAltResult H)) (ident : Ident) (options : ASTFlags) (restoring : Bool) (value_at : Position)
+      (v : Dynamic H) (k : List (Frame H)) (l : Local H) →
+      Keeps a (core (Back v) (DefineValue ident options restoring value_at ∷ k) l)
+      (on_value r (λ x. defined_core x ident options restoring k l) k l)
+  defined_keeps (Ok w) ident options restoring value_at v k l =
+      entered_keeps (enters options restoring l) ident options restoring value_at v w k l
+  defined_keeps (Err e) ident options restoring value_at v k l = quiet a tt refl (λ t. held a k l (t.0, t.1.1))
 
   module _ (s : Setting H) where
     -- the operands of an operator
@@ -242,7 +262,8 @@ module _ {H : Type 0} (a : Asked) where
     up_keeps : (frame : Frame H) (v : Dynamic H) (k : List (Frame H)) (l : Local H) →
         Keeps a (core (Back v) (frame ∷ k) l) (up_core s frame v k l)
     up_keeps (StatementValue pos) v k l = after a (calm k l) refl (λ t. t) (ended_keeps a (flat l.around.cells v pos) k l)
-    up_keeps (DefineValue ident options value_at) v k l = defined_keeps (flat l.around.cells v value_at) ident options value_at v k l
+    up_keeps (DefineValue ident options restoring value_at) v k l =
+        defined_keeps (flat l.around.cells v value_at) ident options restoring value_at v k l
     up_keeps (IfCondition test_at body branch) v k l =
         after a (calm k l) refl (λ t. t) (on_keeps a (truth s.host_type l.around.cells v test_at) _ k l
         (λ holds. chosen_keeps holds body branch k l))
@@ -283,6 +304,10 @@ module _ {H : Type 0} (a : Asked) where
         after a (calm k l) refl (λ t. t) (part_keeps text (printed v.value type) part_at rest k l)
     up_keeps (AssignValue assignment value_at) v k l =
         after a (calm k l) refl (λ t. t) (on_keeps a (flat l.around.cells v value_at) _ k l (λ x. quiet a tt refl (λ t. t)))
+    up_keeps (AssignThisValue op pos value_at) v k l =
+        after a (calm k l) refl (λ t. t) (on_keeps a (flat l.around.cells v value_at) _ k l (λ x. quiet a tt refl (λ t. t)))
+    up_keeps (CallEnd exit) v k l = after a (calm (CallEnd exit ∷ k) l) refl (λ t. t)
+        (through a (call_left a exit k l) (quiet a tt refl (λ t. t)))
     up_keeps (WhileCondition test body) v k l =
         after a (calm k l) refl (λ t. t) (on_keeps a (truth s.host_type l.around.cells v (position_of test)) _ k l
         (λ holds. while_core_keeps holds test body k l))
@@ -300,8 +325,8 @@ module _ {H : Type 0} (a : Asked) where
     up_keeps AssignedChain v k l = quiet a tt refl (λ t. t)
     up_keeps (RootValue chain) v k l = after a (calm k l) refl (λ t. t)
         (on_keeps a (flat l.around.cells v (position_of chain.root)) _ k l (λ x. quiet a tt refl (λ t. t)))
-    up_keeps (ChainEnd entry outer) v k l = after a (calm (ChainEnd entry outer ∷ k) l) refl (λ t. t)
-        (through a (chain_left a entry outer k l) (quiet a tt refl (λ t. t)))
+    up_keeps (ChainEnd lender outer) v k l = after a (calm (ChainEnd lender outer ∷ k) l) refl (λ t. t)
+        (through a (chain_left a lender outer k l) (quiet a tt refl (λ t. t)))
     up_keeps (StepDown above step) v k l = after a (calm (StepDown above step ∷ k) l) refl (λ t. t)
         (through a (step_left a above step k l) (quiet a tt refl (λ t. t)))
     up_keeps (PartAssigned above at op_at) v k l =
@@ -328,10 +353,12 @@ module _ {H : Type 0} (a : Asked) where
     down_keeps (PrintedPart text type part_at rest) e k l =
         after a (calm k l) refl (λ t. t) (unprinted_keeps (is_system e) e text type part_at rest k l)
     down_keeps (RestOfList rest restoring) e k l = quiet a tt refl (held a k l)
-    down_keeps (DefineValue ident options value_at) e k l = quiet a tt refl (λ t. held a k l (t.0, t.1.1))
+    down_keeps (CallEnd exit) e k l = after a (calm (CallEnd exit ∷ k) l) refl (λ t. t)
+        (through a (call_left a exit k l) (ended_keeps a (returned exit e) k (called_back exit l)))
+    down_keeps (DefineValue ident options restoring value_at) e k l = quiet a tt refl (λ t. held a k l (t.0, t.1.1))
     down_keeps (RestoreList saved) e k l = quiet a tt refl (left_names a saved k l)
-    down_keeps (ChainEnd entry outer) e k l = after a (calm (ChainEnd entry outer ∷ k) l) refl (λ t. t)
-        (through a (chain_left a entry outer k l) (quiet a tt refl (λ t. t)))
+    down_keeps (ChainEnd lender outer) e k l = after a (calm (ChainEnd lender outer ∷ k) l) refl (λ t. t)
+        (through a (chain_left a lender outer k l) (quiet a tt refl (λ t. t)))
     down_keeps (StepDown above step) e k l = after a (calm (StepDown above step ∷ k) l) refl (λ t. t)
         (through a (step_left a above step k l) (quiet a tt refl (λ t. t)))
     down_keeps (MemberGot access root new) e k l =
@@ -359,15 +386,42 @@ module _ {H : Type 0} (a : Asked) where
     marked_keeps _ v k l = quiet a tt refl (λ t. t)
 
     module _ (grows : Grows a s.limits.max_variables) where
+      -- where there is room for one more, one more fits
+      room : (n : List Name) (name : Name) (scope : List (ScopeEntry H)) → length n ≡ length scope →
+          nat_le s.limits.max_variables (length scope) ≡ false → length (n ++ name ∷ []) ≤ s.limits.max_variables
+      room n name scope same is =
+          let less : length scope < s.limits.max_variables = grind (arith, nat_tests) in
+          omega (arith, less, same, length-append n (name ∷ []))
+
       -- a `let` is tried only where there is room for one more variable
-      define_keeps : (shadows full : Bool) (ident : Ident) (value : Expr) (options : ASTFlags) (pos : Position)
+      define_keeps : (shadows full : Bool) (ident : Ident) (value : Expr) (options : ASTFlags) (restoring : Bool) (pos : Position)
           (k : List (Frame H)) (l : Local H) →
           nat_le s.limits.max_variables (length l.scope) ≡ full →
-          Keeps a (eager k l) (define_core s shadows full ident value options pos k l)
-      define_keeps true full ident value options pos k l is = quiet a tt refl (held a k l)
-      define_keeps false true ident value options pos k l is = quiet a tt refl (held a k l)
-      define_keeps false false ident value options pos k l is =
-          quiet a tt refl (λ t. (t.0, (grows (names_of l) ident.name t.0 (rw (length-map l.scope name_of) is), t.1)))
+          Keeps a (eager k l) (define_core s shadows full ident value options restoring pos k l)
+      define_keeps true full ident value options restoring pos k l is = quiet a tt refl (held a k l)
+      define_keeps false true ident value options restoring pos k l is = quiet a tt refl (held a k l)
+      define_keeps false false ident value options restoring pos k l is = quiet a tt refl (λ t. (
+        t.0,
+        (
+          grows.fits _
+              (room (names_of l) ident.name l.scope (length-map l.scope name_of) is),
+          t.1,
+        ),
+      ))
+
+      -- a function is entered where it fits
+      body_keeps : (stmts : List Stmt) (e : Entered H) (k : List (Frame H)) (l : Local H) →
+          length (variables_before e.is_fresh l.scope) + length e.def.params ≤ s.limits.max_variables →
+          Keeps a (core (EnterFunction e) k l) (body_core stmts e k l)
+      body_keeps [] e k l le = quiet a tt refl (λ t. (t.0, stopped_by a (adds_names e) k (names_of l) t.0 t.1))
+      body_keeps (stmt ∷ stmts) e k l le = function_entered a s.limits.max_variables grows e stmt stmts k l le
+
+      full_keeps : (deep full : Bool) (e : Entered H) (k : List (Frame H)) (l : Local H) →
+          nat_lt s.limits.max_variables (length (variables_before e.is_fresh l.scope) + length e.def.params) ≡ full →
+          Keeps a (core (EnterFunction e) k l) (unless_deep deep full e k l)
+      full_keeps true full e k l is = quiet a tt refl (λ t. (t.0, stopped_by a (adds_names e) k (names_of l) t.0 t.1))
+      full_keeps false true e k l is = quiet a tt refl (λ t. (t.0, stopped_by a (adds_names e) k (names_of l) t.0 t.1))
+      full_keeps false false e k l is = body_keeps (statements_of e.def.body) e k l (grind (arith, nat_tests))
 
       stmt_keeps : (form : StmtLayer) (restoring : Bool) (k : List (Frame H)) (l : Local H) →
           Moves (Keeps a) (core (OpenStmt form restoring) k l) (stmt_move s form restoring k l)
@@ -382,7 +436,7 @@ module _ {H : Type 0} (a : Asked) where
           there_keeps a (not (is_exported options)) (core (OpenStmt (layer.Var ident value None options pos) restoring) k l) _
           (after a (eager k l) refl (λ t. t)
           (define_keeps (not s.offer.allow_shadowing && is_some (index_of ident.name l.scope))
-          (nat_le s.limits.max_variables (length l.scope)) ident value options pos k l refl))
+          (nat_le s.limits.max_variables (length l.scope)) ident value options restoring pos k l refl))
       stmt_keeps (layer.If test body branch pos) restoring k l = quiet a tt refl (held a k l)
       stmt_keeps (layer.While test body pos) restoring k l = quiet a tt refl (held a k l)
       stmt_keeps (layer.Do test body options pos) restoring k l = quiet a tt refl (held a k l)
@@ -401,8 +455,12 @@ module _ {H : Type 0} (a : Asked) where
       move_keeps (Assign assignment v) k l h = quiet a tt refl (λ t. t)
       move_keeps (AskUpdate u) k l h = quiet a h refl (λ t. t)
       move_keeps (Argument e) k l h = argument_keeps (literal_of (out-Expr e)) e k l
-      move_keeps (CallNamed operation curried args captures) k l h =
-          named_keeps a s operation curried args captures k l
+      move_keeps (CallNamed operation curried args captures alone) k l h =
+          named_keeps a s operation curried args captures alone k l
+      move_keeps (EnterFunction e) k l h = full_keeps (nat_lt s.limits.max_call_levels e.level)
+          (nat_lt s.limits.max_variables (length (variables_before e.is_fresh l.scope) + length e.def.params)) e k l refl
+      move_keeps (EnterOnFocus f args pos) k l h = after a (calm k l) refl (λ t. t) (focus_keeps a f args pos k l)
+      move_keeps (AssignThis op pos v) k l h = quiet a tt refl (λ t. t)
       move_keeps (Question call) k l h = question_keeps a s call call.args k l
       move_keeps (Fire call) k l h = fire_keeps a s call call.args k l
       move_keeps (QuestionUpdate u) k l h = λ pure. barred_keeps a s (is_barred pure u.target) u k l h
@@ -413,7 +471,8 @@ module _ {H : Type 0} (a : Asked) where
       move_keeps (Run stmts restoring last) k l h = run_keeps stmts restoring last k l
       move_keeps (Store assignment v) k l h =
           after a (calm k l) refl (λ t. t)
-          (store_keeps a s (target_of l.around.cells assignment.name assignment.at l.scope) assignment v k l refl)
+          (store_keeps a s (target_of l.around.cells l.around.lib assignment.name assignment.at l.scope) assignment v k l refl)
+      move_keeps (StoreThis op pos v) k l h = after a (calm k l) refl (λ t. t) (store_this_keeps a s op pos v k l)
       move_keeps (WhileTurn test body) k l h = while_keeps (is_endless (out-Expr test)) body.statements test body k l
       move_keeps (DoTurn test body options) k l h = quiet a tt refl (λ t. t)
       move_keeps (OpenChain chain) k l h = open_keeps a (link_of chain.rest) chain k l

@@ -10,7 +10,7 @@ use Rattle.rhai_machine.specs.machine.Point.{Point, Reaches}
 use Rattle.rhai_machine.specs.machine.Memory.{Wants}
 use Rattle.rhai_machine.specs.language.Setting.{Rules, cut}
 use Rattle.rhai_machine.specs.language.State.{Local, State, HasMemory}
-use Rattle.rhai_machine.specs.language.Frames.{Control, Frame, Core, ended, Fail, Top}
+use Rattle.rhai_machine.specs.language.Frames.{Control, Frame, Core, ended, Fail, CallEnd, Top}
 use Rattle.rhai_machine.specs.language.Unwinding.{down_core}
 use Rattle.rhai_machine.specs.language.Language.{move_at, machine}
 use Rattle.rhai_machine.specs.language.Memory.{IsWanting, UpToMemory}
@@ -23,6 +23,7 @@ module _ {S H : Type 0} (rules : Rules S H) where
       IsWanting (down_core rules.setting frame (error.ErrorOutOfMemory at) k l)
   frame_passes (Top true) at k l = (at, refl)
   frame_passes (Top false) at k l = (at, refl)
+  frame_passes (CallEnd exit) at k l = (exit.at, refl)
   frame_passes _ at k l = (at, refl)
 
   passes : (at : Position) (k : List (Frame H)) (l : Local H) →

@@ -15,7 +15,6 @@ use Rattle.rhai_values.specs.declared.base.value.Union.TheVariants as value
 use Rattle.rhai_values.specs.Cells.{with_held}
 use Rattle.rhai_values.specs.Layers.{layer_of}
 use Rattle.rhai_state.specs.declared.error.EvalAltResult.{EvalAltResult}
-use Rattle.rhai_state.specs.Scope.{found}
 use Rattle.rhai_places.specs.declared.spot.Spot.{Spot}
 use Rattle.rhai_places.specs.declared.spot.Spot.TheVariants as spot
 use Rattle.rhai_places.specs.Parts.{part_of, value_at}
@@ -29,13 +28,14 @@ use Rattle.rhai_machine.specs.language.Frames.{ChainArguments, ChainRoot, ReadRo
 use Rattle.rhai_machine.specs.language.Frames.{MemberLink, MemberGot, MemberSet}
 use Rattle.rhai_machine.specs.language.Calls.{sized}
 use Rattle.rhai_machine.specs.machine.Machine.{Halt, Charge}
-use Rattle.rhai_machine.specs.language.Names.{variable_of}
+use Rattle.rhai_machine.specs.language.Names.{meant, variable_of}
 use Rattle.rhai_machine.specs.language.Places.{focus_target}
 use Rattle.rhai_machine.specs.language.Links.{Link, LinkForm, AtIndex, AtProperty, AtMethod, first_position, link_of, name_in}
 use Rattle.rhai_machine.specs.language.Members.{focus_of, focused_on, got_by, unless_ignored, set_by, getter_missing, setter_missing}
 use Rattle.rhai_machine.specs.language.Members.{indexer_missing}
 use Rattle.rhai_machine.specs.language.Located.{index_by, is_indexed, is_map, is_place_spot, is_unit, spot_of}
-use Rattle.rhai_machine.specs.language.Chains.{ready, opened_core, open_move, asked_move, root_move, read_root_core, entered_by}
+use Rattle.rhai_machine.specs.language.Handles.{entered_by}
+use Rattle.rhai_machine.specs.language.Chains.{ready, opened_core, open_move, asked_move, root_move, read_root_core}
 use Rattle.rhai_machine.specs.language.Chains.{behind_link, after_method, kept_access, is_property, after_set, unless_barred, method_of}
 use Rattle.rhai_machine.specs.language.Chains.{assign_member, member_core, assign_focus, measured_place, assign_spot, part_form}
 use Rattle.rhai_machine.specs.language.Chains.{part_core as chain_part, descend, spot_core, indexed_core, locate_core, property_move}
@@ -113,7 +113,7 @@ module _ {H : Type 0} where
 
   pub read_root_falls : (name : List ℕ) (at : Position) (chain : Chain H) (k : List (Frame H)) (l : Local H) →
       size (read_root_core name at chain k l) < 30 + (20 * links chain.rest + stack_size k)
-  read_root_falls name at chain k l = on_below (variable_of l.around.cells name at (found name l.scope)) _ k l
+  read_root_falls name at chain k l = on_below (variable_of l.around.cells name at (meant l.around.lib name l.scope)) _ k l
       (30 + (20 * links chain.rest + stack_size k)) (omega arith) (λ v. omega arith)
 
   -- ---- a link

@@ -6,7 +6,8 @@ use Rattle.rhai_machine.specs.Types.{Dynamic, Expr, out-Expr, ScopeEntry, Token}
 use Rattle.rhai_state.specs.Native.{Request}
 use Rattle.rhai_machine.specs.machine.Machine.{Config}
 use Rattle.rhai_machine.specs.language.State.{Local}
-use Rattle.rhai_machine.specs.language.Frames.{NewValue, Chain, Control, Frame, Core, core, ChainArguments, Walk, ChainEnd, AssignedChain}
+use Rattle.rhai_machine.specs.language.Frames.{FromEntry, NewValue, Chain, Control, Frame, Core, core, ChainArguments, Walk, ChainEnd}
+use Rattle.rhai_machine.specs.language.Frames.{AssignedChain}
 use Rattle.rhai_machine.specs.language.Frames.{StatementValue}
 use Rattle.rhai_machine.specs.language.Frames.{RestOfList, Top, chain_on}
 use Rattle.rhai_machine.specs.samples.Trees.{column, var}
@@ -59,8 +60,8 @@ module _ {S H : Type 0} (table : Table S H) where
   -- a chain over this variable is at its first link
   abbrev pub walks : List ℕ → Dynamic H → (chain : Expr) → Option (NewValue H) → List (Dynamic H) → List (Frame H) → ℕ →
       Config S H (Core H)
-  walks name v chain new args k count = standing_at (core (Walk (on_its_way true (var 1 name) chain new args)) (ChainEnd (Some 0) None ∷ k)
-      (focused (entry name v ∷ []) v)) count
+  walks name v chain new args k count = standing_at (core (Walk (on_its_way true (var 1 name) chain new args))
+      (ChainEnd (Some (FromEntry 0)) None ∷ k) (focused (entry name v ∷ []) v)) count
 
   -- it is read, and its operator stands at the second column; or it is assigned to
   abbrev pub reads : List ℕ → Dynamic H → (chain : Expr) → List (Dynamic H) → ℕ → Config S H (Core H)
@@ -78,7 +79,7 @@ module _ {S H : Type 0} (table : Table S H) where
   -- a chain over the variable `x` works on this focus, after these calls
   abbrev pub on_x : (x focus : Dynamic H) → Control H → List (Frame H) → List (Frame H) → ℕ → List (Request H) → Config S H (Core H)
   on_x x focus control k below count calls = record {
-    core = core control (k ++ ChainEnd (Some 0) None ∷ below) (focused (entry (codes "x") x ∷ []) focus);
+    core = core control (k ++ ChainEnd (Some (FromEntry 0)) None ∷ below) (focused (entry (codes "x") x ∷ []) focus);
     table = table.state;
     count = count;
     calls = calls;
@@ -89,5 +90,5 @@ module _ {S H : Type 0} (table : Table S H) (host : H → List ℕ) where
   abbrev pub walks_in : Option (Dynamic H) → List (ScopeEntry H) → (name : List ℕ) → (entry : ℕ) → Dynamic H → (chain : Expr) →
       Option (NewValue H) → List (Dynamic H) → List (Frame H) → ℕ → Config S H (Core H)
   walks_in cell others name entry focus chain new args k count = standing_at table
-      (core (Walk (on_its_way true (var 1 name) chain new args)) (ChainEnd (Some entry) None ∷ k)
+      (core (Walk (on_its_way true (var 1 name) chain new args)) (ChainEnd (Some (FromEntry entry)) None ∷ k)
       (record (one_cell table host cell others) { focus = Some focus })) count

@@ -28,9 +28,9 @@ use Rattle.rhai_places.specs.PutBack.{put_back}
 use Rattle.rhai_machine.specs.machine.Settling.{Falls}
 use Rattle.rhai_machine.specs.language.Setting.{Setting}
 use Rattle.rhai_machine.specs.language.State.{Local}
-use Rattle.rhai_machine.specs.language.Values.{unit_value, flat, through, truth}
+use Rattle.rhai_machine.specs.language.Values.{unit_value, copied, flat, through, truth}
 use Rattle.rhai_machine.specs.language.Frames.{Operation, Control, Frame, Core, core, ended, Eval, Exec, Ask, Assign, AskUpdate, Argument}
-use Rattle.rhai_machine.specs.language.Frames.{CallNamed, Question, Fire, QuestionUpdate, FireUpdate, OpenExpr, OpenStmt, Enter, Run, Store}
+use Rattle.rhai_machine.specs.language.Frames.{CallNamed, Question, Fire, QuestionUpdate, FireUpdate, OpenExpr, OpenStmt, Enter, Run, Store, StoreThis}
 use Rattle.rhai_machine.specs.language.Frames.{WhileTurn, DoTurn, Back, Changed, Fail, StatementValue, DefineValue, IfCondition, RestOfList}
 use Rattle.rhai_machine.specs.language.Frames.{RestoreList, Top, UnaryOperand, LeftOperand, RightOperand, AndPart, OrPart, CoalescePart}
 use Rattle.rhai_machine.specs.language.Frames.{AssignValue, WhileCondition, WhileBody, DoCondition, DoBody, BreakValue, ReturnValue}
@@ -38,18 +38,20 @@ use Rattle.rhai_machine.specs.language.Frames.{ArrayItem, EntryValue, TextPart, 
 use Rattle.rhai_machine.specs.language.Frames.{OpenChain, ChainArguments, ChainRoot, ReadRoot, Walk, Locate, AssignChain, AssignedChain}
 use Rattle.rhai_machine.specs.language.Frames.{RootValue, ChainEnd, StepDown, Temporary, PartMethod, PartAssigned, Measured, MethodLink}
 use Rattle.rhai_machine.specs.language.Frames.{MemberLink, MemberGot, MemberOperated, GetterTried, SetterTried, IndexerTried, MemberSet}
+use Rattle.rhai_machine.specs.language.Frames.{EnterFunction, EnterOnFocus, AssignThis, AssignThisValue, CallEnd}
 use Rattle.rhai_machine.specs.language.Data.{with_item, with_value, with_part, items_core, entries_core, parts_core, part_core, joined_core}
 use Rattle.rhai_machine.specs.language.Data.{printed, unprinted_core}
-use Rattle.rhai_machine.specs.language.Places.{is_barred, target_of}
+use Rattle.rhai_machine.specs.language.Places.{is_barred, target_of, this_target}
 use Rattle.rhai_machine.specs.language.Assignment.{assignment_move}
 use Rattle.rhai_machine.specs.language.Loops.{is_endless, while_move, while_core, if_goes_on, goes_on, do_control, caught}
-use Rattle.rhai_machine.specs.language.Names.{read}
+use Rattle.rhai_machine.specs.language.Names.{bound_this, read}
 use Rattle.rhai_machine.specs.language.Expressions.{literal_of, argument_move, call_move, and_core, and_next, or_core, or_next}
 use Rattle.rhai_machine.specs.language.Expressions.{coalesce_core, coalesce_seen, coalesce_next, expr_move}
 use Rattle.rhai_machine.specs.language.Calls.{builtin_of, call_of, sized}
 use Rattle.rhai_machine.specs.language.Arguments.{flattens, taken, arguments_core, keyword_of, function_core, function_of}
 use Rattle.rhai_machine.specs.language.Statements.{enter_core, run_core, chosen_core, defined_core, define_core, break_core, return_move}
 use Rattle.rhai_machine.specs.language.Statements.{has_option, stmt_move}
+use Rattle.rhai_machine.specs.language.Bodies.{returned}
 use Rattle.rhai_machine.specs.language.Unwinding.{up_core, down_core, topped, operated, looked_at, marked_core}
 use Rattle.rhai_machine.specs.language.Language.{move_at, move}
 use Rattle.rhai_machine.specs.language.Members.{focus_of, focused_on, lacks_property, lacks_indexer}
@@ -57,7 +59,8 @@ use Rattle.rhai_machine.specs.language.Links.{link_of}
 use Rattle.rhai_machine.proofs.ChainLinks.{links, within}
 use Rattle.rhai_machine.proofs.Sizes.{target_links, purpose_size, control_size, stack_size, size, enter_size, run_size, result_falls}
 use Rattle.rhai_machine.proofs.Sizes.{on_falls, on_below, there_falls}
-use Rattle.rhai_machine.proofs.CallFalls.{named_call_falls, question_falls, fire_falls, keyword_falls, arguments_fall, operator_falls}
+use Rattle.rhai_machine.proofs.CallFalls.{named_call_falls, question_falls, fire_falls, focus_falls, keyword_falls, arguments_fall}
+use Rattle.rhai_machine.proofs.CallFalls.{operator_falls}
 use Rattle.rhai_machine.proofs.AssignmentFalls.{store_falls, barred_falls, fire_update_falls}
 use Rattle.rhai_machine.proofs.ChainFalls.{asked_falls, open_falls, root_falls, read_root_falls, walk_falls, locate_falls}
 use Rattle.rhai_machine.proofs.ChainFalls.{assign_focus_falls, part_assigned_falls, part_changed_falls, member_operated_falls}
@@ -139,8 +142,10 @@ module _ {H : Type 0} where
     expr_falls fast (layer.Unit pos) k l = omega arith
     expr_falls fast (layer.Variable offset name namespace pos) k l =
         there_falls (is_unqualified namespace.path) (core (OpenExpr (layer.Variable offset name namespace pos)) k l)
-        (core (ended (read l.around.cells name pos l.scope)) k l)
-        (result_falls (read l.around.cells name pos l.scope) (40 + stack_size k) (stack_size k) (omega arith))
+        (core (ended (read l.around.cells l.around.lib name pos l.scope)) k l)
+        (result_falls (read l.around.cells l.around.lib name pos l.scope) (40 + stack_size k) (stack_size k) (omega arith))
+    expr_falls fast (layer.ThisPtr pos) k l =
+        result_falls (copied (bound_this pos l.this)) (40 + stack_size k) (stack_size k) (omega arith)
     expr_falls fast (layer.Expr::FnCall call pos) k l = call_falls fast call.op_token call call.args pos (layer.Expr::FnCall call pos) k l
     expr_falls fast (layer.Stmt block) k l = omega (arith, enter_size block.statements true k)
     expr_falls fast (layer.InterpolatedString parts pos) k l = grind (arith, parts_fall [] parts k l)
@@ -153,18 +158,21 @@ module _ {H : Type 0} where
     expr_falls fast (layer.Coalesce parts pos) k l = grind (arith, coalesce_falls unit_value parts k l)
     expr_falls fast _ k l = tt
 
-    define_falls : (shadows full : Bool) (ident : Ident) (value : Expr) (options : ASTFlags) (pos : Position) (k : List (Frame H))
-        (l : Local H) →
-        size (define_core s shadows full ident value options pos k l) < 50 + stack_size k
-    define_falls true full ident value options pos k l = omega arith
-    define_falls false true ident value options pos k l = omega arith
-    define_falls false false ident value options pos k l = omega arith
+    define_falls : (shadows full : Bool) (ident : Ident) (value : Expr) (options : ASTFlags) (restoring : Bool) (pos : Position)
+        (k : List (Frame H)) (l : Local H) →
+        size (define_core s shadows full ident value options restoring pos k l) < 50 + stack_size k
+    define_falls true full ident value options restoring pos k l = omega arith
+    define_falls false true ident value options restoring pos k l = omega arith
+    define_falls false false ident value options restoring pos k l = omega arith
 
     assignment_falls : (target : ExprLayer) (op : OpAssignment) (rhs : Expr) (form : StmtLayer) (restoring : Bool) (k : List (Frame H))
         (l : Local H) → target_links form ≡ links target →
         Falls size (core (OpenStmt form restoring) k l) (assignment_move target op rhs k l)
     assignment_falls (layer.Variable offset name namespace pos) op rhs form restoring k l same =
         there_falls (is_unqualified namespace.path) (core (OpenStmt form restoring) k l) _ (omega arith)
+    assignment_falls (layer.ThisPtr pos) op rhs form restoring k l same =
+        on_below (bound_this pos l.this) (λ this. core (Eval rhs) (AssignThisValue op pos (position_of rhs) ∷ k) l) k l
+        (20 * target_links form + 50 + stack_size k) (omega arith) (λ this. omega arith)
     assignment_falls (layer.Index lhs rest options pos) op rhs form restoring k l same = omega (arith, same)
     assignment_falls (layer.Dot lhs rest options pos) op rhs form restoring k l same = omega (arith, same)
     assignment_falls _ op rhs form restoring k l same = tt
@@ -192,11 +200,11 @@ module _ {H : Type 0} where
     stmt_falls (layer.Var ident value None options pos) restoring k l =
         there_falls (not (is_exported options)) (core (OpenStmt (layer.Var ident value None options pos) restoring) k l)
         (define_core s (not s.offer.allow_shadowing && is_some (index_of ident.name l.scope))
-        (nat_le s.limits.max_variables (length l.scope)) ident value options pos k l)
+        (nat_le s.limits.max_variables (length l.scope)) ident value options restoring pos k l)
         (omega (
           arith,
           define_falls (not s.offer.allow_shadowing && is_some (index_of ident.name l.scope))
-              (nat_le s.limits.max_variables (length l.scope)) ident value options pos k l,
+              (nat_le s.limits.max_variables (length l.scope)) ident value options restoring pos k l,
         ))
     stmt_falls (layer.If test body branch pos) restoring k l = omega arith
     stmt_falls (layer.While test body pos) restoring k l = omega arith
@@ -280,8 +288,8 @@ module _ {H : Type 0} where
     up_falls : (frame : Frame H) (v : Dynamic H) (k : List (Frame H)) (l : Local H) →
         size (up_core s frame v k l) < 7 + stack_size (frame ∷ k)
     up_falls (StatementValue at) v k l = result_falls (flat l.around.cells v at) (7 + (4 + stack_size k)) (stack_size k) (omega arith)
-    up_falls (DefineValue ident options value_at) v k l = grind
-        (arith, on_falls (flat l.around.cells v value_at) (λ x. defined_core x ident options k l) k l (λ x. omega arith))
+    up_falls (DefineValue ident options restoring value_at) v k l = grind
+        (arith, on_falls (flat l.around.cells v value_at) (λ x. defined_core x ident options restoring k l) k l (λ x. omega arith))
     up_falls (IfCondition test_at body branch) v k l = grind (
       arith,
       on_falls (truth s.host_type l.around.cells v test_at) (λ holds. chosen_core holds body branch k l) k l
@@ -339,6 +347,9 @@ module _ {H : Type 0} where
     up_falls (PrintedPart text type part_at rest) v k l = grind (arith, part_falls text (printed v.value type) part_at rest k l)
     up_falls (AssignValue assignment value_at) v k l = grind
         (arith, on_falls (flat l.around.cells v value_at) (λ x. core (Assign assignment x) k l) k l (λ x. omega arith))
+    up_falls (AssignThisValue op at value_at) v k l = grind
+        (arith, on_falls (flat l.around.cells v value_at) (λ x. core (AssignThis op at x) k l) k l (λ x. omega arith))
+    up_falls (CallEnd exit) v k l = omega arith
     up_falls (WhileCondition test body) v k l = grind (
       arith,
       on_falls (truth s.host_type l.around.cells v (position_of test)) (λ holds. while_core holds test body k l) k l
@@ -360,7 +371,7 @@ module _ {H : Type 0} where
     up_falls AssignedChain v k l = omega arith
     up_falls (RootValue chain) v k l = on_below (flat l.around.cells v (position_of chain.root)) _ k l
         (7 + (20 * links chain.rest + 20 + stack_size k)) (omega arith) (λ x. omega arith)
-    up_falls (ChainEnd entry outer) v k l = omega arith
+    up_falls (ChainEnd lender outer) v k l = omega arith
     up_falls (StepDown above step) v k l = omega arith
     up_falls (Temporary above back) v k l = omega arith
     up_falls (PartMethod above spot at) v k l = omega arith
@@ -384,7 +395,7 @@ module _ {H : Type 0} where
     down_falls : (frame : Frame H) (e : EvalAltResult H) (k : List (Frame H)) (l : Local H) →
         size (down_core s frame e k l) < 10 + stack_size (frame ∷ k)
     down_falls (StatementValue at) e k l = omega arith
-    down_falls (DefineValue ident options value_at) e k l = omega arith
+    down_falls (DefineValue ident options restoring value_at) e k l = omega arith
     down_falls (IfCondition test_at body branch) e k l = omega arith
     down_falls (RestOfList rest restoring) e k l = omega arith
     down_falls (RestoreList saved) e k l = omega arith
@@ -402,6 +413,8 @@ module _ {H : Type 0} where
     down_falls (TextPart text part_at rest) e k l = omega arith
     down_falls (PrintedPart text type part_at rest) e k l = grind (arith, unprinted_falls (is_system e) e text type part_at rest k l)
     down_falls (AssignValue assignment value_at) e k l = omega arith
+    down_falls (AssignThisValue op at value_at) e k l = omega arith
+    down_falls (CallEnd exit) e k l = result_falls (returned exit e) (10 + (1 + stack_size k)) (stack_size k) (omega arith)
     down_falls (WhileCondition test body) e k l = omega arith
     down_falls (WhileBody test body) e k l = omega (arith, caught_size (WhileTurn test body) (omega arith) e)
     down_falls (DoCondition test body options) e k l = omega arith
@@ -416,7 +429,7 @@ module _ {H : Type 0} where
     down_falls (AssignChain root chain op value_at) e k l = omega arith
     down_falls AssignedChain e k l = omega arith
     down_falls (RootValue chain) e k l = omega arith
-    down_falls (ChainEnd entry outer) e k l = omega arith
+    down_falls (ChainEnd lender outer) e k l = omega arith
     down_falls (StepDown above step) e k l = omega arith
     down_falls (Temporary above back) e k l = omega arith
     down_falls (PartMethod above spot at) e k l = omega arith
@@ -447,7 +460,10 @@ module _ {H : Type 0} where
     control_falls (Assign assignment v) k l = tt
     control_falls (AskUpdate u) k l = tt
     control_falls (Argument e) k l = argument_falls (literal_of (out-Expr e)) e k l
-    control_falls (CallNamed operation curried args captures) k l = named_call_falls s operation curried args captures k l
+    control_falls (EnterFunction e) k l = tt
+    control_falls (EnterOnFocus f args at) k l = focus_falls s f args at k l
+    control_falls (AssignThis op at v) k l = tt
+    control_falls (CallNamed operation curried args captures alone) k l = named_call_falls s operation curried args captures alone k l
     control_falls (Question call) k l = question_falls s call call.args k l
     control_falls (Fire call) k l = fire_falls s call call.args k l
     control_falls (QuestionUpdate u) k l = λ pure. barred_falls s (is_barred pure u.target) u k l
@@ -456,7 +472,10 @@ module _ {H : Type 0} where
     control_falls (OpenStmt form restoring) k l = stmt_falls form restoring k l
     control_falls (Enter stmts restoring) k l = enter_falls stmts restoring k l
     control_falls (Run stmts restoring last) k l = run_falls stmts restoring last k l
-    control_falls (Store assignment v) k l = store_falls s (target_of l.around.cells assignment.name assignment.at l.scope) assignment v k l
+    control_falls (Store assignment v) k l =
+        store_falls s (target_of l.around.cells l.around.lib assignment.name assignment.at l.scope) assignment v k l
+    control_falls (StoreThis op at v) k l =
+        store_falls s (this_target l.around.cells at l.this) (record { name = []; at = at; op = op }) v k l
     control_falls (WhileTurn test body) k l = while_turn_falls (is_endless (out-Expr test)) body.statements test body k l
     control_falls (DoTurn test body options) k l = omega (arith, enter_size body.statements true k)
     control_falls (OpenChain chain) k l = open_falls (link_of chain.rest) chain k l

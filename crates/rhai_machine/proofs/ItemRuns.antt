@@ -11,7 +11,7 @@ use Rattle.rhai_paths.specs.Paths.{ToPlace}
 use Rattle.rhai_places.specs.declared.spot.Spot.TheVariants as spot
 use Rattle.rhai_machine.specs.samples.Handles.{handle, one_cell}
 use Rattle.rhai_machine.specs.language.Frames.{Control, NewValue, Frame, Core, core, StepDown, Argument, Back, CallArgument}
-use Rattle.rhai_machine.specs.language.Frames.{ChainArguments, ToChain, Measured, Eval, Walk, ChainEnd, RootValue, chain_on}
+use Rattle.rhai_machine.specs.language.Frames.{FromEntry, ChainArguments, ToChain, Measured, Eval, Walk, ChainEnd, RootValue, chain_on}
 use Rattle.rhai_machine.specs.samples.Trees.{column, int, var}
 use Rattle.rhai_machine.specs.samples.Runs.{Table, entry, integer, nothing_but, unit}
 use Rattle.rhai_machine.specs.samples.Data.{text, word}
@@ -38,7 +38,7 @@ module _ {S H : Type 0} (table : Table S H) (host : H → List ℕ) where
       (array (integer 1 ∷ integer 7 ∷ [])) ∷ []))) 3
 
   abbrev own_chain : Control H → ℕ → Config S H (Core H)
-  own_chain control count = standing_at table (core control (ChainEnd (Some 0) None ∷ own_frames)
+  own_chain control count = standing_at table (core control (ChainEnd (Some (FromEntry 0)) None ∷ own_frames)
       (focused (entry (codes "a") (array (integer 1 ∷ integer 7 ∷ [])) ∷ []) (array (integer 1 ∷ integer 7 ∷ [])))) count
 
   -- the root of `[4, 2][1]` is evaluated, and then it is at its link
@@ -98,7 +98,7 @@ module _ {S H : Type 0} (table : Table S H) (host : H → List ℕ) where
 
   -- a new entry is assigned to, and the map is to be measured
   abbrev entry_assigned : Config S H (Core H)
-  entry_assigned = standing_at table (core (Back unit) (Measured (column 5) ∷ ChainEnd (Some 0) None ∷ assigned)
+  entry_assigned = standing_at table (core (Back unit) (Measured (column 5) ∷ ChainEnd (Some (FromEntry 0)) None ∷ assigned)
       (focused (entry (codes "m") (k_map (integer 1)) ∷ [])
       (plain (kind.Map (codes "j" ∷ codes "k" ∷ [], integer 5 ∷ integer 1 ∷ []))))) 4
 
@@ -156,7 +156,8 @@ module _ {S H : Type 0} (table : Table S H) (host : H → List ℕ) where
   -- the item is the focus
   abbrev inner_walks : Config S H (Core H)
   inner_walks = standing_at table (core (Walk (on_its_way true (var 1 (codes "a")) (index 5 (int 3 0) (int 6 1))
-      (new_at 9 None (integer 5)) (integer 1 ∷ []))) (StepDown (array (handle ∷ [])) (ToPlace (spot.Item 0)) ∷ ChainEnd (Some 1) None ∷
+      (new_at 9 None (integer 5)) (integer 1 ∷ []))) (StepDown (array (handle ∷ [])) (ToPlace (spot.Item 0))
+      ∷ ChainEnd (Some (FromEntry 1)) None ∷
       assigned)
       (record (one_cell table host (Some (array (integer 1 ∷ integer 2 ∷ []))) (entry (codes "a") (array (handle ∷ [])) ∷ []))
       { focus = Some handle })) 8

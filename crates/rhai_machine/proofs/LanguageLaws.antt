@@ -12,7 +12,7 @@ use Rattle.rhai_machine.specs.machine.Settling.{Settles}
 use Rattle.rhai_machine.specs.language.Setting.{Rules, cut, limit_under}
 use Rattle.rhai_machine.specs.language.State.{Local, State}
 use Rattle.rhai_machine.specs.language.Frames.{Control, Frame, Core, NewValue, Member, Property, Item, MemberAccess, MemberGot, ended, Fail}
-use Rattle.rhai_machine.specs.language.Frames.{Top}
+use Rattle.rhai_machine.specs.language.Frames.{CallEnd, Top}
 use Rattle.rhai_machine.specs.language.Unwinding.{down_core, got_none}
 use Rattle.rhai_machine.specs.language.Language.{move_at, machine}
 use Rattle.rhai_machine.specs.language.Limits.{IsRefused}
@@ -37,6 +37,7 @@ module _ {S H : Type 0} (rules : Rules S H) where
       IsRefused (down_core rules.setting frame (error.ErrorTooManyOperations at) k l)
   frame_passes (Top true) at k l = (at, refl)
   frame_passes (Top false) at k l = (at, refl)
+  frame_passes (CallEnd exit) at k l = (exit.at, refl)
   frame_passes (MemberGot access root new) at k l = member_passes access.member access new at k l
   frame_passes _ at k l = (at, refl)
 

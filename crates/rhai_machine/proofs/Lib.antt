@@ -12,15 +12,13 @@ mod AssignmentFalls
 mod ChainFalls
 mod Falls
 pub mod LanguageLaws
-pub mod ThisParts
-pub mod ThisChains
-pub mod ThisLaws
 pub mod SampleRuns
 mod LoopRuns
 mod AssignmentRuns
 mod DataRuns
 mod CallRuns
 mod MethodRuns
+mod FunctionRuns
 mod ChainRuns
 mod ItemRuns
 mod MemberRuns

@@ -6,7 +6,7 @@ use Rattle.rhai_state.specs.declared.error.EvalAltResult.TheVariants.{ErrorDotEx
 use Rattle.rhai_state.specs.Native.{Request}
 use Rattle.rhai_machine.specs.Types.{Dynamic}
 use Rattle.rhai_machine.specs.machine.Machine.{Config}
-use Rattle.rhai_machine.specs.language.Frames.{Core, core, ChainEnd, Frame, Control, MemberAccess, Property, Item, GetterTried}
+use Rattle.rhai_machine.specs.language.Frames.{FromEntry, Core, core, ChainEnd, Frame, Control, MemberAccess, Property, Item, GetterTried}
 use Rattle.rhai_machine.specs.language.Frames.{SetterTried, MemberGot, MemberSet}
 use Rattle.rhai_machine.specs.language.Frames.{Temporary, Walk, Back, Changed, Fail}
 use Rattle.rhai_machine.specs.samples.Trees.{column, int, var}
@@ -163,7 +163,7 @@ module _ {S H : Type 0} (table : Table S H) (host : H → List ℕ) where
 
   -- its setter is to be called on `()`, and then the indexer on the map
   abbrev over_m : Dynamic H → Control H → List (Frame H) → ℕ → List (Request H) → Config S H (Core H)
-  over_m focus control k count calls = record (standing_at table (core control (k ++ ChainEnd (Some 0) None ∷ assigned)
+  over_m focus control k count calls = record (standing_at table (core control (k ++ ChainEnd (Some (FromEntry 0)) None ∷ assigned)
       (focused (entry (codes "m") (k_map (integer 1)) ∷ []) focus)) count) { calls = calls }
 
   abbrev j_access : MemberAccess H

@@ -4,16 +4,19 @@ use Rattle.std.specs.Option.{option_map, option_flatten}
 use Rattle.std.specs.Prelude.{◌≡◌, ℕ, zero, suc, Bool, true, false, ◌||◌, List, [], ◌∷◌, map, Option, Some, None, Ok, slice_get, slice_set}
 use Rattle.rhai_tree.specs.declared.position.Position.{Position}
 use Rattle.rhai_values.specs.declared.base.value.AccessMode.{AccessMode}
+use Rattle.rhai_values.specs.declared.base.value.AccessMode.TheVariants.{ReadWrite, ReadOnly}
 use Rattle.rhai_values.specs.declared.base.value.Dynamic.{Dynamic}
 use Rattle.rhai_values.specs.declared.base.value.Union.{Union}
 use Rattle.rhai_values.specs.declared.base.value.Union.TheVariants as value
 use Rattle.rhai_state.specs.declared.scope.ScopeEntry.{ScopeEntry}
+use Rattle.rhai_state.specs.declared.error.EvalAltResult.{EvalAltResult}
 use Rattle.rhai_values.specs.Cells.{value_of_cell}
 use Rattle.rhai_state.specs.Scope.{name_of, value_of, value_in, index_of, found, revalued}
 use Rattle.rhai_machine.specs.language.State.{Local}
 use Rattle.rhai_machine.specs.language.Values.{Cells}
-use Rattle.rhai_machine.specs.language.Places.{Place, InEntry, InCell, InFocus, Target, target, is_constant, unless_constant, target_in_cell}
-use Rattle.rhai_machine.specs.language.Places.{target_at, target_found, target_of, put}
+use Rattle.rhai_machine.specs.language.Places.{Place, InEntry, InCell, InThis, InFocus, Target, target, is_constant, unless_constant}
+use Rattle.rhai_machine.specs.language.Places.{target_in_cell, target_at, target_found, target_of, focus_in_cell, this_at, this_target}
+use Rattle.rhai_machine.specs.language.Places.{rebound, put}
 
 module _ {A : Type 0} where
   -- the last of two items at an index stays
@@ -48,12 +51,17 @@ module _ {H : Type 0} where
       rw (get_set entries i entry (record entry { value = b }) is)
       (set_twice entries i (record entry { value = a }) (record entry { value = b }))
 
+  rebound_twice : (this : Option (Dynamic H)) (a b : Dynamic H) → rebound a (rebound b this) ≡ rebound a this
+  rebound_twice (Some v) a b = refl
+  rebound_twice None a b = refl
+
   -- of two values that are written to a place the last one stays
   pub put_twice : (place : Place) (a b : Dynamic H) (l : Local H) → put place a (put place b l) ≡ put place a l
   put_twice (InEntry i) a b l = ap (λ (scope : List (ScopeEntry H)). record l { scope = scope })
       (revalued_twice l.scope i (slice_get l.scope i) a b refl)
   put_twice (InCell n) a b l = ap (λ (cells : Cells H). record l { around = record l.around { cells = cells } })
       (set_twice l.around.cells n (Some a) (Some b))
+  put_twice InThis a b l = ap (λ (this : Option (Dynamic H)). record l { this = this }) (rebound_twice l.this a b)
   put_twice InFocus a b l = refl
 
   revalued_names : (entries : List (ScopeEntry H)) (i : ℕ) (there : Option (ScopeEntry H)) (v : Dynamic H) → slice_get entries i ≡ there →
@@ -65,6 +73,7 @@ module _ {H : Type 0} where
   pub put_names : (place : Place) (v : Dynamic H) (l : Local H) → map name_of (put place v l).scope ≡ map name_of l.scope
   put_names (InEntry i) v l = revalued_names l.scope i (slice_get l.scope i) v refl
   put_names (InCell n) v l = refl
+  put_names InThis v l = refl
   put_names InFocus v l = refl
 
   revalued_same : (entries : List (ScopeEntry H)) (i : ℕ) (there : Option (ScopeEntry H)) (v : Dynamic H) → slice_get entries i ≡ there →
@@ -86,6 +95,13 @@ module _ {H : Type 0} where
   cell_there n v l is = ap (λ (cells : Cells H). record l { around = record l.around { cells = cells } })
       (cell_same l.around.cells n (slice_get l.around.cells n) v refl is)
 
+  rebound_same : (this : Option (Dynamic H)) (v : Dynamic H) → this ≡ Some v → rebound v this ≡ this
+  rebound_same (Some w) v is = sym is
+  rebound_same None v is = cc
+
+  this_same : (v : Dynamic H) (l : Local H) → l.this ≡ Some v → put InThis v l ≡ l
+  this_same v l is = ap (λ (this : Option (Dynamic H)). record l { this = this }) (rebound_same l.this v is)
+
   not_constant : (b : Bool) (name : List ℕ) (pos : Position) (p t : Target H) → unless_constant b name pos p ≡ Ok t → p ≡ t
   not_constant true name pos p t is = cc
   not_constant false name pos p t is = cc
@@ -105,12 +121,36 @@ module _ {H : Type 0} where
         let same = not_constant (is_constant v.mode) name pos (target (InEntry i) v) t ok in
         rw (← same) (entry_there i v l is)
 
-    found_there : (index : Option ℕ) (there : Option (Dynamic H)) → value_in l.scope index ≡ there →
-        target_found l.around.cells name pos index there ≡ Ok t → put t.place t.value l ≡ l
-    found_there (Some i) (Some v) is ok = at_there i v.value v is ok
-    found_there (Some i) None is ok = cc
-    found_there None there is ok = cc
+    found_there : (otherwise : EvalAltResult H) (index : Option ℕ) (there : Option (Dynamic H)) → value_in l.scope index ≡ there →
+        target_found l.around.cells otherwise name pos index there ≡ Ok t → put t.place t.value l ≡ l
+    found_there otherwise (Some i) (Some v) is ok = at_there i v.value v is ok
+    found_there otherwise (Some i) None is ok = cc
+    found_there otherwise None there is ok = cc
 
     -- the value that is there already changes nothing
-    pub put_there : target_of l.around.cells name pos l.scope ≡ Ok t → put t.place t.value l ≡ l
-    put_there is = found_there (index_of name l.scope) (found name l.scope) refl is
+    pub put_there : target_of l.around.cells l.around.lib name pos l.scope ≡ Ok t → put t.place t.value l ≡ l
+    put_there is = found_there _ (index_of name l.scope) (found name l.scope) refl is
+
+  module _ (pos : Position) (l : Local H) (t : Target H) where
+    this_cell_there : (mode : AccessMode) (n : ℕ) (there : Option (Dynamic H)) → value_of_cell l.around.cells n ≡ there →
+        focus_in_cell [] pos mode n there ≡ Ok t → put t.place t.value l ≡ l
+    this_cell_there mode n (Some v) is ok =
+        let same = not_constant (is_constant mode || is_constant v.mode) [] pos (target (InCell n) v) t ok in
+        rw (← same) (cell_there n v l is)
+    this_cell_there ReadOnly n None is ok = cc
+    this_cell_there ReadWrite n None is ok = cc
+
+    this_value_there : (u : Union H) (v : Dynamic H) → l.this ≡ Some v → this_at l.around.cells pos u v ≡ Ok t →
+        put t.place t.value l ≡ l
+    this_value_there (value.Cell id) v is ok = this_cell_there v.mode id.number (value_of_cell l.around.cells id.number) refl ok
+    this_value_there _ v is ok =
+        let same = not_constant (is_constant v.mode) [] pos (target InThis v) t ok in
+        rw (← same) (this_same v l is)
+
+    bound_there : (this : Option (Dynamic H)) → l.this ≡ this → this_target l.around.cells pos this ≡ Ok t → put t.place t.value l ≡ l
+    bound_there (Some v) is ok = this_value_there v.value v is ok
+    bound_there None is ok = cc
+
+    -- and so it is with `this`
+    pub this_there : this_target l.around.cells pos l.this ≡ Ok t → put t.place t.value l ≡ l
+    this_there is = bound_there l.this refl is

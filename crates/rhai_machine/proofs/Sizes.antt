@@ -12,14 +12,15 @@ use Rattle.rhai_machine.specs.machine.Settling.{Falls}
 use Rattle.rhai_machine.specs.language.State.{Local}
 use Rattle.rhai_machine.specs.language.Frames.{Control, Frame, Core, where_there, on_value, ended, changed, Eval, Exec, Ask, Assign}
 use Rattle.rhai_machine.specs.language.Frames.{AskUpdate, Argument, CallNamed, Question, Fire, QuestionUpdate, FireUpdate, OpenExpr}
-use Rattle.rhai_machine.specs.language.Frames.{OpenStmt, Enter, Run, Store, WhileTurn, DoTurn, Back, Changed, Fail, StatementValue}
+use Rattle.rhai_machine.specs.language.Frames.{OpenStmt, Enter, Run, Store, StoreThis, WhileTurn, DoTurn, Back, Changed, Fail, StatementValue}
 use Rattle.rhai_machine.specs.language.Frames.{DefineValue, IfCondition, RestOfList, RestoreList, Top, UnaryOperand, LeftOperand}
 use Rattle.rhai_machine.specs.language.Frames.{RightOperand, AndPart, OrPart, CoalescePart, AssignValue, WhileCondition, WhileBody}
 use Rattle.rhai_machine.specs.language.Frames.{DoCondition, DoBody, BreakValue, ReturnValue, ArrayItem, EntryValue, TextPart, PrintedPart}
 use Rattle.rhai_machine.specs.language.Frames.{CallArgument, KeywordArgument, Purpose, ToChain, OpenChain, ChainArguments, ChainRoot}
 use Rattle.rhai_machine.specs.language.Frames.{ReadRoot, Walk, Locate, AssignChain, AssignedChain, RootValue, ChainEnd, StepDown, Temporary}
 use Rattle.rhai_machine.specs.language.Frames.{PartMethod, PartAssigned, Measured, MethodLink, MemberLink, MemberGot, MemberOperated}
-use Rattle.rhai_machine.specs.language.Frames.{GetterTried, SetterTried, IndexerTried, MemberSet}
+use Rattle.rhai_machine.specs.language.Frames.{GetterTried, SetterTried, IndexerTried, MemberSet, EnterFunction, EnterOnFocus}
+use Rattle.rhai_machine.specs.language.Frames.{AssignThis, AssignThisValue, CallEnd}
 use Rattle.rhai_machine.specs.language.Calls.{answered}
 use Rattle.rhai_machine.proofs.ChainLinks.{links, left_by}
 
@@ -39,7 +40,10 @@ module _ {H : Type 0} where
   control_size (Assign assignment v) = 0
   control_size (AskUpdate u) = 0
   control_size (Argument e) = 1
-  control_size (CallNamed operation curried args captures) = 14
+  control_size (EnterFunction e) = 0
+  control_size (EnterOnFocus function args at) = 12
+  control_size (AssignThis op at v) = 0
+  control_size (CallNamed operation curried args captures natives_alone) = 14
   control_size (Question call) = 12
   control_size (Fire call) = 11
   control_size (QuestionUpdate u) = 12
@@ -51,6 +55,7 @@ module _ {H : Type 0} where
   control_size (Run [] restoring last) = 8
   control_size (Run (stmt ∷ stmts) restoring last) = 3
   control_size (Store assignment v) = 11
+  control_size (StoreThis op at v) = 11
   control_size (WhileTurn test body) = 7
   control_size (DoTurn test body options) = 10
   control_size (OpenChain chain) = 20 * links chain.rest + 35
@@ -71,7 +76,7 @@ module _ {H : Type 0} where
   -- and how many more a frame can lead to, once a value or an error comes to it
   abbrev pub frame_size : Frame H → ℕ
   frame_size (StatementValue at) = 4
-  frame_size (DefineValue ident options value_at) = 4
+  frame_size (DefineValue ident options restoring value_at) = 4
   frame_size (IfCondition test_at body branch) = 4
   frame_size (RestOfList rest restoring) = 2
   frame_size (RestoreList saved) = 1
@@ -89,6 +94,7 @@ module _ {H : Type 0} where
   frame_size (TextPart text part_at rest) = 4
   frame_size (PrintedPart text type part_at rest) = 4
   frame_size (AssignValue assignment value_at) = 4
+  frame_size (AssignThisValue op at value_at) = 4
   frame_size (WhileCondition test body) = 4
   frame_size (WhileBody test body) = 1
   frame_size (DoCondition test body options) = 4
@@ -98,7 +104,8 @@ module _ {H : Type 0} where
   frame_size (AssignChain root chain op value_at) = 20 * links chain + 30
   frame_size AssignedChain = 1
   frame_size (RootValue chain) = 20 * links chain.rest + 20
-  frame_size (ChainEnd entry outer) = 1
+  frame_size (ChainEnd lender outer) = 1
+  frame_size (CallEnd exit) = 1
   frame_size (StepDown above step) = 1
   frame_size (Temporary above back) = 1
   frame_size (PartMethod above spot at) = 3

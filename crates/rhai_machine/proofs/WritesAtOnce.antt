@@ -15,8 +15,8 @@ use Rattle.rhai_machine.specs.machine.Point.{Reaches, after, here, next, ◌⨾�
 use Rattle.rhai_machine.specs.language.Setting.{Rules, cut}
 use Rattle.rhai_machine.specs.language.State.{State}
 use Rattle.rhai_machine.specs.language.Frames.{Control, Frame, core, Walk, Back, Changed, Fail, ChainEnd, StepDown}
-use Rattle.rhai_machine.specs.language.Chains.{behind_link, entered_by}
-use Rattle.rhai_machine.specs.language.Members.{focused_on}
+use Rattle.rhai_machine.specs.language.Handles.{entered_by, focused_on}
+use Rattle.rhai_machine.specs.language.Chains.{behind_link}
 use Rattle.rhai_machine.specs.language.Unwinding.{gone_up}
 use Rattle.rhai_machine.specs.language.Language.{machine}
 use Rattle.rhai_machine.specs.language.Runs.{at}
@@ -258,18 +258,18 @@ module _ {S H : Type 0} (rules : Rules S H) where
 
   value_ends : (v : Dynamic H) → EndsWritten rules (Back v) (Back v)
   unfolding after
-  value_ends v root path w entry outer k s simple =
-      writes_at_once (Back v) (value_goes_up v) root path w (ChainEnd entry outer ∷ k) s simple ⨾ next here
+  value_ends v root path w lender outer k s simple =
+      writes_at_once (Back v) (value_goes_up v) root path w (ChainEnd lender outer ∷ k) s simple ⨾ next here
 
   marked_ends : (v : Dynamic H) → EndsWritten rules (Changed v) (Back v)
   unfolding after
-  marked_ends v root path w entry outer k s simple =
-      writes_at_once (Changed v) (marked_goes_up v) root path w (ChainEnd entry outer ∷ k) s simple ⨾ next (next here)
+  marked_ends v root path w lender outer k s simple =
+      writes_at_once (Changed v) (marked_goes_up v) root path w (ChainEnd lender outer ∷ k) s simple ⨾ next (next here)
 
   error_ends : (e : EvalAltResult H) → EndsWritten rules (Fail e) (Fail e)
   unfolding after
-  error_ends e root path w entry outer k s simple =
-      writes_at_once (Fail e) (error_goes_up e) root path w (ChainEnd entry outer ∷ k) s simple ⨾ next here
+  error_ends e root path w lender outer k s simple =
+      writes_at_once (Fail e) (error_goes_up e) root path w (ChainEnd lender outer ∷ k) s simple ⨾ next here
 
   pub descent_laws : DescentLaws rules
   descent_laws = record {

@@ -1,10 +1,14 @@
 pub mod Setting
 pub mod State
 pub mod Values
+pub mod Functions
 pub mod Names
 pub mod Places
 pub mod Links
+pub mod Activations
 pub mod Frames
+pub mod Handles
+pub mod Bodies
 pub mod Expressions
 pub mod Calls
 pub mod Arguments

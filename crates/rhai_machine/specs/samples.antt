@@ -15,3 +15,4 @@ pub mod Items
 pub mod Entries
 pub mod Members
 pub mod Parts
+pub mod Functions

@@ -19,6 +19,7 @@ ghost use Rattle.rhai_machine.specs.samples.Assignments.{Assignments, Updates};
 ghost use Rattle.rhai_machine.specs.samples.Data.{Arrays, Maps, Texts};
 ghost use Rattle.rhai_machine.specs.samples.Calls.{Calls, Keywords, Pointers};
 ghost use Rattle.rhai_machine.specs.samples.Methods.{Methods};
+ghost use Rattle.rhai_machine.specs.samples.Functions.{Objects, Constants};
 ghost use Rattle.rhai_machine.specs.samples.Items.{Items, SharedItems};
 ghost use Rattle.rhai_machine.specs.samples.Entries.{Entries};
 ghost use Rattle.rhai_machine.specs.samples.Members.{Members, SetBack, Guards, Indexers};
@@ -143,6 +144,16 @@ pub fn sample_pointers<H, S>(of: PhantomData<(H, S)>)
 /// Methods: what a native leaves of the value, and the words that are no function's.
 pub fn sample_methods<H, S>(of: PhantomData<(H, S)>)
     ensures { (table : Table S H) (host : H → List ℕ) → Methods table host }
+{}
+
+/// `this`: the object of a method, and where it is read and assigned to.
+pub fn sample_objects<H, S>(of: PhantomData<(H, S)>)
+    ensures { (table : Table S H) (host : H → List ℕ) → Objects table host }
+{}
+
+/// Constants at the top of a script.
+pub fn sample_constants<H, S>(of: PhantomData<(H, S)>)
+    ensures { (table : Table S H) (host : H → List ℕ) → Constants table host }
 {}
 
 /// Items of arrays, read and assigned to.

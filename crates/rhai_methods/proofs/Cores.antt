@@ -1,6 +1,6 @@
 -- What a pointer is called by, and what its copy is.
-use Rattle.std.proofs.Common.{◌≡◌, List, ◌++◌, map, Option, Some, None, Result, Ok, Err, refl, sym, ap, ◌∙◌}
-use Rattle.std.specs.Prelude.{ℕ, codes}
+use Rattle.std.proofs.Common.{◌≡◌, List, ◌++◌, map, length, Option, Some, None, Result, Ok, Err, refl, sym, ap, ◌∙◌}
+use Rattle.std.specs.Prelude.{ℕ, false, codes}
 use Rattle.std.specs.Option.{option_map}
 use Rattle.rhai_tree.specs.declared.position.Position.{Position}
 use Rattle.rhai_values.specs.declared.base.value.Dynamic.{Dynamic}
@@ -12,15 +12,17 @@ use Rattle.rhai_values.specs.Copy.{copy_of, copy_pointer}
 use Rattle.rhai_values.specs.Layers.{UnionLayer, layer_of}
 use Rattle.rhai_values.proofs.CopyLemmas.{copy-pointer}
 use Rattle.rhai_state.specs.declared.error.EvalAltResult.{EvalAltResult}
+use Rattle.rhai_functions.specs.declared.function.Function.{Function}
 use Rattle.rhai_machine.specs.language.Setting.{Setting}
 use Rattle.rhai_machine.specs.language.State.{Local}
-use Rattle.rhai_machine.specs.language.Frames.{Frame, Core, core, on_value, ended, Fail}
+use Rattle.rhai_machine.specs.language.Frames.{EnterOnFocus, Frame, Core, core, on_value, ended, Fail}
+use Rattle.rhai_machine.specs.language.Arguments.{linked, linked_core, linked_to}
 use Rattle.rhai_machine.specs.language.Methods.{Method, call_argument, call_core, copied_before, curry_core, entry_core, own_seen}
-use Rattle.rhai_machine.specs.language.Methods.{pointer_alone, pointer_on, pointer_there}
+use Rattle.rhai_machine.specs.language.Methods.{pointer_alone, pointer_on, pointer_there, unlinked_alone, unlinked_on}
 use Rattle.rhai_dispatch.specs.Pointers.{number_in}
 use Rattle.rhai_methods.specs.Calls.{alone_by, named_on, on_by}
 use Rattle.rhai_methods.specs.Copies.{curried_in, curried_seen, found_copy}
-use Rattle.rhai_methods.specs.Parts.{alone_with, given_on, own_on}
+use Rattle.rhai_methods.specs.Parts.{all_of, alone_as, alone_with, name_called, on_as, on_with}
 
 module _ {H : Type 0} where
   -- a copy has copies of the values, and all else
@@ -30,37 +32,68 @@ module _ {H : Type 0} where
   copied_out p = ap (λ (q : FnPtr H). out-FnPtr H q) (copy-pointer p) ∙ out-roll-FnPtr H _
 
   module _ (s : Setting H) (k : List (Frame H)) (l : Local H) where
-    on_is : (of : FnPtrKind H) (pointer : FnPtr H) (method : Method) (called : List ℕ) (args : List (Dynamic H)) (focus : Dynamic H) →
-        pointer_on s of pointer method called args focus k l
+    -- what is linked to no function
+    unlinked_on_is : (of : FnPtrKind H) (pointer : FnPtr H) (method : Method) (called : List ℕ) (args : List (Dynamic H))
+        (focus : Dynamic H) →
+        unlinked_on s of pointer method called args focus k l
         ≡ on_by s (number_in of) called (out-FnPtr H pointer).name method.at args focus k l
-    on_is (kind.Native id) pointer method called args focus = refl
-    on_is _ pointer method called args focus = refl
+    unlinked_on_is (kind.Native id) pointer method called args focus = refl
+    unlinked_on_is _ pointer method called args focus = refl
 
-    alone_is : (of : FnPtrKind H) (pointer : FnPtr H) (at : Position) (args : List (Dynamic H)) →
-        pointer_alone s of pointer at args k l ≡ alone_by s (number_in of) (out-FnPtr H pointer).name at args k l
-    alone_is (kind.Native id) pointer at args = refl
-    alone_is _ pointer at args = refl
+    unlinked_alone_is : (of : FnPtrKind H) (pointer : FnPtr H) (at : Position) (args : List (Dynamic H)) →
+        unlinked_alone s of pointer at args k l ≡ alone_by s (number_in of) (out-FnPtr H pointer).name at args k l
+    unlinked_alone_is (kind.Native id) pointer at args = refl
+    unlinked_alone_is _ pointer at args = refl
+
+    -- a pointer on the focus that is an argument
+    pointer_on_is : (found : Option (Function H)) (q : FnPtr H) (method : Method) (called : List ℕ) (args : List (Dynamic H))
+        (focus : Dynamic H) →
+        pointer_on s found q method called (all_of q args) focus k l ≡ on_as s found q called method.at args focus k l
+    pointer_on_is (Some f) q method called args focus = refl
+    pointer_on_is None q method called args focus = unlinked_on_is (out-FnPtr H q).kind q method called (all_of q args) focus
+
+    -- and one that is found in a value, as its copy is
+    copied_on_is : (found : Option (Function H)) (q : FnPtr H) (method : Method) (called : List ℕ) (args : List (Dynamic H))
+        (focus : Dynamic H) →
+        pointer_on s found q method called (copied_before q args) focus k l ≡ on_as s found (copy_pointer q) called method.at args focus k l
+    copied_on_is (Some f) q method called args focus =
+        sym (ap (λ o. core (EnterOnFocus f (o.curry ++ args) method.at) k l) (copied_out q))
+    copied_on_is None q method called args focus =
+        unlinked_on_is (out-FnPtr H q).kind q method called (copied_before q args) focus
+        ∙ sym (ap (λ o. on_by s (number_in o.kind) called o.name method.at (o.curry ++ args) focus k l) (copied_out q))
+
+    -- a pointer by itself likewise
+    copied_alone_is : (found : Option (Function H)) (q : FnPtr H) (at : Position) (args : List (Dynamic H)) →
+        pointer_alone s found q at (copied_before q args) k l ≡ alone_as s found (copy_pointer q) at args k l
+    copied_alone_is (Some f) q at args = sym (ap (λ o. linked_core f at (o.curry ++ args) k l) (copied_out q))
+    copied_alone_is None q at args =
+        unlinked_alone_is (out-FnPtr H q).kind q at (copied_before q args)
+        ∙ sym (ap (λ o. alone_by s (number_in o.kind) o.name at (o.curry ++ args) k l) (copied_out q))
+
+    -- a copy is linked to the same function
+    copied_linked : (q : FnPtr H) (args : List (Dynamic H)) →
+        linked_to q (length (copied_before q args)) l.around.lib
+        ≡ linked_to (copy_pointer q) (length (all_of (copy_pointer q) args)) l.around.lib
+    copied_linked q args = sym (ap (λ o. linked o.kind o.name (length (o.curry ++ args)) l.around.lib) (copied_out q))
 
     -- a pointer by itself, as its copy is
     alone_copied : (q : FnPtr H) (at : Position) (args : List (Dynamic H)) →
-        pointer_alone s (out-FnPtr H q).kind q at (copied_before q args) k l ≡ alone_with s (copy_pointer q) at args k l
+        pointer_alone s (linked_to q (length (copied_before q args)) l.around.lib) q at (copied_before q args) k l
+        ≡ alone_with s (copy_pointer q) at args k l
     alone_copied q at args =
-        alone_is (out-FnPtr H q).kind q at (copied_before q args)
-        ∙ sym (ap (λ f. alone_by s (number_in f.kind) f.name at (f.curry ++ args) k l) (copied_out q))
+        copied_alone_is (linked_to q (length (copied_before q args)) l.around.lib) q at args
+        ∙ ap (λ (found : Option (Function H)). alone_as s found (copy_pointer q) at args k l) (copied_linked q args)
 
     -- a map's own pointer, as its copy is
     own_copied : (q : FnPtr H) (method : Method) (args : List (Dynamic H)) (focus : Dynamic H) →
-        pointer_on s (out-FnPtr H q).kind q method (out-FnPtr H q).name (copied_before q args) focus k l
-        ≡ own_on s (copy_pointer q) method.at args focus k l
+        pointer_on s (linked_to q (length (copied_before q args)) l.around.lib) q method (out-FnPtr H q).name
+        (copied_before q args) focus k l
+        ≡ on_with s (copy_pointer q) (name_called (copy_pointer q) None) method.at args focus k l
     own_copied q method args focus =
-        on_is (out-FnPtr H q).kind q method (out-FnPtr H q).name (copied_before q args) focus
-        ∙ sym (ap (λ f. on_by s (number_in f.kind) f.name f.name method.at (f.curry ++ args) focus k l) (copied_out q))
-
-    -- and one that is an argument
-    given_is : (q : FnPtr H) (method : Method) (args : List (Dynamic H)) (focus : Dynamic H) →
-        pointer_on s (out-FnPtr H q).kind q method (codes "call") ((out-FnPtr H q).curry ++ args) focus k l
-        ≡ given_on s q method.at args focus k l
-    given_is q method args focus = on_is (out-FnPtr H q).kind q method (codes "call") ((out-FnPtr H q).curry ++ args) focus
+        copied_on_is (linked_to q (length (copied_before q args)) l.around.lib) q method (out-FnPtr H q).name args focus
+        ∙ ap (λ (found : Option (Function H)). on_as s found (copy_pointer q) (out-FnPtr H q).name method.at args focus k l)
+        (copied_linked q args)
+        ∙ sym (ap (λ o. on_with s (copy_pointer q) o.name method.at args focus k l) (copied_out q))
 
     -- ---- `call`
 
@@ -98,16 +131,16 @@ module _ {H : Type 0} where
 
     pub own_is : (r : Result (Option (FnPtr H)) (EvalAltResult H)) (p : FnPtr H) (method : Method) (args : List (Dynamic H))
         (focus : Dynamic H) → Ok (Some p) ≡ found_copy r →
-        on_value r (λ own. entry_core s own method args focus k l) k l ≡ own_on s p method.at args focus k l
+        on_value r (λ own. entry_core s own method args focus k l) k l ≡ on_with s p (name_called p None) method.at args focus k l
     own_is (Ok (Some q)) p method args focus is =
         let same : copy_pointer q ≡ p = cc in
-        own_copied q method args focus ∙ ap (λ (x : FnPtr H). own_on s x method.at args focus k l) same
+        own_copied q method args focus ∙ ap (λ (x : FnPtr H). on_with s x (name_called x None) method.at args focus k l) same
     own_is (Ok None) p method args focus is = cc
     own_is (Err e) p method args focus is = cc
 
     pub named_is : (r : Result (Option (FnPtr H)) (EvalAltResult H)) (method : Method) (args : List (Dynamic H))
         (focus : Dynamic H) → Ok None ≡ found_copy r →
-        on_value r (λ own. entry_core s own method args focus k l) k l ≡ named_on s method.name method.at args focus k l
+        on_value r (λ own. entry_core s own method args focus k l) k l ≡ named_on s false method.name method.at args focus k l
     named_is (Ok (Some q)) method args focus is = cc
     named_is (Ok None) method args focus is = refl
     named_is (Err e) method args focus is = cc
@@ -141,11 +174,12 @@ module _ {H : Type 0} where
 
     pub argument_is : (r : Result (FnPtr H) (EvalAltResult H)) (p : FnPtr H) (method : Method) (rest : List (Dynamic H))
         (focus : Dynamic H) → Ok p ≡ r →
-        on_value r (λ pointer. pointer_on s (out-FnPtr H pointer).kind pointer method (codes "call")
-        ((out-FnPtr H pointer).curry ++ rest) focus k l) k l ≡ given_on s p method.at rest focus k l
+        on_value r (λ pointer. pointer_on s (linked_to pointer (length (all_of pointer rest)) l.around.lib) pointer method (codes "call")
+        (all_of pointer rest) focus k l) k l ≡ on_with s p (codes "call") method.at rest focus k l
     argument_is (Ok q) p method rest focus is =
         let same : q ≡ p = cc in
-        given_is q method rest focus ∙ ap (λ (x : FnPtr H). given_on s x method.at rest focus k l) same
+        pointer_on_is (linked_to q (length (all_of q rest)) l.around.lib) q method (codes "call") rest focus
+        ∙ ap (λ (x : FnPtr H). on_with s x (codes "call") method.at rest focus k l) same
     argument_is (Err e) p method rest focus is = cc
 
     pub argument_fails : (r : Result (FnPtr H) (EvalAltResult H)) (e : EvalAltResult H) → Err e ≡ r →

@@ -1,107 +1,164 @@
 -- The parts of a method's call: where they lead.
-use Rattle.std.proofs.Common.{◌≡◌, Bool, true, false, List, [], Some, Result, Ok, Err, refl, sym, ap, subst}
+use Rattle.std.proofs.Common.{◌≡◌, Bool, true, false, List, ◌∷◌, Some, Result, Ok, Err, refl, sym, ap, subst}
 use Rattle.std.specs.Prelude.{ℕ, codes, if◌then◌else◌}
-use Rattle.std.specs.Result.{IsErr, IsErrAnd}
 use Rattle.rhai_values.specs.declared.base.value.Dynamic.{Dynamic}
 use Rattle.rhai_state.specs.declared.error.EvalAltResult.{EvalAltResult}
 use Rattle.rhai_state.specs.declared.error.EvalAltResult.TheVariants as error
 use Rattle.rhai_state.specs.Errors.{is_out_of_memory}
 use Rattle.rhai_tree.specs.declared.position.Position.{Position}
+use Rattle.rhai_functions.specs.declared.function.Function.{Function}
+use Rattle.rhai_machine.specs.machine.Memory.{here, ◌⨾◌}
 use Rattle.rhai_machine.specs.language.Setting.{Rules}
 use Rattle.rhai_machine.specs.language.State.{Answers, Local, State}
-use Rattle.rhai_machine.specs.language.Frames.{Operation, Call, Frame, Core, core, ended, marked, Ask, Question, Fail}
-use Rattle.rhai_machine.specs.language.Calls.{call_of, dispatch_core, races}
-use Rattle.rhai_machine.specs.language.Arguments.{operation_named}
-use Rattle.rhai_machine.specs.language.Methods.{number_on_focus, numbered_on}
+use Rattle.rhai_machine.specs.language.Activations.{NoObject}
+use Rattle.rhai_machine.specs.language.Frames.{Operation, Dispatch, Call, EnterFunction, Frame, Core, core, ended, marked, Question, Fail}
+use Rattle.rhai_machine.specs.language.Calls.{call_of, dispatch_core, entry_of, plainly, races}
+use Rattle.rhai_machine.specs.language.Arguments.{linked_core, natives_alone, operation_named}
+use Rattle.rhai_machine.specs.language.Methods.{as_method, number_on_focus, numbered_on, on_focus}
 use Rattle.rhai_machine.specs.language.Runs.{at, with_core, Goes, Runs, Steps}
-use Rattle.rhai_steps.proofs.Pieces.{faulted, passed, told}
-use Rattle.rhai_calls.specs.Marks.{with_mark, MarkedDispatches, MarkedRuns}
+use Rattle.rhai_steps.proofs.Pieces.{faulted, told}
+use Rattle.rhai_calls.specs.declared.dispatch.Dispatched.TheVariants.{Found}
+use Rattle.rhai_calls.specs.declared.dispatch.Dispatched.TheVariants as dispatched
+use Rattle.rhai_calls.specs.Dispatch.{Dispatches}
+use Rattle.rhai_calls.specs.Marks.{with_mark, MarkedRuns}
 use Rattle.rhai_dispatch.proofs.Levels.{IsLevel, wants_at}
-use Rattle.rhai_methods.specs.Calls.{named_alone, number_alone}
-use Rattle.rhai_methods.specs.Methods.{RunsFrom}
+use Rattle.rhai_methods.specs.Calls.{named_alone, named_on, number_alone}
+use Rattle.rhai_methods.specs.Methods.{came_from, IsEntered, CallsFrom}
+use Rattle.rhai_methods.specs.Parts.{IsLinkedAlone}
+use Rattle.rhai_methods.specs.declared.calls.MethodCall.{MethodCall}
+use Rattle.rhai_methods.specs.declared.calls.MethodCall.TheVariants.{Ended, OnTarget, Alone}
+use Rattle.rhai_methods.proofs.Levels.{came_level, linked_level}
 
 -- what changed nothing ends as it would by itself
 pub unmarked_ends : {H : Type 0} (r : Result (Dynamic H) (EvalAltResult H)) → marked (with_mark false r) ≡ ended r
 unmarked_ends (Ok v) = refl
 unmarked_ends (Err e) = refl
 
-module _ {S H : Type 0} (rules : Rules S H) where
+module _ {S H : Type 0} (rules : Rules S H) (pos : Position) where
   -- a beginning that is the same leads to the same
-  pub begins_alike : (start other : List (Frame H) → Local H → Core H) (s new : State S H)
-      (r : Result (Dynamic H × Bool) (EvalAltResult H)) → ((k : List (Frame H)) → other k s.local ≡ start k s.local) →
-      RunsFrom rules start s r new → RunsFrom rules other s r new
-  unfolding RunsFrom
-  begins_alike start other s new r same runs k =
-      subst (λ (c : Core H). Goes rules (with_core c s) (at (marked r) k new)) (sym (same k)) (runs k)
+  pub begins_alike : (start other : List (Frame H) → Local H → Core H) (s new : State S H) (call : MethodCall H) →
+      ((k : List (Frame H)) → other k s.local ≡ start k s.local) → CallsFrom rules pos start s call new → CallsFrom rules pos other s call new
+  unfolding CallsFrom
+  begins_alike start other s new call same runs k =
+      subst (λ (c : Core H). Goes rules (with_core c s) (with_core (came_from pos call k new.local) new)) (sym (same k)) (runs k)
 
-  -- memory runs out there
+  -- memory runs out at such a core
+  wants : (k : List (Frame H)) (s : State S H) (c : Core H) (e : EvalAltResult H) → IsLevel k s.local c → is_out_of_memory e ≡ true →
+      Goes rules (with_core c s) (at (Fail e) k s)
+  wants k s c (error.ErrorOutOfMemory p) level is = wants_at rules k s c level p
+  wants k s c e level is = cc
+
+  -- and so where it begins
   pub wants_from : (start : List (Frame H) → Local H → Core H) (s : State S H) (e : EvalAltResult H) →
-      ((k : List (Frame H)) → IsLevel k s.local (start k s.local)) → is_out_of_memory e ≡ true → RunsFrom rules start s (Err e) s
-  unfolding RunsFrom
-  wants_from start s (error.ErrorOutOfMemory pos) level wants k = wants_at rules k s (start k s.local) (level k) pos
-  wants_from start s e level wants k = cc
+      ((k : List (Frame H)) → IsLevel k s.local (start k s.local)) → is_out_of_memory e ≡ true →
+      CallsFrom rules pos start s (Ended (Err e)) s
+  unfolding CallsFrom
+  wants_from start s e level is k = wants k s (start k s.local) e (level k) is
 
   -- it fails with an error that is told
   pub fails_from : (start : List (Frame H) → Local H → Core H) (s : State S H) (e x : EvalAltResult H) →
       ((k : List (Frame H)) → start k s.local ≡ core (Fail x) k s.local) → (is_out_of_memory e ≡ false → e ≡ x) →
-      RunsFrom rules start s (Err e) s
-  unfolding RunsFrom
+      CallsFrom rules pos start s (Ended (Err e)) s
+  unfolding CallsFrom
   fails_from start s e x same is k = rw (same k) (faulted rules e x is k s)
 
   -- it fails, or memory runs out there
   pub errs_from : (start : List (Frame H) → Local H → Core H) (s : State S H) (e : EvalAltResult H) →
       ((k : List (Frame H)) → IsLevel k s.local (start k s.local)) →
-      (is_out_of_memory e ≡ false → (k : List (Frame H)) → start k s.local ≡ core (Fail e) k s.local) → RunsFrom rules start s (Err e) s
-  errs_from start s (error.ErrorOutOfMemory pos) level same = wants_from start s (error.ErrorOutOfMemory pos) level refl
+      (is_out_of_memory e ≡ false → (k : List (Frame H)) → start k s.local ≡ core (Fail e) k s.local) →
+      CallsFrom rules pos start s (Ended (Err e)) s
+  errs_from start s (error.ErrorOutOfMemory p) level same = wants_from start s (error.ErrorOutOfMemory p) level refl
   errs_from start s e level same = fails_from start s e e (same refl) (λ m. refl)
 
   -- it ends with an answer, which changed nothing
   pub ends_from : (start : List (Frame H) → Local H → Core H) (s : State S H) (wanted r : Result (Dynamic H) (EvalAltResult H))
       (q : Result (Dynamic H × Bool) (EvalAltResult H)) →
       ((k : List (Frame H)) → start k s.local ≡ core (ended wanted) k s.local) → Answers r wanted → q ≡ with_mark false r →
-      RunsFrom rules start s q s
-  unfolding RunsFrom
+      CallsFrom rules pos start s (Ended q) s
+  unfolding CallsFrom
   ends_from start s wanted r q same answers is k = rw (same k, is, unmarked_ends r) (told rules r wanted answers k s)
 
-  -- a way out by `?`
-  pub exits_from : (start : List (Frame H) → Local H → Core H) (s new : State S H) (r : Result (Dynamic H × Bool) (EvalAltResult H))
-      (e : EvalAltResult H) → IsErr r × IsErrAnd r (λ y. y ≡ e) → RunsFrom rules start s (Err e) new → RunsFrom rules start s r new
-  exits_from start s new r e is runs = rw (passed r is) runs
+  -- a function is entered there, or memory runs out before
+  pub entered_from : (start : List (Frame H) → Local H → Core H) (s new : State S H) (wanted call : MethodCall H) →
+      IsEntered call wanted → CallsFrom rules pos start s wanted new → CallsFrom rules pos start s call new
+  unfolding CallsFrom
+  entered_from start s new wanted (Ended (Err e)) is runs k =
+      runs k ⨾ wants k new (came_from pos wanted k new.local) e (came_level k new.local pos wanted) is
+  entered_from start s new wanted call is runs k =
+      subst (λ (x : MethodCall H). Goes rules (with_core (start k s.local) s) (with_core (came_from pos x k new.local) new)) (sym is)
+      (runs k)
 
-  -- a call by name is dispatched
-  pub dispatched : (call : Call H) (s new : State S H) (r : Result (Dynamic H × Bool) (EvalAltResult H)) →
-      MarkedDispatches rules call s r new → RunsFrom rules (dispatch_core rules.setting call) s r new
-  unfolding RunsFrom MarkedDispatches
-  dispatched call s new r runs = runs
+  -- ---- a call by name
 
-  module _ (name : List ℕ) (position : Position) (args : List (Dynamic H)) (s new : State S H)
-      (r : Result (Dynamic H × Bool) (EvalAltResult H)) where
-    abbrev marking : List (Dynamic H) → Call H
-    marking xs = record (call_of (operation_named name position) xs) { marks = true }
+  -- it ends
+  pub dispatched_ends : (how : Dispatch) (call : Call H) (s new : State S H) (r : Result (Dynamic H × Bool) (EvalAltResult H)) →
+      Dispatches rules how call s (dispatched.Ended r) new → CallsFrom rules pos (dispatch_core rules.setting how call) s (Ended r) new
+  unfolding CallsFrom Dispatches
+  dispatched_ends how call s new r runs k = runs k
 
-    -- by itself too
-    pub dispatched_alone : (all : List (Dynamic H)) → args ≡ all → MarkedDispatches rules (marking all) s r new →
-        RunsFrom rules (named_alone rules.setting name position args) s r new
-    dispatched_alone all is runs =
-        subst (λ (xs : List (Dynamic H)). RunsFrom rules (named_alone rules.setting name position xs) s r new) (sym is)
-        (dispatched (marking all) s new r runs)
+  module _ (name : List ℕ) (args : List (Dynamic H)) (s new : State S H) (f : Function H) (call : MethodCall H) where
+    -- or it is of a function of a script, which is entered on the focus
+    found_on : (alone : Bool) (focus : Dynamic H) →
+        Dispatches rules (as_method alone) (on_focus (operation_named name pos) args focus) s (Found f) new →
+        CallsFrom rules pos (named_on rules.setting alone name pos args focus) s (OnTarget f args) new
+    unfolding CallsFrom Dispatches
+    found_on alone focus runs k = runs k
 
-    -- without arguments it is the native's at once
-    none_asks : MarkedRuns rules (Ask (marking [])) s r new → RunsFrom rules (named_alone rules.setting name position []) s r new
-    unfolding RunsFrom Steps
-    none_asks runs k = runs k
+    pub named_enters_on : (alone : Bool) (focus : Dynamic H) →
+        Dispatches rules (as_method alone) (on_focus (operation_named name pos) args focus) s (Found f) new →
+        IsEntered call (OnTarget f args) → CallsFrom rules pos (named_on rules.setting alone name pos args focus) s call new
+    named_enters_on alone focus runs is = entered_from (named_on rules.setting alone name pos args focus) s new (OnTarget f args) call is
+        (found_on alone focus runs)
 
-    pub alone_asks : args ≡ [] → MarkedRuns rules (Ask (marking [])) s r new →
-        RunsFrom rules (named_alone rules.setting name position args) s r new
-    alone_asks none runs =
-        subst (λ (xs : List (Dynamic H)). RunsFrom rules (named_alone rules.setting name position xs) s r new) (sym none) (none_asks runs)
+    -- or by itself
+    abbrev marking : Call H
+    marking = record (call_of (operation_named name pos) args) { marks = true }
+
+    found_alone : Dispatches rules (plainly (natives_alone name) false) marking s (Found f) new →
+        CallsFrom rules pos (named_alone rules.setting name pos args) s (Alone f args) new
+    unfolding CallsFrom Dispatches
+    found_alone runs k = runs k
+
+    pub named_enters_alone : Dispatches rules (plainly (natives_alone name) false) marking s (Found f) new →
+        IsEntered call (Alone f args) → CallsFrom rules pos (named_alone rules.setting name pos args) s call new
+    named_enters_alone runs is = entered_from (named_alone rules.setting name pos args) s new (Alone f args) call is (found_alone runs)
+
+  -- ---- a function that a pointer is linked to, by itself
+
+  module _ (f : Function H) (args : List (Dynamic H)) (s : State S H) where
+    abbrev held_race : EvalAltResult H
+    held_race = error.ErrorDataRace f.def.name pos
+
+    abbrev unless_held : Bool → List (Frame H) → Core H
+    unless_held held k =
+        if held then core (Fail held_race) k s.local else core (EnterFunction (entry_of f NoObject true args pos s.local)) k s.local
+
+    linked_enters : races s.local.around.cells args ≡ false → CallsFrom rules pos (linked_core f pos args) s (Alone f args) s
+    unfolding CallsFrom
+    linked_enters free k = subst (λ (held : Bool). Goes rules (with_core (unless_held held k) s) (with_core (unless_held false k) s))
+        (sym free) here
+
+    linked_errs : (e : EvalAltResult H) → (is_out_of_memory e ≡ false → (races s.local.around.cells args ≡ true) × (e ≡ held_race)) →
+        CallsFrom rules pos (linked_core f pos args) s (Ended (Err e)) s
+    linked_errs e is = errs_from (linked_core f pos args) s e (λ k. linked_level k s.local rules.setting f pos args)
+        (λ m k. subst (λ (x : EvalAltResult H). unless_held (races s.local.around.cells args) k ≡ core (Fail x) k s.local)
+        (sym (is m).1) (ap (λ (held : Bool). unless_held held k) (is m).0))
+
+    -- it is entered, unless an argument is the handle of a cell that is held
+    pub linked_goes : (call : MethodCall H) → IsLinkedAlone s.local.around.cells f args pos call →
+        CallsFrom rules pos (linked_core f pos args) s call s
+    linked_goes (Ended (Err e)) is = linked_errs e is
+    linked_goes call is =
+        subst (λ (x : MethodCall H). CallsFrom rules pos (linked_core f pos args) s x s) (sym is.1) (linked_enters is.0)
+
+  -- ---- a native by its number
 
   module _ (number : ℕ) (operation : Operation) (args : List (Dynamic H)) where
-    -- a native of a number is asked about on the focus
+    -- it is asked about on the focus
     pub number_asks_on : (focus : Dynamic H) (s new : State S H) (r : Result (Dynamic H × Bool) (EvalAltResult H)) →
         races s.local.around.cells args ≡ false → MarkedRuns rules (Question (number_on_focus number operation args focus)) s r new →
-        RunsFrom rules (numbered_on number operation args focus) s r new
-    unfolding RunsFrom Steps
+        CallsFrom rules pos (numbered_on number operation args focus) s (Ended r) new
+    unfolding CallsFrom Steps
     number_asks_on focus s new r free runs k =
         subst (λ (b : Bool). Goes rules
         (with_core (if b then core (Fail (error.ErrorDataRace operation.name operation.at)) k s.local
@@ -110,35 +167,36 @@ module _ {S H : Type 0} (rules : Rules S H) where
     -- unless an argument's cell is held
     pub number_races_on : (focus : Dynamic H) (s : State S H) (e : EvalAltResult H) → races s.local.around.cells args ≡ true →
         (is_out_of_memory e ≡ false → e ≡ error.ErrorDataRace operation.name operation.at) →
-        RunsFrom rules (numbered_on number operation args focus) s (Err e) s
+        CallsFrom rules pos (numbered_on number operation args focus) s (Ended (Err e)) s
     number_races_on focus s e held is = fails_from (numbered_on number operation args focus) s e
         (error.ErrorDataRace operation.name operation.at) (λ k. ap (λ (b : Bool).
         if b then core (Fail (error.ErrorDataRace operation.name operation.at)) k s.local
         else core (Question (number_on_focus number operation args focus)) k s.local) held) is
 
-  module _ (number : ℕ) (position : Position) (args : List (Dynamic H)) (s : State S H) where
+  module _ (number : ℕ) (args : List (Dynamic H)) (s : State S H) where
     abbrev called : List (Dynamic H) → Call H
-    called xs = record (call_of (operation_named (codes "call") position) xs) { number = Some number }
+    called xs = record (call_of (operation_named (codes "call") pos) xs) { number = Some number }
 
     abbrev race : EvalAltResult H
-    race = error.ErrorDataRace (codes "call") position
+    race = error.ErrorDataRace (codes "call") pos
 
     -- and so it is by itself
     asks_alone : (new : State S H) (r : Result (Dynamic H) (EvalAltResult H)) → races s.local.around.cells args ≡ false →
-        Runs rules (Question (called args)) s r new → RunsFrom rules (number_alone number position args) s (with_mark false r) new
-    unfolding RunsFrom Steps
+        Runs rules (Question (called args)) s r new →
+        CallsFrom rules pos (number_alone number pos args) s (Ended (with_mark false r)) new
+    unfolding CallsFrom Steps
     asks_alone new r free runs k = rw (unmarked_ends r)
         (subst (λ (b : Bool). Goes rules
         (with_core (if b then core (Fail race) k s.local else core (Question (called args)) k s.local) s) (at (ended r) k new))
         (sym free) (runs k))
 
     pub number_asks_alone : (all : List (Dynamic H)) → args ≡ all → (new : State S H) (r : Result (Dynamic H) (EvalAltResult H)) →
-        races s.local.around.cells args ≡ false →
-        Runs rules (Question (called all)) s r new → RunsFrom rules (number_alone number position args) s (with_mark false r) new
+        races s.local.around.cells args ≡ false → Runs rules (Question (called all)) s r new →
+        CallsFrom rules pos (number_alone number pos args) s (Ended (with_mark false r)) new
     number_asks_alone all is new r free runs =
         asks_alone new r free (subst (λ (xs : List (Dynamic H)). Runs rules (Question (called xs)) s r new) (sym is) runs)
 
     pub number_races_alone : (e : EvalAltResult H) → races s.local.around.cells args ≡ true →
-        (is_out_of_memory e ≡ false → e ≡ race) → RunsFrom rules (number_alone number position args) s (Err e) s
-    number_races_alone e held is = fails_from (number_alone number position args) s e race
+        (is_out_of_memory e ≡ false → e ≡ race) → CallsFrom rules pos (number_alone number pos args) s (Ended (Err e)) s
+    number_races_alone e held is = fails_from (number_alone number pos args) s e race
         (λ k. ap (λ (b : Bool). if b then core (Fail race) k s.local else core (Question (called args)) k s.local) held) is

@@ -1,6 +1,6 @@
 -- Where a method's call goes on, the stack and the state stay: so memory may as well run out there.
-use Rattle.std.proofs.Common.{List, [], ◌∷◌, ◌++◌, Option, Some, None, refl}
-use Rattle.std.specs.Prelude.{ℕ, codes, true}
+use Rattle.std.proofs.Common.{List, [], ◌∷◌, ◌++◌, length, Option, Some, None, refl}
+use Rattle.std.specs.Prelude.{ℕ, codes, true, false}
 use Rattle.rhai_tree.specs.declared.literal.NativeId.{NativeId}
 use Rattle.rhai_tree.specs.declared.position.Position.{Position}
 use Rattle.rhai_values.specs.declared.base.value.Dynamic.{Dynamic}
@@ -9,60 +9,116 @@ use Rattle.rhai_values.specs.declared.base.value.FnPtrKind.{FnPtrKind}
 use Rattle.rhai_values.specs.declared.base.value.FnPtrKind.TheOpen as union
 use Rattle.rhai_values.specs.declared.base.value.FnPtrKind.TheVariants as kind
 use Rattle.rhai_values.specs.Layers.{UnionLayer, layer_of}
+use Rattle.rhai_functions.specs.declared.function.Function.{Function}
 use Rattle.rhai_machine.specs.language.Setting.{Setting}
 use Rattle.rhai_machine.specs.language.State.{Local}
 use Rattle.rhai_machine.specs.language.Values.{through}
-use Rattle.rhai_machine.specs.language.Frames.{Operation, Frame}
-use Rattle.rhai_machine.specs.language.Calls.{call_of, races}
-use Rattle.rhai_machine.specs.language.Arguments.{operation_named, pointer_wanted}
-use Rattle.rhai_machine.specs.language.Methods.{Method, CallWord, argument_at, call_argument, call_core, copied_before, entry_core}
-use Rattle.rhai_machine.specs.language.Methods.{numbered_on, on_focus, own_core, own_entry, pointer_alone, pointer_on, word_core}
-use Rattle.rhai_dispatch.proofs.Levels.{IsLevel, dispatch_level, either, number_level, on_level}
+use Rattle.rhai_machine.specs.language.Frames.{Operation, Frame, ToCallFunction}
+use Rattle.rhai_machine.specs.language.Calls.{call_of, plainly, races}
+use Rattle.rhai_machine.specs.language.Arguments.{linked_core, linked_to, natives_alone, operation_named, pointer_wanted}
+use Rattle.rhai_machine.specs.language.Methods.{Method, CallWord, argument_at, as_method, call_argument, call_core, copied_before}
+use Rattle.rhai_machine.specs.language.Methods.{entry_core, numbered_on, on_focus, own_core, own_entry, pointer_alone, pointer_on}
+use Rattle.rhai_machine.specs.language.Methods.{unlinked_alone, unlinked_on, word_core}
+use Rattle.rhai_dispatch.specs.Pointers.{number_in}
+use Rattle.rhai_dispatch.proofs.Levels.{IsLevel, dispatch_level, either, number_level, on_level, there_level}
 use Rattle.rhai_methods.specs.Calls.{alone_by, on_by}
+use Rattle.rhai_methods.specs.Methods.{came_from}
+use Rattle.rhai_methods.specs.Parts.{all_of, alone_as, alone_with, on_as, on_with}
+use Rattle.rhai_methods.specs.declared.calls.MethodCall.{MethodCall}
+use Rattle.rhai_methods.specs.declared.calls.MethodCall.TheVariants.{Ended, OnTarget, Alone}
 
 module _ {H : Type 0} (k : List (Frame H)) (l : Local H) where
+  -- what came of a method's call
+  pub came_level : (at : Position) (call : MethodCall H) → IsLevel k l (came_from at call k l)
+  came_level at (Ended r) = record { stack = refl; local = refl }
+  came_level at (OnTarget f args) = record { stack = refl; local = refl }
+  came_level at (Alone f args) = record { stack = refl; local = refl }
+
   numbered_level : (number : ℕ) (operation : Operation) (args : List (Dynamic H)) (focus : Dynamic H) →
       IsLevel k l (numbered_on number operation args focus k l)
   numbered_level number operation args focus =
       either k l (races l.around.cells args) _ _ (record { stack = refl; local = refl }) (record { stack = refl; local = refl })
 
   module _ (s : Setting H) where
+    pub linked_level : (f : Function H) (at : Position) (args : List (Dynamic H)) → IsLevel k l (linked_core f at args k l)
+    linked_level f at args = there_level k l s (ToCallFunction f at []) args
+
+    -- ---- a call by a number or a name
+
     pub on_by_level : (number : Option NativeId) (called name : List ℕ) (at : Position) (args : List (Dynamic H)) (focus : Dynamic H) →
         IsLevel k l (on_by s number called name at args focus k l)
     on_by_level (Some id) called name at args focus = numbered_level id.number (operation_named called at) args focus
-    on_by_level None called name at args focus = dispatch_level k l s (on_focus (operation_named name at) args focus)
+    on_by_level None called name at args focus =
+        dispatch_level k l s (as_method (natives_alone name)) (on_focus (operation_named name at) args focus)
 
     pub alone_by_level : (number : Option NativeId) (name : List ℕ) (at : Position) (args : List (Dynamic H)) →
         IsLevel k l (alone_by s number name at args k l)
     alone_by_level (Some id) name at args =
         number_level k l s (record (call_of (operation_named (codes "call") at) args) { number = Some id.number })
-    alone_by_level None name at args = dispatch_level k l s (record (call_of (operation_named name at) args) { marks = true })
+    alone_by_level None name at args = dispatch_level k l s (plainly (natives_alone name) false)
+        (record (call_of (operation_named name at) args) { marks = true })
 
-    pointer_level : (of : FnPtrKind H) (pointer : FnPtr H) (method : Method) (called : List ℕ) (args : List (Dynamic H))
-        (focus : Dynamic H) → IsLevel k l (pointer_on s of pointer method called args focus k l)
-    pointer_level (kind.Native id) pointer method called args focus =
+    -- ---- a pointer
+
+    on_as_level : (found : Option (Function H)) (p : FnPtr H) (called : List ℕ) (at : Position) (args : List (Dynamic H))
+        (focus : Dynamic H) → IsLevel k l (on_as s found p called at args focus k l)
+    on_as_level (Some f) p called at args focus = record { stack = refl; local = refl }
+    on_as_level None p called at args focus =
+        on_by_level (number_in (out-FnPtr H p).kind) called (out-FnPtr H p).name at (all_of p args) focus
+
+    pub on_with_level : (p : FnPtr H) (called : List ℕ) (at : Position) (args : List (Dynamic H)) (focus : Dynamic H) →
+        IsLevel k l (on_with s p called at args focus k l)
+    on_with_level p called at args focus =
+        on_as_level (linked_to p (length (all_of p args)) l.around.lib) p called at args focus
+
+    alone_as_level : (found : Option (Function H)) (p : FnPtr H) (at : Position) (args : List (Dynamic H)) →
+        IsLevel k l (alone_as s found p at args k l)
+    alone_as_level (Some f) p at args = linked_level f at (all_of p args)
+    alone_as_level None p at args = alone_by_level (number_in (out-FnPtr H p).kind) (out-FnPtr H p).name at (all_of p args)
+
+    pub alone_with_level : (p : FnPtr H) (at : Position) (args : List (Dynamic H)) → IsLevel k l (alone_with s p at args k l)
+    alone_with_level p at args = alone_as_level (linked_to p (length (all_of p args)) l.around.lib) p at args
+
+    -- ---- a pointer of the machine
+
+    unlinked_on_level : (of : FnPtrKind H) (pointer : FnPtr H) (method : Method) (called : List ℕ) (args : List (Dynamic H))
+        (focus : Dynamic H) → IsLevel k l (unlinked_on s of pointer method called args focus k l)
+    unlinked_on_level (kind.Native id) pointer method called args focus =
         numbered_level id.number (operation_named called method.at) args focus
-    pointer_level _ pointer method called args focus =
-        dispatch_level k l s (on_focus (operation_named (out-FnPtr H pointer).name method.at) args focus)
+    unlinked_on_level _ pointer method called args focus = dispatch_level k l s (as_method (natives_alone (out-FnPtr H pointer).name))
+        (on_focus (operation_named (out-FnPtr H pointer).name method.at) args focus)
 
-    alone_level : (of : FnPtrKind H) (pointer : FnPtr H) (at : Position) (args : List (Dynamic H)) →
-        IsLevel k l (pointer_alone s of pointer at args k l)
-    alone_level (kind.Native id) pointer at args =
+    pointer_level : (found : Option (Function H)) (pointer : FnPtr H) (method : Method) (called : List ℕ) (args : List (Dynamic H))
+        (focus : Dynamic H) → IsLevel k l (pointer_on s found pointer method called args focus k l)
+    pointer_level (Some f) pointer method called args focus = record { stack = refl; local = refl }
+    pointer_level None pointer method called args focus = unlinked_on_level (out-FnPtr H pointer).kind pointer method called args focus
+
+    unlinked_alone_level : (of : FnPtrKind H) (pointer : FnPtr H) (at : Position) (args : List (Dynamic H)) →
+        IsLevel k l (unlinked_alone s of pointer at args k l)
+    unlinked_alone_level (kind.Native id) pointer at args =
         number_level k l s (record (call_of (operation_named (codes "call") at) args) { number = Some id.number })
-    alone_level _ pointer at args =
-        dispatch_level k l s (record (call_of (operation_named (out-FnPtr H pointer).name at) args) { marks = true })
+    unlinked_alone_level _ pointer at args = dispatch_level k l s (plainly (natives_alone (out-FnPtr H pointer).name) false)
+        (record (call_of (operation_named (out-FnPtr H pointer).name at) args) { marks = true })
+
+    alone_level : (found : Option (Function H)) (pointer : FnPtr H) (at : Position) (args : List (Dynamic H)) →
+        IsLevel k l (pointer_alone s found pointer at args k l)
+    alone_level (Some f) pointer at args = linked_level f at args
+    alone_level None pointer at args = unlinked_alone_level (out-FnPtr H pointer).kind pointer at args
+
+    -- ---- the words
 
     pub argument_level : (method : Method) (args : List (Dynamic H)) (seen focus : Dynamic H) →
         IsLevel k l (call_argument s method args seen focus k l)
     argument_level method [] seen focus = record { stack = refl; local = refl }
     argument_level method (first ∷ rest) seen focus =
         on_level k l (pointer_wanted s.host_type l.around.cells first (argument_at method)) _ (λ pointer. pointer_level
-        (out-FnPtr H pointer).kind pointer method (codes "call") ((out-FnPtr H pointer).curry ++ rest) focus)
+        (linked_to pointer (length ((out-FnPtr H pointer).curry ++ rest)) l.around.lib) pointer method (codes "call")
+        ((out-FnPtr H pointer).curry ++ rest) focus)
 
     call_level : (form : UnionLayer H) (method : Method) (args : List (Dynamic H)) (seen focus : Dynamic H) →
         IsLevel k l (call_core s form method args seen focus k l)
-    call_level (union.FnPtr pointer) method args seen focus =
-        alone_level (out-FnPtr H pointer).kind pointer method.at (copied_before pointer args)
+    call_level (union.FnPtr pointer) method args seen focus = alone_level
+        (linked_to pointer (length (copied_before pointer args)) l.around.lib) pointer method.at (copied_before pointer args)
     call_level _ method args seen focus = argument_level method args seen focus
 
     pub call_word_level : (method : Method) (args : List (Dynamic H)) (focus : Dynamic H) →
@@ -72,9 +128,11 @@ module _ {H : Type 0} (k : List (Frame H)) (l : Local H) where
 
     entry_level : (own : Option (FnPtr H)) (method : Method) (args : List (Dynamic H)) (focus : Dynamic H) →
         IsLevel k l (entry_core s own method args focus k l)
-    entry_level (Some pointer) method args focus = pointer_level (out-FnPtr H pointer).kind pointer method (out-FnPtr H pointer).name
+    entry_level (Some pointer) method args focus = pointer_level
+        (linked_to pointer (length (copied_before pointer args)) l.around.lib) pointer method (out-FnPtr H pointer).name
         (copied_before pointer args) focus
-    entry_level None method args focus = dispatch_level k l s (on_focus (operation_named method.name method.at) args focus)
+    entry_level None method args focus =
+        dispatch_level k l s (as_method false) (on_focus (operation_named method.name method.at) args focus)
 
     pub own_level : (method : Method) (args : List (Dynamic H)) (focus : Dynamic H) →
         IsLevel k l (own_core s method args focus k l)

@@ -2,7 +2,7 @@ mod CopyLemmas
 mod Cores
 mod Going
 mod Levels
+mod Linked
 mod Meanings
 mod Pointed
-mod Taking
 pub mod TargetLemmas

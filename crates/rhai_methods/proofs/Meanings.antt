@@ -15,8 +15,10 @@ use Rattle.rhai_machine.specs.language.Methods.{own_core, own_entry, word_core, 
 use Rattle.rhai_calls.specs.Marks.{with_mark}
 use Rattle.rhai_methods.specs.Calls.{named_on}
 use Rattle.rhai_methods.specs.Copies.{copy_seen, curried_seen, own_copy}
-use Rattle.rhai_methods.specs.Methods.{MethodRuns, RunsFrom}
-use Rattle.rhai_methods.specs.Parts.{alone_with, given_on, own_on}
+use Rattle.rhai_methods.specs.Methods.{MethodRuns, CallsFrom}
+use Rattle.rhai_methods.specs.Parts.{alone_with, name_called, on_with}
+use Rattle.rhai_methods.specs.declared.calls.MethodCall.{MethodCall}
+use Rattle.rhai_methods.specs.declared.calls.MethodCall.TheVariants.{Ended}
 use Rattle.rhai_methods.proofs.Cores.{argument_fails, argument_is, call_alone_is, call_argument_is, curry_is, named_is, own_fails}
 use Rattle.rhai_methods.proofs.Cores.{own_is, seen_fails}
 use Rattle.rhai_methods.proofs.Going.{begins_alike, ends_from, errs_from, fails_from}
@@ -26,64 +28,67 @@ module _ {S H : Type 0} (rules : Rules S H) (method : Method) (args : List (Dyna
   -- ---- an argument that is called
 
   module _ (seen : Dynamic H) where
-    abbrev argument_runs : Result (Dynamic H × Bool) (EvalAltResult H) → State S H → Type 0
-    argument_runs r new = RunsFrom rules (call_argument rules.setting method args seen focus) old r new
+    abbrev argument_runs : MethodCall H → State S H → Type 0
+    argument_runs call new = CallsFrom rules method.at (call_argument rules.setting method args seen focus) old call new
 
     -- there is none
     pub argument_misses : args ≡ [] → (e : EvalAltResult H) →
         (is_out_of_memory e ≡ false →
-        e ≡ mismatch (codes "Fn") (type_name_of rules.setting.host_type old.local.around.cells seen) method.at) → argument_runs (Err e) old
-    argument_misses none e is = rw none (fails_from rules (call_argument rules.setting method [] seen focus) old e _ (λ k. refl) is)
+        e ≡ mismatch (codes "Fn") (type_name_of rules.setting.host_type old.local.around.cells seen) method.at) →
+        argument_runs (Ended (Err e)) old
+    argument_misses none e is =
+        rw none (fails_from rules method.at (call_argument rules.setting method [] seen focus) old e _ (λ k. refl) is)
 
     module _ (first : Dynamic H) (rest : List (Dynamic H)) (parted : args ≡ first ∷ rest) where
       -- it is a pointer
       pub argument_goes : (p : FnPtr H) → Ok p ≡ pointer_wanted rules.setting.host_type old.local.around.cells first (argument_at method) →
-          (r : Result (Dynamic H × Bool) (EvalAltResult H)) (new : State S H) →
-          RunsFrom rules (given_on rules.setting p method.at rest focus) old r new → argument_runs r new
-      argument_goes p is r new runs = rw parted
-          (begins_alike rules (given_on rules.setting p method.at rest focus)
-          (call_argument rules.setting method (first ∷ rest) seen focus) old new r
+          (call : MethodCall H) (new : State S H) →
+          CallsFrom rules method.at (on_with rules.setting p (codes "call") method.at rest focus) old call new → argument_runs call new
+      argument_goes p is call new runs = rw parted
+          (begins_alike rules method.at (on_with rules.setting p (codes "call") method.at rest focus)
+          (call_argument rules.setting method (first ∷ rest) seen focus) old new call
           (λ k. argument_is rules.setting k old.local _ p method rest focus is) runs)
 
       -- or none
       pub argument_errs : (e : EvalAltResult H) → (is_out_of_memory e ≡ false →
-          Err e ≡ pointer_wanted rules.setting.host_type old.local.around.cells first (argument_at method)) → argument_runs (Err e) old
+          Err e ≡ pointer_wanted rules.setting.host_type old.local.around.cells first (argument_at method)) →
+          argument_runs (Ended (Err e)) old
       argument_errs e is = rw parted
-          (errs_from rules (call_argument rules.setting method (first ∷ rest) seen focus) old e
+          (errs_from rules method.at (call_argument rules.setting method (first ∷ rest) seen focus) old e
           (λ k. argument_level k old.local rules.setting method (first ∷ rest) seen focus)
           (λ m k. argument_fails rules.setting k old.local _ e (is m) _))
 
   -- ---- `call`
 
-  abbrev call_runs : Result (Dynamic H × Bool) (EvalAltResult H) → State S H → Type 0
-  call_runs r new = RunsFrom rules (word_core rules.setting CallWord method args focus) old r new
+  abbrev call_runs : MethodCall H → State S H → Type 0
+  call_runs call new = CallsFrom rules method.at (word_core rules.setting CallWord method args focus) old call new
 
   pub call_alone_goes : (p : FnPtr H) → Ok (Some p) ≡ copy_seen old.local.around.cells focus method.at →
-      (r : Result (Dynamic H × Bool) (EvalAltResult H)) (new : State S H) →
-      RunsFrom rules (alone_with rules.setting p method.at args) old r new → call_runs r new
-  call_alone_goes p is r new runs =
-      begins_alike rules (alone_with rules.setting p method.at args) (word_core rules.setting CallWord method args focus) old new r
-      (λ k. call_alone_is rules.setting k old.local (through old.local.around.cells focus method.at) p method args focus is) runs
+      (call : MethodCall H) (new : State S H) →
+      CallsFrom rules method.at (alone_with rules.setting p method.at args) old call new → call_runs call new
+  call_alone_goes p is call new runs =
+      begins_alike rules method.at (alone_with rules.setting p method.at args) (word_core rules.setting CallWord method args focus) old new
+      call (λ k. call_alone_is rules.setting k old.local (through old.local.around.cells focus method.at) p method args focus is) runs
 
   call_argument_on : (seen : Result (Dynamic H) (EvalAltResult H)) → through old.local.around.cells focus method.at ≡ seen →
       Ok None ≡ copy_seen old.local.around.cells focus method.at →
-      (r : Result (Dynamic H × Bool) (EvalAltResult H)) (new : State S H) →
+      (call : MethodCall H) (new : State S H) →
       ((v : Dynamic H) → through old.local.around.cells focus method.at ≡ Ok v →
-      RunsFrom rules (call_argument rules.setting method args v focus) old r new) → call_runs r new
-  call_argument_on (Ok v) at none r new runs =
-      begins_alike rules (call_argument rules.setting method args v focus) (word_core rules.setting CallWord method args focus) old new r
-      (λ k. rw at (call_argument_is rules.setting k old.local v method args focus (rw at at none))) (runs v at)
-  call_argument_on (Err e) at none r new runs = let never = rw at at none in cc
+      CallsFrom rules method.at (call_argument rules.setting method args v focus) old call new) → call_runs call new
+  call_argument_on (Ok v) at none call new runs =
+      begins_alike rules method.at (call_argument rules.setting method args v focus) (word_core rules.setting CallWord method args focus)
+      old new call (λ k. rw at (call_argument_is rules.setting k old.local v method args focus (rw at at none))) (runs v at)
+  call_argument_on (Err e) at none call new runs = let never = rw at at none in cc
 
   pub call_argument_goes : Ok None ≡ copy_seen old.local.around.cells focus method.at →
-      (r : Result (Dynamic H × Bool) (EvalAltResult H)) (new : State S H) →
+      (call : MethodCall H) (new : State S H) →
       ((v : Dynamic H) → through old.local.around.cells focus method.at ≡ Ok v →
-      RunsFrom rules (call_argument rules.setting method args v focus) old r new) → call_runs r new
-  call_argument_goes none r new runs = call_argument_on (through old.local.around.cells focus method.at) refl none r new runs
+      CallsFrom rules method.at (call_argument rules.setting method args v focus) old call new) → call_runs call new
+  call_argument_goes none call new runs = call_argument_on (through old.local.around.cells focus method.at) refl none call new runs
 
   pub call_errs : (e : EvalAltResult H) → (is_out_of_memory e ≡ false → Err e ≡ copy_seen old.local.around.cells focus method.at) →
-      call_runs (Err e) old
-  call_errs e is = errs_from rules (word_core rules.setting CallWord method args focus) old e
+      call_runs (Ended (Err e)) old
+  call_errs e is = errs_from rules method.at (word_core rules.setting CallWord method args focus) old e
       (λ k. call_word_level k old.local rules.setting method args focus)
       (λ m k. seen_fails rules.setting k old.local (through old.local.around.cells focus method.at) e (is m) _)
 
@@ -92,8 +97,8 @@ module _ {S H : Type 0} (rules : Rules S H) (method : Method) (args : List (Dyna
   pub curry_goes : (answer : Result (Dynamic H) (EvalAltResult H)) (r : Result (Dynamic H × Bool) (EvalAltResult H)) →
       r ≡ with_mark false answer → Answers answer (curried_seen rules.setting.host_type old.local.around.cells args method.at
       (through old.local.around.cells focus method.at)) →
-      RunsFrom rules (word_core rules.setting CurryWord method args focus) old r old
-  curry_goes answer r is answers = ends_from rules (word_core rules.setting CurryWord method args focus) old
+      CallsFrom rules method.at (word_core rules.setting CurryWord method args focus) old (Ended r) old
+  curry_goes answer r is answers = ends_from rules method.at (word_core rules.setting CurryWord method args focus) old
       (curried_seen rules.setting.host_type old.local.around.cells args method.at (through old.local.around.cells focus method.at))
       answer r
       (λ k. curry_is rules.setting k old.local (through old.local.around.cells focus method.at) method.at args) answers is
@@ -101,39 +106,41 @@ module _ {S H : Type 0} (rules : Rules S H) (method : Method) (args : List (Dyna
   -- ---- `is_shared`
 
   pub shared_goes : (v : Dynamic H) → v ≡ bool_value (is_handle focus.value) →
-      RunsFrom rules (word_core rules.setting SharedWord method args focus) old (Ok (v, false)) old
-  shared_goes v is = ends_from rules (word_core rules.setting SharedWord method args focus) old (Ok (bool_value (is_handle focus.value)))
-      (Ok v) (Ok (v, false)) (λ k. refl) (λ m. ap Ok is) refl
+      CallsFrom rules method.at (word_core rules.setting SharedWord method args focus) old (Ended (Ok (v, false))) old
+  shared_goes v is = ends_from rules method.at (word_core rules.setting SharedWord method args focus) old
+      (Ok (bool_value (is_handle focus.value))) (Ok v) (Ok (v, false)) (λ k. refl) (λ m. ap Ok is) refl
 
   -- ---- any other name
 
-  abbrev plain_runs : Result (Dynamic H × Bool) (EvalAltResult H) → State S H → Type 0
-  plain_runs r new = RunsFrom rules (own_core rules.setting method args focus) old r new
+  abbrev plain_runs : MethodCall H → State S H → Type 0
+  plain_runs call new = CallsFrom rules method.at (own_core rules.setting method args focus) old call new
 
   pub own_goes : (p : FnPtr H) → Ok (Some p) ≡ own_copy old.local.around.cells method.name focus method.at →
-      (r : Result (Dynamic H × Bool) (EvalAltResult H)) (new : State S H) →
-      RunsFrom rules (own_on rules.setting p method.at args focus) old r new → plain_runs r new
-  own_goes p is r new runs =
-      begins_alike rules (own_on rules.setting p method.at args focus) (own_core rules.setting method args focus) old new r
+      (call : MethodCall H) (new : State S H) →
+      CallsFrom rules method.at (on_with rules.setting p (name_called p None) method.at args focus) old call new → plain_runs call new
+  own_goes p is call new runs =
+      begins_alike rules method.at (on_with rules.setting p (name_called p None) method.at args focus)
+      (own_core rules.setting method args focus) old new call
       (λ k. own_is rules.setting k old.local (own_entry old.local.around.cells method focus) p method args focus is) runs
 
   pub named_goes : Ok None ≡ own_copy old.local.around.cells method.name focus method.at →
-      (r : Result (Dynamic H × Bool) (EvalAltResult H)) (new : State S H) →
-      RunsFrom rules (named_on rules.setting method.name method.at args focus) old r new → plain_runs r new
-  named_goes is r new runs =
-      begins_alike rules (named_on rules.setting method.name method.at args focus) (own_core rules.setting method args focus) old new r
+      (call : MethodCall H) (new : State S H) →
+      CallsFrom rules method.at (named_on rules.setting false method.name method.at args focus) old call new → plain_runs call new
+  named_goes is call new runs =
+      begins_alike rules method.at (named_on rules.setting false method.name method.at args focus)
+      (own_core rules.setting method args focus) old new call
       (λ k. named_is rules.setting k old.local (own_entry old.local.around.cells method focus) method args focus is) runs
 
   pub own_errs : (e : EvalAltResult H) → (is_out_of_memory e ≡ false →
-      Err e ≡ own_copy old.local.around.cells method.name focus method.at) → plain_runs (Err e) old
-  own_errs e is = errs_from rules (own_core rules.setting method args focus) old e
+      Err e ≡ own_copy old.local.around.cells method.name focus method.at) → plain_runs (Ended (Err e)) old
+  own_errs e is = errs_from rules method.at (own_core rules.setting method args focus) old e
       (λ k. own_level k old.local rules.setting method args focus)
       (λ m k. own_fails rules.setting k old.local (own_entry old.local.around.cells method focus) e (is m) _)
 
   -- ---- a method by its word
 
-  pub by_word : (word : MethodWord) → word ≡ word_of method.name (length args) →
-      (r : Result (Dynamic H × Bool) (EvalAltResult H)) (new : State S H) →
-      RunsFrom rules (word_core rules.setting word method args focus) old r new → MethodRuns rules method args focus old r new
-  by_word word is r new runs =
-      subst (λ (w : MethodWord). RunsFrom rules (word_core rules.setting w method args focus) old r new) is runs
+  pub by_word : (word : MethodWord) → word ≡ word_of method.name (length args) → (call : MethodCall H) (new : State S H) →
+      CallsFrom rules method.at (word_core rules.setting word method args focus) old call new →
+      MethodRuns rules method args focus old call new
+  by_word word is call new runs =
+      subst (λ (w : MethodWord). CallsFrom rules method.at (word_core rules.setting w method args focus) old call new) is runs

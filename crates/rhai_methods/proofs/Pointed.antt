@@ -1,46 +1,84 @@
--- A pointer that is called by its parts.
-use Rattle.std.proofs.Common.{◌≡◌, List, ◌++◌, Option, Result, subst}
-use Rattle.std.specs.Prelude.{ℕ, Bool, codes}
+-- A pointer that is called: by its parts, or the function that it is linked to.
+use Rattle.std.proofs.Common.{◌≡◌, length, List, ◌++◌, Bor, Option, Some, None, refl, sym, ap, subst}
+use Rattle.std.specs.Prelude.{ℕ, unwrap_or}
+use Rattle.std.specs.Option.{option_copied}
 use Rattle.rhai_tree.specs.declared.literal.NativeId.{NativeId}
 use Rattle.rhai_tree.specs.declared.position.Position.{Position}
 use Rattle.rhai_values.specs.declared.base.value.Dynamic.{Dynamic}
 use Rattle.rhai_values.specs.declared.base.value.FnPtr.{FnPtr, out-FnPtr}
-use Rattle.rhai_state.specs.declared.error.EvalAltResult.{EvalAltResult}
+use Rattle.rhai_functions.specs.declared.function.Function.{Function}
 use Rattle.rhai_machine.specs.language.Setting.{Rules}
 use Rattle.rhai_machine.specs.language.State.{State}
+use Rattle.rhai_machine.specs.language.Arguments.{linked_to}
+use Rattle.rhai_machine.specs.machine.Memory.{here}
 use Rattle.rhai_dispatch.specs.Pointers.{number_in}
 use Rattle.rhai_methods.specs.Calls.{alone_by, on_by}
-use Rattle.rhai_methods.specs.Methods.{RunsFrom}
-use Rattle.rhai_methods.specs.Parts.{alone_with, given_on, own_on}
+use Rattle.rhai_methods.specs.Methods.{IsEntered, CallsFrom}
+use Rattle.rhai_methods.specs.Parts.{all_of, alone_as, alone_with, name_called, on_as, on_with, IsLinkedAlone}
+use Rattle.rhai_methods.specs.declared.calls.MethodCall.{MethodCall}
+use Rattle.rhai_methods.specs.declared.calls.MethodCall.TheVariants.{OnTarget}
+use Rattle.rhai_methods.proofs.Going.{begins_alike, entered_from, linked_goes}
+
+-- the name that is given, or else the pointer's own
+pub called_is : {H : Type 0} (p : FnPtr H) (given : Option (Bor (List ℕ))) (own : Bor (List ℕ)) → own.now ≡ (out-FnPtr H p).name →
+    (unwrap_or given own).now ≡ name_called p (option_copied given)
+called_is p (Some name) own is = refl
+called_is p None own is = is
 
 module _ {S H : Type 0} (rules : Rules S H) (p : FnPtr H) (at : Position) (args : List (Dynamic H)) (old new : State S H)
-    (r : Result (Dynamic H × Bool) (EvalAltResult H)) (number : Option NativeId) (name : List ℕ) (curried : List (Dynamic H))
-    (named : name ≡ (out-FnPtr H p).name) (has : curried ≡ (out-FnPtr H p).curry) (leads : number ≡ number_in (out-FnPtr H p).kind) where
-  pub by_parts_alone : RunsFrom rules (alone_by rules.setting number name at (curried ++ args)) old r new →
-      RunsFrom rules (alone_with rules.setting p at args) old r new
-  by_parts_alone runs =
-      subst (λ (n : Option NativeId). RunsFrom rules
-      (alone_by rules.setting n (out-FnPtr H p).name at ((out-FnPtr H p).curry ++ args)) old r new) leads
-      (subst (λ (vs : List (Dynamic H)). RunsFrom rules (alone_by rules.setting number (out-FnPtr H p).name at (vs ++ args)) old r new) has
-      (subst (λ (text : List ℕ). RunsFrom rules (alone_by rules.setting number text at (curried ++ args)) old r new) named runs))
+    (call : MethodCall H) where
+  module _ (number : Option NativeId) (name : List ℕ) (curried : List (Dynamic H)) (named : name ≡ (out-FnPtr H p).name)
+      (has : curried ≡ (out-FnPtr H p).curry) (leads : number ≡ number_in (out-FnPtr H p).kind) where
+    -- what is linked to no function
+    pub by_parts_alone : CallsFrom rules at (alone_by rules.setting number name at (curried ++ args)) old call new →
+        CallsFrom rules at (alone_as rules.setting None p at args) old call new
+    by_parts_alone runs =
+        subst (λ (n : Option NativeId). CallsFrom rules at
+        (alone_by rules.setting n (out-FnPtr H p).name at ((out-FnPtr H p).curry ++ args)) old call new) leads
+        (subst (λ (vs : List (Dynamic H)). CallsFrom rules at
+        (alone_by rules.setting number (out-FnPtr H p).name at (vs ++ args)) old call new) has
+        (subst (λ (text : List ℕ). CallsFrom rules at (alone_by rules.setting number text at (curried ++ args)) old call new) named runs))
 
-  module _ (focus : Dynamic H) where
-    pub by_parts_given : RunsFrom rules (on_by rules.setting number (codes "call") name at (curried ++ args) focus) old r new →
-        RunsFrom rules (given_on rules.setting p at args focus) old r new
-    by_parts_given runs =
-        subst (λ (n : Option NativeId). RunsFrom rules
-        (on_by rules.setting n (codes "call") (out-FnPtr H p).name at ((out-FnPtr H p).curry ++ args) focus) old r new) leads
-        (subst (λ (vs : List (Dynamic H)). RunsFrom rules
-        (on_by rules.setting number (codes "call") (out-FnPtr H p).name at (vs ++ args) focus) old r new) has
-        (subst (λ (text : List ℕ). RunsFrom rules
-        (on_by rules.setting number (codes "call") text at (curried ++ args) focus) old r new) named runs))
+    pub by_parts_on : (called : List ℕ) (focus : Dynamic H) →
+        CallsFrom rules at (on_by rules.setting number called name at (curried ++ args) focus) old call new →
+        CallsFrom rules at (on_as rules.setting None p called at args focus) old call new
+    by_parts_on called focus runs =
+        subst (λ (n : Option NativeId). CallsFrom rules at
+        (on_by rules.setting n called (out-FnPtr H p).name at ((out-FnPtr H p).curry ++ args) focus) old call new) leads
+        (subst (λ (vs : List (Dynamic H)). CallsFrom rules at
+        (on_by rules.setting number called (out-FnPtr H p).name at (vs ++ args) focus) old call new) has
+        (subst (λ (text : List ℕ). CallsFrom rules at
+        (on_by rules.setting number called text at (curried ++ args) focus) old call new) named runs))
 
-    pub by_parts_own : RunsFrom rules (on_by rules.setting number name name at (curried ++ args) focus) old r new →
-        RunsFrom rules (own_on rules.setting p at args focus) old r new
-    by_parts_own runs =
-        subst (λ (n : Option NativeId). RunsFrom rules
-        (on_by rules.setting n (out-FnPtr H p).name (out-FnPtr H p).name at ((out-FnPtr H p).curry ++ args) focus) old r new) leads
-        (subst (λ (vs : List (Dynamic H)). RunsFrom rules
-        (on_by rules.setting number (out-FnPtr H p).name (out-FnPtr H p).name at (vs ++ args) focus) old r new) has
-        (subst (λ (text : List ℕ). RunsFrom rules
-        (on_by rules.setting number text text at (curried ++ args) focus) old r new) named runs))
+  -- ---- the function that a pointer is linked to
+
+  module _ (found : Option (Function H)) (is : found ≡ linked_to p (length (all_of p args)) old.local.around.lib) where
+    pub alone_found : CallsFrom rules at (alone_as rules.setting found p at args) old call new →
+        CallsFrom rules at (alone_with rules.setting p at args) old call new
+    alone_found = begins_alike rules at (alone_as rules.setting found p at args) (alone_with rules.setting p at args) old new call
+        (λ k. ap (λ (f : Option (Function H)). alone_as rules.setting f p at args k old.local) (sym is))
+
+    pub on_found : (called : List ℕ) (focus : Dynamic H) →
+        CallsFrom rules at (on_as rules.setting found p called at args focus) old call new →
+        CallsFrom rules at (on_with rules.setting p called at args focus) old call new
+    on_found called focus = begins_alike rules at (on_as rules.setting found p called at args focus)
+        (on_with rules.setting p called at args focus) old new call
+        (λ k. ap (λ (f : Option (Function H)). on_as rules.setting f p called at args focus k old.local) (sym is))
+
+module _ {S H : Type 0} (rules : Rules S H) (p : FnPtr H) (at : Position) (args : List (Dynamic H)) (s : State S H)
+    (call : MethodCall H) (f : Function H) where
+  -- it is entered by itself
+  pub linked_alone_goes : IsLinkedAlone s.local.around.cells f (all_of p args) at call →
+      CallsFrom rules at (alone_as rules.setting (Some f) p at args) s call s
+  linked_alone_goes is = linked_goes rules at f (all_of p args) s call is
+
+  -- or on the focus
+  enters_on : (called : List ℕ) (focus : Dynamic H) →
+      CallsFrom rules at (on_as rules.setting (Some f) p called at args focus) s (OnTarget f (all_of p args)) s
+  unfolding CallsFrom
+  enters_on called focus k = here
+
+  pub linked_on_goes : IsEntered call (OnTarget f (all_of p args)) → (called : List ℕ) (focus : Dynamic H) →
+      CallsFrom rules at (on_as rules.setting (Some f) p called at args focus) s call s
+  linked_on_goes is called focus = entered_from rules at (on_as rules.setting (Some f) p called at args focus) s s
+      (OnTarget f (all_of p args)) call is (enters_on called focus)

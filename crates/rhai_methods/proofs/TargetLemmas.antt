@@ -17,8 +17,9 @@ use Rattle.rhai_machine.specs.language.Methods.{Method}
 use Rattle.rhai_machine.specs.language.Runs.{at, Goes}
 use Rattle.rhai_machine.specs.language.Unwinding.{not_put, part_changed}
 use Rattle.rhai_steps.proofs.Pieces.{step_by}
-use Rattle.rhai_methods.specs.Methods.{MethodRuns, RunsFrom}
+use Rattle.rhai_methods.specs.Methods.{MethodRuns, CallsFrom}
 use Rattle.rhai_methods.specs.Targets.{ComesBack, on_target}
+use Rattle.rhai_methods.specs.declared.calls.MethodCall.TheVariants.{Ended}
 
 module _ {S H : Type 0} (rules : Rules S H) where
   -- a state where this is worked on
@@ -55,8 +56,8 @@ module _ {S H : Type 0} (rules : Rules S H) where
     is_refused v (error.ErrorOutOfMemory p) is = wanting {at = p} (comes_down (error.ErrorOutOfMemory p))
     is_refused v e is = rw (is refl).1 (not_back v (is refl).0)
 
-    -- the answer of a method on a part
-    answer_comes : (answer result : Result (Dynamic H × Bool) (EvalAltResult H)) (left : Dynamic H) →
+    -- the answer of a method on a part, also of a function that it entered
+    pub answer_comes : (answer result : Result (Dynamic H × Bool) (EvalAltResult H)) (left : Dynamic H) →
         ComesBack rules.setting.host_type (part.Of spot x) above pos answer result left →
         Goes rules (at (marked answer) over (working x s)) (at (marked result) k (working left s))
     answer_comes (Ok (v, true)) (Ok w) left is =
@@ -68,12 +69,13 @@ module _ {S H : Type 0} (rules : Rules S H) where
     answer_comes (Ok (v, false)) result left is = rw (is.0, is.1) (comes_up v)
     answer_comes (Err e) result left is = rw (is.0, is.1) (comes_down e)
 
-  -- a method on a part, with what comes of its answer
+  -- a method on a part that has ended, with what comes of its answer
   pub part_goes : (method : Method) (args : List (Dynamic H)) (spot : Spot) (above x y left : Dynamic H) (old new : State S H)
       (answer result : Result (Dynamic H × Bool) (EvalAltResult H)) →
-      MethodRuns rules method args x (working x old) answer (working y new) →
+      MethodRuns rules method args x (working x old) (Ended answer) (working y new) →
       ComesBack rules.setting.host_type (part.Of spot y) above method.at answer result left →
-      RunsFrom rules (on_target rules.setting method args (part.Of spot x) above) (working x old) result (working left new)
-  unfolding RunsFrom
+      CallsFrom rules method.at (on_target rules.setting method args (part.Of spot x) above) (working x old) (Ended result)
+      (working left new)
+  unfolding CallsFrom
   part_goes method args spot above x y left old new answer result runs comes k =
       runs (PartMethod above spot method.at ∷ k) ⨾ answer_comes above y spot method.at k new answer result left comes

@@ -1,27 +1,57 @@
--- What a method does with a pointer that it has found.
-use Rattle.std.specs.Prelude.{List, ◌++◌, codes}
+-- What a method does with a pointer that it has found: it is called with what it has already before the arguments, the function that it is
+-- linked to, a native by its number, or else its name.
+use Rattle.std.specs.Prelude.{◌≡◌, ℕ, true, false, List, ◌++◌, length, Option, Some, None, Err}
 use Rattle.rhai_tree.specs.declared.position.Position.{Position}
 use Rattle.rhai_values.specs.declared.base.value.Dynamic.{Dynamic}
 use Rattle.rhai_values.specs.declared.base.value.FnPtr.{FnPtr, out-FnPtr}
+use Rattle.rhai_state.specs.declared.error.EvalAltResult.TheVariants as error
+use Rattle.rhai_state.specs.Errors.{is_out_of_memory}
+use Rattle.rhai_functions.specs.declared.function.Function.{Function}
 use Rattle.rhai_machine.specs.language.Setting.{Setting}
 use Rattle.rhai_machine.specs.language.State.{Local}
-use Rattle.rhai_machine.specs.language.Frames.{Frame, Core}
+use Rattle.rhai_machine.specs.language.Values.{Cells}
+use Rattle.rhai_machine.specs.language.Frames.{EnterOnFocus, Frame, Core, core}
+use Rattle.rhai_machine.specs.language.Calls.{races}
+use Rattle.rhai_machine.specs.language.Arguments.{linked_core, linked_to}
 use Rattle.rhai_dispatch.specs.Pointers.{number_in}
 use Rattle.rhai_methods.specs.Calls.{alone_by, on_by}
+use Rattle.rhai_methods.specs.declared.calls.MethodCall.{MethodCall}
+use Rattle.rhai_methods.specs.declared.calls.MethodCall.TheVariants.{Ended, Alone}
+
+-- all that a pointer is called with
+abbrev pub all_of : {H : Type 0} → FnPtr H → (args : List (Dynamic H)) → List (Dynamic H)
+all_of {H} pointer args = (out-FnPtr H pointer).curry ++ args
 
 module _ {H : Type 0} (s : Setting H) where
-  -- it is called by itself, with what it has already
+  -- by itself
+  abbrev pub alone_as : Option (Function H) → FnPtr H → Position → (args : List (Dynamic H)) → List (Frame H) → Local H → Core H
+  alone_as (Some function) pointer at args k l = linked_core function at (all_of pointer args) k l
+  alone_as None pointer at args k l =
+      alone_by s (number_in (out-FnPtr H pointer).kind) (out-FnPtr H pointer).name at (all_of pointer args) k l
+
   abbrev pub alone_with : FnPtr H → Position → (args : List (Dynamic H)) → List (Frame H) → Local H → Core H
-  alone_with pointer at args k l =
-      alone_by s (number_in (out-FnPtr H pointer).kind) (out-FnPtr H pointer).name at ((out-FnPtr H pointer).curry ++ args) k l
+  alone_with pointer at args k l = alone_as (linked_to pointer (length (all_of pointer args)) l.around.lib) pointer at args k l
 
-  -- one that is an argument is called on the focus
-  abbrev pub given_on : FnPtr H → Position → (args : List (Dynamic H)) → (focus : Dynamic H) → List (Frame H) → Local H → Core H
-  given_on pointer at args focus k l = on_by s (number_in (out-FnPtr H pointer).kind) (codes "call") (out-FnPtr H pointer).name at
-      ((out-FnPtr H pointer).curry ++ args) focus k l
+  -- on the focus, by this name where it is a native's number
+  abbrev pub on_as : Option (Function H) → FnPtr H → (called : List ℕ) → Position → (args : List (Dynamic H)) → (focus : Dynamic H) →
+      List (Frame H) → Local H → Core H
+  on_as (Some function) pointer called at args focus k l = core (EnterOnFocus function (all_of pointer args) at) k l
+  on_as None pointer called at args focus k l =
+      on_by s (number_in (out-FnPtr H pointer).kind) called (out-FnPtr H pointer).name at (all_of pointer args) focus k l
 
-  -- and so is a map's own, under its own name
-  abbrev pub own_on : FnPtr H → Position → (args : List (Dynamic H)) → (focus : Dynamic H) → List (Frame H) → Local H → Core H
-  own_on pointer at args focus k l =
-      on_by s (number_in (out-FnPtr H pointer).kind) (out-FnPtr H pointer).name (out-FnPtr H pointer).name at
-      ((out-FnPtr H pointer).curry ++ args) focus k l
+  abbrev pub on_with : FnPtr H → (called : List ℕ) → Position → (args : List (Dynamic H)) → (focus : Dynamic H) → List (Frame H) →
+      Local H → Core H
+  on_with pointer called at args focus k l =
+      on_as (linked_to pointer (length (all_of pointer args)) l.around.lib) pointer called at args focus k l
+
+-- by which name a native's number is called: this one, or else the pointer's own
+abbrev pub name_called : {H : Type 0} → FnPtr H → Option (List ℕ) → List ℕ
+name_called {H} pointer (Some name) = name
+name_called {H} pointer None = (out-FnPtr H pointer).name
+
+-- what came of a call of a function that a pointer is linked to, by itself: it is entered, unless an argument is the handle of a cell
+-- that is held, or memory was wanting
+abbrev pub IsLinkedAlone : {H : Type 0} → Cells H → Function H → (all : List (Dynamic H)) → Position → MethodCall H → Type 0
+IsLinkedAlone cells function all at (Ended (Err e)) =
+    is_out_of_memory e ≡ false → (races cells all ≡ true) × (e ≡ error.ErrorDataRace function.def.name at)
+IsLinkedAlone cells function all at call = (races cells all ≡ false) × (call ≡ Alone function all)

@@ -6,16 +6,18 @@ ghost use Rattle.rhai_machine.specs.language.Arguments.{operation_named};
 ghost use Rattle.rhai_machine.specs.language.Methods.{numbered_on};
 ghost use Rattle.rhai_machine.specs.language.Setting.{rules_of};
 ghost use Rattle.rhai_steps.specs.States.{state_of};
+ghost use Rattle.rhai_calls.specs.Dispatch.{Offers};
 ghost use Rattle.rhai_calls.specs.Marks.{with_mark};
 ghost use Rattle.rhai_methods.specs.Calls.{alone_by, named_alone, named_on, number_alone, on_by};
-ghost use Rattle.rhai_methods.specs.Methods.{lending, RunsFrom};
+ghost use Rattle.rhai_methods.specs.Methods.{lending, IsEntered, CallsFrom};
+ghost use Rattle.rhai_methods.specs.declared.calls.MethodCall.TheVariants.{Alone, Ended, OnTarget};
 
-use crate::copies::taken_behind;
-use rhai_calls::dispatch::{pass_call, races};
-use rhai_calls::native::{
-    Passing, call_number, call_number_alone, call_number_on, marked, pass_native_alone,
-};
+use crate::copies::{taken_behind, taken_out};
+use rhai_calls::dispatch::{Dispatched, Seeks, pass_all, pass_call, races};
+use rhai_calls::native::{Passing, call_number, call_number_alone, call_number_on, marked};
+use rhai_functions::function::{Function, Offered};
 use rhai_items::Items;
+use rhai_pointers::names::natives_alone;
 use rhai_state::error::EvalAltResult;
 use rhai_state::limits::Limits;
 use rhai_state::state::GlobalRuntimeState;
@@ -25,6 +27,17 @@ use rhai_tree::literal::NativeId;
 use rhai_tree::position::Position;
 use rhai_values::base::value::{Dynamic, Host};
 use std::alloc::Global;
+
+/// What comes of a method's call.
+#[derive(Drop)]
+pub enum MethodCall<H> {
+    /// It has ended, and a value has its mark.
+    Ended(Result<(Dynamic<H>, bool), EvalAltResult<H>>),
+    /// A function of a script is to be entered on the value, with these arguments.
+    OnTarget(Function<H>, Items<Dynamic<H>>),
+    /// One is to be entered by itself.
+    Alone(Function<H>, Items<Dynamic<H>>),
+}
 
 /// A native by its number on the target, which is lent to it. It charges nothing.
 ///
@@ -41,39 +54,42 @@ fn number_on<H: Host, T: NativeTable<H>>(
     target: &mut Dynamic<H>,
     args: &[Dynamic<H>],
     pos: Position,
-) -> Result<(Dynamic<H>, bool), EvalAltResult<H>>
+) -> MethodCall<H>
     ensures counts { global.old.num_operations ≤ global.new.num_operations }
     ensures runs { (offer : _) (scope : _) (held : _) →
-        RunsFrom (rules_of limits.now H.name_of offer T.natives)
+        CallsFrom (rules_of limits.now H.name_of offer T.natives) pos
         (numbered_on id.number (operation_named name.now pos) args.now target.old)
         (state_of (T.state table.old) global.old scope (lending held target.old))
         result (state_of (T.state table.new) global.new scope (lending held target.new)) }
 {
     if races(&global.cells, args) {
-        return Err(data_race_by(alloc, name, pos));
+        return MethodCall::Ended(Err(data_race_by(alloc, name, pos)));
     }
-    call_number_on(limits, alloc, global, table, id, name, target, args, pos)
+    MethodCall::Ended(call_number_on(limits, alloc, global, table, id, name, target, args, pos))
 }
 
 /// A call by name on the target, which is lent, and kept from a native that is not pure where it is a
-/// constant. The answer says whether the target may have changed.
+/// constant. The answer says whether the target may have changed. A function of a script is for the caller to
+/// enter: the arguments are taken then.
 ///
 /// # Errors
 /// Those of `rhai_calls::dispatch::pass_call`.
 pub fn call_named_on<H: Host, T: NativeTable<H>>(
     limits: &Limits,
     alloc: Global,
+    offered: &Offered<'_, H>,
     global: &mut GlobalRuntimeState<H>,
     table: &mut T,
+    natives_alone: bool,
     name: &str,
     target: &mut Dynamic<H>,
-    args: &[Dynamic<H>],
+    args: &mut [Dynamic<H>],
     pos: Position,
-) -> Result<(Dynamic<H>, bool), EvalAltResult<H>>
+) -> MethodCall<H>
     ensures counts { global.old.num_operations ≤ global.new.num_operations }
-    ensures runs { (offer : _) (scope : _) (held : _) →
+    ensures runs { (offer : _) (scope : _) (held : _) → Offers offer offered.now →
         let rules = rules_of limits.now H.name_of offer T.natives in
-        RunsFrom rules (named_on rules.setting name.now pos args.now target.old)
+        CallsFrom rules pos (named_on rules.setting natives_alone name.now pos args.old target.old)
         (state_of (T.state table.old) global.old scope (lending held target.old))
         result (state_of (T.state table.new) global.new scope (lending held target.new)) }
 {
@@ -81,34 +97,85 @@ pub fn call_named_on<H: Host, T: NativeTable<H>>(
         guarded: true,
         marks: true,
     };
-    pass_call(
-        limits, alloc, global, table, name, None, target, args, passing, pos,
-    )
+    let seeks = Seeks {
+        of_method: true,
+        natives_alone,
+    };
+    match pass_call(
+        limits, alloc, offered, global, table, seeks, name, None, target, args, passing, pos,
+    ) {
+        Dispatched::Ended(result) => MethodCall::Ended(result),
+        Dispatched::Found(function) => on_target(alloc, function, Items::new(alloc), args, pos),
+    }
+}
+
+/// A function of a script that is to be entered on the target, with what a pointer has already before its
+/// arguments.
+pub fn on_target<H: Host>(
+    alloc: Global,
+    function: Function<H>,
+    curried: Items<Dynamic<H>>,
+    args: &mut [Dynamic<H>],
+    pos: Position,
+) -> MethodCall<H>
+    ensures { IsEntered result (OnTarget function (curried ++ args.old)) }
+{
+    match taken_behind(alloc, curried, args, pos) {
+        Ok(all) => MethodCall::OnTarget(function, all),
+        Err(error) => {
+            drop(function);
+            MethodCall::Ended(Err(error))
+        }
+    }
+}
+
+/// The same of one that is to be entered by itself.
+fn by_itself<H: Host>(
+    alloc: Global,
+    function: Function<H>,
+    args: &mut [Dynamic<H>],
+    pos: Position,
+) -> MethodCall<H>
+    ensures { IsEntered result (Alone function args.old) }
+{
+    match taken_out(alloc, args, pos) {
+        Ok(all) => MethodCall::Alone(function, all),
+        Err(error) => {
+            drop(function);
+            MethodCall::Ended(Err(error))
+        }
+    }
 }
 
 /// A call on the target by a native's number, under the name by which it was called, or else by a name.
 fn call_by_on<H: Host, T: NativeTable<H>>(
     limits: &Limits,
     alloc: Global,
+    offered: &Offered<'_, H>,
     global: &mut GlobalRuntimeState<H>,
     table: &mut T,
     number: Option<NativeId>,
     called: &str,
     name: &str,
     target: &mut Dynamic<H>,
-    args: &[Dynamic<H>],
+    args: &mut [Dynamic<H>],
     pos: Position,
-) -> Result<(Dynamic<H>, bool), EvalAltResult<H>>
+) -> MethodCall<H>
     ensures counts { global.old.num_operations ≤ global.new.num_operations }
-    ensures runs { (offer : _) (scope : _) (held : _) →
+    ensures runs { (offer : _) (scope : _) (held : _) → Offers offer offered.now →
         let rules = rules_of limits.now H.name_of offer T.natives in
-        RunsFrom rules (on_by rules.setting number called.now name.now pos args.now target.old)
+        CallsFrom rules pos (on_by rules.setting number called.now name.now pos args.old target.old)
         (state_of (T.state table.old) global.old scope (lending held target.old))
         result (state_of (T.state table.new) global.new scope (lending held target.new)) }
 {
     match number {
         Some(id) => number_on(limits, alloc, global, table, id, called, target, args, pos),
-        None => call_named_on(limits, alloc, global, table, name, target, args, pos),
+        None => {
+            let alone = natives_alone(name);
+            call_named_on(
+                limits, alloc, offered, global, table, alone, name, target, args, pos,
+            )
+        }
     }
 }
 
@@ -116,6 +183,7 @@ fn call_by_on<H: Host, T: NativeTable<H>>(
 pub fn call_on<H: Host, T: NativeTable<H>>(
     limits: &Limits,
     alloc: Global,
+    offered: &Offered<'_, H>,
     global: &mut GlobalRuntimeState<H>,
     table: &mut T,
     number: Option<NativeId>,
@@ -125,35 +193,33 @@ pub fn call_on<H: Host, T: NativeTable<H>>(
     target: &mut Dynamic<H>,
     args: &mut [Dynamic<H>],
     pos: Position,
-) -> Result<(Dynamic<H>, bool), EvalAltResult<H>>
+) -> MethodCall<H>
     ensures counts { global.old.num_operations ≤ global.new.num_operations }
-    ensures runs { (offer : _) (scope : _) (held : _) →
+    ensures runs { (offer : _) (scope : _) (held : _) → Offers offer offered.now →
         let rules = rules_of limits.now H.name_of offer T.natives in
-        RunsFrom rules (on_by rules.setting number called.now name.now pos (curried ++ args.old) target.old)
+        CallsFrom rules pos
+        (on_by rules.setting number called.now name.now pos (curried ++ args.old) target.old)
         (state_of (T.state table.old) global.old scope (lending held target.old))
         result (state_of (T.state table.new) global.new scope (lending held target.new)) }
 {
     if curried.is_empty() {
         drop(curried);
         return call_by_on(
-            limits, alloc, global, table, number, called, name, target, args, pos,
+            limits, alloc, offered, global, table, number, called, name, target, args, pos,
         );
     }
-    let all = taken_behind(alloc, curried, args, pos)?;
-    let result = call_by_on(
-        limits,
-        alloc,
-        global,
-        table,
-        number,
-        called,
-        name,
-        target,
-        all.as_slice(),
-        pos,
-    );
-    drop(all);
-    result
+    match taken_behind(alloc, curried, args, pos) {
+        Ok(all) => {
+            let mut all = all;
+            let values = all.as_mut_slice();
+            let call = call_by_on(
+                limits, alloc, offered, global, table, number, called, name, target, values, pos,
+            );
+            drop(all);
+            call
+        }
+        Err(error) => MethodCall::Ended(Err(error)),
+    }
 }
 
 /// A native by its number, with nothing lent. It charges nothing.
@@ -172,10 +238,10 @@ fn number_by_itself<H: Host, T: NativeTable<H>>(
 ) -> Result<Dynamic<H>, EvalAltResult<H>>
     ensures counts { global.old.num_operations ≤ global.new.num_operations }
     ensures runs { (offer : _) (scope : _) (held : _) →
-        RunsFrom (rules_of limits.now H.name_of offer T.natives)
+        CallsFrom (rules_of limits.now H.name_of offer T.natives) pos
         (number_alone id.number pos args.old)
         (state_of (T.state table.old) global.old scope held)
-        (with_mark false result) (state_of (T.state table.new) global.new scope held) }
+        (Ended (with_mark false result)) (state_of (T.state table.new) global.new scope held) }
 {
     if races(&global.cells, args) {
         return Err(data_race_by(alloc, "call", pos));
@@ -190,55 +256,54 @@ fn number_by_itself<H: Host, T: NativeTable<H>>(
 fn named_by_itself<H: Host, T: NativeTable<H>>(
     limits: &Limits,
     alloc: Global,
+    offered: &Offered<'_, H>,
     global: &mut GlobalRuntimeState<H>,
     table: &mut T,
     name: &str,
     args: &mut [Dynamic<H>],
     pos: Position,
-) -> Result<(Dynamic<H>, bool), EvalAltResult<H>>
+) -> MethodCall<H>
     ensures counts { global.old.num_operations ≤ global.new.num_operations }
-    ensures runs { (offer : _) (scope : _) (held : _) →
+    ensures runs { (offer : _) (scope : _) (held : _) → Offers offer offered.now →
         let rules = rules_of limits.now H.name_of offer T.natives in
-        RunsFrom rules (named_alone rules.setting name.now pos args.old)
+        CallsFrom rules pos (named_alone rules.setting name.now pos args.old)
         (state_of (T.state table.old) global.old scope held)
         result (state_of (T.state table.new) global.new scope held) }
 {
-    let passing = Passing {
-        guarded: false,
-        marks: true,
-    };
-    let [first, rest @ ..] = args else {
-        return pass_native_alone(limits, alloc, global, table, name, None, true, pos);
-    };
-    pass_call(
-        limits, alloc, global, table, name, None, first, rest, passing, pos,
-    )
+    let alone = natives_alone(name);
+    match pass_all(
+        limits, alloc, offered, global, table, alone, name, None, args, true, pos,
+    ) {
+        Dispatched::Ended(result) => MethodCall::Ended(result),
+        Dispatched::Found(function) => by_itself(alloc, function, args, pos),
+    }
 }
 
 /// A call of a pointer by itself: of a native by its number, or else by the pointer's name.
 fn call_by_itself<H: Host, T: NativeTable<H>>(
     limits: &Limits,
     alloc: Global,
+    offered: &Offered<'_, H>,
     global: &mut GlobalRuntimeState<H>,
     table: &mut T,
     number: Option<NativeId>,
     name: &str,
     args: &mut [Dynamic<H>],
     pos: Position,
-) -> Result<(Dynamic<H>, bool), EvalAltResult<H>>
+) -> MethodCall<H>
     ensures counts { global.old.num_operations ≤ global.new.num_operations }
-    ensures runs { (offer : _) (scope : _) (held : _) →
+    ensures runs { (offer : _) (scope : _) (held : _) → Offers offer offered.now →
         let rules = rules_of limits.now H.name_of offer T.natives in
-        RunsFrom rules (alone_by rules.setting number name.now pos args.old)
+        CallsFrom rules pos (alone_by rules.setting number name.now pos args.old)
         (state_of (T.state table.old) global.old scope held)
         result (state_of (T.state table.new) global.new scope held) }
 {
     match number {
         Some(id) => {
             let result = number_by_itself(limits, alloc, global, table, id, args, pos);
-            marked(result, false)
+            MethodCall::Ended(marked(result, false))
         }
-        None => named_by_itself(limits, alloc, global, table, name, args, pos),
+        None => named_by_itself(limits, alloc, offered, global, table, name, args, pos),
     }
 }
 
@@ -246,6 +311,7 @@ fn call_by_itself<H: Host, T: NativeTable<H>>(
 pub fn call_alone<H: Host, T: NativeTable<H>>(
     limits: &Limits,
     alloc: Global,
+    offered: &Offered<'_, H>,
     global: &mut GlobalRuntimeState<H>,
     table: &mut T,
     number: Option<NativeId>,
@@ -253,29 +319,30 @@ pub fn call_alone<H: Host, T: NativeTable<H>>(
     curried: Items<Dynamic<H>>,
     args: &mut [Dynamic<H>],
     pos: Position,
-) -> Result<(Dynamic<H>, bool), EvalAltResult<H>>
+) -> MethodCall<H>
     ensures counts { global.old.num_operations ≤ global.new.num_operations }
-    ensures runs { (offer : _) (scope : _) (held : _) →
+    ensures runs { (offer : _) (scope : _) (held : _) → Offers offer offered.now →
         let rules = rules_of limits.now H.name_of offer T.natives in
-        RunsFrom rules (alone_by rules.setting number name.now pos (curried ++ args.old))
+        CallsFrom rules pos (alone_by rules.setting number name.now pos (curried ++ args.old))
         (state_of (T.state table.old) global.old scope held)
         result (state_of (T.state table.new) global.new scope held) }
 {
     if curried.is_empty() {
         drop(curried);
-        return call_by_itself(limits, alloc, global, table, number, name, args, pos);
+        return call_by_itself(
+            limits, alloc, offered, global, table, number, name, args, pos,
+        );
     }
-    let mut all = taken_behind(alloc, curried, args, pos)?;
-    let result = call_by_itself(
-        limits,
-        alloc,
-        global,
-        table,
-        number,
-        name,
-        all.as_mut_slice(),
-        pos,
-    );
-    drop(all);
-    result
+    match taken_behind(alloc, curried, args, pos) {
+        Ok(all) => {
+            let mut all = all;
+            let values = all.as_mut_slice();
+            let call = call_by_itself(
+                limits, alloc, offered, global, table, number, name, values, pos,
+            );
+            drop(all);
+            call
+        }
+        Err(error) => MethodCall::Ended(Err(error)),
+    }
 }

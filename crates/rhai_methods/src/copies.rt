@@ -158,7 +158,10 @@ pub fn no_pointer<H: Host>(
 
 /// All arguments, which are taken out of their places. Where there is no memory those that were taken are
 /// let go of.
-fn taken_out<H: Host>(
+///
+/// # Errors
+/// `ErrorOutOfMemory` at the position alone.
+pub fn taken_out<H: Host>(
     alloc: Global,
     args: &mut [Dynamic<H>],
     pos: Position,

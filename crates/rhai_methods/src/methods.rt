@@ -1,136 +1,292 @@
 //! A method that is called on a value, by what its name means there.
 
-ghost use Rattle.std.specs.Prelude.{◌≡◌, ◌≤◌, Ok};
+ghost use Rattle.std.specs.Prelude.{◌≡◌, ◌≤◌, length, None, Ok, IfOk};
+ghost use Rattle.std.specs.Option.{option_copied};
 ghost use Rattle.rhai_values.specs.Cells.{cells_of};
+ghost use Rattle.rhai_machine.specs.language.Arguments.{linked_to};
 ghost use Rattle.rhai_machine.specs.language.Methods.{CallWord, call_argument, own_core, word_core};
 ghost use Rattle.rhai_machine.specs.language.Setting.{rules_of};
 ghost use Rattle.rhai_machine.specs.language.Values.{through};
 ghost use Rattle.rhai_steps.specs.States.{state_of};
-ghost use Rattle.rhai_methods.specs.Methods.{lending, MethodRuns, RunsFrom};
-ghost use Rattle.rhai_methods.specs.Parts.{alone_with, given_on, own_on};
+ghost use Rattle.rhai_calls.specs.Dispatch.{Offers};
+ghost use Rattle.rhai_methods.specs.Methods.{lending, IsEntered, MethodRuns, CallsFrom};
+ghost use Rattle.rhai_methods.specs.Parts.{all_of, alone_as, alone_with, name_called, on_as, on_with};
+ghost use Rattle.rhai_methods.specs.Parts.{IsLinkedAlone};
+ghost use Rattle.rhai_methods.specs.declared.calls.MethodCall.TheVariants.{OnTarget};
 
-use crate::calls::{call_alone, call_named_on, call_on};
-use crate::copies::{curried, is_shared, no_pointer, own_pointer, pointer_copy};
+use crate::calls::{MethodCall, call_alone, call_named_on, call_on, on_target};
+use crate::copies::{curried, is_shared, no_pointer, own_pointer, pointer_copy, taken_behind};
 use crate::words::{MethodWord, word_of};
+use rhai_calls::dispatch::races;
 use rhai_calls::native::marked;
 use rhai_dispatch::pointer::parts_of;
+use rhai_functions::function::{Function, Offered};
+use rhai_items::Shared;
+use rhai_pointers::linked::function_linked;
 use rhai_pointers::pointers::pointer_of;
 use rhai_state::error::EvalAltResult;
 use rhai_state::limits::Limits;
 use rhai_state::state::GlobalRuntimeState;
 use rhai_state::table::NativeTable;
+use rhai_steps::errors::data_race_by;
 use rhai_steps::values::unit_value;
 use rhai_tree::position::Position;
-use rhai_values::base::value::{Dynamic, FnPtr, Host};
-use std::alloc::Global;
+use rhai_values::base::value::{Dynamic, FnPtr, Host, Module};
+use rhai_values::cells::CellStore;
+use std::alloc::{AllocError, Global};
 use std::mem::replace;
 
-/// A pointer that the method works on is called by itself, with all its arguments.
-fn call_pointer<H: Host, T: NativeTable<H>>(
+/// The function that a pointer is linked to, where it takes all that the pointer is called with.
+fn linked_with<H: Host>(
+    pointer: &FnPtr<H>,
+    args: &[Dynamic<H>],
+    lib: &[Shared<Module<H>>],
+) -> Result<Option<Function<H>>, AllocError>
+    ensures { IfOk result (λ found.
+        found ≡ linked_to pointer.now (length (all_of pointer.now args.now)) lib.now) }
+{
+    function_linked(pointer, args.len(), lib)
+}
+
+/// A function that a pointer is linked to is to be entered by itself, with all that the pointer is called
+/// with.
+fn linked_alone<H: Host>(
+    alloc: Global,
+    cells: &CellStore<H>,
+    function: Function<H>,
+    pointer: FnPtr<H>,
+    args: &mut [Dynamic<H>],
+    pos: Position,
+) -> MethodCall<H>
+    ensures { IsLinkedAlone (cells_of cells.now) function (all_of pointer args.old) pos result }
+{
+    let (name, curried, _) = parts_of(pointer);
+    drop(name);
+    match taken_behind(alloc, curried, args, pos) {
+        Err(error) => {
+            drop(function);
+            MethodCall::Ended(Err(error))
+        }
+        Ok(all) => {
+            if races(cells, all.as_slice()) {
+                let called = function.def.get().def().name.get().as_str();
+                let error = data_race_by(alloc, called, pos);
+                drop(all);
+                drop(function);
+                return MethodCall::Ended(Err(error));
+            }
+            MethodCall::Alone(function, all)
+        }
+    }
+}
+
+/// A pointer that is no function's is called by itself.
+fn unlinked_alone<H: Host, T: NativeTable<H>>(
     limits: &Limits,
     alloc: Global,
+    offered: &Offered<'_, H>,
     global: &mut GlobalRuntimeState<H>,
     table: &mut T,
     pointer: FnPtr<H>,
     args: &mut [Dynamic<H>],
     pos: Position,
-) -> Result<(Dynamic<H>, bool), EvalAltResult<H>>
+) -> MethodCall<H>
     ensures counts { global.old.num_operations ≤ global.new.num_operations }
-    ensures runs { (offer : _) (scope : _) (held : _) →
+    ensures runs { (offer : _) (scope : _) (held : _) → Offers offer offered.now →
         let rules = rules_of limits.now H.name_of offer T.natives in
-        RunsFrom rules (alone_with rules.setting pointer pos args.old)
+        CallsFrom rules pos (alone_as rules.setting None pointer pos args.old)
         (state_of (T.state table.old) global.old scope held)
         result (state_of (T.state table.new) global.new scope held) }
 {
     let (name, curried, number) = parts_of(pointer);
     let text = name.get().as_str();
-    let result = call_alone(
-        limits, alloc, global, table, number, text, curried, args, pos,
+    let call = call_alone(
+        limits, alloc, offered, global, table, number, text, curried, args, pos,
     );
     drop(name);
-    result
+    call
 }
 
-/// A pointer that is an argument is called on the target, with the other arguments.
-fn call_given<H: Host, T: NativeTable<H>>(
+/// A pointer that the method works on is called by itself, with all its arguments.
+fn call_pointer<H: Host, T: NativeTable<H>>(
     limits: &Limits,
     alloc: Global,
+    offered: &Offered<'_, H>,
     global: &mut GlobalRuntimeState<H>,
     table: &mut T,
     pointer: FnPtr<H>,
+    args: &mut [Dynamic<H>],
+    pos: Position,
+) -> MethodCall<H>
+    ensures counts { global.old.num_operations ≤ global.new.num_operations }
+    ensures runs { (offer : _) (scope : _) (held : _) → Offers offer offered.now →
+        let rules = rules_of limits.now H.name_of offer T.natives in
+        CallsFrom rules pos (alone_with rules.setting pointer pos args.old)
+        (state_of (T.state table.old) global.old scope held)
+        result (state_of (T.state table.new) global.new scope held) }
+{
+    match linked_with(&pointer, args, global.lib.as_slice()) {
+        Ok(Some(function)) => linked_alone(alloc, &global.cells, function, pointer, args, pos),
+        Ok(None) => unlinked_alone(limits, alloc, offered, global, table, pointer, args, pos),
+        Err(_) => {
+            drop(pointer);
+            MethodCall::Ended(Err(EvalAltResult::ErrorOutOfMemory(pos)))
+        }
+    }
+}
+
+/// A function that a pointer is linked to is to be entered on the target, with all that the pointer is called
+/// with.
+fn linked_on<H: Host>(
+    alloc: Global,
+    function: Function<H>,
+    pointer: FnPtr<H>,
+    args: &mut [Dynamic<H>],
+    pos: Position,
+) -> MethodCall<H>
+    ensures { IsEntered result (OnTarget function (all_of pointer args.old)) }
+{
+    let (name, curried, _) = parts_of(pointer);
+    drop(name);
+    on_target(alloc, function, curried, args, pos)
+}
+
+/// A pointer that is no function's is called on the target, a native by its number under this name, or under
+/// the pointer's where there is none.
+fn unlinked_on<H: Host, T: NativeTable<H>>(
+    limits: &Limits,
+    alloc: Global,
+    offered: &Offered<'_, H>,
+    global: &mut GlobalRuntimeState<H>,
+    table: &mut T,
+    pointer: FnPtr<H>,
+    called: Option<&str>,
     target: &mut Dynamic<H>,
     args: &mut [Dynamic<H>],
     pos: Position,
-) -> Result<(Dynamic<H>, bool), EvalAltResult<H>>
+) -> MethodCall<H>
     ensures counts { global.old.num_operations ≤ global.new.num_operations }
-    ensures runs { (offer : _) (scope : _) (held : _) →
+    ensures runs { (offer : _) (scope : _) (held : _) → Offers offer offered.now →
         let rules = rules_of limits.now H.name_of offer T.natives in
-        RunsFrom rules (given_on rules.setting pointer pos args.old target.old)
+        CallsFrom rules pos (on_as rules.setting None pointer
+        (name_called pointer (option_copied called.entry)) pos args.old target.old)
         (state_of (T.state table.old) global.old scope (lending held target.old))
         result (state_of (T.state table.new) global.new scope (lending held target.new)) }
 {
     let (name, curried, number) = parts_of(pointer);
     let text = name.get().as_str();
-    let result = call_on(
-        limits, alloc, global, table, number, "call", text, curried, target, args, pos,
+    let called = called.unwrap_or(text);
+    let call = call_on(
+        limits, alloc, offered, global, table, number, called, text, curried, target, args, pos,
     );
     drop(name);
-    result
+    call
+}
+
+/// A pointer that is called on the target, with the values that it has already before the arguments.
+fn call_pointer_on<H: Host, T: NativeTable<H>>(
+    limits: &Limits,
+    alloc: Global,
+    offered: &Offered<'_, H>,
+    global: &mut GlobalRuntimeState<H>,
+    table: &mut T,
+    pointer: FnPtr<H>,
+    called: Option<&str>,
+    target: &mut Dynamic<H>,
+    args: &mut [Dynamic<H>],
+    pos: Position,
+) -> MethodCall<H>
+    ensures counts { global.old.num_operations ≤ global.new.num_operations }
+    ensures runs { (offer : _) (scope : _) (held : _) → Offers offer offered.now →
+        let rules = rules_of limits.now H.name_of offer T.natives in
+        CallsFrom rules pos (on_with rules.setting pointer
+        (name_called pointer (option_copied called.entry)) pos args.old target.old)
+        (state_of (T.state table.old) global.old scope (lending held target.old))
+        result (state_of (T.state table.new) global.new scope (lending held target.new)) }
+{
+    match linked_with(&pointer, args, global.lib.as_slice()) {
+        Ok(Some(function)) => linked_on(alloc, function, pointer, args, pos),
+        Ok(None) => unlinked_on(
+            limits, alloc, offered, global, table, pointer, called, target, args, pos,
+        ),
+        Err(_) => {
+            drop(pointer);
+            MethodCall::Ended(Err(EvalAltResult::ErrorOutOfMemory(pos)))
+        }
+    }
 }
 
 /// `call` on what is no pointer: the first argument is one, which is called on the target.
 fn call_argument<H: Host, T: NativeTable<H>>(
     limits: &Limits,
     alloc: Global,
+    offered: &Offered<'_, H>,
     global: &mut GlobalRuntimeState<H>,
     table: &mut T,
     target: &mut Dynamic<H>,
     args: &mut [Dynamic<H>],
     first_arg_pos: Option<Position>,
     pos: Position,
-) -> Result<(Dynamic<H>, bool), EvalAltResult<H>>
+) -> MethodCall<H>
     ensures counts { global.old.num_operations ≤ global.new.num_operations }
-    ensures runs { (offer : _) (scope : _) (held : _) (name : _) (seen : _) →
+    ensures runs { (offer : _) (scope : _) (held : _) (name : _) (seen : _) → Offers offer offered.now →
         through (cells_of global.old.cells) target.old pos ≡ Ok seen →
         let rules = rules_of limits.now H.name_of offer T.natives in
-        RunsFrom rules (call_argument rules.setting
+        CallsFrom rules pos (call_argument rules.setting
         (record { name = name; at = pos; first_at = first_arg_pos }) args.old seen target.old)
         (state_of (T.state table.old) global.old scope (lending held target.old))
         result (state_of (T.state table.new) global.new scope (lending held target.new)) }
 {
     let [first, rest @ ..] = args else {
-        return Err(no_pointer(alloc, &global.cells, target, pos));
+        return MethodCall::Ended(Err(no_pointer(alloc, &global.cells, target, pos)));
     };
     let first = replace(first, unit_value());
     let first_pos = first_arg_pos.unwrap_or(pos);
-    let pointer = pointer_of(alloc, &global.cells, first, first_pos)?;
-    call_given(limits, alloc, global, table, pointer, target, rest, pos)
+    match pointer_of(alloc, &global.cells, first, first_pos) {
+        Ok(pointer) => call_pointer_on(
+            limits,
+            alloc,
+            offered,
+            global,
+            table,
+            pointer,
+            Some("call"),
+            target,
+            rest,
+            pos,
+        ),
+        Err(error) => MethodCall::Ended(Err(error)),
+    }
 }
 
 /// `call` on a value: a pointer is called by itself, and on any other value the first argument is.
 fn call_word<H: Host, T: NativeTable<H>>(
     limits: &Limits,
     alloc: Global,
+    offered: &Offered<'_, H>,
     global: &mut GlobalRuntimeState<H>,
     table: &mut T,
     target: &mut Dynamic<H>,
     args: &mut [Dynamic<H>],
     first_arg_pos: Option<Position>,
     pos: Position,
-) -> Result<(Dynamic<H>, bool), EvalAltResult<H>>
+) -> MethodCall<H>
     ensures counts { global.old.num_operations ≤ global.new.num_operations }
-    ensures runs { (offer : _) (scope : _) (held : _) (name : _) →
+    ensures runs { (offer : _) (scope : _) (held : _) (name : _) → Offers offer offered.now →
         let rules = rules_of limits.now H.name_of offer T.natives in
-        RunsFrom rules (word_core rules.setting CallWord
+        CallsFrom rules pos (word_core rules.setting CallWord
         (record { name = name; at = pos; first_at = first_arg_pos }) args.old target.old)
         (state_of (T.state table.old) global.old scope (lending held target.old))
         result (state_of (T.state table.new) global.new scope (lending held target.new)) }
 {
-    match pointer_copy(alloc, &global.cells, target, pos)? {
-        Some(pointer) => call_pointer(limits, alloc, global, table, pointer, args, pos),
-        None => call_argument(
+    match pointer_copy(alloc, &global.cells, target, pos) {
+        Ok(Some(pointer)) => {
+            call_pointer(limits, alloc, offered, global, table, pointer, args, pos)
+        }
+        Ok(None) => call_argument(
             limits,
             alloc,
+            offered,
             global,
             table,
             target,
@@ -138,67 +294,48 @@ fn call_word<H: Host, T: NativeTable<H>>(
             first_arg_pos,
             pos,
         ),
+        Err(error) => MethodCall::Ended(Err(error)),
     }
-}
-
-/// A map's own pointer is called on the map.
-fn call_own<H: Host, T: NativeTable<H>>(
-    limits: &Limits,
-    alloc: Global,
-    global: &mut GlobalRuntimeState<H>,
-    table: &mut T,
-    pointer: FnPtr<H>,
-    target: &mut Dynamic<H>,
-    args: &mut [Dynamic<H>],
-    pos: Position,
-) -> Result<(Dynamic<H>, bool), EvalAltResult<H>>
-    ensures counts { global.old.num_operations ≤ global.new.num_operations }
-    ensures runs { (offer : _) (scope : _) (held : _) →
-        let rules = rules_of limits.now H.name_of offer T.natives in
-        RunsFrom rules (own_on rules.setting pointer pos args.old target.old)
-        (state_of (T.state table.old) global.old scope (lending held target.old))
-        result (state_of (T.state table.new) global.new scope (lending held target.new)) }
-{
-    let (name, curried, number) = parts_of(pointer);
-    let text = name.get().as_str();
-    let result = call_on(
-        limits, alloc, global, table, number, text, text, curried, target, args, pos,
-    );
-    drop(name);
-    result
 }
 
 /// Any other name: a map's own pointer of the name is called on it, and else the name is.
 fn call_plain<H: Host, T: NativeTable<H>>(
     limits: &Limits,
     alloc: Global,
+    offered: &Offered<'_, H>,
     global: &mut GlobalRuntimeState<H>,
     table: &mut T,
     name: &str,
     target: &mut Dynamic<H>,
     args: &mut [Dynamic<H>],
     pos: Position,
-) -> Result<(Dynamic<H>, bool), EvalAltResult<H>>
+) -> MethodCall<H>
     ensures counts { global.old.num_operations ≤ global.new.num_operations }
-    ensures runs { (offer : _) (scope : _) (held : _) (first_at : _) →
+    ensures runs { (offer : _) (scope : _) (held : _) (first_at : _) → Offers offer offered.now →
         let rules = rules_of limits.now H.name_of offer T.natives in
-        RunsFrom rules (own_core rules.setting (record { name = name.now; at = pos; first_at = first_at })
+        CallsFrom rules pos (own_core rules.setting (record { name = name.now; at = pos; first_at = first_at })
         args.old target.old)
         (state_of (T.state table.old) global.old scope (lending held target.old))
         result (state_of (T.state table.new) global.new scope (lending held target.new)) }
 {
-    match own_pointer(alloc, &global.cells, target, name, pos)? {
-        Some(pointer) => call_own(limits, alloc, global, table, pointer, target, args, pos),
-        None => call_named_on(limits, alloc, global, table, name, target, args, pos),
+    match own_pointer(alloc, &global.cells, target, name, pos) {
+        Ok(Some(pointer)) => call_pointer_on(
+            limits, alloc, offered, global, table, pointer, None, target, args, pos,
+        ),
+        Ok(None) => call_named_on(
+            limits, alloc, offered, global, table, false, name, target, args, pos,
+        ),
+        Err(error) => MethodCall::Ended(Err(error)),
     }
 }
 
 /// A method that is called on a value, its arguments there: `call`, `curry` and `is_shared` on pointers and
 /// handles; a map's own pointer under the name; and else a call by name with the value before the
-/// arguments, which is lent, and kept from a native that is not pure where it is a constant. The answer says
-/// whether a native that is not pure gave it, and so may have changed the value. What stands in the places
-/// of the arguments afterwards is not told. Where the name is called no memory is taken. Ports upstream's
-/// `make_method_call`.
+/// arguments, which is lent, and kept from a native that is not pure where it is a constant. The answer
+/// says whether a native that is not pure gave it, and so may have changed the value. A function of a
+/// script, which a name means or a pointer is linked to, is for the caller to enter. What stands in the
+/// places of the arguments afterwards is not told. Where a native is called by the name no memory is taken.
+/// Ports upstream's `make_method_call`.
 ///
 /// # Errors
 /// At the method: `ErrorDataRace` for a handle whose cell is held, and `ErrorMismatchDataType` for what is
@@ -207,6 +344,7 @@ fn call_plain<H: Host, T: NativeTable<H>>(
 pub fn call_method<H: Host, T: NativeTable<H>>(
     limits: &Limits,
     alloc: Global,
+    offered: &Offered<'_, H>,
     global: &mut GlobalRuntimeState<H>,
     table: &mut T,
     name: &str,
@@ -214,9 +352,9 @@ pub fn call_method<H: Host, T: NativeTable<H>>(
     args: &mut [Dynamic<H>],
     first_arg_pos: Option<Position>,
     pos: Position,
-) -> Result<(Dynamic<H>, bool), EvalAltResult<H>>
+) -> MethodCall<H>
     ensures counts { global.old.num_operations ≤ global.new.num_operations }
-    ensures runs { (offer : _) (scope : _) (held : _) →
+    ensures runs { (offer : _) (scope : _) (held : _) → Offers offer offered.now →
         MethodRuns (rules_of limits.now H.name_of offer T.natives)
         (record { name = name.now; at = pos; first_at = first_arg_pos }) args.old target.old
         (state_of (T.state table.old) global.old scope (lending held target.old))
@@ -226,6 +364,7 @@ pub fn call_method<H: Host, T: NativeTable<H>>(
         MethodWord::Call => call_word(
             limits,
             alloc,
+            offered,
             global,
             table,
             target,
@@ -233,8 +372,15 @@ pub fn call_method<H: Host, T: NativeTable<H>>(
             first_arg_pos,
             pos,
         ),
-        MethodWord::Curry => marked(curried(alloc, &global.cells, target, args, pos), false),
-        MethodWord::Shared => Ok((is_shared(target), false)),
-        MethodWord::Plain => call_plain(limits, alloc, global, table, name, target, args, pos),
+        MethodWord::Curry => {
+            let result = curried(alloc, &global.cells, target, args, pos);
+            MethodCall::Ended(marked(result, false))
+        }
+        MethodWord::Shared => MethodCall::Ended(Ok((is_shared(target), false))),
+        MethodWord::Plain => {
+            call_plain(
+                limits, alloc, offered, global, table, name, target, args, pos,
+            )
+        }
     }
 }

@@ -1,6 +1,7 @@
 -- How the machine reads an operand that stands: one charge at its position, and a copy of its value.
 use Rattle.std.proofs.Common.{◌≡◌, ◌<◌, ◌≤◌, ◌+◌, false, IsTrue, List, Option, Some, None, Ok, refl, ap}
 use Rattle.std.proofs.Common.{if◌then◌else◌}
+use Rattle.std.specs.Option.{option_or}
 use Rattle.rhai_tree.specs.declared.position.Position.{Position}
 use Rattle.rhai_tree.specs.declared.expr.Expr.{Expr, out-Expr}
 use Rattle.rhai_tree.specs.declared.expr.Expr.TheOpen as layer
@@ -9,6 +10,7 @@ use Rattle.rhai_tree.specs.Layers.{ExprLayer}
 use Rattle.rhai_tree.specs.Positions.{position_of, start_of}
 use Rattle.rhai_check.specs.Frame.{resolves_expr}
 use Rattle.rhai_values.specs.declared.base.value.Dynamic.{Dynamic}
+use Rattle.rhai_values.specs.declared.base.value.Module.{Module}
 use Rattle.rhai_values.specs.declared.base.value.Union.{Union}
 use Rattle.rhai_values.specs.declared.base.value.Union.TheVariants as value
 use Rattle.rhai_values.specs.Copy.{copy_of, plain}
@@ -24,6 +26,7 @@ use Rattle.rhai_machine.specs.machine.Memory.{here, next, ◌⨾◌}
 use Rattle.rhai_machine.specs.machine.Point.{after}
 use Rattle.rhai_machine.specs.language.Setting.{Rules, limit_under}
 use Rattle.rhai_machine.specs.language.Values.{Cells, bool_value, copied, is_handle, unit_value}
+use Rattle.rhai_machine.specs.language.Functions.{meant_function}
 use Rattle.rhai_machine.specs.language.Names.{looked_up, read, variable_of}
 use Rattle.rhai_machine.specs.language.Expressions.{literal_of}
 use Rattle.rhai_machine.specs.language.Frames.{Frame, core, Argument, Eval, OpenExpr, Back, Fail}
@@ -40,14 +43,14 @@ module _ {H : Type 0} where
   read_value cells name pos (value.Cell id) w v is = cc
   read_value cells name pos _ w v is = let same : w ≡ v = cc in ap (λ (x : Dynamic H). Ok (copy_of x)) same
 
-  read_found : (cells : Cells H) (name : _) (pos : Position) (o : Option (Dynamic H)) (v : Dynamic H) →
-      unless_handle o ≡ Some v → copied (variable_of cells name pos o) ≡ Ok (copy_of v)
-  read_found cells name pos None v is = cc
-  read_found cells name pos (Some w) v is = read_value cells name pos w.value w v is
+  read_found : (cells : Cells H) (name : _) (pos : Position) (o other : Option (Dynamic H)) (v : Dynamic H) →
+      unless_handle o ≡ Some v → copied (variable_of cells name pos (option_or o other)) ≡ Ok (copy_of v)
+  read_found cells name pos None other v is = cc
+  read_found cells name pos (Some w) other v is = read_value cells name pos w.value w v is
 
-  pub reads_standing : (cells : Cells H) (name : _) (pos : Position) (entries : List (ScopeEntry H)) (v : Dynamic H) →
-      unless_handle (found name entries) ≡ Some v → read cells name pos entries ≡ Ok (copy_of v)
-  reads_standing cells name pos entries v is = read_found cells name pos (found name entries) v is
+  pub reads_standing : (cells : Cells H) (lib : List (Module H)) (name : _) (pos : Position) (entries : List (ScopeEntry H))
+      (v : Dynamic H) → unless_handle (found name entries) ≡ Some v → read cells lib name pos entries ≡ Ok (copy_of v)
+  reads_standing cells lib name pos entries v is = read_found cells name pos (found name entries) (meant_function lib name) v is
 
 -- what stands is no handle
 value_plain : {H : Type 0} (u : Union H) (w v : Dynamic H) → u ≡ w.value → (if is_handle u then None else Some w) ≡ Some v →
@@ -97,7 +100,7 @@ module _ {S H : Type 0} (rules : Rules S H) where
       step_by rules _ _ (Go (core (Back (copy_of v)) k (state_of t g scope held).local))
       (rw (
         plain_name e offset name namespace pos (names_in scope) is resolves,
-        reads_standing (state_of t g scope held).local.around.cells
+        reads_standing (state_of t g scope held).local.around.cells (state_of t g scope held).local.around.lib
             name pos (entries_of scope) v stands,
       ) refl) here
   opens_standing e _ v k t g scope held is resolves stands = cc

@@ -8,6 +8,7 @@ use Rattle.rhai_tree.specs.Layers.{ExprLayer}
 use Rattle.rhai_check.specs.Forms.{is_unqualified}
 use Rattle.rhai_values.specs.declared.base.value.Dynamic.{Dynamic}
 use Rattle.rhai_state.specs.declared.scope.ScopeEntry.{ScopeEntry}
+use Rattle.rhai_machine.specs.language.Arguments.{this_in}
 use Rattle.rhai_pointers.specs.declared.arguments.FirstVariable.{FirstVariable}
 
 -- the arguments of a call, the first of which is told apart: where there is no first there are none
@@ -46,3 +47,9 @@ by_value (v ∷ vs) captures entries = true
 abbrev pub lent_first : (by_value : Bool) → (args : List Expr) → Option Leading
 lent_first true args = None
 lent_first false args = first_in args
+
+-- `this` that is charged before the other arguments and lent
+abbrev pub this_lent : {H : Type 0} → (by_value : Bool) → (first : Option Expr) → Option (Dynamic H) → Option Position
+this_lent true first this = None
+this_lent false None this = None
+this_lent false (Some arg) this = this_in (out-Expr arg) this

@@ -6,14 +6,14 @@ ghost use Rattle.rhai_tree.specs.declared.expr.Expr.{out-Expr};
 ghost use Rattle.rhai_values.specs.Cells.{cells_of};
 ghost use Rattle.rhai_state.specs.Errors.{is_out_of_memory};
 ghost use Rattle.rhai_state.specs.Scope.{entries_of};
-ghost use Rattle.rhai_machine.specs.language.Arguments.{taken as taken_as};
+ghost use Rattle.rhai_machine.specs.language.Arguments.{taken as taken_as, this_in as this_at};
 ghost use Rattle.rhai_machine.specs.language.State.{Answers};
-ghost use Rattle.rhai_pointers.specs.Leading.{all_args, by_value, first_in, leading, lent_first, seen};
+ghost use Rattle.rhai_pointers.specs.Leading.{all_args, by_value, first_in, leading, lent_first, seen, this_lent};
 
 use rhai_items::{Items, Shared, Text};
 use rhai_state::error::EvalAltResult;
 use rhai_state::scope::Scope;
-use rhai_steps::values::flatten;
+use rhai_steps::values::{flatten, is_bare_handle};
 use rhai_tree::expr::Expr;
 use rhai_tree::position::Position;
 use rhai_values::base::value::{Dynamic, Host};
@@ -148,4 +148,35 @@ pub fn first_variable<'a, H: Host>(
         return None;
     }
     variable_first(first, rest)
+}
+
+/// Where `this` stands as an argument, if it is bound and no handle.
+fn this_in<H: Host>(first: &Expr, this: &Option<Dynamic<H>>) -> Option<Position>
+    ensures { result ≡ this_at (out-Expr first.now) this.now }
+{
+    let Expr::ThisPtr(pos) = first else {
+        return None;
+    };
+    match this {
+        Some(value) if !is_bare_handle(value) => Some(*pos),
+        _ => None,
+    }
+}
+
+/// Where `this` stands that a call by name charges before its other arguments, and lends: as the first argument,
+/// where it is bound and no handle. None where the call takes each argument by its value.
+pub fn this_first<H: Host>(
+    scope: &Scope<H>,
+    curried: &[Dynamic<H>],
+    first: Option<&Expr>,
+    this: &Option<Dynamic<H>>,
+    captures: bool,
+) -> Option<Position>
+    ensures { result ≡ this_lent (by_value curried.now captures (entries_of scope.now))
+        (option_copied first.entry) this.now }
+{
+    if takes_values(scope, curried, captures) {
+        return None;
+    }
+    this_in(first?, this)
 }

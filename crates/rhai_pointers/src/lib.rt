@@ -5,5 +5,6 @@
 pub mod arguments;
 pub mod forms;
 pub mod keywords;
+pub mod linked;
 pub mod names;
 pub mod pointers;

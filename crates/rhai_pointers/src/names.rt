@@ -3,7 +3,7 @@
 ghost use Rattle.std.specs.Prelude.{◌≡◌};
 ghost use Rattle.std.specs.List.{list_all};
 ghost use Rattle.rhai_machine.specs.language.Arguments.{is_identifier, is_identifier_char, is_letter};
-ghost use Rattle.rhai_machine.specs.language.Arguments.{is_operator, is_pointer_name};
+ghost use Rattle.rhai_machine.specs.language.Arguments.{is_operator, is_pointer_name, natives_alone};
 
 /// An ASCII letter.
 fn is_letter(byte: u8) -> bool
@@ -72,4 +72,12 @@ pub fn is_pointer_name(name: &str) -> bool
     ensures { result ≡ is_pointer_name name.now }
 {
     is_identifier(name.as_bytes()) || is_operator(name)
+}
+
+/// Whether natives alone are asked for a pointer's name: it is no identifier, and none of a function without a
+/// name.
+pub fn natives_alone(name: &str) -> bool
+    ensures { result ≡ natives_alone name.now }
+{
+    !is_identifier(name.as_bytes()) && !name.starts_with("anon$")
 }

@@ -4,6 +4,7 @@
 pub mod calls;
 pub mod chains;
 pub mod data;
+pub mod functions;
 pub mod loops;
 pub mod operators;
 pub mod pairs;

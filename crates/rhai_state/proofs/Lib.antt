@@ -2,3 +2,4 @@ pub mod Held
 pub mod Newest
 pub mod Reached
 mod Tables
+mod Ranges

@@ -1,7 +1,7 @@
 //! The variables of a run.
 
 ghost use Rattle.std.specs.Prelude.{◌≡◌, ◌<◌, ◌↔◌, [], ◌∷◌, ◌++◌, take, length, slice_get, is_some, Some};
-ghost use Rattle.std.specs.Prelude.{string_bytes, IsTrue, IfSome, OnOk, OnErr};
+ghost use Rattle.std.specs.Prelude.{string_bytes, IsTrue, IfSome, OnOk, OnErr, drop, nat_lt, ◌+◌, ◌&&◌};
 ghost use Rattle.std.specs.Option.{option_map};
 ghost use Rattle.std.specs.Borrow.{sem};
 ghost use Rattle.rhai_state.specs.Lends.{lends_value};
@@ -182,6 +182,26 @@ impl<H: Drop> Scope<H> {
     {
         self.entries.truncate(len);
     }
+
+    /// Lets go of so many entries from one on, or of those that are there. The later ones move up. Ports
+    /// upstream's `Scope::remove_range`.
+    pub fn remove_range(&mut self, start: usize, len: usize)
+        ensures { entries_of self.new ≡ take start (entries_of self.old) ++ drop (start + len)
+            (entries_of self.old) }
+    {
+        let mut left = len;
+        'entries: while is_left(left, start, self.entries.len()) {
+            drop(self.entries.remove(start));
+            left -= 1;
+        }
+    }
+}
+
+/// Whether there is an entry left to let go of.
+fn is_left(left: usize, start: usize, length: usize) -> bool
+    ensures { result ≡ (nat_lt 0 left && nat_lt start length) }
+{
+    left > 0 && start < length
 }
 
 /// The place of the newest entry of a name.

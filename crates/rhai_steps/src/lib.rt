@@ -4,6 +4,7 @@
 #![tactic(auto)]
 
 pub mod charges;
+pub mod constants;
 pub mod errors;
 pub mod loops;
 pub mod outcome;

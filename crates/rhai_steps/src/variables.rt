@@ -11,7 +11,8 @@ ghost use Rattle.rhai_tree.specs.declared.expr.Expr.{out-Expr};
 ghost use Rattle.rhai_state.specs.Scope.{entries_of, found_by, index_of, names_in, new_entry, Fits};
 ghost use Rattle.rhai_machine.specs.language.State.{Answers};
 ghost use Rattle.rhai_machine.specs.language.Values.{copied, unit_value as unit};
-ghost use Rattle.rhai_machine.specs.language.Names.{looked_up, read, variable_of};
+ghost use Rattle.rhai_machine.specs.language.Functions.{meant_function, pointer_to};
+ghost use Rattle.rhai_machine.specs.language.Names.{bound_this, looked_up, read, variable_of};
 ghost use Rattle.rhai_machine.specs.language.Statements.{deeper, mode_of as mode_asked};
 ghost use Rattle.rhai_steps.specs.Declaring.{declarable, is_full, is_taken};
 ghost use Rattle.rhai_steps.specs.Lends.{lends_variable, with_value};
@@ -21,7 +22,8 @@ ghost use Rattle.rhai_steps.specs.Saves.{saved_in, saved_now, left_global};
 use crate::errors::{data_race_of, variable_exists, variable_not_found};
 use crate::values::{copy, unit_value};
 use bitflags::Flags;
-use rhai_items::{Shared, Text};
+use rhai_functions::named::arity_named;
+use rhai_items::{Boxed, Items, Shared, Text};
 use rhai_state::error::EvalAltResult;
 use rhai_state::limits::Limits;
 use rhai_state::scope::Scope;
@@ -29,7 +31,7 @@ use rhai_state::state::GlobalRuntimeState;
 use rhai_tree::expr::{Expr, Ident};
 use rhai_tree::flags::ASTFlags;
 use rhai_tree::position::Position;
-use rhai_values::base::value::{AccessMode, Dynamic, Host, Union};
+use rhai_values::base::value::{AccessMode, Dynamic, FnPtr, FnPtrKind, Host, Module, Union};
 use rhai_values::cells::CellStore;
 use std::alloc::Global;
 use std::num::NonZeroUsize;
@@ -67,8 +69,51 @@ pub fn scope_index<H: Host>(
     Some(scope_len - offset.get())
 }
 
+/// A pointer to the library function of a name with so many parameters.
+fn function_pointer<H: Host>(
+    alloc: Global,
+    name: &Shared<Text>,
+    arity: usize,
+    pos: Position,
+) -> Result<Dynamic<H>, EvalAltResult<H>>
+    ensures { Answers result (Ok (pointer_to name.now arity)) }
+{
+    let Ok(shared) = name.share() else {
+        return Err(EvalAltResult::ErrorOutOfMemory(pos));
+    };
+    let pointer = FnPtr {
+        name: shared,
+        curry: Items::new(alloc),
+        kind: FnPtrKind::Arity(arity),
+    };
+    match Boxed::new(alloc, pointer) {
+        Ok(pointer) => Ok(Dynamic::new(Union::FnPtr(pointer))),
+        Err(_) => Err(EvalAltResult::ErrorOutOfMemory(pos)),
+    }
+}
+
+/// What a name means that is no variable's: a pointer to the first library function of the name.
+///
+/// # Errors
+/// `ErrorVariableNotFound` at the position, where there is none.
+pub fn read_function<H: Host>(
+    alloc: Global,
+    lib: &[Shared<Module<H>>],
+    name: &Shared<Text>,
+    pos: Position,
+) -> Result<Dynamic<H>, EvalAltResult<H>>
+    ensures { (cells : _) → Answers result (copied (variable_of cells name.now pos
+        (meant_function lib.now name.now))) }
+{
+    match arity_named(lib, name.get().as_str()) {
+        Some(arity) => function_pointer(alloc, name, arity, pos),
+        None => Err(variable_not_found(name, pos)),
+    }
+}
+
 /// Reads a variable: a copy, unless there is none or its cell is held. It is found as
-/// `place_of_variable` says, which asks the same of its offset.
+/// `place_of_variable` says, which asks the same of its offset. Where there is none of the name, a function
+/// of the libraries is meant, if there is one.
 pub fn read_variable<H: Host>(
     alloc: Global,
     global: &GlobalRuntimeState<H>,
@@ -78,11 +123,29 @@ pub fn read_variable<H: Host>(
     pos: Position,
 ) -> Result<Dynamic<H>, EvalAltResult<H>>
     requires { IsTrue (is_good offset name.now (names_in scope.now)) }
-    ensures { Answers result (read (cells_of global.now.cells) name.now pos (entries_of scope.now)) }
+    ensures { Answers result (read (cells_of global.now.cells) global.now.lib name.now pos
+        (entries_of scope.now)) }
 {
     match place_of_variable(global, scope, offset, name) {
         Some(index) => copy_variable(alloc, &global.cells, scope.value_at(index), name, pos),
-        None => Err(variable_not_found(name, pos)),
+        None => read_function(alloc, global.lib.as_slice(), name, pos),
+    }
+}
+
+/// Reads `this`: a copy, where it is bound.
+///
+/// # Errors
+/// `ErrorUnboundThis` at the position.
+pub fn read_this<H: Host>(
+    alloc: Global,
+    this: &Option<Dynamic<H>>,
+    pos: Position,
+) -> Result<Dynamic<H>, EvalAltResult<H>>
+    ensures { Answers result (copied (bound_this pos this.now)) }
+{
+    match this {
+        Some(value) => copy(alloc, value, pos),
+        None => Err(EvalAltResult::ErrorUnboundThis(pos)),
     }
 }
 

@@ -1,4 +1,5 @@
 pub mod Layers
 pub mod Position
 pub mod Positions
+pub mod Signatures
 pub mod Tokens

@@ -1,11 +1,16 @@
 //! Script functions as they are written.
 
-ghost use Rattle.std.specs.Prelude.{◌≡◌};
+ghost use Rattle.std.specs.Prelude.{◌≡◌, IfOk};
 ghost use Rattle.rhai_tree.specs.Positions.{start_of_payload, end_of_payload};
+ghost use Rattle.rhai_tree.specs.Signatures.{empty_body, signature_text};
 
 use crate::expr::StmtBlock;
 use crate::position::Position;
+use crate::signature::write_signature;
 use rhai_items::{Items, Shared, Text};
+use std::alloc::{AllocError, Global};
+use std::fmt;
+use std::fmt::{Display, Formatter, Write};
 
 /// Who may call a function. Private comes before public.
 #[derive(Clone, Copy, Debug, PartialEq, Eq, PartialOrd, Ord, Hash)]
@@ -38,6 +43,17 @@ impl ScriptFuncPayload {
             ScriptFuncPayload::Statements(block) => block.end_position,
         }
     }
+
+    /// No statements, and no positions.
+    fn empty(alloc: Global) -> ScriptFuncPayload
+        ensures { result ≡ empty_body }
+    {
+        ScriptFuncPayload::Statements(StmtBlock {
+            statements: Items::new(alloc),
+            position: Position::NONE,
+            end_position: Position::NONE,
+        })
+    }
 }
 
 /// A script function. Ports upstream's `ScriptFuncDef`.
@@ -61,5 +77,62 @@ impl Drop for ScriptFuncDef {
             this_type: _,
             params: _,
         } = self;
+    }
+}
+
+impl ScriptFuncDef {
+    /// The same function with an empty body, which has no positions. Its texts are shared. Ports upstream's
+    /// `ScriptFuncDef::clone_function_signatures`.
+    pub fn clone_function_signatures(&self, alloc: Global) -> Result<ScriptFuncDef, AllocError>
+        ensures body { IfOk result (λ copy. copy.body ≡ empty_body) }
+        ensures name { IfOk result (λ copy. copy.name ≡ self.now.name) }
+        ensures access { IfOk result (λ copy. copy.access ≡ self.now.access) }
+        ensures this_type { IfOk result (λ copy. copy.this_type ≡ self.now.this_type) }
+        ensures params { IfOk result (λ copy. copy.params ≡ self.now.params) }
+    {
+        Ok(ScriptFuncDef {
+            name: self.name.share()?,
+            access: self.access,
+            this_type: match &self.this_type {
+                Some(name) => Some(name.share()?),
+                None => None,
+            },
+            params: share_texts(alloc, self.params.as_slice())?,
+            body: ScriptFuncPayload::empty(alloc),
+        })
+    }
+}
+
+/// The same texts, each with another owner.
+fn share_texts(alloc: Global, texts: &[Shared<Text>]) -> Result<Items<Shared<Text>>, AllocError>
+    ensures { IfOk result (λ shared. shared ≡ texts.now) }
+{
+    let mut shared = Items::new(alloc);
+    let mut at = 0;
+    'texts: while at < texts.len() {
+        shared.push(texts[at].share()?)?;
+        at += 1;
+    }
+    Ok(shared)
+}
+
+/// The function without its body, as `private "i64".f(a, b)`: `private ` where it is private, the type that
+/// its `this` must have, in quotes, and a dot, its name, and its parameters. Ports upstream's `Display` of
+/// `ScriptFuncDef`.
+impl Display for ScriptFuncDef {
+    ghost output = { λ def. signature_text def.access def.this_type def.name def.params };
+
+    fn fmt<W: Write>(&self, f: &mut Formatter<W>) -> fmt::Result {
+        let this_type = match &self.this_type {
+            Some(name) => Some(name.get().as_str()),
+            None => None,
+        };
+        write_signature(
+            self.access,
+            this_type,
+            self.name.get().as_str(),
+            self.params.as_slice(),
+            f,
+        )
     }
 }

@@ -6,4 +6,5 @@ pub mod flags;
 pub mod function;
 pub mod literal;
 pub mod position;
+pub mod signature;
 pub mod token;

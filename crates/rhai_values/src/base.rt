@@ -2,6 +2,7 @@
 
 mod copy;
 mod debug;
+mod environ;
 pub mod hashable;
 pub mod literal;
 mod modes;

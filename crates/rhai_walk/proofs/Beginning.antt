@@ -35,8 +35,8 @@ use Rattle.rhai_methods.specs.Methods.{lending, RunsFrom}
 use Rattle.rhai_chains.specs.Chains.{FollowsFrom, Does, Wants, WalkRuns}
 use Rattle.rhai_walk.specs.Walking.{entered_core, inside_by, inside_core, Calls, Comes, GoesOn, IsCharged, IsFree, IsMember, IsWay}
 use Rattle.rhai_walk.specs.Walking.{IsLocated, StopsThere, WayBy}
-use Rattle.rhai_walk.specs.declared.walk.ways.Way.{Way}
-use Rattle.rhai_walk.specs.declared.walk.ways.Way.TheVariants as way
+use Rattle.rhai_walk.specs.declared.ways.Way.{Way}
+use Rattle.rhai_walk.specs.declared.ways.Way.TheVariants as way
 
 module _ {H : Type 0} where
   -- the cell of a handle that was looked through is free

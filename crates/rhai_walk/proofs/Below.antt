@@ -23,8 +23,8 @@ use Rattle.rhai_machine.specs.language.Frames.{Chain, Item, MemberAccess}
 use Rattle.rhai_machine.specs.language.Located.{taken_at}
 use Rattle.rhai_machine.specs.language.Chains.{way_back}
 use Rattle.rhai_walk.specs.Walking.{IsDescent, IsDescentOf, IsFree, TakesBelow}
-use Rattle.rhai_walk.specs.declared.walk.ways.Descent.{Descent}
-use Rattle.rhai_walk.specs.declared.walk.ways.Descent.TheVariants as descent
+use Rattle.rhai_walk.specs.declared.ways.Descent.{Descent}
+use Rattle.rhai_walk.specs.declared.ways.Descent.TheVariants as descent
 
 -- where no cell is, none is given a value
 pub beyond : {A : Type 0} (xs : List A) (n : ℕ) (x : A) → length xs ≤ n → slice_set xs n x ≡ xs

@@ -36,7 +36,7 @@ use Rattle.rhai_chains.specs.Chains.{FollowsFrom, Does, Wants, WalkRuns}
 use Rattle.rhai_walk.specs.Walking.{IsLocated, IsNoMethod, IsSpotBelow}
 use Rattle.rhai_chains.specs.Spots.{FindsSpot}
 use Rattle.rhai_chains.proofs.Alike.{begins_alike, follows_alike}
-use Rattle.rhai_walk.proofs.Temporaries.{working}
+use Rattle.rhai_walk.proofs.OnTemporaries.{working}
 
 -- ---- spots
 

@@ -17,7 +17,7 @@ use Rattle.rhai_machine.specs.language.State.{Local, State}
 use Rattle.rhai_machine.specs.language.Values.{Cells, is_handle, through, through_union, used}
 use Rattle.rhai_machine.specs.language.Links.{Link}
 use Rattle.rhai_machine.specs.language.Frames.{Chain, Frame, Core, core, marked, on_value, StepDown}
-use Rattle.rhai_machine.specs.language.Chains.{entered, entered_by}
+use Rattle.rhai_machine.specs.language.Handles.{entered, entered_by}
 use Rattle.rhai_machine.specs.language.Runs.{at, with_core, Goes}
 use Rattle.rhai_methods.specs.Methods.{RunsFrom}
 use Rattle.rhai_chains.specs.Chains.{FollowsFrom, Does, Wants}
@@ -39,12 +39,12 @@ module _ {H : Type 0} where
   as_they_were (cell ∷ cells) (suc n) v there = ap (λ rest. cell ∷ rest) (as_they_were cells n v there)
 
   -- what is no handle is seen as it is
-  seen_itself : (cells : Cells H) (u : Union H) (v : Dynamic H) (at : Position) → is_handle u ≡ false → through_union cells u v at ≡ Ok v
+  pub seen_itself : (cells : Cells H) (u : Union H) (v : Dynamic H) (at : Position) → is_handle u ≡ false → through_union cells u v at ≡ Ok v
   seen_itself cells (value.Cell id) v at plain = cc
   seen_itself cells _ v at plain = refl
 
   -- and is not entered
-  not_entered : (u : Union H) (inner : Dynamic H) (go : List (Frame H) → Local H → Core H) (k : List (Frame H)) (l : Local H) →
+  pub not_entered : (u : Union H) (inner : Dynamic H) (go : List (Frame H) → Local H → Core H) (k : List (Frame H)) (l : Local H) →
       is_handle u ≡ false → entered_by u inner go k l ≡ go k l
   not_entered (value.Cell id) inner go k l plain = cc
   not_entered _ inner go k l plain = refl

@@ -1,9 +1,8 @@
-mod Beginning
+pub mod Beginning
 mod Below
-mod Descending
-mod Entering
-mod Inside
-mod PartCalls
-mod RootLemmas
-mod Temporaries
-mod Walked
+pub mod Descending
+pub mod Entering
+pub mod Inside
+pub mod PartCalls
+pub mod OnTemporaries
+pub mod Walked

@@ -9,10 +9,10 @@ use Rattle.rhai_machine.specs.language.State.{State}
 use Rattle.rhai_machine.specs.language.Frames.{PartMethod}
 use Rattle.rhai_machine.specs.language.Members.{focused_on}
 use Rattle.rhai_machine.specs.language.Methods.{Method, method_core}
-use Rattle.rhai_methods.specs.Methods.{RunsFrom}
+use Rattle.rhai_methods.specs.Methods.{CallsFrom, RunsFrom}
 use Rattle.rhai_methods.specs.Targets.{ComesBack}
 use Rattle.rhai_methods.proofs.TargetLemmas.{part_goes}
-use Rattle.rhai_walk.proofs.Temporaries.{working}
+use Rattle.rhai_walk.proofs.OnTemporaries.{working}
 
 module _ {S H : Type 0} (rules : Rules S H) where
   -- a method on a part, over what takes the part back
@@ -23,6 +23,6 @@ module _ {S H : Type 0} (rules : Rules S H) where
       RunsFrom rules
       (λ k l. method_core rules.setting method args v (PartMethod source there method.at ∷ k) (focused_on (Some v) l)) old r
       (working (Some left) new)
-  unfolding RunsFrom
+  unfolding CallsFrom RunsFrom
   part_called method args there source v w left old new answer r runs comes =
       part_goes rules method args there source v w left old new answer r runs comes

@@ -1,2 +1,1 @@
-pub mod Roots
 pub mod Walking

@@ -33,13 +33,13 @@ use Rattle.rhai_chains.specs.Spots.{way_through}
 use Rattle.rhai_chains.specs.declared.chain.Switches.{Switches}
 use Rattle.rhai_chains.specs.declared.links.Link.{Link as CodeLink}
 use Rattle.rhai_chains.specs.declared.members.MemberAccess.{MemberAccess as CodeAccess}
-use Rattle.rhai_walk.specs.declared.walk.ways.Begun.{Begun}
-use Rattle.rhai_walk.specs.declared.walk.ways.Begun.TheVariants as begun
-use Rattle.rhai_walk.specs.declared.walk.ways.Descent.{Descent}
-use Rattle.rhai_walk.specs.declared.walk.ways.Descent.TheVariants as descent
-use Rattle.rhai_walk.specs.declared.walk.ways.MethodIn.{MethodIn}
-use Rattle.rhai_walk.specs.declared.walk.ways.Way.{Way}
-use Rattle.rhai_walk.specs.declared.walk.ways.Way.TheVariants as way
+use Rattle.rhai_walk.specs.declared.ways.Begun.{Begun}
+use Rattle.rhai_walk.specs.declared.ways.Begun.TheVariants as begun
+use Rattle.rhai_walk.specs.declared.ways.Descent.{Descent}
+use Rattle.rhai_walk.specs.declared.ways.Descent.TheVariants as descent
+use Rattle.rhai_walk.specs.declared.ways.MethodIn.{MethodIn}
+use Rattle.rhai_walk.specs.declared.ways.Way.{Way}
+use Rattle.rhai_walk.specs.declared.ways.Way.TheVariants as way
 
 -- ---- what is asked
 

@@ -1,7 +1,26 @@
-//! The walk of a chain from link to link down a value that is lent, without a copy of what it goes
-//! through, and what stands around it. Ports upstream's `eval_dot_index_chain_raw`. The contracts cite
-//! the machine's specs/language/Chains.antt and the crate's own specs/.
+//! What the walk of a chain decides and does at a link, without going on: which way it goes, where an index or a
+//! key leads, how a temporary and a part go back, and how the chain ends. The walk itself stands in the
+//! evaluator's cycle, since a method may enter a function of a script. Ports parts of upstream's
+//! `eval_dot_index_chain_raw`. The contracts cite the machine's specs/language/Chains.antt and the crate's own
+//! specs/.
 #![tactic(auto)]
 
-pub mod root;
-pub mod walk;
+pub mod calls;
+pub mod ends;
+pub mod temporaries;
+pub mod ways;
+
+use rhai_chains::chain::Switches;
+use rhai_state::limits::Limits;
+use rhai_tree::expr::Expr;
+use std::alloc::Global;
+
+/// What stays the same all along a walk.
+#[derive(Clone, Copy)]
+pub struct Walker<'w> {
+    pub limits: &'w Limits,
+    pub switches: Switches,
+    pub alloc: Global,
+    /// The root of the chain.
+    pub root: &'w Expr,
+}

@@ -1,5 +1,6 @@
 //! What the calls of lines answer.
 
+use crate::functions::write_call;
 use crate::program::{write_refusals, write_run};
 use crate::scripts::{write_number, write_ways};
 use crate::searches::write_search;
@@ -19,6 +20,7 @@ use std::io::Write;
 /// - `prints NAME`: a value or a place of that name
 /// - `finds NAME OFFSET`, `searches NAME OFFSET`: where a variable stands in a scope, if its offset
 ///   tells, and its value; the second has variables searched for
+/// - `calls NAME`: what a host's own call of a function answers, and what it leaves
 pub fn answer(alloc: Global, call: &str) -> io::Result<Vec<u8>> {
     let mut out = Vec::new(alloc);
     write_answer(alloc, call, &mut out)?;
@@ -34,6 +36,7 @@ fn write_answer(alloc: Global, call: &str, out: &mut Vec<u8>) -> io::Result<()> 
         "prints" => write_sample(alloc, rest, out),
         "finds" => write_search(alloc, rest, false, out),
         "searches" => write_search(alloc, rest, true, out),
+        "calls" => write_call(alloc, rest, out),
         "above" => {
             let (form, rest) = rest.split_once(' ').unwrap_or((rest, ""));
             write_ways(alloc, 300, form, rest, out)

@@ -3,6 +3,7 @@
 #![tactic(auto)]
 
 mod answers;
+mod functions;
 mod program;
 mod scripts;
 mod searches;

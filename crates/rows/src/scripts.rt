@@ -3,6 +3,7 @@
 use rhai_bench::outcome::{Ending, Outcome};
 use rhai_bench::print::{write_ending, write_value};
 use rhai_bench::rows::chains::left_in_place;
+use rhai_bench::rows::functions::in_no_row;
 use rhai_bench::rows::loops::{endless, outside_of_loops};
 use rhai_bench::rows::scripts;
 use rhai_bench::script::Script;
@@ -19,6 +20,7 @@ fn scripts_of(alloc: Global, list: &str) -> Result<Option<Items<Script>>, AllocE
         "endless" => endless(alloc),
         "outside" => outside_of_loops(alloc),
         "kept" => left_in_place(alloc),
+        "calls" => in_no_row(alloc),
         row => return scripts(alloc, row),
     };
     scripts.map(Some)
@@ -172,6 +174,9 @@ fn text_of(ending: &Ending) -> &str {
             text.get().as_str()
         }
         Ending::Error(EvalAltResult::ErrorMismatchDataType(types, _)) => types.get().found.as_str(),
+        Ending::Error(EvalAltResult::ErrorInFunctionCall(call, _)) => {
+            call.get().name.get().as_str()
+        }
         _ => "nothing",
     }
 }

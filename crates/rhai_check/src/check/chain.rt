@@ -1,11 +1,12 @@
 //! The checker's walk along chains.
 
-ghost use Rattle.std.specs.Prelude.{◌≡◌, ◌++◌, [], IsTrue, IfErr, OnOk, List};
+ghost use Rattle.std.specs.Prelude.{◌≡◌, ◌≤◌, ◌+◌, ◌++◌, [], IsTrue, IfErr, OnOk, List, length};
 ghost use Rattle.rhai_check.specs.Context.{around};
 ghost use Rattle.rhai_check.specs.Declares.{declares_expr, declares_call};
 ghost use Rattle.rhai_check.specs.Forms.{ends_chain};
 ghost use Rattle.rhai_check.specs.Frame.{tests_of, resolves_method, dot_resolves, name_resolves};
-ghost use Rattle.rhai_check.specs.Frame.{tested_root, tested_end};
+ghost use Rattle.rhai_check.specs.Frame.{bracket_resolves, tested_root, tested_end};
+ghost use Rattle.rhai_check.specs.Links.{links_in, most_links};
 ghost use Rattle.rhai_check.specs.Names.{Name};
 ghost use Rattle.rhai_check.specs.Refusals.{Refuses};
 ghost use Rattle.rhai_check.specs.WellFormed.{seen_expr, seen_call, dot_faults, name_faults};
@@ -19,6 +20,7 @@ use rhai_items::{Items, Shared, Text};
 use rhai_tree::expr::{Expr, FnCallExpr};
 use rhai_tree::flags::ASTFlags;
 use rhai_tree::position::Position;
+use std::alloc::Global;
 
 /// Whether an operator of a chain ends it: the chain stands in brackets of its own.
 pub(crate) fn ends_chain(options: ASTFlags) -> bool
@@ -50,6 +52,65 @@ pub(crate) fn ends_in_method(expr: &Expr) -> bool
     }
 }
 
+/// Adds an item for each link of a chain, or answers that there is no memory.
+fn push_links(items: &mut Items<()>, chain: &Expr) -> Result<(), CheckFault>
+    ensures pushed { OnOk result (length items.new ≡ length items.old + links_in chain.now) }
+    ensures memory { IfErr result (λ fault. fault ≡ CheckFault.NoMemory) }
+{
+    match chain {
+        Expr::Dot(_, rest, _, _) | Expr::Index(_, rest, _, _) => match items.push(()) {
+            Ok(()) => push_links(items, rest.get()),
+            Err(_) => Err(CheckFault::NoMemory),
+        },
+        _ => Ok(()),
+    }
+}
+
+/// Passes a chain whose links a list can count, or answers that there is no memory. The items of
+/// the list have no size.
+pub(crate) fn count_links(alloc: Global, chain: &Expr) -> Result<(), CheckFault>
+    ensures counted { OnOk result (links_in chain.now ≤ most_links) }
+    ensures memory { IfErr result (λ fault. fault ≡ CheckFault.NoMemory) }
+{
+    let mut items: Items<()> = Items::new(alloc);
+    push_links(&mut items, chain)?;
+    // how many items a list has is a `usize`
+    let _count = items.len();
+    Ok(())
+}
+
+/// Passes what stands behind a bracket, or answers one of its faults, which are those that it has by
+/// itself: an index, or a chain that has the index first and goes on, unless it ends there.
+#[cycle(check)]
+pub(crate) fn check_behind_bracket(
+    names: &mut Items<Shared<Text>>,
+    place: Place,
+    rhs: &Expr,
+    ends: bool,
+) -> Result<(), CheckFault>
+    ensures same { OnOk result (names.new ≡ names.old) }
+    ensures exact { OnOk result ((seen_expr rhs.now).value (around names.old place) ≡ []) }
+    ensures resolved { OnOk result ((base : List Name) → IsTrue
+        (bracket_resolves ends (tests_of rhs.now) (base ++ names.old))) }
+    ensures refused { IfErr result (λ fault. Refuses ((seen_expr rhs.now).value (around names.old place))
+        (declares_expr rhs.now) fault) }
+{
+    if ends {
+        return check_expr(names, place, rhs);
+    }
+    match rhs {
+        Expr::Dot(first, rest, options, dot) => {
+            check_expr(names, place, first.get())?;
+            check_behind_dot(names, place, rest.get(), ends_chain(*options), *dot)
+        }
+        Expr::Index(first, rest, options, _) => {
+            check_expr(names, place, first.get())?;
+            check_behind_bracket(names, place, rest.get(), ends_chain(*options))
+        }
+        _ => check_expr(names, place, rhs),
+    }
+}
+
 /// Passes what stands behind a dot at a position, or answers one of its faults: a property or a
 /// method, or one from which the chain goes on, unless it ends there.
 #[cycle(check)]
@@ -76,9 +137,9 @@ pub(crate) fn check_behind_dot(
             check_named(names, place, first.get(), pos)?;
             check_behind_dot(names, place, rest.get(), ends_chain(*options), *dot)
         }
-        Expr::Index(first, rest, _, _) => {
+        Expr::Index(first, rest, options, _) => {
             check_named(names, place, first.get(), pos)?;
-            check_expr(names, place, rest.get())
+            check_behind_bracket(names, place, rest.get(), ends_chain(*options))
         }
         _ => check_named(names, place, rhs, pos),
     }

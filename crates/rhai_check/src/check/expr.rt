@@ -13,7 +13,9 @@ ghost use Rattle.rhai_check.specs.WellFormed.{seen_expr, seen_call, target_fault
 ghost use Rattle.rhai_check.specs.WellFormed.{faults_in_all, faults_in_entries, faults_in_map, seen_entry};
 
 use crate::check::CheckFault;
-use crate::check::chain::{check_behind_dot, ends_chain, ends_in_method, is_root};
+use crate::check::chain::{
+    check_behind_bracket, check_behind_dot, count_links, ends_chain, ends_in_method, is_root,
+};
 use crate::check::keys::has_keys;
 use crate::check::names::is_good;
 use crate::check::place::Place;
@@ -44,6 +46,7 @@ pub(crate) fn check_expr(
         Expr::CharConstant(_, _) => Ok(()),
         Expr::StringConstant(_, _) => Ok(()),
         Expr::Unit(_) => Ok(()),
+        Expr::ThisPtr(_) => Ok(()),
         Expr::InterpolatedString(parts, _) => check_exprs(names, place, parts.as_slice()),
         Expr::Array(items, _) => check_exprs(names, place, items.as_slice()),
         Expr::Variable {
@@ -70,15 +73,15 @@ pub(crate) fn check_expr(
         Expr::Coalesce(parts, _) => check_exprs(names, place, parts.as_slice()),
         Expr::Property(_, pos) | Expr::MethodCall(_, pos) => Err(CheckFault::NotAnExpression(*pos)),
         Expr::Dot(lhs, rhs, options, pos) => {
+            count_links(names.allocator(), expr)?;
             check_expr(names, place, lhs.get())?;
             check_behind_dot(names, place, rhs.get(), ends_chain(*options), *pos)
         }
-        Expr::Index(lhs, rhs, _, _) => {
+        Expr::Index(lhs, rhs, options, _) => {
+            count_links(names.allocator(), expr)?;
             check_expr(names, place, lhs.get())?;
-            // the index, or a chain that goes on and has the index first
-            check_expr(names, place, rhs.get())
+            check_behind_bracket(names, place, rhs.get(), ends_chain(*options))
         }
-        Expr::ThisPtr(pos) => Err(CheckFault::NotYet(*pos)),
     }
 }
 

@@ -3,7 +3,7 @@
 
 ghost use Rattle.std.specs.Prelude.{◌≡◌, IfSome, OnOk, is_some, true};
 ghost use Rattle.rhai_tree.specs.declared.expr.Expr.{out-Expr};
-ghost use Rattle.rhai_state.specs.Native.{was};
+ghost use Rattle.rhai_state.specs.Native.{left_by, was};
 ghost use Rattle.rhai_state.specs.Scope.{names_in};
 ghost use Rattle.rhai_machine.specs.language.Links.{first_in};
 ghost use Rattle.rhai_steps.specs.States.{holding, state_of};
@@ -16,6 +16,7 @@ ghost use Rattle.rhai_eval.specs.Plain.{Plain};
 ghost use Rattle.rhai_eval.specs.States.{under};
 
 use crate::engine::Engine;
+use crate::this::{give_back_with, take_with};
 use rhai_chains::chain::NewValue;
 use rhai_chains::links::first_of;
 use rhai_context::{give_back, take};
@@ -73,14 +74,14 @@ impl<H: Host> Engine<H> {
     /// from its variable, and all that is off the path as it was just before (`assigns`).
     ///
     /// The chain is a part of a checked tree, above the variables that the scope has there: an expression,
-    /// or with a value to assign the left side of an assignment. No form that is there reads or writes
-    /// `this`, so it is left alone. Asked besides: a value to assign is no handle of a cell; no modules,
-    /// libraries or imports, of which the machine has no rule yet (`Plain`).
+    /// or with a value to assign the left side of an assignment. `this` is taken out of its place meanwhile,
+    /// and put back on every way out. Asked besides: a value to assign is no handle of a cell; no global
+    /// modules, whose constants the machine has no rule of yet (`Plain`).
     ///
     /// # Errors
     /// Those of what the links ask for, and of the root: at a variable `ErrorVariableNotFound`, and
-    /// `ErrorDataRace` where its cell is held. `ErrorTooManyOperations` at each charge that the limit
-    /// refuses. At an index or a key those of `rhai_places::indexing::get_indexed_mut`; where no native
+    /// `ErrorDataRace` where its cell is held; at `this` `ErrorUnboundThis` where there is none.
+    /// `ErrorTooManyOperations` at each charge that the limit refuses. At an index or a key those of `rhai_places::indexing::get_indexed_mut`; where no native
     /// has a property or an item `ErrorDotExpr` and `ErrorIndexingType`; at a method those of
     /// `make_method_call`. Of an assignment besides those of `eval_op_assignment`, with
     /// `ErrorAssignmentToConstant` for a new key of a constant map, and at the operator
@@ -92,7 +93,7 @@ impl<H: Host> Engine<H> {
         _caches: &mut Caches<H>,
         table: &mut T,
         scope: &mut Scope<H>,
-        _this: Option<&mut Dynamic<H>>,
+        this: Option<&mut Dynamic<H>>,
         expr: &Expr,
         new_val: Option<(Dynamic<H>, &OpAssignment)>,
     ) -> Result<Dynamic<H>, EvalAltResult<H>>
@@ -102,15 +103,15 @@ impl<H: Host> Engine<H> {
         requires plain { Plain self.now global.old }
         ensures ends { EndsAs (under H.name_of self.now T.natives)
             (whole_chain expr.now (assigned_in new_val.entry))
-            (state_of (T.state table.old) global.old scope.old (holding (was _this.entry))) result
-            (state_of (T.state table.new) global.new scope.new (holding (was _this.entry))) }
+            (state_of (T.state table.old) global.old scope.old (holding (was this.entry))) result
+            (state_of (T.state table.new) global.new scope.new (holding (left_by this.exit))) }
         ensures kept { Kept (under H.name_of self.now T.natives)
-            (state_of (T.state table.old) global.old scope.old (holding (was _this.entry)))
-            (state_of (T.state table.new) global.new scope.new (holding (was _this.entry))) }
+            (state_of (T.state table.old) global.old scope.old (holding (was this.entry)))
+            (state_of (T.state table.new) global.new scope.new (holding (left_by this.exit))) }
         ensures assigns { OnOk result (IfSome (assigned_in new_val.entry) (λ given.
             AssignsAlong (under H.name_of self.now T.natives) expr.now given
-            (state_of (T.state table.old) global.old scope.old (holding (was _this.entry)))
-            (state_of (T.state table.new) global.new scope.new (holding (was _this.entry))))) }
+            (state_of (T.state table.old) global.old scope.old (holding (was this.entry)))
+            (state_of (T.state table.new) global.new scope.new (holding (left_by this.exit))))) }
         ensures names { names_in scope.new ≡ names_in scope.old }
         ensures caches { _caches.new ≡ _caches.old }
         ensures search { global.new.always_search_scope ≡ global.old.always_search_scope }
@@ -119,10 +120,20 @@ impl<H: Host> Engine<H> {
             unreachable!()
         };
         let new = new_value(new_val);
-        let mut run = take(alloc, global, scope);
         let evaluator = self.evaluator();
-        let result = evaluator.run_chain(alloc, &mut run, table, root, expr, new);
-        give_back(run, global, scope);
-        result
+        match this {
+            Some(place) => {
+                let mut run = take_with(alloc, global, scope, place);
+                let result = evaluator.run_chain(alloc, &mut run, table, root, expr, new);
+                give_back_with(run, global, scope, place);
+                result
+            }
+            None => {
+                let mut run = take(alloc, global, scope);
+                let result = evaluator.run_chain(alloc, &mut run, table, root, expr, new);
+                give_back(run, global, scope);
+                result
+            }
+        }
     }
 }

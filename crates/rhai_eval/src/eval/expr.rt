@@ -5,7 +5,7 @@ ghost use Rattle.rhai_check.specs.Frame.{resolves_expr};
 ghost use Rattle.rhai_tree.specs.declared.expr.Expr.{out-Expr};
 ghost use Rattle.rhai_values.specs.Cells.{cells_of};
 ghost use Rattle.rhai_state.specs.Errors.{is_out_of_memory};
-ghost use Rattle.rhai_state.specs.Native.{was};
+ghost use Rattle.rhai_state.specs.Native.{left_by, was};
 ghost use Rattle.rhai_state.specs.Scope.{entries_of, names_in, Fits};
 ghost use Rattle.rhai_places.specs.declared.target.Part.TheVariants as part;
 ghost use Rattle.rhai_machine.specs.language.Frames.{Eval};
@@ -19,6 +19,7 @@ ghost use Rattle.rhai_eval.specs.States.{under};
 
 use crate::engine::Engine;
 use crate::eval::search::variable_mut;
+use crate::this::{give_back_with, take_with};
 use rhai_context::{give_back, take};
 use rhai_places::target::{Part, Target};
 use rhai_state::caches::Caches;
@@ -89,9 +90,9 @@ impl<H: Host> Engine<H> {
 
     /// The value of an expression, charged first at its position. Ports upstream's `eval_expr`.
     ///
-    /// The expression is a part of a checked tree, above the variables that the scope has there. No
-    /// form that is there reads or writes `this`, so it is left alone. Asked besides: no modules,
-    /// libraries or imports, of which the machine has no rule yet (`Plain`).
+    /// The expression is a part of a checked tree, above the variables that the scope has there.
+    /// `this` is taken out of its place meanwhile, and put back on every way out. Asked besides: no global
+    /// modules, whose constants the machine has no rule of yet (`Plain`).
     pub fn eval_expr<T: NativeTable<H>>(
         &self,
         alloc: Global,
@@ -99,25 +100,35 @@ impl<H: Host> Engine<H> {
         _caches: &mut Caches<H>,
         table: &mut T,
         scope: &mut Scope<H>,
-        _this: Option<&mut Dynamic<H>>,
+        this: Option<&mut Dynamic<H>>,
         expr: &Expr,
     ) -> Result<Dynamic<H>, EvalAltResult<H>>
         requires resolves { IsTrue (resolves_expr expr.now (names_in scope.old)) }
         requires plain { Plain self.now global.old }
         ensures ends { EndsAs (under H.name_of self.now T.natives) (Eval expr.now)
-            (state_of (T.state table.old) global.old scope.old (holding (was _this.entry))) result
-            (state_of (T.state table.new) global.new scope.new (holding (was _this.entry))) }
+            (state_of (T.state table.old) global.old scope.old (holding (was this.entry))) result
+            (state_of (T.state table.new) global.new scope.new (holding (left_by this.exit))) }
         ensures kept { Kept (under H.name_of self.now T.natives)
-            (state_of (T.state table.old) global.old scope.old (holding (was _this.entry)))
-            (state_of (T.state table.new) global.new scope.new (holding (was _this.entry))) }
+            (state_of (T.state table.old) global.old scope.old (holding (was this.entry)))
+            (state_of (T.state table.new) global.new scope.new (holding (left_by this.exit))) }
         ensures names { names_in scope.new ≡ names_in scope.old }
         ensures caches { _caches.new ≡ _caches.old }
         ensures search { global.new.always_search_scope ≡ global.old.always_search_scope }
     {
-        let mut run = take(alloc, global, scope);
         let evaluator = self.evaluator();
-        let result = evaluator.run_expr(alloc, &mut run, table, expr);
-        give_back(run, global, scope);
-        result
+        match this {
+            Some(place) => {
+                let mut run = take_with(alloc, global, scope, place);
+                let result = evaluator.run_expr(alloc, &mut run, table, expr);
+                give_back_with(run, global, scope, place);
+                result
+            }
+            None => {
+                let mut run = take(alloc, global, scope);
+                let result = evaluator.run_expr(alloc, &mut run, table, expr);
+                give_back(run, global, scope);
+                result
+            }
+        }
     }
 }

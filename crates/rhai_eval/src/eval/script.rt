@@ -33,7 +33,8 @@ impl<H: Host> Engine<H> {
     /// operations, or with `ErrorOutOfMemory`: then the run is the machine's own up to where memory
     /// ran out, and unwinds from there.
     ///
-    /// Asked: no modules, libraries or imports, of which the machine has no rule yet (`Plain`).
+    /// The tree's functions are found where the caller put them into a library of the state. Asked: no global
+    /// modules, whose constants the machine has no rule of yet (`Plain`).
     pub fn eval_global_statements<T: NativeTable<H>>(
         &self,
         alloc: Global,

@@ -7,7 +7,7 @@ ghost use Rattle.rhai_check.specs.Frame.{all_resolve_exprs, resolves_expr, resol
 ghost use Rattle.rhai_tree.specs.declared.expr.Expr.TheOpen as layer;
 ghost use Rattle.rhai_tree.specs.Positions.{start_of};
 ghost use Rattle.rhai_machine.specs.language.Frames.{Argument, OpenExpr};
-ghost use Rattle.rhai_state.specs.Native.{was};
+ghost use Rattle.rhai_state.specs.Native.{left_by, was};
 ghost use Rattle.rhai_state.specs.Scope.{names_in};
 ghost use Rattle.rhai_steps.specs.States.{holding, state_of};
 ghost use Rattle.rhai_laws.specs.Kept.{Kept};
@@ -19,6 +19,7 @@ ghost use Rattle.rhai_eval.specs.Calls.{value_with};
 ghost use Rattle.rhai_eval.specs.States.{under};
 
 use crate::engine::Engine;
+use crate::this::{give_back_with, take_with};
 use rhai_context::{give_back, take};
 use rhai_state::caches::Caches;
 use rhai_state::error::EvalAltResult;
@@ -47,11 +48,11 @@ fn starting_at<H: Host>(
 
 impl<H: Host> Engine<H> {
     /// What a call comes to, whose charge is made already: an operator on its operands, a keyword, or a
-    /// native by its name. Ports upstream's `eval_fn_call_expr`.
+    /// function of a script or a native by its name. Ports upstream's `eval_fn_call_expr`.
     ///
-    /// The call is a part of a checked tree, above the variables that the scope has there. No form that is
-    /// there reads or writes `this`, so it is left alone. Asked besides: no modules, libraries or imports,
-    /// of which the machine has no rule yet (`Plain`).
+    /// The call is a part of a checked tree, above the variables that the scope has there.
+    /// `this` is taken out of its place meanwhile, and put back on every way out. Asked besides: no global
+    /// modules, whose constants the machine has no rule of yet (`Plain`).
     pub fn eval_fn_call_expr<T: NativeTable<H>>(
         &self,
         alloc: Global,
@@ -59,35 +60,45 @@ impl<H: Host> Engine<H> {
         _caches: &mut Caches<H>,
         table: &mut T,
         scope: &mut Scope<H>,
-        _this: Option<&mut Dynamic<H>>,
+        this: Option<&mut Dynamic<H>>,
         expr: &FnCallExpr,
         pos: Position,
     ) -> Result<Dynamic<H>, EvalAltResult<H>>
         requires resolves { IsTrue (resolves_call expr.now pos (names_in scope.old)) }
         requires plain { Plain self.now global.old }
         ensures ends { EndsAs (under H.name_of self.now T.natives) (OpenExpr (layer.Expr::FnCall expr.now pos))
-            (state_of (T.state table.old) global.old scope.old (holding (was _this.entry))) result
-            (state_of (T.state table.new) global.new scope.new (holding (was _this.entry))) }
+            (state_of (T.state table.old) global.old scope.old (holding (was this.entry))) result
+            (state_of (T.state table.new) global.new scope.new (holding (left_by this.exit))) }
         ensures kept { Kept (under H.name_of self.now T.natives)
-            (state_of (T.state table.old) global.old scope.old (holding (was _this.entry)))
-            (state_of (T.state table.new) global.new scope.new (holding (was _this.entry))) }
+            (state_of (T.state table.old) global.old scope.old (holding (was this.entry)))
+            (state_of (T.state table.new) global.new scope.new (holding (left_by this.exit))) }
         ensures names { names_in scope.new ≡ names_in scope.old }
         ensures caches { _caches.new ≡ _caches.old }
         ensures search { global.new.always_search_scope ≡ global.old.always_search_scope }
     {
-        let mut run = take(alloc, global, scope);
         let evaluator = self.evaluator();
-        let result = evaluator.run_fn_call_expr(alloc, &mut run, table, expr, pos);
-        give_back(run, global, scope);
-        result
+        match this {
+            Some(place) => {
+                let mut run = take_with(alloc, global, scope, place);
+                let result = evaluator.run_fn_call_expr(alloc, &mut run, table, expr, pos);
+                give_back_with(run, global, scope, place);
+                result
+            }
+            None => {
+                let mut run = take(alloc, global, scope);
+                let result = evaluator.run_fn_call_expr(alloc, &mut run, table, expr, pos);
+                give_back(run, global, scope);
+                result
+            }
+        }
     }
 
     /// The value of an argument, and where it starts. A literal is charged at its start, and anything else
     /// as an expression. Ports upstream's `get_arg_value`.
     ///
-    /// The argument is a part of a checked tree, above the variables that the scope has there. No form
-    /// that is there reads or writes `this`, so it is left alone. Asked besides: no modules, libraries or
-    /// imports, of which the machine has no rule yet (`Plain`).
+    /// The argument is a part of a checked tree, above the variables that the scope has there.
+    /// `this` is taken out of its place meanwhile, and put back on every way out. Asked besides: no global
+    /// modules, whose constants the machine has no rule of yet (`Plain`).
     pub fn get_arg_value<T: NativeTable<H>>(
         &self,
         alloc: Global,
@@ -95,36 +106,46 @@ impl<H: Host> Engine<H> {
         _caches: &mut Caches<H>,
         table: &mut T,
         scope: &mut Scope<H>,
-        _this: Option<&mut Dynamic<H>>,
+        this: Option<&mut Dynamic<H>>,
         arg_expr: &Expr,
     ) -> Result<(Dynamic<H>, Position), EvalAltResult<H>>
         requires resolves { IsTrue (resolves_expr arg_expr.now (names_in scope.old)) }
         requires plain { Plain self.now global.old }
         ensures position { IfOk result (λ pair. pair.1 ≡ start_of arg_expr.now) }
         ensures ends { EndsAs (under H.name_of self.now T.natives) (Argument arg_expr.now)
-            (state_of (T.state table.old) global.old scope.old (holding (was _this.entry))) (value_with result)
-            (state_of (T.state table.new) global.new scope.new (holding (was _this.entry))) }
+            (state_of (T.state table.old) global.old scope.old (holding (was this.entry))) (value_with result)
+            (state_of (T.state table.new) global.new scope.new (holding (left_by this.exit))) }
         ensures kept { Kept (under H.name_of self.now T.natives)
-            (state_of (T.state table.old) global.old scope.old (holding (was _this.entry)))
-            (state_of (T.state table.new) global.new scope.new (holding (was _this.entry))) }
+            (state_of (T.state table.old) global.old scope.old (holding (was this.entry)))
+            (state_of (T.state table.new) global.new scope.new (holding (left_by this.exit))) }
         ensures names { names_in scope.new ≡ names_in scope.old }
         ensures caches { _caches.new ≡ _caches.old }
         ensures search { global.new.always_search_scope ≡ global.old.always_search_scope }
     {
-        let mut run = take(alloc, global, scope);
         let evaluator = self.evaluator();
-        let result = evaluator.run_arg(alloc, &mut run, table, arg_expr);
-        give_back(run, global, scope);
-        starting_at(result, arg_expr.start_position())
+        match this {
+            Some(place) => {
+                let mut run = take_with(alloc, global, scope, place);
+                let result = evaluator.run_arg(alloc, &mut run, table, arg_expr);
+                give_back_with(run, global, scope, place);
+                starting_at(result, arg_expr.start_position())
+            }
+            None => {
+                let mut run = take(alloc, global, scope);
+                let result = evaluator.run_arg(alloc, &mut run, table, arg_expr);
+                give_back(run, global, scope);
+                starting_at(result, arg_expr.start_position())
+            }
+        }
     }
 
-    /// What a call of a function comes to, whose charge is made already: a keyword, or a native by its name.
-    /// Its first argument stands apart; where there is none the others are not read. Ports upstream's
-    /// `make_function_call`.
+    /// What a call of a function comes to, whose charge is made already: a keyword, or a function of a script
+    /// or a native by its name. Its first argument stands apart; where there is none the others are not read.
+    /// Ports upstream's `make_function_call`.
     ///
-    /// The arguments are parts of a checked tree, above the variables that the scope has there. No form that
-    /// is there reads or writes `this`, so it is left alone. Asked besides: no modules, libraries or imports,
-    /// of which the machine has no rule yet (`Plain`).
+    /// The arguments are parts of a checked tree, above the variables that the scope has there.
+    /// `this` is taken out of its place meanwhile, and put back on every way out. Asked besides: no global
+    /// modules, whose constants the machine has no rule of yet (`Plain`).
     pub fn make_function_call<T: NativeTable<H>>(
         &self,
         alloc: Global,
@@ -132,7 +153,7 @@ impl<H: Host> Engine<H> {
         _caches: &mut Caches<H>,
         table: &mut T,
         scope: &mut Scope<H>,
-        _this: Option<&mut Dynamic<H>>,
+        this: Option<&mut Dynamic<H>>,
         fn_name: &str,
         op_token: Option<&Token>,
         first_arg: Option<&Expr>,
@@ -146,30 +167,35 @@ impl<H: Host> Engine<H> {
         ensures ends { EndsFrom (under H.name_of self.now T.natives)
             (called (record { name = fn_name.now; token = option_copied op_token.entry; at = pos })
             (all_args (option_copied first_arg.entry) args_expr.now) capture_parent_scope)
-            (state_of (T.state table.old) global.old scope.old (holding (was _this.entry))) result
-            (state_of (T.state table.new) global.new scope.new (holding (was _this.entry))) }
+            (state_of (T.state table.old) global.old scope.old (holding (was this.entry))) result
+            (state_of (T.state table.new) global.new scope.new (holding (left_by this.exit))) }
         ensures kept { Kept (under H.name_of self.now T.natives)
-            (state_of (T.state table.old) global.old scope.old (holding (was _this.entry)))
-            (state_of (T.state table.new) global.new scope.new (holding (was _this.entry))) }
+            (state_of (T.state table.old) global.old scope.old (holding (was this.entry)))
+            (state_of (T.state table.new) global.new scope.new (holding (left_by this.exit))) }
         ensures names { names_in scope.new ≡ names_in scope.old }
         ensures caches { _caches.new ≡ _caches.old }
         ensures search { global.new.always_search_scope ≡ global.old.always_search_scope }
     {
         let token = op_token.copied();
-        let mut run = take(alloc, global, scope);
+        let captures = capture_parent_scope;
         let evaluator = self.evaluator();
-        let result = evaluator.run_call(
-            alloc,
-            &mut run,
-            table,
-            fn_name,
-            token,
-            first_arg,
-            args_expr,
-            capture_parent_scope,
-            pos,
-        );
-        give_back(run, global, scope);
-        result
+        match this {
+            Some(place) => {
+                let mut run = take_with(alloc, global, scope, place);
+                let result = evaluator.run_call(
+                    alloc, &mut run, table, fn_name, token, first_arg, args_expr, captures, pos,
+                );
+                give_back_with(run, global, scope, place);
+                result
+            }
+            None => {
+                let mut run = take(alloc, global, scope);
+                let result = evaluator.run_call(
+                    alloc, &mut run, table, fn_name, token, first_arg, args_expr, captures, pos,
+                );
+                give_back(run, global, scope);
+                result
+            }
+        }
     }
 }

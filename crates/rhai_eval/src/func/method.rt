@@ -5,6 +5,8 @@
 ghost use Rattle.std.specs.Prelude.{◌≡◌, Some};
 ghost use Rattle.rhai_places.specs.Targets.{IsFit, shown};
 ghost use Rattle.rhai_methods.specs.Targets.{on_target, StaysAlike, stands};
+ghost use Rattle.rhai_methods.specs.Methods.{lending, RunsFrom};
+ghost use Rattle.rhai_cycle.specs.States.{under as under_what_is_read};
 ghost use Rattle.rhai_steps.specs.States.{state_of};
 ghost use Rattle.rhai_laws.specs.Kept.{Kept};
 ghost use Rattle.rhai_eval.specs.Ends.{EndsMarked};
@@ -13,26 +15,70 @@ ghost use Rattle.rhai_eval.specs.Plain.{Plain};
 ghost use Rattle.rhai_eval.specs.States.{under};
 
 use crate::engine::Engine;
-use rhai_methods::target::call_method_on;
-use rhai_places::target::Target;
+use rhai_context::{Context, give_back, take};
+use rhai_cycle::evaluator::Evaluator;
+use rhai_methods::target::put_back;
+use rhai_places::target::{Part, Target};
 use rhai_state::caches::Caches;
 use rhai_state::error::EvalAltResult;
+use rhai_state::scope::Scope;
 use rhai_state::state::GlobalRuntimeState;
 use rhai_state::table::NativeTable;
 use rhai_tree::position::Position;
 use rhai_values::base::value::{Dynamic, Host};
 use std::alloc::Global;
 
+/// A method on what a target shows, in the state of a run: the place, the temporary, or the part's value. A
+/// part that the method may have changed is put back into its place.
+fn method_on<H: Host, T: NativeTable<H>>(
+    evaluator: &Evaluator<'_, H>,
+    alloc: Global,
+    run: &mut Context<H>,
+    table: &mut T,
+    name: &str,
+    target: &mut Target<'_, H>,
+    args: &mut [Dynamic<H>],
+    first: Option<Position>,
+    pos: Position,
+) -> Result<(Dynamic<H>, bool), EvalAltResult<H>>
+    requires fit { IsFit target.old.part target.old.at.now }
+    ensures same_reference { target.new.at.ghost_name ≡ target.old.at.ghost_name }
+    ensures part { StaysAlike target.old.part target.old.at.now target.new.part target.new.at.now }
+    ensures runs { (scope : _) (held : _) →
+        let rules = under_what_is_read H.name_of evaluator.now T.natives in
+        RunsFrom rules (on_target rules.setting
+        (record { name = name.now; at = pos; first_at = first }) args.old
+        target.old.part target.old.at.now)
+        (state_of (T.state table.old) run.old.global scope
+        (lending held (shown target.old.part target.old.at.now)))
+        result (state_of (T.state table.new) run.new.global scope
+        (lending held (stands target.new.part target.new.at.now))) }
+{
+    match &mut target.part {
+        Part::Whole => {
+            let place = &mut *target.at;
+            evaluator.run_method(alloc, run, table, name, place, args, first, pos)
+        }
+        Part::Temporary(value) => {
+            evaluator.run_method(alloc, run, table, name, value, args, first, pos)
+        }
+        Part::Of(_, value) => {
+            let answer = evaluator.run_method(alloc, run, table, name, value, args, first, pos);
+            put_back(alloc, target, answer, pos)
+        }
+    }
+}
+
 impl<H: Host> Engine<H> {
     /// A method on what a target shows, its arguments there: `call`, `curry` and `is_shared` on pointers and
     /// handles, a map's own pointer under the name, and else a call by name with what is shown before the
-    /// arguments, which is lent, and kept from a native that is not pure where it is a constant. A part that
-    /// may have changed is put back into its place. With the value comes whether a native gave it that is
-    /// not pure. What stands in the places of the arguments afterwards is not told. Ports upstream's
-    /// `make_method_call`.
+    /// arguments, which is lent, and kept from a native that is not pure where it is a constant. A function of
+    /// a script has what is shown as its `this`, in its own place. A part that a native may have changed is put
+    /// back into its place. With the value comes whether a native gave it that is not pure. What stands in the
+    /// places of the arguments afterwards is not told. Ports upstream's `make_method_call`.
     ///
-    /// Asked: a part that its place has, and no modules, libraries or imports, of which the machine has no
-    /// rule yet (`Plain`). No function of a script is called yet.
+    /// Asked: a part that its place has, and no global modules, whose constants the machine has no rule of yet
+    /// (`Plain`).
     ///
     /// # Errors
     /// At the method: `ErrorDataRace` for an argument that is the handle of a cell which is held, and for
@@ -71,13 +117,15 @@ impl<H: Host> Engine<H> {
         ensures caches { _caches.new ≡ _caches.old }
         ensures search { global.new.always_search_scope ≡ global.old.always_search_scope }
     {
-        let limits = &self.limits;
-        let search = global.always_search_scope;
+        let mut scope = Scope::new(alloc);
+        let mut run = take(alloc, global, &mut scope);
+        let evaluator = self.evaluator();
         let first = Some(first_arg_pos);
-        let result = call_method_on(
-            limits, alloc, global, table, fn_name, target, call_args, first, pos,
+        let result = method_on(
+            &evaluator, alloc, &mut run, table, fn_name, target, call_args, first, pos,
         );
-        global.always_search_scope = search;
+        give_back(run, global, &mut scope);
+        drop(scope);
         result
     }
 }

@@ -1,37 +1,26 @@
-//! Calls whose arguments are there, on a value that the caller has in a place of its own. Ports what
-//! upstream's `func/call.rs` does of them; the contracts cite specs/Places.antt and specs/Ends.antt.
+//! Calls of natives whose arguments are there, on a value that the caller has in a place of its own. Ports
+//! what upstream's `func/call.rs` does of them; the contracts cite specs/Places.antt and specs/Ends.antt.
 
-ghost use Rattle.std.specs.Prelude.{◌≡◌, ◌||◌};
+ghost use Rattle.std.specs.Prelude.{◌≡◌};
 ghost use Rattle.std.specs.Option.{option_copied};
 ghost use Rattle.rhai_state.specs.Native.{left_by, was};
-ghost use Rattle.rhai_machine.specs.language.Calls.{dispatch_core};
 ghost use Rattle.rhai_machine.specs.language.Frames.{Ask, core};
 ghost use Rattle.rhai_steps.specs.States.{state_of};
 ghost use Rattle.rhai_laws.specs.Kept.{Kept};
 ghost use Rattle.rhai_eval.specs.Ends.{EndsMarked};
-ghost use Rattle.rhai_eval.specs.Places.{left_of, on_place, was_of, with_place};
-ghost use Rattle.rhai_eval.specs.Plain.{Plain};
+ghost use Rattle.rhai_eval.specs.Places.{on_place, with_place};
 ghost use Rattle.rhai_eval.specs.States.{under};
 
 use crate::engine::Engine;
-use rhai_calls::dispatch::pass_call;
 use rhai_calls::native::{Passing, pass_native, pass_native_alone};
 use rhai_state::caches::Caches;
 use rhai_state::error::EvalAltResult;
-use rhai_state::scope::Scope;
 use rhai_state::state::GlobalRuntimeState;
 use rhai_state::table::NativeTable;
 use rhai_tree::position::Position;
 use rhai_tree::token::Token;
 use rhai_values::base::value::{Dynamic, Host};
 use std::alloc::Global;
-
-/// Whether a constant is kept from a native that is not pure: in a place of the caller, and for a method.
-fn is_guarded(is_ref_mut: bool, is_method_call: bool) -> bool
-    ensures { result ≡ (is_ref_mut || is_method_call) }
-{
-    is_ref_mut || is_method_call
-}
 
 impl<H: Host> Engine<H> {
     /// Charges a call at its position, and calls the native of its name; where there is none, the built-in
@@ -83,72 +72,6 @@ impl<H: Host> Engine<H> {
                     marks: true,
                 };
                 let result = pass_native(
-                    limits, alloc, global, table, name, token, first, rest, passing, position,
-                );
-                global.always_search_scope = search;
-                result
-            }
-            None => {
-                let result = pass_native_alone(
-                    limits, alloc, global, table, name, token, true, position,
-                );
-                global.always_search_scope = search;
-                result
-            }
-        }
-    }
-
-    /// A call by name: the type of a value, whether a script has a function, or else the native of the name
-    /// as `exec_native_fn_call` calls it. With the value comes whether a native gave it that is not pure.
-    /// Ports upstream's `exec_fn_call`.
-    ///
-    /// Asked: no modules, libraries or imports, of which the machine has no rule yet (`Plain`). No function of
-    /// a script is called, so no form reads the scope, and it is left alone.
-    ///
-    /// # Errors
-    /// At the call: `ErrorDataRace` for an argument that is the handle of a cell which is held;
-    /// `ErrorFunctionNotFound` for `eval`; and those of `exec_native_fn_call`.
-    pub fn exec_fn_call<T: NativeTable<H>>(
-        &self,
-        alloc: Global,
-        global: &mut GlobalRuntimeState<H>,
-        _caches: &mut Caches<H>,
-        table: &mut T,
-        _scope: Option<&mut Scope<H>>,
-        name: &str,
-        op_token: Option<&Token>,
-        first: Option<&mut Dynamic<H>>,
-        rest: &mut [Dynamic<H>],
-        is_ref_mut: bool,
-        is_method_call: bool,
-        position: Position,
-    ) -> Result<(Dynamic<H>, bool), EvalAltResult<H>>
-        requires { Plain self.now global.old }
-        ensures ends { (scope : _) (this : _) → EndsMarked (under H.name_of self.now T.natives)
-            (dispatch_core (under H.name_of self.now T.natives).setting (on_place
-            (record { name = name.now; token = option_copied op_token.entry; at = position })
-            (is_ref_mut || is_method_call) (was first.entry) rest.old))
-            (state_of (T.state table.old) global.old scope (with_place this (was first.entry))) result
-            (state_of (T.state table.new) global.new scope (with_place this (left_by first.exit))) }
-        ensures kept { (scope : _) (this : _) → Kept (under H.name_of self.now T.natives)
-            (state_of (T.state table.old) global.old scope (with_place this (was first.entry)))
-            (state_of (T.state table.new) global.new scope (with_place this (left_by first.exit))) }
-        ensures scope { left_of _scope.exit ≡ was_of _scope.entry }
-        ensures rest { rest.new ≡ rest.old }
-        ensures caches { _caches.new ≡ _caches.old }
-        ensures search { global.new.always_search_scope ≡ global.old.always_search_scope }
-    {
-        let guarded = is_guarded(is_ref_mut, is_method_call);
-        let limits = &self.limits;
-        let token = op_token.copied();
-        let search = global.always_search_scope;
-        match first {
-            Some(first) => {
-                let passing = Passing {
-                    guarded,
-                    marks: true,
-                };
-                let result = pass_call(
                     limits, alloc, global, table, name, token, first, rest, passing, position,
                 );
                 global.always_search_scope = search;

@@ -1,17 +1,18 @@
 -- The rules of a call's arguments, and of the keywords.
-use Rattle.std.specs.Prelude.{ℕ, Bool, true, false, not, ◌&&◌, ◌||◌, List, [], ◌∷◌, ◌++◌, Option, Some, None, Result, Ok, Err}
+use Rattle.std.specs.Prelude.{ℕ, ◌+◌, Bool, true, false, not, ◌&&◌, ◌||◌, List, [], ◌∷◌, ◌++◌, Option, Some, None, Result, Ok, Err}
 use Rattle.std.specs.Prelude.{codes, is_some, length, nat_eq, nat_le, if◌then◌else◌}
 use Rattle.std.specs.Option.{option_map}
-use Rattle.std.specs.List.{list_all, list_any}
+use Rattle.std.specs.List.{list_all, list_any, starts_with}
 use Rattle.std.specs.Str.{bytes_eq}
-use Rattle.rhai_machine.specs.Types.{Dynamic, EvalAltResult, Expr, out-Expr, FnPtr, Position, ScopeEntry, Token, Union}
+use Rattle.rhai_machine.specs.Types.{Dynamic, EncapsulatedEnviron, EvalAltResult, Expr, out-Expr, FnPtr, Import, Module, ModuleFn, Position}
+use Rattle.rhai_machine.specs.Types.{ScopeEntry, Token, Union}
 use Rattle.rhai_tree.specs.declared.expr.FnCallExpr.{FnCallExpr}
 use Rattle.rhai_tree.specs.declared.expr.Expr.TheOpen as layer
 use Rattle.rhai_tree.specs.Layers.{ExprLayer}
 use Rattle.rhai_tree.specs.Positions.{position_of, start_of}
 use Rattle.rhai_check.specs.Forms.{is_unqualified}
 use Rattle.rhai_values.specs.declared.base.value.FnPtr.{out-FnPtr, roll-FnPtr}
-use Rattle.rhai_values.specs.declared.base.value.FnPtrKind.{FnPtrKind}
+use Rattle.rhai_values.specs.declared.base.value.FnPtrKind.{FnPtrKind, out-FnPtrKind}
 use Rattle.rhai_values.specs.declared.base.value.FnPtrKind.TheOpen as union
 use Rattle.rhai_values.specs.declared.base.value.FnPtrKind.TheVariants as kind
 use Rattle.rhai_values.specs.declared.base.value.Union.TheVariants as value
@@ -19,18 +20,25 @@ use Rattle.rhai_values.specs.Copy.{copy_of, plain}
 use Rattle.rhai_values.specs.Layers.{UnionLayer, layer_of}
 use Rattle.rhai_values.specs.TypeNames.{type_name_of}
 use Rattle.rhai_state.specs.declared.error.EvalAltResult.TheVariants as error
-use Rattle.rhai_state.specs.Scope.{found, index_of}
+use Rattle.rhai_state.specs.Scope.{index_of}
 use Rattle.rhai_machine.specs.machine.Machine.{Move, Go, Charge}
 use Rattle.rhai_machine.specs.language.Setting.{Setting}
 use Rattle.rhai_machine.specs.language.State.{Local}
 use Rattle.rhai_machine.specs.language.Values.{Cells, bool_value, flat, is_handle, mismatch, through}
-use Rattle.rhai_machine.specs.language.Names.{variable_of}
+use Rattle.rhai_machine.specs.language.Functions.{Function, in_libraries, key_by}
+use Rattle.rhai_machine.specs.language.Activations.{NoObject}
+use Rattle.rhai_machine.specs.language.Names.{bound_this, meant, variable_of}
 use Rattle.rhai_machine.specs.language.Places.{is_constant}
-use Rattle.rhai_machine.specs.language.Frames.{Operation, FromEntry, Call, Keyword, CallPointer, MakePointer, Curry, IsShared, IsDefinedVariable}
-use Rattle.rhai_machine.specs.language.Frames.{Purpose, ToCall, ToCallOn, ToCallNumber, ToCurry, ToChain, ChainArguments, ChainRoot}
-use Rattle.rhai_machine.specs.language.Frames.{Frame, Core, core, on_value, ended, Argument, CallNamed, Question, Back, Fail}
+use Rattle.rhai_machine.specs.language.Frames.{Operation, FromEntry, FromThis, Dispatch, Call, Keyword, CallPointer, MakePointer, Curry}
+use Rattle.rhai_machine.specs.language.Frames.{IsShared, IsDefinedVariable, Purpose, ToCall, ToCallOn, ToCallOnThis, ToCallNumber}
+use Rattle.rhai_machine.specs.language.Frames.{ToCallFunction, ToCurry, ToChain, ChainArguments, ChainRoot}
+use Rattle.rhai_machine.specs.language.Frames.{Frame, Core, core, on_value, ended, Argument, CallNamed, EnterFunction, Question, Back, Fail}
 use Rattle.rhai_machine.specs.language.Frames.{CallArgument, KeywordArgument}
-use Rattle.rhai_machine.specs.language.Calls.{call_of, dispatch_core, races, signature}
+use Rattle.rhai_machine.specs.language.Calls.{call_of, dispatch_core, entry_of, plainly, races, signature}
+
+-- one level of what a pointer leads to
+abbrev pub KindLayer : Type 0 → Type 0
+KindLayer H = union.FnPtrKind-F H (FnPtrKind H) (Union H) (Dynamic H) (EncapsulatedEnviron H) (FnPtr H) (Import H) (Module H) (ModuleFn H)
 
 -- what a call is of that was not written as an operator
 abbrev pub operation_named : List ℕ → Position → Operation
@@ -76,6 +84,10 @@ is_operator name = list_any (bytes_eq name) operators
 -- the text of an identifier or of an operator, of which a pointer can be made
 abbrev pub is_pointer_name : List ℕ → Bool
 is_pointer_name name = is_identifier name || is_operator name
+
+-- a pointer's name that no function of a script can have: natives alone are asked for it
+abbrev pub natives_alone : List ℕ → Bool
+natives_alone name = not (is_identifier name) && not (starts_with nat_eq name (codes "anon$"))
 
 -- a name and where it stands, where an expression is a variable by its name alone
 abbrev pub variable_in : ExprLayer → Option (List ℕ × Position)
@@ -147,23 +159,59 @@ module _ {H : Type 0} where
   passed_seen cells at operation args entry (Err e) = Err e
 
   -- the call with a variable before its other arguments
-  abbrev pub call_on : Cells H → List (ScopeEntry H) → Operation → (variable : List ℕ) → (at : Position) → List (Dynamic H) →
-      Result (Call H) (EvalAltResult H)
-  call_on cells scope operation variable at args =
-      passed_seen cells at operation args (index_of variable scope) (variable_of cells variable at (found variable scope))
+  abbrev pub call_on : Cells H → List (Module H) → List (ScopeEntry H) → Operation → (variable : List ℕ) → (at : Position) →
+      List (Dynamic H) → Result (Call H) (EvalAltResult H)
+  call_on cells lib scope operation variable at args =
+      passed_seen cells at operation args (index_of variable scope) (variable_of cells variable at (meant lib variable scope))
+
+  -- `this` is lent, a constant too
+  abbrev pub lent_this : Operation → List (Dynamic H) → Dynamic H → Call H
+  lent_this operation args v = record (call_of operation (v ∷ args)) { lender = Some FromThis; guarded = true }
+
+  -- a call captures a scope that is not empty
+  abbrev pub is_captured : (captures : Bool) → List (ScopeEntry H) → Bool
+  is_captured captures scope = captures && not (nat_eq (length scope) 0)
+
+  -- where `this` stands as the first argument, if it is bound and no handle
+  abbrev pub this_in : ExprLayer → Option (Dynamic H) → Option Position
+  this_in (layer.ThisPtr pos) (Some v) = if is_handle v.value then None else Some pos
+  this_in _ _ = None
 
   -- ---- arguments
 
-  -- an argument of a function or a chain is flattened, one that a pointer keeps or that a number's native gets is not
+  -- an argument of a call by name or of a chain is flattened, one that a pointer keeps, or that it hands to what it leads to, is not
   abbrev pub flattens : Purpose H → Bool
-  flattens (ToCall operation curried) = true
-  flattens (ToCallOn operation variable variable_at) = true
+  flattens (ToCall operation curried how) = true
+  flattens (ToCallOn operation variable variable_at how) = true
+  flattens (ToCallOnThis operation this_at how) = true
   flattens (ToChain chain behind) = true
   flattens _ = false
 
   abbrev pub taken : (flattened : Bool) → Cells H → Dynamic H → Position → Result (Dynamic H) (EvalAltResult H)
   taken true cells v at = flat cells v at
   taken false cells v at = Ok v
+
+  -- the function that a pointer has itself, where it takes so many arguments
+  abbrev pub own_function : KindLayer H → (count : ℕ) → Option (Function H)
+  own_function (union.Script def environ) count =
+      if nat_eq (length def.params) count then Some (record { def = def; environ = environ }) else None
+  own_function _ count = None
+
+  -- the function that a pointer is linked to, where it takes so many arguments: a library's of the name, or its own
+  abbrev pub linked : FnPtrKind H → (name : List ℕ) → (count : ℕ) → List (Module H) → Option (Function H)
+  linked kind.Name name count lib = None
+  linked (kind.Arity arity) name count lib = if nat_eq arity count then in_libraries (key_by name arity None) lib else None
+  linked (kind.Native id) name count lib = None
+  linked own name count lib = own_function (out-FnPtrKind H own) count
+
+  abbrev pub linked_to : FnPtr H → (count : ℕ) → List (Module H) → Option (Function H)
+  linked_to pointer count lib = linked (out-FnPtr H pointer).kind (out-FnPtr H pointer).name count lib
+
+  -- a linked function is entered at once, with all its arguments
+  abbrev pub linked_core : Function H → Position → List (Dynamic H) → List (Frame H) → Local H → Core H
+  linked_core function at args k l =
+      if races l.around.cells args then core (Fail (error.ErrorDataRace function.def.name at)) k l
+      else core (EnterFunction (entry_of function NoObject true args at l)) k l
 
   -- a native's number is called at once, without a charge
   abbrev pub numbered_core : Call H → List (Frame H) → Local H → Core H
@@ -174,9 +222,13 @@ module _ {H : Type 0} where
   module _ (s : Setting H) where
     -- all arguments are there
     abbrev pub arguments_there : Purpose H → List (Dynamic H) → List (Frame H) → Local H → Core H
-    arguments_there (ToCall operation curried) args k l = dispatch_core s (call_of operation (curried ++ args)) k l
-    arguments_there (ToCallOn operation variable variable_at) args k l =
-        on_value (call_on l.around.cells l.scope operation variable variable_at args) (λ call. dispatch_core s call k l) k l
+    arguments_there (ToCall operation curried how) args k l = dispatch_core s how (call_of operation (curried ++ args)) k l
+    arguments_there (ToCallOn operation variable variable_at how) args k l =
+        on_value (call_on l.around.cells l.around.lib l.scope operation variable variable_at args)
+        (λ call. dispatch_core s how call k l) k l
+    arguments_there (ToCallOnThis operation this_at how) args k l =
+        on_value (bound_this this_at l.this) (λ v. dispatch_core s how (lent_this operation args v) k l) k l
+    arguments_there (ToCallFunction function at curried) args k l = linked_core function at (curried ++ args) k l
     arguments_there (ToCallNumber number operation curried) args k l =
         numbered_core (record (call_of operation (curried ++ args)) { number = Some number }) k l
     arguments_there (ToCurry pointer) args k l = core (Back (with_curried pointer args)) k l
@@ -191,35 +243,50 @@ module _ {H : Type 0} where
     -- ---- calls by name
 
     -- a variable that comes first is charged first and read last
-    abbrev pub on_variable : Option (List ℕ × Position) → Operation → Expr → List Expr → List (Frame H) → Local H → Move H (Core H)
-    on_variable (Some (variable, at)) operation arg args k l = Charge at (arguments_core (ToCallOn operation variable at) [] args k l)
-    on_variable None operation arg args k l = Go (arguments_core (ToCall operation []) [] (arg ∷ args) k l)
-
-    -- a call that captures a scope that is not empty takes each argument by its value
-    abbrev pub captured_move : (captured : Bool) → Operation → Expr → List Expr → List (Frame H) → Local H → Move H (Core H)
-    captured_move true operation arg args k l = Go (arguments_core (ToCall operation []) [] (arg ∷ args) k l)
-    captured_move false operation arg args k l = on_variable (variable_in (out-Expr arg)) operation arg args k l
-
-    abbrev pub named_move : Operation → (curried : List (Dynamic H)) → List Expr → (captures : Bool) → List (Frame H) → Local H →
+    abbrev pub on_variable : Option (List ℕ × Position) → Operation → (how : Dispatch) → Expr → List Expr → List (Frame H) → Local H →
         Move H (Core H)
-    named_move operation [] (arg ∷ args) captures k l =
-        captured_move (captures && not (nat_eq (length l.scope) 0)) operation arg args k l
-    named_move operation curried args captures k l = Go (arguments_core (ToCall operation curried) [] args k l)
+    on_variable (Some (variable, at)) operation how arg args k l =
+        Charge at (arguments_core (ToCallOn operation variable at how) [] args k l)
+    on_variable None operation how arg args k l = Go (arguments_core (ToCall operation [] how) [] (arg ∷ args) k l)
+
+    -- and so is `this`, which is lent
+    abbrev pub on_this : Option Position → Operation → (how : Dispatch) → Expr → List Expr → List (Frame H) → Local H → Move H (Core H)
+    on_this (Some at) operation how arg args k l = Charge at (arguments_core (ToCallOnThis operation at how) [] args k l)
+    on_this None operation how arg args k l = on_variable (variable_in (out-Expr arg)) operation how arg args k l
+
+    -- a call that captures a scope that is not empty takes each argument by its value, and a function runs on that scope
+    abbrev pub captured_move : (captured natives_alone : Bool) → Operation → Expr → List Expr → List (Frame H) → Local H → Move H (Core H)
+    captured_move true alone operation arg args k l =
+        Go (arguments_core (ToCall operation [] (plainly alone true)) [] (arg ∷ args) k l)
+    captured_move false alone operation arg args k l =
+        on_this (this_in (out-Expr arg) l.this) operation (plainly alone false) arg args k l
+
+    abbrev pub named_move : Operation → (curried : List (Dynamic H)) → List Expr → (captures natives_alone : Bool) → List (Frame H) →
+        Local H → Move H (Core H)
+    named_move operation [] (arg ∷ args) captures alone k l = captured_move (is_captured captures l.scope) alone operation arg args k l
+    named_move operation curried args captures alone k l =
+        Go (arguments_core (ToCall operation curried (plainly alone (is_captured captures l.scope))) [] args k l)
 
     -- ---- the first argument of a keyword
 
-    -- A pointer is called: a native's number at once, anything else by the pointer's name. Functions of scripts are not there yet.
-    abbrev pub pointer_core : FnPtrKind H → FnPtr H → Position → List Expr → (captures : Bool) → List (Frame H) → Local H → Core H
-    pointer_core (kind.Native id) pointer at args captures k l =
+    -- a pointer is called: a native's number and a function that it is linked to at once, anything else by the pointer's name
+    abbrev pub unlinked_core : FnPtrKind H → FnPtr H → Position → List Expr → (captures : Bool) → List (Frame H) → Local H → Core H
+    unlinked_core (kind.Native id) pointer at args captures k l =
         arguments_core (ToCallNumber id.number (operation_named (codes "call") at) (out-FnPtr H pointer).curry) [] args k l
-    pointer_core _ pointer at args captures k l =
-        core (CallNamed (operation_named (out-FnPtr H pointer).name at) (out-FnPtr H pointer).curry args captures) k l
+    unlinked_core _ pointer at args captures k l = core (CallNamed (operation_named (out-FnPtr H pointer).name at)
+        (out-FnPtr H pointer).curry args captures (natives_alone (out-FnPtr H pointer).name)) k l
+
+    abbrev pub pointer_core : Option (Function H) → FnPtr H → Position → List Expr → (captures : Bool) → List (Frame H) → Local H → Core H
+    pointer_core (Some function) pointer at args captures k l =
+        arguments_core (ToCallFunction function at (out-FnPtr H pointer).curry) [] args k l
+    pointer_core None pointer at args captures k l = unlinked_core (out-FnPtr H pointer).kind pointer at args captures k l
 
     abbrev pub keyword_core : Keyword → Position → (start : Position) → List Expr → (captures : Bool) → Dynamic H → List (Frame H) →
         Local H → Core H
     keyword_core CallPointer at start args captures v k l =
         on_value (pointer_wanted s.host_type l.around.cells v start)
-        (λ pointer. pointer_core (out-FnPtr H pointer).kind pointer at args captures k l) k l
+        (λ pointer. pointer_core (linked_to pointer (length (out-FnPtr H pointer).curry + length args) l.around.lib) pointer at args
+        captures k l) k l
     keyword_core MakePointer at start args captures v k l =
         on_value (text_wanted s.host_type l.around.cells v start) (λ name. core (ended (pointer_of name start)) k l) k l
     keyword_core Curry at start args captures v k l =
@@ -237,7 +304,7 @@ module _ {H : Type 0} where
   abbrev pub function_core : Option Keyword → Operation → List Expr → (captures : Bool) → List (Frame H) → Local H → Core H
   function_core (Some keyword) operation (arg ∷ args) captures k l =
       core (Argument arg) (KeywordArgument keyword operation.at (start_of arg) args captures ∷ k) l
-  function_core _ operation args captures k l = core (CallNamed operation [] args captures) k l
+  function_core _ operation args captures k l = core (CallNamed operation [] args captures false) k l
 
   abbrev pub function_of : FnCallExpr → Position → List (Frame H) → Local H → Core H
   function_of call at k l =

@@ -1,7 +1,7 @@
 -- The rules of assignment to a variable.
 use Rattle.std.specs.Prelude.{ℕ, Bool, true, false, List, [], ◌∷◌, ◌++◌, Option, Some, None, Result, Ok, Err, codes, nat_eq}
 use Rattle.std.specs.List.{starts_with}
-use Rattle.rhai_machine.specs.Types.{Dynamic, EvalAltResult, Expr, OpAssignment, Token, Union}
+use Rattle.rhai_machine.specs.Types.{Dynamic, EvalAltResult, Expr, OpAssignment, Position, Token, Union}
 use Rattle.rhai_tree.specs.declared.expr.Expr.TheOpen as layer
 use Rattle.rhai_tree.specs.Layers.{ExprLayer}
 use Rattle.rhai_tree.specs.Positions.{position_of}
@@ -18,10 +18,11 @@ use Rattle.rhai_machine.specs.machine.Machine.{Move, Halt, Go, Native, AskPure}
 use Rattle.rhai_machine.specs.language.Setting.{Setting}
 use Rattle.rhai_machine.specs.language.State.{Local}
 use Rattle.rhai_machine.specs.language.Values.{unit_value}
-use Rattle.rhai_machine.specs.language.Places.{Place, Target, is_barred, put, while_lent}
+use Rattle.rhai_machine.specs.language.Names.{bound_this}
+use Rattle.rhai_machine.specs.language.Places.{Place, Target, is_barred, put, this_target, while_lent}
 use Rattle.rhai_machine.specs.language.Frames.{Operation, Attempt, InPlace, AsValue, Assignment, Update}
 use Rattle.rhai_machine.specs.language.Frames.{Frame, Control, Core, core, on_value, where_there}
-use Rattle.rhai_machine.specs.language.Frames.{Eval, AskUpdate, FireUpdate, Back, Fail, AssignValue, AssignChain}
+use Rattle.rhai_machine.specs.language.Frames.{Eval, AskUpdate, FireUpdate, Back, Fail, AssignValue, AssignThisValue, AssignChain}
 use Rattle.rhai_machine.specs.language.Calls.{operation_at, placed_if_none, sized, applied, replied}
 
 -- the native of an attempt: in `x += y` first the one named `+=`, and then the one named `+`
@@ -30,10 +31,15 @@ native_of InPlace token = syntax_of token ++ codes "="
 native_of AsValue token = syntax_of token
 
 module _ {H : Type 0} where
-  -- the right side comes first; an assignment to anything but a variable without a path or a chain has no step
+  -- `this` has to be bound before the right side
+  abbrev pub to_this : Result (Dynamic H) (EvalAltResult H) → OpAssignment → Position → Expr → List (Frame H) → Local H → Core H
+  to_this r op at rhs k l = on_value r (λ this. core (Eval rhs) (AssignThisValue op at (position_of rhs) ∷ k) l) k l
+
+  -- the right side comes first; an assignment to anything but a variable without a path, `this` or a chain has no step
   abbrev pub assignment_move : ExprLayer → OpAssignment → Expr → List (Frame H) → Local H → Move H (Core H)
   assignment_move (layer.Variable offset name namespace pos) op rhs k l = where_there (is_unqualified namespace.path)
       (core (Eval rhs) (AssignValue (record { name = name; at = pos; op = op }) (position_of rhs) ∷ k) l)
+  assignment_move (layer.ThisPtr pos) op rhs k l = Go (to_this (bound_this pos l.this) op pos rhs k l)
   assignment_move (layer.Index lhs rest options pos) op rhs k l =
       Go (core (Eval rhs) (AssignChain lhs (layer.Index lhs rest options pos) op (position_of rhs) ∷ k) l)
   assignment_move (layer.Dot lhs rest options pos) op rhs k l =
@@ -93,6 +99,11 @@ module _ {H : Type 0} where
     -- the variable, once it is charged: it has to be there, free and no constant
     abbrev pub store_core : Result (Target H) (EvalAltResult H) → Assignment → Dynamic H → List (Frame H) → Local H → Core H
     store_core r assignment v k l = on_value r (λ target. assign_core assignment.op.op assignment target v k l) k l
+
+    -- `this` likewise
+    abbrev pub store_this : OpAssignment → Position → Dynamic H → List (Frame H) → Local H → Core H
+    store_this op at v k l =
+        store_core (this_target l.around.cells at l.this) (record { name = []; at = at; op = op }) v k l
 
     -- the native of an update is called, unless it is barred from its target
     abbrev pub barred_core : (barred : Bool) → Update H → List (Frame H) → Local H → Core H

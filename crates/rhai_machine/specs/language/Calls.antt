@@ -1,6 +1,6 @@
--- The rules of calls: built-in operators, and natives.
-use Rattle.std.specs.Prelude.{ℕ, ◌+◌, Bool, true, false, not, ◌&&◌, ◌||◌, List, [], ◌∷◌, ◌++◌, Option, Some, None, Result, Ok, Err}
-use Rattle.std.specs.Prelude.{codes, drop, is_some, length, nat_eq, if◌then◌else◌}
+-- The rules of calls: built-in operators, functions of scripts, and natives.
+use Rattle.std.specs.Prelude.{ℕ, ◌+◌, ◌-◌, pos, Bool, true, false, not, ◌&&◌, ◌||◌, List, [], ◌∷◌, ◌++◌, Option, Some, None}
+use Rattle.std.specs.Prelude.{Result, Ok, Err, codes, drop, is_some, length, nat_eq, if◌then◌else◌}
 use Rattle.std.specs.List.{starts_with}
 use Rattle.std.specs.Option.{option_map, option_or}
 use Rattle.std.specs.Str.{bytes_eq}
@@ -10,18 +10,21 @@ use Rattle.rhai_state.specs.declared.error.EvalAltResult.TheVariants as error
 use Rattle.rhai_state.specs.Native.{Key, Named, Numbered, Reply, Missing, Gives, Faults, purity_of, request}
 use Rattle.rhai_state.specs.Errors.{indexing_text, position_of, at_position}
 use Rattle.rhai_values.specs.Cells.{value_of_cell}
-use Rattle.rhai_values.specs.Copy.{plain}
+use Rattle.rhai_values.specs.Copy.{copy_of, plain}
 use Rattle.rhai_values.specs.TypeNames.{type_name_of}
 use Rattle.rhai_values.specs.declared.base.size.DataSizes.{DataSizes}
 use Rattle.rhai_values.specs.DataSize.{data_sizes, exceeded, fault_text}
 use Rattle.rhai_operators.specs.Answers.{unary_of, binary_of}
 use Rattle.rhai_machine.specs.machine.Machine.{Move, Go, Native, AskPure}
 use Rattle.rhai_machine.specs.language.Setting.{Setting}
-use Rattle.rhai_machine.specs.language.State.{Local}
+use Rattle.rhai_machine.specs.language.State.{Local, Surroundings, deeper}
 use Rattle.rhai_machine.specs.language.Values.{Cells, bool_value, through}
-use Rattle.rhai_machine.specs.language.Places.{Place, InEntry, InCell, InFocus, is_barred, put, while_lent}
-use Rattle.rhai_machine.specs.language.Frames.{Operation, Lender, FromEntry, FromFocus, Call, Control, Frame, Core, core, ended, changed}
-use Rattle.rhai_machine.specs.language.Frames.{Ask, Fire, Back, Fail}
+use Rattle.rhai_machine.specs.language.Places.{Place, InEntry, InCell, InThis, InFocus, is_barred, put, while_lent}
+use Rattle.rhai_machine.specs.language.Functions.{Function, found_function, key_by as function_key}
+use Rattle.rhai_machine.specs.language.Activations.{Object, NoObject, TheFocus, Entered}
+use Rattle.rhai_machine.specs.language.Frames.{Operation, Lender, FromEntry, FromThis, FromFocus, Dispatch, Call, Control, Frame, Core}
+use Rattle.rhai_machine.specs.language.Frames.{core, on_value, ended, changed, Ask, EnterFunction, EnterOnFocus, Fire, Back, Fail}
+use Rattle.rhai_machine.specs.language.Handles.{entered, focus_of}
 
 -- further texts of a row, each after a comma
 abbrev pub more : List (List ℕ) → List ℕ
@@ -67,11 +70,16 @@ pub record First (H : Type 0) : Type 0 where
 -- where a first argument that is lent stands
 abbrev pub place_of : Lender → Place
 place_of (FromEntry index) = InEntry index
+place_of FromThis = InThis
 place_of FromFocus = InFocus
 
 -- an operator's name, and where it stands
 abbrev pub operation_at : List ℕ → Token → Position → Operation
 operation_at name token at = record { name = name; token = Some token; at = at }
+
+-- how a call is dispatched that is no method's
+abbrev pub plainly : (natives_alone on_scope : Bool) → Dispatch
+plainly natives_alone on_scope = record { of_method = false; natives_alone = natives_alone; on_scope = on_scope }
 
 module _ {H : Type 0} where
   abbrev pub types_of : (H → List ℕ) → Cells H → List (Dynamic H) → List (List ℕ)
@@ -216,36 +224,106 @@ module _ {H : Type 0} where
   asks_function (Ok name) (Ok count) = names_function name.value count.value
   asks_function _ _ = false
 
+  -- ---- functions of scripts
+
+  -- the arguments that a function gets: of a first one that is lent a copy
+  abbrev pub args_given : Option Lender → List (Dynamic H) → List (Dynamic H)
+  args_given (Some lender) (v ∷ args) = copy_of v ∷ args
+  args_given lender args = args
+
+  -- a function that runs one level deeper
+  abbrev pub entry_of : Function H → Object → (is_fresh : Bool) → List (Dynamic H) → Position → Local H → Entered H
+  entry_of function object is_fresh args at l = record {
+    def = function.def;
+    environ = function.environ;
+    args = args;
+    object = object;
+    is_fresh = is_fresh;
+    restores = true;
+    level = deeper l.around.level;
+    at = at;
+  }
+
+  -- a function on the focus: of a handle it runs on the cell's value, the cell is held meanwhile, and no argument may lead there
+  abbrev pub inside_core : Function H → (args : List (Dynamic H)) → Position → List (Frame H) → Local H → Core H
+  inside_core function args at k l =
+      if races l.around.cells args then core (Fail (error.ErrorDataRace function.def.name at)) k l
+      else core (EnterFunction (entry_of function TheFocus true args at l)) k l
+
+  abbrev pub focus_core : Function H → (args : List (Dynamic H)) → Position → List (Frame H) → Local H → Core H
+  focus_core function args at k l = on_value (through l.around.cells (focus_of l) at)
+      (λ inner. entered inner (λ k l. inside_core function args at k l) k l) k l
+
+  -- a call enters the function that it found: a method on the focus, and any other with all its arguments
+  abbrev pub enter_core : (of_method : Bool) → Function H → Dispatch → Call H → List (Frame H) → Local H → Core H
+  enter_core true function how call k l = core (EnterOnFocus function (drop 1 call.args) call.operation.at) k l
+  enter_core false function how call k l = core (EnterFunction (entry_of function NoObject (not how.on_scope)
+      (args_given call.lender call.args) call.operation.at l)) k l
+
   module _ (s : Setting H) where
     -- ---- dispatch
 
+    -- whether a function of a script has this name and so many parameters
+    abbrev pub knows_function : Surroundings H → Union H → Union H → Bool
+    knows_function around (value.Str name) (value.Int (pos count)) =
+        is_some (found_function (function_key name count None) s.offer around)
+    knows_function around _ _ = false
+
+    abbrev pub knows_asked : Surroundings H → Result (Dynamic H) (EvalAltResult H) → Result (Dynamic H) (EvalAltResult H) → Bool
+    knows_asked around (Ok name) (Ok count) = knows_function around name.value count.value
+    knows_asked around _ _ = false
+
+    -- the function of a method: for the type of its object, and else for any type
+    abbrev pub found_method : List ℕ → (type : List ℕ) → (count : ℕ) → Surroundings H → Option (Function H)
+    found_method name type count around = option_or
+        (found_function (function_key name count (Some type)) s.offer around)
+        (found_function (function_key name count None) s.offer around)
+
+    abbrev pub found_by : (of_method : Bool) → Call H → Local H → Option (Function H)
+    found_by true call l =
+        found_method call.operation.name (first_type s.host_type l.around.cells call.args) (length call.args - 1) l.around
+    found_by false call l = found_function (function_key call.operation.name (length call.args) None) s.offer l.around
+
+    -- the function of a script that a call means, where not natives alone are asked
+    abbrev pub called_function : Dispatch → Call H → Local H → Option (Function H)
+    called_function how call l = if how.natives_alone then None else found_by how.of_method call l
+
+    -- it is entered, and else the native is asked
+    abbrev pub found_core : Option (Function H) → Dispatch → Call H → List (Frame H) → Local H → Core H
+    found_core (Some function) how call k l = enter_core how.of_method function how call k l
+    found_core None how call k l = core (Ask call) k l
+
+    abbrev pub called_core : Dispatch → Call H → List (Frame H) → Local H → Core H
+    called_core how call k l = found_core (called_function how call l) how call k l
+
     -- the names that mean no function with one argument or two: a value's type; a compiler, which is not there; and whether a name is a
-    -- script function's, which none is yet
-    abbrev pub named_core : List (Dynamic H) → Call H → List (Frame H) → Local H → Core H
-    named_core (v ∷ []) call k l =
+    -- script function's
+    abbrev pub named_core : Dispatch → List (Dynamic H) → Call H → List (Frame H) → Local H → Core H
+    named_core how (v ∷ []) call k l =
         if bytes_eq call.operation.name (codes "type_of")
         then core (Back (plain (value.Str (type_name_of s.host_type l.around.cells v)))) k l
         else if bytes_eq call.operation.name (codes "eval")
         then core (Fail (error.ErrorFunctionNotFound (signature call.operation.name (types_of s.host_type l.around.cells (v ∷ [])))
         call.operation.at)) k l
-        else core (Ask call) k l
-    named_core (v ∷ w ∷ []) call k l =
+        else called_core how call k l
+    named_core how (v ∷ w ∷ []) call k l =
         if bytes_eq call.operation.name (codes "is_def_fn")
         && asks_function (through l.around.cells v call.operation.at) (through l.around.cells w call.operation.at)
-        then core (Back (bool_value false)) k l
-        else core (Ask call) k l
-    named_core args call k l = core (Ask call) k l
+        then core (Back (bool_value (knows_asked l.around (through l.around.cells v call.operation.at)
+        (through l.around.cells w call.operation.at)))) k l
+        else called_core how call k l
+    named_core how args call k l = called_core how call k l
 
     -- a call by name whose arguments are there: no argument's cell may be held
-    abbrev pub dispatch_core : Call H → List (Frame H) → Local H → Core H
-    dispatch_core call k l =
+    abbrev pub dispatch_core : Dispatch → Call H → List (Frame H) → Local H → Core H
+    dispatch_core how call k l =
         if races l.around.cells call.args then core (Fail (error.ErrorDataRace call.operation.name call.operation.at)) k l
-        else named_core call.args call k l
+        else named_core how call.args call k l
 
-    -- a built-in operator, or else the native of its name
+    -- a built-in operator, or else a call of its name
     abbrev pub operator_core : Option (Result (Dynamic H) (EvalAltResult H)) → Call H → List (Frame H) → Local H → Core H
     operator_core (Some r) call k l = core (ended (applied s.limits r call.operation.at)) k l
-    operator_core None call k l = dispatch_core call k l
+    operator_core None call k l = dispatch_core (plainly false false) call k l
 
     -- ---- natives
 

@@ -8,23 +8,23 @@ use Rattle.rhai_tree.specs.Position.{none}
 use Rattle.rhai_tree.specs.Positions.{position_of, start_of}
 use Rattle.rhai_check.specs.Forms.{is_unqualified}
 use Rattle.rhai_values.specs.declared.base.value.Union.TheVariants as value
-use Rattle.rhai_values.specs.Cells.{with_held}
 use Rattle.rhai_values.specs.Copy.{copy_of}
 use Rattle.rhai_values.specs.Layers.{layer_of}
 use Rattle.rhai_state.specs.declared.error.EvalAltResult.TheVariants as error
-use Rattle.rhai_state.specs.Scope.{found, index_of}
+use Rattle.rhai_state.specs.Scope.{index_of}
 use Rattle.rhai_places.specs.declared.spot.Spot.{Spot}
 use Rattle.rhai_places.specs.declared.spot.Spot.TheVariants as spot
 use Rattle.rhai_places.specs.Parts.{part_of, value_at}
-use Rattle.rhai_paths.specs.Paths.{ToPlace, ToCell}
+use Rattle.rhai_paths.specs.Paths.{ToPlace}
 use Rattle.rhai_machine.specs.machine.Machine.{Move, Halt, Go, Charge}
 use Rattle.rhai_machine.specs.language.Setting.{Setting}
 use Rattle.rhai_machine.specs.language.State.{Local}
 use Rattle.rhai_machine.specs.language.Values.{unit_value, through}
-use Rattle.rhai_machine.specs.language.Names.{variable_of}
+use Rattle.rhai_machine.specs.language.Names.{bound_this, meant, variable_of}
 use Rattle.rhai_machine.specs.language.Places.{focus_target}
 use Rattle.rhai_machine.specs.language.Links.{Link, LinkForm, AtIndex, AtProperty, AtMethod, asked_by, first_position, link_of, name_in}
-use Rattle.rhai_machine.specs.language.Frames.{NewValue, Chain, Member, Property, Item, MemberAccess, ToChain, Frame, Core, core, on_value, where_there}
+use Rattle.rhai_machine.specs.language.Frames.{Lender, FromEntry, FromThis, NewValue, Chain, Member, Property, Item, MemberAccess, ToChain}
+use Rattle.rhai_machine.specs.language.Frames.{Frame, Core, core, on_value, where_there}
 use Rattle.rhai_machine.specs.language.Frames.{Eval, ChainArguments, ChainRoot, ReadRoot, Walk, Locate, Back, Fail, RootValue, ChainEnd}
 use Rattle.rhai_machine.specs.language.Frames.{StepDown, Temporary, PartMethod, PartAssigned, Measured, MethodLink, MemberLink, MemberGot}
 use Rattle.rhai_machine.specs.language.Frames.{MemberSet}
@@ -32,6 +32,7 @@ use Rattle.rhai_machine.specs.language.Arguments.{arguments_core}
 use Rattle.rhai_machine.specs.language.Expressions.{literal_of}
 use Rattle.rhai_machine.specs.language.Assignment.{assign_core}
 use Rattle.rhai_machine.specs.language.Members.{focus_of, focused_on, get_core, set_core}
+pub use Rattle.rhai_machine.specs.language.Handles.{entered, entered_by}
 use Rattle.rhai_machine.specs.language.Methods.{method_core}
 use Rattle.rhai_machine.specs.language.Located.{args_behind, bars_key, index_by, is_indexed, is_map, is_place_spot, is_unit}
 use Rattle.rhai_machine.specs.language.Located.{spot_of, taken_at}
@@ -63,32 +64,25 @@ module _ {H : Type 0} where
 
   -- ---- the root
 
-  -- a variable is charged, and read after that; any other root is evaluated, and is not assigned to
+  -- the walk begins on a copy of a variable or of `this`, which gets it back, or on a temporary
+  abbrev pub begun_core : (in_place : Bool) → (lender : Option Lender) → Dynamic H → Chain H → List (Frame H) → Local H → Core H
+  begun_core in_place lender v chain k l =
+      core (Walk (record chain { in_place = in_place })) (ChainEnd lender l.focus ∷ k) (focused_on (Some v) l)
+
+  -- what a name means that is no variable is a temporary
+  abbrev pub read_root_core : (name : List ℕ) → Position → Chain H → List (Frame H) → Local H → Core H
+  read_root_core name at chain k l = on_value (variable_of l.around.cells name at (meant l.around.lib name l.scope))
+      (λ v. begun_core (is_some (index_of name l.scope)) (option_map FromEntry (index_of name l.scope)) v chain k l) k l
+
+  abbrev pub this_root_core : Position → Chain H → List (Frame H) → Local H → Core H
+  this_root_core at chain k l = on_value (bound_this at l.this) (λ v. begun_core true (Some FromThis) v chain k l) k l
+
+  -- a variable is charged, and read after that, and so is `this`; any other root is evaluated, and is not assigned to
   abbrev pub root_move : ExprLayer → Chain H → List (Frame H) → Local H → Move H (Core H)
   root_move (layer.Variable offset name namespace pos) chain k l =
       if is_unqualified namespace.path then Charge pos (core (ReadRoot name pos chain) k l) else Halt
-  root_move (layer.ThisPtr pos) chain k l = Halt
+  root_move (layer.ThisPtr pos) chain k l = Charge pos (this_root_core pos chain k l)
   root_move _ chain k l = where_there (is_none chain.new) (core (Eval chain.root) (RootValue chain ∷ k) l)
-
-  -- the walk begins on a copy of the variable, or on a temporary
-  abbrev pub begun_core : (in_place : Bool) → (entry : Option ℕ) → Dynamic H → Chain H → List (Frame H) → Local H → Core H
-  begun_core in_place entry v chain k l =
-      core (Walk (record chain { in_place = in_place })) (ChainEnd entry l.focus ∷ k) (focused_on (Some v) l)
-
-  abbrev pub read_root_core : (name : List ℕ) → Position → Chain H → List (Frame H) → Local H → Core H
-  read_root_core name at chain k l = on_value (variable_of l.around.cells name at (found name l.scope))
-      (λ v. begun_core true (index_of name l.scope) v chain k l) k l
-
-  -- ---- handles
-
-  -- a focus that is a handle is entered: its cell's value is the focus, and the cell is held meanwhile
-  abbrev pub entered_by : Union H → (inner : Dynamic H) → (List (Frame H) → Local H → Core H) → List (Frame H) → Local H → Core H
-  entered_by (value.Cell id) inner go k l = go (StepDown (focus_of l) (ToCell id.number) ∷ k)
-      (record l { focus = Some inner; around = record l.around { cells = with_held l.around.cells id.number } })
-  entered_by _ inner go k l = go k l
-
-  abbrev pub entered : (inner : Dynamic H) → (List (Frame H) → Local H → Core H) → List (Frame H) → Local H → Core H
-  entered inner go k l = entered_by (focus_of l).value inner go k l
 
   -- ---- what is behind a link
 

@@ -13,7 +13,7 @@ use Rattle.rhai_machine.specs.machine.Point.{Reaches}
 use Rattle.rhai_machine.specs.language.Setting.{Rules, cut}
 use Rattle.rhai_machine.specs.language.State.{Local, State}
 use Rattle.rhai_machine.specs.language.Links.{Link}
-use Rattle.rhai_machine.specs.language.Frames.{Chain, Control, Frame, Core, core, Walk, Back, Changed, Fail, ChainEnd, StepDown}
+use Rattle.rhai_machine.specs.language.Frames.{Lender, Chain, Control, Frame, Core, core, Walk, Back, Changed, Fail, ChainEnd, StepDown}
 use Rattle.rhai_machine.specs.language.Chains.{behind_link, descend, entered}
 use Rattle.rhai_machine.specs.language.Unwinding.{ended_chain, gone_up}
 use Rattle.rhai_machine.specs.language.Language.{machine}
@@ -52,8 +52,8 @@ module _ {S H : Type 0} where
   works_on root s = record s { local = gone_up root s.local }
 
   -- a state as a chain's end leaves it
-  abbrev pub chain_ended : (entry : Option ℕ) → (outer : Option (Dynamic H)) → State S H → State S H
-  chain_ended entry outer s = record s { local = ended_chain entry outer s.local }
+  abbrev pub chain_ended : (lender : Option Lender) → (outer : Option (Dynamic H)) → State S H → State S H
+  chain_ended lender outer s = record s { local = ended_chain lender outer s.local }
 
 module _ {S H : Type 0} (rules : Rules S H) where
   -- from the end of a path, where a value has been left, the machine goes up to what waits below the path's frames, without a charge: the
@@ -63,13 +63,13 @@ module _ {S H : Type 0} (rules : Rules S H) where
       Reaches (machine rules) (cut rules) (at control (frames_of root path k) (works_on (left_at root path w) s))
       (at control k (works_on (write root path w) s))
 
-  -- and over a chain's end: the variable gets its value with that one written at the path, and whoever had a focus before has it again
+  -- and over a chain's end: who lent the root gets its value with that one written at the path, and whoever had a focus before has it again
   abbrev pub EndsWritten : (control end : Control H) → Type 0
-  EndsWritten control end = (root : Rooted H) (path : List Step) (w : Dynamic H) (entry : Option ℕ) (outer : Option (Dynamic H))
+  EndsWritten control end = (root : Rooted H) (path : List Step) (w : Dynamic H) (lender : Option Lender) (outer : Option (Dynamic H))
       (k : List (Frame H)) (s : State S H) → IsSimple path →
       Reaches (machine rules) (cut rules)
-      (at control (frames_of root path (ChainEnd entry outer ∷ k)) (works_on (left_at root path w) s))
-      (at end k (chain_ended entry outer (works_on (write root path w) s)))
+      (at control (frames_of root path (ChainEnd lender outer ∷ k)) (works_on (left_at root path w) s))
+      (at end k (chain_ended lender outer (works_on (write root path w) s)))
 
   -- a chain that is at the end of a path goes on at a place there, which is the end of a longer path
   abbrev pub EntersPlace : Type 0

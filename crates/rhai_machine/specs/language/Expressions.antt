@@ -12,8 +12,8 @@ use Rattle.rhai_values.specs.Copy.{plain}
 use Rattle.rhai_values.specs.Literals.{value_of_literal}
 use Rattle.rhai_machine.specs.machine.Machine.{Move, Halt, Go, Charge}
 use Rattle.rhai_machine.specs.language.State.{Local}
-use Rattle.rhai_machine.specs.language.Values.{unit_value, bool_value}
-use Rattle.rhai_machine.specs.language.Names.{read}
+use Rattle.rhai_machine.specs.language.Values.{copied, unit_value, bool_value}
+use Rattle.rhai_machine.specs.language.Names.{bound_this, read}
 use Rattle.rhai_machine.specs.language.Frames.{Frame, Core, core, chain_on, on_value, where_there, ended, Eval, Argument, Enter, OpenChain, Back}
 use Rattle.rhai_machine.specs.language.Frames.{UnaryOperand, LeftOperand, AndPart, OrPart, CoalescePart}
 use Rattle.rhai_machine.specs.language.Arguments.{function_of}
@@ -86,7 +86,8 @@ module _ {H : Type 0} where
   expr_move fast (layer.Array items pos) k l = Go (items_core [] items k l)
   expr_move fast (layer.Map entries template pos) k l = Go (entries_core (map key_of entries) [] entries k l)
   expr_move fast (layer.Variable offset name namespace pos) k l =
-      where_there (is_unqualified namespace.path) (core (ended (read l.around.cells name pos l.scope)) k l)
+      where_there (is_unqualified namespace.path) (core (ended (read l.around.cells l.around.lib name pos l.scope)) k l)
+  expr_move fast (layer.ThisPtr pos) k l = Go (core (ended (copied (bound_this pos l.this))) k l)
   expr_move fast (layer.Expr::FnCall call pos) k l = call_move fast call.op_token call call.args pos k l
   expr_move fast (layer.Stmt block) k l = Go (core (Enter block.statements true) k l)
   expr_move fast (layer.Index lhs rhs options pos) k l = Go (core (OpenChain (chain_on lhs (layer.Index lhs rhs options pos) None)) k l)

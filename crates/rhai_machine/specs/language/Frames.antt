@@ -9,6 +9,8 @@ use Rattle.rhai_paths.specs.Paths.{Step}
 use Rattle.rhai_machine.specs.language.State.{Local}
 use Rattle.rhai_machine.specs.language.Places.{Place}
 use Rattle.rhai_machine.specs.language.Links.{Link}
+use Rattle.rhai_machine.specs.language.Functions.{Function}
+use Rattle.rhai_machine.specs.language.Activations.{Entered, CallExit}
 
 -- what a call is of: its name, its operator where it was written as one, and where it stands
 pub record Operation : Type 0 where
@@ -16,10 +18,18 @@ pub record Operation : Type 0 where
   pub token : Option Token
   pub at : Position
 
--- who lends the first argument of a call: the entry of a variable, or a chain the value that it works on
+-- who lends the first argument of a call, or the root of a chain: the entry of a variable, `this`, or a chain the value that it works on
 pub data Lender : Type 0 where
   FromEntry : (index : ℕ) → Lender
+  FromThis : Lender
   FromFocus : Lender
+
+-- How a call by name is dispatched: whether its first argument is the object of a method, whether natives alone are asked, and whether a
+-- function of a script runs on the caller's variables.
+pub record Dispatch : Type 0 where
+  pub of_method : Bool
+  pub natives_alone : Bool
+  pub on_scope : Bool
 
 -- A call with its arguments: of a native by its name, or by a number. The first argument may be lent, and goes back then. Where it is
 -- guarded, a constant is kept from a native that is not pure. Where the call marks, its answer says whether the native may have changed
@@ -68,9 +78,12 @@ pub record MemberAccess (H : Type 0) : Type 0 where
 -- what the arguments of a call are for, once all of them are there
 pub data Purpose (H : Type 0) : Type 0 where
   -- a call by name, with the values that a pointer has already
-  ToCall : Operation → (curried : List (Dynamic H)) → Purpose H
-  -- a call by name, with a variable before the arguments that is read last
-  ToCallOn : Operation → (variable : List ℕ) → (variable_at : Position) → Purpose H
+  ToCall : Operation → (curried : List (Dynamic H)) → (how : Dispatch) → Purpose H
+  -- a call by name, with a variable before the arguments that is read last, or with `this`
+  ToCallOn : Operation → (variable : List ℕ) → (variable_at : Position) → (how : Dispatch) → Purpose H
+  ToCallOnThis : Operation → (this_at : Position) → (how : Dispatch) → Purpose H
+  -- a call of the function that a pointer is linked to
+  ToCallFunction : Function H → (at : Position) → (curried : List (Dynamic H)) → Purpose H
   -- a call of a native by its number
   ToCallNumber : (number : ℕ) → Operation → (curried : List (Dynamic H)) → Purpose H
   -- a pointer that gets them
@@ -112,10 +125,13 @@ pub data Control (H : Type 0) : Type 0 where
   Eval : Expr → Control H
   Exec : Stmt → (restoring : Bool) → Control H
   Ask : Call H → Control H
-  -- a call by name goes on with its arguments; one that has a variable first is charged there
-  CallNamed : Operation → (curried : List (Dynamic H)) → (args : List Expr) → (captures : Bool) → Control H
-  -- these charge too: the variable of an assignment whose value is there, the native of an update
+  -- a call by name goes on with its arguments; one that has a variable or `this` first is charged there
+  CallNamed : Operation → (curried : List (Dynamic H)) → (args : List Expr) → (captures natives_alone : Bool) → Control H
+  -- these charge too: a function of a script that is entered, the variable of an assignment whose value is there or `this`, the native of
+  -- an update
+  EnterFunction : Entered H → Control H
   Assign : Assignment → Dynamic H → Control H
+  AssignThis : OpAssignment → (at : Position) → Dynamic H → Control H
   AskUpdate : Update H → Control H
   -- an argument of a call charges where it is a literal, and else is an expression
   Argument : Expr → Control H
@@ -124,13 +140,16 @@ pub data Control (H : Type 0) : Type 0 where
   Fire : Call H → Control H
   QuestionUpdate : Update H → Control H
   FireUpdate : Update H → Control H
+  -- a function of a script is entered on the value that a chain works on
+  EnterOnFocus : Function H → (args : List (Dynamic H)) → (at : Position) → Control H
   -- these go on: the form of a charged expression or statement, a list that is entered, the rest of a list after a value
   OpenExpr : ExprLayer → Control H
   OpenStmt : StmtLayer → (restoring : Bool) → Control H
   Enter : List Stmt → (restoring : Bool) → Control H
   Run : List Stmt → (restoring : Bool) → (last : Dynamic H) → Control H
-  -- a charged assignment, and a turn of a loop
+  -- a charged assignment, to a variable or to `this`, and a turn of a loop
   Store : Assignment → Dynamic H → Control H
+  StoreThis : OpAssignment → (at : Position) → Dynamic H → Control H
   WhileTurn : (test : Expr) → (body : StmtBlock) → Control H
   DoTurn : (test : Expr) → (body : StmtBlock) → (options : ASTFlags) → Control H
   -- a chain is entered; the arguments of its links are evaluated, after those that are there; its root is, and as a variable is read
@@ -151,7 +170,7 @@ pub data Frame (H : Type 0) : Type 0 where
   -- the value of an expression statement
   StatementValue : Position → Frame H
   -- the value of a `let`
-  DefineValue : (ident : Ident) → (options : ASTFlags) → (value_at : Position) → Frame H
+  DefineValue : (ident : Ident) → (options : ASTFlags) → (restoring : Bool) → (value_at : Position) → Frame H
   -- the condition of an `if`
   IfCondition : (test_at : Position) → (body branch : StmtBlock) → Frame H
   -- a statement's value, before the rest of its list
@@ -179,8 +198,9 @@ pub data Frame (H : Type 0) : Type 0 where
   -- a part of a text, after the text that is there; and one that a native prints, of which only the type is written if it does not
   TextPart : (text : List ℕ) → (part_at : Position) → (rest : List Expr) → Frame H
   PrintedPart : (text type : List ℕ) → (part_at : Position) → (rest : List Expr) → Frame H
-  -- the value of an assignment
+  -- the value of an assignment to a variable, and to `this`
   AssignValue : (assignment : Assignment) → (value_at : Position) → Frame H
+  AssignThisValue : (op : OpAssignment) → (at value_at : Position) → Frame H
   -- the condition and the body of a `while`, and of a `do`
   WhileCondition : (test : Expr) → (body : StmtBlock) → Frame H
   WhileBody : (test : Expr) → (body : StmtBlock) → Frame H
@@ -192,9 +212,9 @@ pub data Frame (H : Type 0) : Type 0 where
   -- the value that is assigned to a chain, and the end of that assignment
   AssignChain : (root : Expr) → (chain : ExprLayer) → (op : OpAssignment) → (value_at : Position) → Frame H
   AssignedChain : Frame H
-  -- the root of a chain that is no variable; the end of a chain, whose focus goes back to its variable, and one before it comes back
+  -- the root of a chain that is no variable; the end of a chain, whose focus goes back to who lent the root, and one before it comes back
   RootValue : Chain H → Frame H
-  ChainEnd : (entry : Option ℕ) → (outer : Option (Dynamic H)) → Frame H
+  ChainEnd : (lender : Option Lender) → (outer : Option (Dynamic H)) → Frame H
   -- the focus is where a step leads from the value above, and goes back there
   StepDown : (above : Dynamic H) → (step : Step) → Frame H
   -- the focus is a temporary of the value above, where natives set it if it may have been changed and has a way back
@@ -216,6 +236,8 @@ pub data Frame (H : Type 0) : Type 0 where
   IndexerTried : (otherwise : Result (Dynamic H) (EvalAltResult H)) → Frame H
   -- a value was set, and this one comes back, marked
   MemberSet : (value : Dynamic H) → Frame H
+  -- the end of a function's call
+  CallEnd : CallExit H → Frame H
 
 -- what the language adds to a configuration
 pub record Core (H : Type 0) : Type 0 where

@@ -8,15 +8,17 @@ use Rattle.rhai_machine.specs.machine.Machine.{Move, Halt, Go, Charge, Machine}
 use Rattle.rhai_machine.specs.language.Setting.{Setting, Rules}
 use Rattle.rhai_machine.specs.language.State.{Local}
 use Rattle.rhai_machine.specs.language.Frames.{Control, Frame, Core, core, Eval, Exec, Ask, Assign, AskUpdate, Argument, Question, Fire}
-use Rattle.rhai_machine.specs.language.Frames.{QuestionUpdate, FireUpdate, OpenExpr, OpenStmt, Enter, Run, Store, WhileTurn, DoTurn, Back, Changed}
-use Rattle.rhai_machine.specs.language.Frames.{Fail, DoBody, CallNamed, OpenChain, ChainArguments, ChainRoot, ReadRoot, Walk, Locate}
+use Rattle.rhai_machine.specs.language.Frames.{QuestionUpdate, FireUpdate, OpenExpr, OpenStmt, Enter, Run, Store, StoreThis, WhileTurn, DoTurn, Back}
+use Rattle.rhai_machine.specs.language.Frames.{Changed, Fail, DoBody, CallNamed, EnterFunction, EnterOnFocus, AssignThis, OpenChain, ChainArguments, ChainRoot}
+use Rattle.rhai_machine.specs.language.Frames.{ReadRoot, Walk, Locate}
 use Rattle.rhai_machine.specs.language.Links.{link_of}
 use Rattle.rhai_machine.specs.language.Chains.{asked_move, locate_core, open_move, read_root_core, root_move, walk_move}
 use Rattle.rhai_machine.specs.language.Expressions.{literal_of, argument_move, expr_move}
-use Rattle.rhai_machine.specs.language.Calls.{question_move, fire_move}
+use Rattle.rhai_machine.specs.language.Bodies.{opened_function}
+use Rattle.rhai_machine.specs.language.Calls.{focus_core, question_move, fire_move}
 use Rattle.rhai_machine.specs.language.Arguments.{named_move}
 use Rattle.rhai_machine.specs.language.Places.{target_of}
-use Rattle.rhai_machine.specs.language.Assignment.{store_core, question_update, fire_update}
+use Rattle.rhai_machine.specs.language.Assignment.{store_core, store_this, question_update, fire_update}
 use Rattle.rhai_machine.specs.language.Loops.{is_endless, while_move}
 use Rattle.rhai_machine.specs.language.Statements.{enter_core, run_core, stmt_move}
 use Rattle.rhai_machine.specs.language.Unwinding.{up_core, down_core, marked_core}
@@ -27,10 +29,14 @@ module _ {H : Type 0} (s : Setting H) where
   move_at (Eval e) k l = Charge (position_of e) (core (OpenExpr (out-Expr e)) k l)
   move_at (Exec stmt restoring) k l = Charge (stmt_position_of stmt) (core (OpenStmt (out-Stmt stmt) restoring) k l)
   move_at (Ask call) k l = Charge call.operation.at (core (Question call) k l)
+  move_at (EnterFunction e) k l = Charge e.at (opened_function s.limits e k l)
   move_at (Assign assignment v) k l = Charge assignment.at (core (Store assignment v) k l)
+  move_at (EnterOnFocus function args at) k l = Go (focus_core function args at k l)
+  move_at (AssignThis op at v) k l = Charge at (core (StoreThis op at v) k l)
   move_at (AskUpdate u) k l = Charge u.at (core (QuestionUpdate u) k l)
   move_at (Argument e) k l = argument_move (literal_of (out-Expr e)) e k l
-  move_at (CallNamed operation curried args captures) k l = named_move s operation curried args captures k l
+  move_at (CallNamed operation curried args captures natives_alone) k l =
+      named_move s operation curried args captures natives_alone k l
   move_at (Question call) k l = question_move s call call.args k l
   move_at (Fire call) k l = fire_move s call call.args k l
   move_at (QuestionUpdate u) k l = question_update s u k l
@@ -39,7 +45,9 @@ module _ {H : Type 0} (s : Setting H) where
   move_at (OpenStmt form restoring) k l = stmt_move s form restoring k l
   move_at (Enter stmts restoring) k l = Go (enter_core stmts restoring k l)
   move_at (Run stmts restoring last) k l = Go (run_core stmts restoring last k l)
-  move_at (Store assignment v) k l = Go (store_core s (target_of l.around.cells assignment.name assignment.at l.scope) assignment v k l)
+  move_at (Store assignment v) k l = Go (store_core s
+      (target_of l.around.cells l.around.lib assignment.name assignment.at l.scope) assignment v k l)
+  move_at (StoreThis op at v) k l = Go (store_this s op at v k l)
   move_at (WhileTurn test body) k l = while_move (is_endless (out-Expr test)) body.statements test body k l
   move_at (DoTurn test body options) k l = Go (core (Enter body.statements true) (DoBody test body options ∷ k) l)
   move_at (OpenChain chain) k l = open_move (link_of chain.rest) chain k l

@@ -1,7 +1,6 @@
 -- The natives by which members of a value are got and set: a property by its getter and its setter, and by the indexer where it has none;
 -- an item by the indexer.
 use Rattle.std.specs.Prelude.{ℕ, Bool, true, false, List, [], ◌∷◌, ◌++◌, Option, Some, None, Result, Ok, Err, codes}
-use Rattle.std.specs.Option.{unwrap_or}
 use Rattle.rhai_machine.specs.Types.{Dynamic, EvalAltResult, Position}
 use Rattle.rhai_values.specs.declared.base.value.Union.TheVariants as value
 use Rattle.rhai_values.specs.Copy.{plain}
@@ -11,15 +10,9 @@ use Rattle.rhai_machine.specs.language.Values.{unit_value}
 use Rattle.rhai_machine.specs.language.Frames.{Operation, FromFocus, Call, Member, Property, Item, MemberAccess, Frame, Core, core, ended, Ask}
 use Rattle.rhai_machine.specs.language.Frames.{Fail, GetterTried, SetterTried, IndexerTried}
 use Rattle.rhai_machine.specs.language.Arguments.{operation_named}
+pub use Rattle.rhai_machine.specs.language.Handles.{focus_of, focused_on}
 
 module _ {H : Type 0} where
-  -- the value that a chain works on, `()` where there is none
-  abbrev pub focus_of : Local H → Dynamic H
-  focus_of l = unwrap_or l.focus unit_value
-
-  abbrev pub focused_on : Option (Dynamic H) → Local H → Local H
-  focused_on focus l = record l { focus = focus }
-
   -- a call that the focus is lent to, before its other arguments
   abbrev pub lent_call : Operation → (guarded marks : Bool) → (focus : Dynamic H) → (rest : List (Dynamic H)) → Call H
   lent_call operation guarded marks focus rest = record {

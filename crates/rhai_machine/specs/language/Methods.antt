@@ -1,5 +1,5 @@
 -- The rules of methods: what a name means on the value that it is called on, which is the focus.
-use Rattle.std.specs.Prelude.{ℕ, true, false, ◌&&◌, List, [], ◌∷◌, ◌++◌, map, Option, Some, None, Result, Ok, Err}
+use Rattle.std.specs.Prelude.{ℕ, Bool, true, false, ◌&&◌, List, [], ◌∷◌, ◌++◌, map, Option, Some, None, Result, Ok, Err}
 use Rattle.std.specs.Prelude.{codes, length, nat_eq, unwrap_or, if◌then◌else◌}
 use Rattle.std.specs.Str.{bytes_eq}
 use Rattle.rhai_items.specs.Lookup.{value_of}
@@ -16,9 +16,11 @@ use Rattle.rhai_state.specs.declared.error.EvalAltResult.TheVariants as error
 use Rattle.rhai_machine.specs.language.Setting.{Setting}
 use Rattle.rhai_machine.specs.language.State.{Local}
 use Rattle.rhai_machine.specs.language.Values.{Cells, bool_value, is_handle, mismatch, through}
-use Rattle.rhai_machine.specs.language.Frames.{Operation, FromFocus, Call, Frame, Core, core, on_value, Question, Back, Fail}
-use Rattle.rhai_machine.specs.language.Calls.{call_of, dispatch_core, races}
-use Rattle.rhai_machine.specs.language.Arguments.{numbered_core, operation_named, pointer_wanted}
+use Rattle.rhai_machine.specs.language.Functions.{Function}
+use Rattle.rhai_machine.specs.language.Frames.{Operation, FromFocus, Dispatch, Call, Frame, Core, core, on_value, EnterOnFocus, Question}
+use Rattle.rhai_machine.specs.language.Frames.{Back, Fail}
+use Rattle.rhai_machine.specs.language.Calls.{call_of, dispatch_core, plainly, races}
+use Rattle.rhai_machine.specs.language.Arguments.{linked_core, linked_to, natives_alone, numbered_core, operation_named, pointer_wanted}
 
 -- a method as it is called: its name, where it stands, and where its first argument starts
 pub record Method : Type 0 where
@@ -40,6 +42,10 @@ word_of name count =
     else if bytes_eq name (codes "curry") then CurryWord
     else if bytes_eq name (codes "is_shared") && nat_eq count 0 then SharedWord
     else PlainWord
+
+-- a method by name, of which natives alone may be asked
+abbrev pub as_method : (natives_alone : Bool) → Dispatch
+as_method alone = record { of_method = true; natives_alone = alone; on_scope = false }
 
 -- where the first argument of a method is looked at
 abbrev pub argument_at : Method → Position
@@ -111,20 +117,30 @@ module _ {H : Type 0} where
       else core (Question (number_on_focus number operation args focus)) k l
 
   module _ (s : Setting H) where
-    -- a pointer is called on the focus with all its arguments: a number's native under this name, anything else by the pointer's name
-    abbrev pub pointer_on : FnPtrKind H → FnPtr H → Method → (called : List ℕ) → (args : List (Dynamic H)) → (focus : Dynamic H) →
+    -- a pointer is called on the focus with all its arguments: a number's native under this name, a function that it is linked to, and
+    -- anything else by the pointer's name
+    abbrev pub unlinked_on : FnPtrKind H → FnPtr H → Method → (called : List ℕ) → (args : List (Dynamic H)) → (focus : Dynamic H) →
         List (Frame H) → Local H → Core H
-    pointer_on (kind.Native id) pointer method called args focus k l =
+    unlinked_on (kind.Native id) pointer method called args focus k l =
         numbered_on id.number (operation_named called method.at) args focus k l
-    pointer_on _ pointer method called args focus k l =
-        dispatch_core s (on_focus (operation_named (out-FnPtr H pointer).name method.at) args focus) k l
+    unlinked_on _ pointer method called args focus k l = dispatch_core s (as_method (natives_alone (out-FnPtr H pointer).name))
+        (on_focus (operation_named (out-FnPtr H pointer).name method.at) args focus) k l
+
+    abbrev pub pointer_on : Option (Function H) → FnPtr H → Method → (called : List ℕ) → (args : List (Dynamic H)) →
+        (focus : Dynamic H) → List (Frame H) → Local H → Core H
+    pointer_on (Some function) pointer method called args focus k l = core (EnterOnFocus function args method.at) k l
+    pointer_on None pointer method called args focus k l = unlinked_on (out-FnPtr H pointer).kind pointer method called args focus k l
 
     -- the pointer that the method works on is called itself, with all its arguments, and gets nothing lent
-    abbrev pub pointer_alone : FnPtrKind H → FnPtr H → Position → (args : List (Dynamic H)) → List (Frame H) → Local H → Core H
-    pointer_alone (kind.Native id) pointer at args k l =
+    abbrev pub unlinked_alone : FnPtrKind H → FnPtr H → Position → (args : List (Dynamic H)) → List (Frame H) → Local H → Core H
+    unlinked_alone (kind.Native id) pointer at args k l =
         numbered_core (record (call_of (operation_named (codes "call") at) args) { number = Some id.number }) k l
-    pointer_alone _ pointer at args k l =
-        dispatch_core s (record (call_of (operation_named (out-FnPtr H pointer).name at) args) { marks = true }) k l
+    unlinked_alone _ pointer at args k l = dispatch_core s (plainly (natives_alone (out-FnPtr H pointer).name) false)
+        (record (call_of (operation_named (out-FnPtr H pointer).name at) args) { marks = true }) k l
+
+    abbrev pub pointer_alone : Option (Function H) → FnPtr H → Position → (args : List (Dynamic H)) → List (Frame H) → Local H → Core H
+    pointer_alone (Some function) pointer at args k l = linked_core function at args k l
+    pointer_alone None pointer at args k l = unlinked_alone (out-FnPtr H pointer).kind pointer at args k l
 
     -- ---- words
 
@@ -134,13 +150,14 @@ module _ {H : Type 0} where
         core (Fail (mismatch (codes "Fn") (type_name_of s.host_type l.around.cells seen) method.at)) k l
     call_argument method (first ∷ rest) seen focus k l =
         on_value (pointer_wanted s.host_type l.around.cells first (argument_at method))
-        (λ pointer. pointer_on (out-FnPtr H pointer).kind pointer method (codes "call") ((out-FnPtr H pointer).curry ++ rest) focus k l) k l
+        (λ pointer. pointer_on (linked_to pointer (length ((out-FnPtr H pointer).curry ++ rest)) l.around.lib) pointer method (codes "call")
+        ((out-FnPtr H pointer).curry ++ rest) focus k l) k l
 
     -- `call` on a pointer calls that pointer, with copies of what it has already
     abbrev pub call_core : UnionLayer H → Method → (args : List (Dynamic H)) → (seen focus : Dynamic H) → List (Frame H) → Local H →
         Core H
-    call_core (union.FnPtr pointer) method args seen focus k l =
-        pointer_alone (out-FnPtr H pointer).kind pointer method.at (copied_before pointer args) k l
+    call_core (union.FnPtr pointer) method args seen focus k l = pointer_alone
+        (linked_to pointer (length (copied_before pointer args)) l.around.lib) pointer method.at (copied_before pointer args) k l
     call_core _ method args seen focus k l = call_argument method args seen focus k l
 
     -- `curry` gives a copy of a pointer, and refuses anything else
@@ -151,10 +168,11 @@ module _ {H : Type 0} where
 
     -- a map's own pointer is called on it, and else the method is a call by its name
     abbrev pub entry_core : Option (FnPtr H) → Method → (args : List (Dynamic H)) → (focus : Dynamic H) → List (Frame H) → Local H → Core H
-    entry_core (Some pointer) method args focus k l = pointer_on (out-FnPtr H pointer).kind pointer method (out-FnPtr H pointer).name
+    entry_core (Some pointer) method args focus k l = pointer_on
+        (linked_to pointer (length (copied_before pointer args)) l.around.lib) pointer method (out-FnPtr H pointer).name
         (copied_before pointer args) focus k l
     entry_core None method args focus k l =
-        dispatch_core s (on_focus (operation_named method.name method.at) args focus) k l
+        dispatch_core s (as_method false) (on_focus (operation_named method.name method.at) args focus) k l
 
     abbrev pub own_core : Method → (args : List (Dynamic H)) → (focus : Dynamic H) → List (Frame H) → Local H → Core H
     own_core method args focus k l =

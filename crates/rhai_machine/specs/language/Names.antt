@@ -1,13 +1,19 @@
--- What a name means, by name alone: the newest variable of the name.
+-- What a name means, by name alone: the newest variable of the name, or else the first function of the name in the libraries.
 use Rattle.std.specs.Prelude.{ℕ, List, Option, Some, None, Result, Ok, Err}
-use Rattle.rhai_machine.specs.Types.{Dynamic, EvalAltResult, Position, ScopeEntry, Union}
+use Rattle.std.specs.Option.{option_or}
+use Rattle.rhai_machine.specs.Types.{Dynamic, EvalAltResult, Module, Position, ScopeEntry, Union}
 use Rattle.rhai_values.specs.declared.base.value.Union.TheVariants as value
 use Rattle.rhai_state.specs.declared.error.EvalAltResult.TheVariants as error
 use Rattle.rhai_values.specs.Cells.{value_of_cell}
 use Rattle.rhai_state.specs.Scope.{found}
 use Rattle.rhai_machine.specs.language.Values.{Cells, copied}
+use Rattle.rhai_machine.specs.language.Functions.{meant_function}
 
 module _ {H : Type 0} where
+  -- the value of a name: a variable's, or a pointer to a function
+  abbrev pub meant : List (Module H) → List ℕ → List (ScopeEntry H) → Option (Dynamic H)
+  meant lib name entries = option_or (found name entries) (meant_function lib name)
+
   -- a variable that is the handle of a held cell is another's
   abbrev pub entered : List ℕ → Position → Dynamic H → Option (Dynamic H) → Result (Dynamic H) (EvalAltResult H)
   entered name at v (Some inner) = Ok v
@@ -23,5 +29,10 @@ module _ {H : Type 0} where
   variable_of cells name at None = Err (error.ErrorVariableNotFound name at)
 
   -- what reading a variable gives: a copy of its value, read-write; a copied handle names the same cell
-  abbrev pub read : Cells H → List ℕ → Position → List (ScopeEntry H) → Result (Dynamic H) (EvalAltResult H)
-  read cells name at entries = copied (variable_of cells name at (found name entries))
+  abbrev pub read : Cells H → List (Module H) → List ℕ → Position → List (ScopeEntry H) → Result (Dynamic H) (EvalAltResult H)
+  read cells lib name at entries = copied (variable_of cells name at (meant lib name entries))
+
+  -- `this`, where it is bound
+  abbrev pub bound_this : Position → Option (Dynamic H) → Result (Dynamic H) (EvalAltResult H)
+  bound_this at (Some v) = Ok v
+  bound_this at None = Err (error.ErrorUnboundThis at)

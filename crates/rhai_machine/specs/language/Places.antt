@@ -1,6 +1,6 @@
 -- Where a variable's value stands, as it is assigned to.
 use Rattle.std.specs.Prelude.{ℕ, Bool, true, false, not, ◌&&◌, ◌||◌, List, [], Option, Some, None, Result, Ok, Err, slice_get}
-use Rattle.rhai_machine.specs.Types.{AccessMode, Dynamic, EvalAltResult, Position, ScopeEntry, Union}
+use Rattle.rhai_machine.specs.Types.{AccessMode, Dynamic, EvalAltResult, Module, Position, ScopeEntry, Union}
 use Rattle.rhai_values.specs.declared.base.value.AccessMode.TheVariants.{ReadWrite, ReadOnly}
 use Rattle.rhai_values.specs.declared.base.value.Union.TheVariants as value
 use Rattle.rhai_state.specs.declared.error.EvalAltResult.TheVariants as error
@@ -8,11 +8,13 @@ use Rattle.rhai_values.specs.Cells.{value_of_cell, with_held, with_value}
 use Rattle.rhai_state.specs.Scope.{index_of, found, revalued}
 use Rattle.rhai_machine.specs.language.State.{Local}
 use Rattle.rhai_machine.specs.language.Values.{Cells}
+use Rattle.rhai_machine.specs.language.Functions.{meant_function}
 
--- in an entry of the scope, in a cell, or as the value that a chain works on
+-- in an entry of the scope, in a cell, as `this`, or as the value that a chain works on
 pub data Place : Type 0 where
   InEntry : (index : ℕ) → Place
   InCell : (number : ℕ) → Place
+  InThis : Place
   InFocus : Place
 
 -- a place with the value that stands there
@@ -46,13 +48,20 @@ module _ {H : Type 0} where
   target_at cells name at index (value.Cell id) v = target_in_cell name at v.mode id.number (value_of_cell cells id.number)
   target_at cells name at index _ v = unless_constant (is_constant v.mode) name at (target (InEntry index) v)
 
-  abbrev pub target_found : Cells H → List ℕ → Position → Option ℕ → Option (Dynamic H) → Result (Target H) (EvalAltResult H)
-  target_found cells name at (Some index) (Some v) = target_at cells name at index v.value v
-  target_found cells name at _ _ = Err (error.ErrorVariableNotFound name at)
+  -- what is no variable is unknown, or means a function, which is not assigned to
+  abbrev pub no_variable : (function : Option (Dynamic H)) → List ℕ → Position → EvalAltResult H
+  no_variable (Some pointer) name at = error.ErrorAssignmentToConstant name at
+  no_variable None name at = error.ErrorVariableNotFound name at
+
+  abbrev pub target_found : Cells H → (otherwise : EvalAltResult H) → List ℕ → Position → Option ℕ → Option (Dynamic H) →
+      Result (Target H) (EvalAltResult H)
+  target_found cells otherwise name at (Some index) (Some v) = target_at cells name at index v.value v
+  target_found cells otherwise name at _ _ = Err otherwise
 
   -- the variable of a name, as it is assigned to
-  abbrev pub target_of : Cells H → List ℕ → Position → List (ScopeEntry H) → Result (Target H) (EvalAltResult H)
-  target_of cells name at entries = target_found cells name at (index_of name entries) (found name entries)
+  abbrev pub target_of : Cells H → List (Module H) → List ℕ → Position → List (ScopeEntry H) → Result (Target H) (EvalAltResult H)
+  target_of cells lib name at entries =
+      target_found cells (no_variable (meant_function lib name) name at) name at (index_of name entries) (found name entries)
 
   -- The focus of a chain, as it is assigned to: the name of the chain's root tells which constant it is. A handle leads to its cell.
   abbrev pub focus_in_cell : List ℕ → Position → AccessMode → ℕ → Option (Dynamic H) → Result (Target H) (EvalAltResult H)
@@ -67,14 +76,30 @@ module _ {H : Type 0} where
   abbrev pub focus_target : Cells H → List ℕ → Position → Dynamic H → Result (Target H) (EvalAltResult H)
   focus_target cells name at v = focus_at cells name at v.value v
 
+  -- `this`, as it is assigned to: it has no name
+  abbrev pub this_at : Cells H → Position → Union H → Dynamic H → Result (Target H) (EvalAltResult H)
+  this_at cells at (value.Cell id) v = focus_in_cell [] at v.mode id.number (value_of_cell cells id.number)
+  this_at cells at _ v = unless_constant (is_constant v.mode) [] at (target InThis v)
+
+  abbrev pub this_target : Cells H → Position → Option (Dynamic H) → Result (Target H) (EvalAltResult H)
+  this_target cells at (Some v) = this_at cells at v.value v
+  this_target cells at None = Err (error.ErrorUnboundThis at)
+
+  -- another value for `this`, which stays bound or unbound
+  abbrev pub rebound : Dynamic H → Option (Dynamic H) → Option (Dynamic H)
+  rebound v (Some this) = Some v
+  rebound v None = None
+
   -- a value is written to a place
   abbrev pub put : Place → Dynamic H → Local H → Local H
   put (InEntry index) v l = record l { scope = revalued l.scope index (slice_get l.scope index) v }
   put (InCell number) v l = record l { around = record l.around { cells = with_value l.around.cells number v } }
+  put InThis v l = record l { this = rebound v l.this }
   put InFocus v l = record l { focus = Some v }
 
   -- the cells while the value of a place is lent to a native: its cell is held
   abbrev pub while_lent : Place → Cells H → Cells H
   while_lent (InEntry index) cells = cells
   while_lent (InCell number) cells = with_held cells number
+  while_lent InThis cells = cells
   while_lent InFocus cells = cells

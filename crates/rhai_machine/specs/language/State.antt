@@ -1,5 +1,5 @@
 -- What a run reads and changes.
-use Rattle.std.specs.Prelude.{◌≡◌, ⊤, ℕ, List, Option, Result, Ok, Err, false}
+use Rattle.std.specs.Prelude.{◌≡◌, ⊤, ℕ, ◌+◌, ◌-◌, ◌^◌, min, List, Option, Result, Ok, Err, false}
 use Rattle.rhai_machine.specs.Types.{Dynamic, EvalAltResult, Module, ScopeEntry}
 use Rattle.rhai_values.specs.declared.base.value.Import.{Import}
 use Rattle.rhai_state.specs.Errors.{is_out_of_memory}
@@ -34,6 +34,10 @@ pub record State (S H : Type 0) : Type 0 where
   pub table : S
   pub count : ℕ
   pub local : Local H
+
+-- one level deeper, up to the greatest level
+abbrev pub deeper : ℕ → ℕ
+deeper level = min (level + 1) (2 ^ 64 - 1)
 
 -- no answer for want of memory
 abbrev pub HasMemory : {A H : Type 0} → Result A (EvalAltResult H) → Type 0

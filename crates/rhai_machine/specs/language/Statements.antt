@@ -1,17 +1,21 @@
 -- The rules of statements and of their lists.
-use Rattle.std.specs.Prelude.{ℕ, ◌+◌, ◌^◌, ◌-◌, Bool, true, false, not, ◌&&◌, List, [], ◌∷◌, ◌++◌, Option, Some, None}
-use Rattle.std.specs.Prelude.{length, is_some, min, nat_le, nat_eq, if◌then◌else◌, bit_and, take}
-use Rattle.rhai_machine.specs.Types.{ASTFlags, AccessMode, Dynamic, out-Expr, Expr, Ident, Position, Stmt, StmtBlock}
+use Rattle.std.specs.Prelude.{ℕ, ◌+◌, nat_lt, Bool, true, false, not, ◌&&◌, List, [], ◌∷◌, ◌++◌, Option, Some, None}
+use Rattle.std.specs.Prelude.{length, is_some, nat_le, nat_eq, if◌then◌else◌, bit_and, take, slice_get, slice_set}
+use Rattle.std.specs.List.{list_any}
+use Rattle.rhai_machine.specs.Types.{ASTFlags, AccessMode, Dynamic, out-Expr, Expr, Ident, Module, out-Module, Position, Stmt, StmtBlock}
 use Rattle.rhai_tree.specs.declared.expr.Expr.TheOpen as layer
 use Rattle.rhai_tree.specs.Layers.{StmtLayer}
 use Rattle.rhai_tree.specs.Positions.{position_of}
 use Rattle.rhai_check.specs.Forms.{is_exported}
+use Rattle.rhai_items.specs.Lookup.{with_entry}
+use Rattle.rhai_values.specs.Copy.{copy_of}
 use Rattle.rhai_values.specs.declared.base.value.AccessMode.TheVariants.{ReadWrite, ReadOnly}
 use Rattle.rhai_state.specs.declared.error.EvalAltResult.TheVariants as error
 use Rattle.rhai_state.specs.Scope.{index_of, new_entry}
 use Rattle.rhai_machine.specs.machine.Machine.{Move, Halt, Go}
 use Rattle.rhai_machine.specs.language.Setting.{Setting}
-use Rattle.rhai_machine.specs.language.State.{Local}
+use Rattle.rhai_machine.specs.language.State.{Local, Surroundings}
+pub use Rattle.rhai_machine.specs.language.State.{deeper}
 use Rattle.rhai_machine.specs.language.Values.{unit_value}
 use Rattle.rhai_machine.specs.language.Frames.{Saved, Frame, Core, core, where_there, Eval, Exec, OpenExpr, Enter, Run, WhileTurn}
 use Rattle.rhai_machine.specs.language.Frames.{DoTurn, Back, Fail, StatementValue, DefineValue, IfCondition, RestOfList, RestoreList}
@@ -26,9 +30,11 @@ has_option option options = nat_eq (bit_and options.0 option) option
 abbrev pub mode_of : ASTFlags → AccessMode
 mode_of options = if has_option 4 options then ReadOnly else ReadWrite
 
--- one level deeper, up to the greatest level
-abbrev pub deeper : ℕ → ℕ
-deeper level = min (level + 1) (2 ^ 64 - 1)
+-- the tables with a value for a name in one of them
+abbrev pub with_entry_at : {T : Type 0} → List ℕ → T → List (List (List ℕ) × List T) → (at : ℕ) → Option (List (List ℕ) × List T) →
+    List (List (List ℕ) × List T)
+with_entry_at name v tables at (Some table) = slice_set tables at (with_entry name v table)
+with_entry_at name v tables at None = tables
 
 module _ {H : Type 0} where
   -- a list: an empty one has no effect; a restoring one keeps what it takes back at its end
@@ -59,10 +65,35 @@ module _ {H : Type 0} where
   chosen_core true body branch k l = core (Enter body.statements true) k l
   chosen_core false body branch k l = core (Enter branch.statements true) k l
 
+  -- a library with anything in it
+  abbrev pub has_some : Module H → Bool
+  has_some m =
+      let shown = out-Module H m in
+      nat_lt 0 (length shown.functions + (length shown.constants.1 + length shown.sub_modules.1))
+
+  -- a constant is entered at the top of a script that has a library
+  abbrev pub enters : ASTFlags → (restoring : Bool) → Local H → Bool
+  enters options restoring l =
+      has_option 4 options && (not restoring && (nat_eq l.scope_level 0 && list_any has_some l.around.lib))
+
+  -- it is entered into the table of constants, as a copy
+  abbrev pub with_constant : List ℕ → Dynamic H → Surroundings H → Surroundings H
+  with_constant name v around = record around {
+    constant_tables = with_entry_at name (copy_of v) around.constant_tables around.constants
+        (slice_get around.constant_tables around.constants);
+  }
+
+  abbrev pub constant_core : (enters : Bool) → List ℕ → Dynamic H → Local H → Local H
+  constant_core true name v l = record l { around = with_constant name v l.around }
+  constant_core false name v l = l
+
   -- a new variable with its value
-  abbrev pub defined_core : Dynamic H → Ident → ASTFlags → List (Frame H) → Local H → Core H
-  defined_core v ident options k l =
-      core (Back unit_value) k (record l { scope = l.scope ++ new_entry ident.name (mode_of options) v ∷ [] })
+  abbrev pub added : Dynamic H → Ident → ASTFlags → Local H → Local H
+  added v ident options l = record l { scope = l.scope ++ new_entry ident.name (mode_of options) v ∷ [] }
+
+  abbrev pub defined_core : Dynamic H → Ident → ASTFlags → (restoring : Bool) → List (Frame H) → Local H → Core H
+  defined_core v ident options restoring k l =
+      core (Back unit_value) k (added v ident options (constant_core (enters options restoring l) ident.name v l))
 
   -- a `break` or a `continue` is an error on its way to its loop, with its value as it is
   abbrev pub break_core : Option Expr → (is_break : Bool) → Position → List (Frame H) → Local H → Core H
@@ -77,10 +108,12 @@ module _ {H : Type 0} where
 
   module _ (s : Setting H) where
     -- where shadowing is off a name is declared once; the scope holds at most so many variables; then the value
-    abbrev pub define_core : (shadows full : Bool) → Ident → Expr → ASTFlags → Position → List (Frame H) → Local H → Core H
-    define_core true full ident value options pos k l = core (Fail (error.ErrorVariableExists ident.name pos)) k l
-    define_core false true ident value options pos k l = core (Fail (error.ErrorTooManyVariables pos)) k l
-    define_core false false ident value options pos k l = core (Eval value) (DefineValue ident options (position_of value) ∷ k) l
+    abbrev pub define_core : (shadows full : Bool) → Ident → Expr → ASTFlags → (restoring : Bool) → Position → List (Frame H) → Local H →
+        Core H
+    define_core true full ident value options restoring pos k l = core (Fail (error.ErrorVariableExists ident.name pos)) k l
+    define_core false true ident value options restoring pos k l = core (Fail (error.ErrorTooManyVariables pos)) k l
+    define_core false false ident value options restoring pos k l =
+        core (Eval value) (DefineValue ident options restoring (position_of value) ∷ k) l
 
     -- a statement, after its charge; a form that is not there has no step
     abbrev pub stmt_move : StmtLayer → Bool → List (Frame H) → Local H → Move H (Core H)
@@ -92,7 +125,7 @@ module _ {H : Type 0} where
     stmt_move (layer.Var ident value None options pos) restoring k l =
         where_there (not (is_exported options))
         (define_core (not s.offer.allow_shadowing && is_some (index_of ident.name l.scope))
-        (nat_le s.limits.max_variables (length l.scope)) ident value options pos k l)
+        (nat_le s.limits.max_variables (length l.scope)) ident value options restoring pos k l)
     stmt_move (layer.If test body branch pos) restoring k l = Go (core (Eval test) (IfCondition (position_of test) body branch ∷ k) l)
     stmt_move (layer.While test body pos) restoring k l = Go (core (WhileTurn test body) k l)
     stmt_move (layer.Do test body options pos) restoring k l = Go (core (DoTurn test body options) k l)

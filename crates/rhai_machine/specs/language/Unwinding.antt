@@ -14,9 +14,9 @@ use Rattle.rhai_state.specs.Errors.{is_system}
 use Rattle.rhai_machine.specs.language.Setting.{Setting}
 use Rattle.rhai_machine.specs.language.State.{Local}
 use Rattle.rhai_machine.specs.language.Values.{Cells, flat, mismatch, through, truth, unit_value}
-use Rattle.rhai_machine.specs.language.Places.{InEntry, put}
-use Rattle.rhai_machine.specs.language.Frames.{Operation, NewValue, Member, Property, Item, MemberAccess, Control, Frame, Core, core, chain_on}
-use Rattle.rhai_machine.specs.language.Frames.{on_value, ended, Assign, Eval, Argument, Run}
+use Rattle.rhai_machine.specs.language.Places.{put}
+use Rattle.rhai_machine.specs.language.Frames.{Operation, Lender, NewValue, Member, Property, Item, MemberAccess, Control, Frame, Core}
+use Rattle.rhai_machine.specs.language.Frames.{core, chain_on, on_value, ended, Assign, AssignThis, AssignThisValue, CallEnd, Eval, Argument, Run}
 use Rattle.rhai_machine.specs.language.Frames.{WhileTurn, DoTurn, OpenChain, Walk, Back, Changed}
 use Rattle.rhai_machine.specs.language.Frames.{Fail, StatementValue, DefineValue, IfCondition, RestOfList, RestoreList, Top, UnaryOperand}
 use Rattle.rhai_machine.specs.language.Frames.{LeftOperand, RightOperand, AndPart, OrPart, CoalescePart, AssignValue, WhileCondition}
@@ -27,7 +27,8 @@ use Rattle.rhai_machine.specs.language.Frames.{MemberGot, MemberOperated, Getter
 use Rattle.rhai_machine.specs.language.Data.{with_item, with_value, items_core, entries_core, joined_core, part_core, printed}
 use Rattle.rhai_machine.specs.language.Data.{unprinted_core}
 use Rattle.rhai_machine.specs.language.Expressions.{and_next, or_next, coalesce_next}
-use Rattle.rhai_machine.specs.language.Calls.{builtin_of, call_of, operator_core, sized}
+use Rattle.rhai_machine.specs.language.Bodies.{called_back, returned}
+use Rattle.rhai_machine.specs.language.Calls.{builtin_of, call_of, operator_core, place_of, sized}
 use Rattle.rhai_machine.specs.language.Arguments.{arguments_core, flattens, keyword_core, taken}
 use Rattle.rhai_machine.specs.language.Statements.{has_option, chosen_core, defined_core, restored_by}
 use Rattle.rhai_machine.specs.language.Loops.{while_core, do_control, caught}
@@ -42,14 +43,15 @@ module _ {H : Type 0} where
   abbrev pub gone_up : Rooted H → Local H → Local H
   gone_up root l = record l { focus = Some root.value; around = record l.around { cells = root.cells } }
 
-  -- a chain's focus goes back to its variable
-  abbrev pub ended_chain : (entry : Option ℕ) → (outer : Option (Dynamic H)) → Local H → Local H
+  -- a chain's focus goes back to who lent its root
+  abbrev pub ended_chain : (lender : Option Lender) → (outer : Option (Dynamic H)) → Local H → Local H
   ended_chain None outer l = focused_on outer l
-  ended_chain (Some index) outer l = focused_on outer (put (InEntry index) (focus_of l) l)
+  ended_chain (Some lender) outer l = focused_on outer (put (place_of lender) (focus_of l) l)
 
   abbrev pub restored : Frame H → Local H → Local H
   restored (RestoreList saved) l = restored_by saved l
-  restored (ChainEnd entry outer) l = ended_chain entry outer l
+  restored (CallEnd exit) l = called_back exit l
+  restored (ChainEnd lender outer) l = ended_chain lender outer l
   restored (StepDown above step) l = gone_up (gone_back above step (record { value = focus_of l; cells = l.around.cells })) l
   restored (Temporary above back) l = focused_on above l
   restored (PartMethod above at pos) l = focused_on (Some above) l
@@ -110,7 +112,8 @@ module _ {H : Type 0} (s : Setting H) where
   -- a value comes up to a frame; a left operand is flattened before the right one is evaluated
   abbrev pub up_core : Frame H → Dynamic H → List (Frame H) → Local H → Core H
   up_core (StatementValue at) v k l = core (ended (flat l.around.cells v at)) k l
-  up_core (DefineValue ident options value_at) v k l = on_value (flat l.around.cells v value_at) (λ x. defined_core x ident options k l) k l
+  up_core (DefineValue ident options restoring value_at) v k l =
+      on_value (flat l.around.cells v value_at) (λ x. defined_core x ident options restoring k l) k l
   up_core (IfCondition test_at body branch) v k l =
       on_value (truth s.host_type l.around.cells v test_at) (λ holds. chosen_core holds body branch k l) k l
   up_core (RestOfList rest restoring) v k l = core (Run rest restoring v) k l
@@ -133,6 +136,8 @@ module _ {H : Type 0} (s : Setting H) where
       on_value (flat l.around.cells v part_at) (λ x. joined_core s x.value x text part_at rest k l) k l
   up_core (PrintedPart text type part_at rest) v k l = part_core s text (printed v.value type) part_at rest k l
   up_core (AssignValue assignment value_at) v k l = on_value (flat l.around.cells v value_at) (λ x. core (Assign assignment x) k l) k l
+  up_core (AssignThisValue op at value_at) v k l =
+      on_value (flat l.around.cells v value_at) (λ x. core (AssignThis op at x) k l) k l
   up_core (WhileCondition test body) v k l =
       on_value (truth s.host_type l.around.cells v (position_of test)) (λ holds. while_core holds test body k l) k l
   up_core (WhileBody test body) v k l = core (WhileTurn test body) k l
@@ -156,10 +161,11 @@ module _ {H : Type 0} (s : Setting H) where
   up_core (MemberSet value) v k l = core (Changed value) k l
   up_core frame v k l = core (Back v) k (restored frame l)
 
-  -- an error comes down to a frame: but for a script's end, a loop's body and what a native prints each takes back what it has to, and
-  -- passes it on
+  -- an error comes down to a frame: but for a script's and a function's end, a loop's body and what a native prints each takes back what it
+  -- has to, and passes it on
   abbrev pub down_core : Frame H → EvalAltResult H → List (Frame H) → Local H → Core H
   down_core (Top map_exit) e k l = core (ended (topped map_exit e)) k l
+  down_core (CallEnd exit) e k l = core (ended (returned exit e)) k (called_back exit l)
   down_core (WhileBody test body) e k l = core (caught (WhileTurn test body) e) k l
   down_core (DoBody test body options) e k l = core (caught (DoTurn test body options) e) k l
   down_core (PrintedPart text type part_at rest) e k l = unprinted_core s (is_system e) e text type part_at rest k l

@@ -15,7 +15,7 @@ returns-clause-keeps g c = integer_keeps c.args.global.now c.charge_all.new.glob
     c.replace_value.ensures.after
 
 pub returns-clause-found : goal.returns-clause-found
-returns-clause-found g c is = integer_found c.args.scope.now (cells_of c.args.global.now.cells) c.args.op c.args.lhs.now c.args.rhs.now
+returns-clause-found g c is = integer_found c.args.scope.now c.args.global.now.lib (cells_of c.args.global.now.cells) c.args.op c.args.lhs.now c.args.rhs.now
     c.in-Variable.offset c.in-Variable.name c.in-Variable.namespace c.in-Variable.pos (rw (c.in-Variable.is, exprs.outs-Variable) refl)
     c.in-Some.token c.in-Some.is c.in-Some-place_of_variable.index c.value_at.result.now c.in-Some-assign_known.value
     (sym c.place_of_variable.ensures.exact ∙ c.in-Some-place_of_variable.is) c.value_at.ensures

@@ -13,8 +13,7 @@ pub returns-in-Err-clause-runs : goal.returns-in-Err-clause-runs
 returns-in-Err-clause-runs g c offer held restoring fast =
     let rules = rules_of c.args.limits.now g.H.Host.name_of offer g.T.NativeTable.natives in
     let ready : IsReady c.in_ok-ready.ready c.in-Variable.name c.in-Variable.pos c.in_ok-token.token (out-Expr c.args.rhs.now)
-    c.args.scope.now
-    c.args.global.now.cells = c.in_ok-ready.ensures.ready in
+    c.args.scope.now c.args.global.now.lib c.args.global.now.cells = c.in_ok-ready.ensures.ready in
     let form : out-Expr c.args.lhs.now ≡ layer.Variable c.in-Variable.offset c.in-Variable.name c.in-Variable.namespace
     c.in-Variable.pos =
     rw (c.in-Variable.is, exprs.outs-Variable) refl in
@@ -30,8 +29,7 @@ pub returns-in-Err-track_operation-clause-runs : goal.returns-in-Err-track_opera
 returns-in-Err-track_operation-clause-runs g c offer held restoring fast =
     let rules = rules_of c.args.limits.now g.H.Host.name_of offer g.T.NativeTable.natives in
     let ready : IsReady c.in_ok-ready.ready c.in-Variable.name c.in-Variable.pos c.in_ok-token.token (out-Expr c.args.rhs.now)
-    c.args.scope.now
-    c.args.global.now.cells = c.in_ok-ready.ensures.ready in
+    c.args.scope.now c.args.global.now.lib c.args.global.now.cells = c.in_ok-ready.ensures.ready in
     let form : out-Expr c.args.lhs.now ≡ layer.Variable c.in-Variable.offset c.in-Variable.name c.in-Variable.namespace
     c.in-Variable.pos =
     rw (c.in-Variable.is, exprs.outs-Variable) refl in
@@ -48,8 +46,7 @@ pub returns-clause-runs : goal.returns-clause-runs
 returns-clause-runs g c offer held restoring fast =
     let rules = rules_of c.args.limits.now g.H.Host.name_of offer g.T.NativeTable.natives in
     let ready : IsReady c.in_ok-ready.ready c.in-Variable.name c.in-Variable.pos c.in_ok-token.token (out-Expr c.args.rhs.now)
-    c.args.scope.now
-    c.args.global.now.cells = c.in_ok-ready.ensures.ready in
+    c.args.scope.now c.args.global.now.lib c.args.global.now.cells = c.in_ok-ready.ensures.ready in
     let form : out-Expr c.args.lhs.now ≡ layer.Variable c.in-Variable.offset c.in-Variable.name c.in-Variable.namespace
     c.in-Variable.pos =
     rw (c.in-Variable.is, exprs.outs-Variable) refl in

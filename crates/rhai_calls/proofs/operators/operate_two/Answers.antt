@@ -1,14 +1,16 @@
+use Rattle.std.proofs.Common.{◌∷◌, []}
 use Rattle.rhai_machine.specs.language.Setting.{rules_of}
-use Rattle.rhai_calls.specs.Dispatch.{Dispatches}
+use Rattle.rhai_calls.specs.Called.{Calls}
 use Rattle.rhai_calls.proofs.Operating.{built}
 use Rattle.rhai_calls.proofs.operators.operate_two.Goals as goal
 
 pub returns-in-Some-clause-runs : goal.returns-in-Some-clause-runs
-returns-in-Some-clause-runs g c offer scope held k =
+returns-in-Some-clause-runs g c offer scope held offers k =
     let rules = rules_of c.args.limits.now g.H.Host.name_of offer g.T.NativeTable.natives in
     built rules _ k _ _ _ _ _ c.builtin_binary.ensures.value c.in-Some.is c.applied.ensures
 
 pub returns-in-None-clause-runs : goal.returns-in-None-clause-runs
-unfolding Dispatches
-returns-in-None-clause-runs g c offer scope held k =
-    rw (← c.builtin_binary.ensures.value (rw c.in-None.is tt), c.in-None.is) (c.call_two.ensures.runs offer scope held k)
+unfolding Calls
+returns-in-None-clause-runs g c offer scope held offers k =
+    rw (← c.builtin_binary.ensures.value (rw c.in-None.is tt), c.in-None.is)
+    (c.call_listed.ensures.runs offer scope held (c.args.left ∷ c.args.right ∷ []) offers c.two-operands.ensures k)

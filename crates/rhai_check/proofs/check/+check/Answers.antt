@@ -2,23 +2,26 @@ use Rattle.std.proofs.Common.{◌≡◌, ap, ◌∙◌, sym, rules, refl, ◌++�
 use Rattle.rhai_tree.specs.declared.expr.Expr.TheOpen as layer
 use Rattle.rhai_tree.specs.declared.expr.Expr.TheVariants.{outs-Variable, outs-Or, outs-Dot, outs-Index, outs-DynamicConstant}
 use Rattle.rhai_tree.specs.declared.expr.Expr.TheVariants.{outs-BoolConstant, outs-IntegerConstant, outs-CharConstant}
-use Rattle.rhai_tree.specs.declared.expr.Expr.TheVariants.{outs-StringConstant, outs-Unit}
+use Rattle.rhai_tree.specs.declared.expr.Expr.TheVariants.{outs-StringConstant, outs-Unit, outs-ThisPtr}
 use Rattle.rhai_tree.specs.declared.expr.Stmt.TheVariants.{outs-If, outs-Noop, outs-While, outs-Assignment}
 use Rattle.rhai_check.specs.Context.{around}
-use Rattle.rhai_check.specs.Frame.{tests_of, dot_resolves, name_resolves}
+use Rattle.rhai_check.specs.Frame.{tests_of, resolves_expr, dot_resolves, name_resolves, bracket_resolves}
 use Rattle.rhai_check.specs.Forms.{ends_chain}
-use Rattle.rhai_check.specs.Reading.{faulty, sound, found_behind_bracket}
+use Rattle.rhai_check.specs.Reading.{faulty, sound}
 use Rattle.rhai_check.specs.WellFormed.{seen_expr, dot_faults}
 use Rattle.rhai_check.specs.Names.{is_good}
 use Rattle.std.proofs.lemmas.Grind.{common_steps}
 use Rattle.std.proofs.lemmas.List.{append-nil}
-use Rattle.rhai_check.proofs.Chains.{bracket_same, named_alone, named_apart, and_true, passes_as, runs_as, refused_as}
+use Rattle.rhai_check.proofs.Chains.{bracket_same, bracket_last, bracket_apart, bracket_runs, named_alone, named_apart, and_true}
+use Rattle.rhai_check.proofs.Chains.{passes_as, runs_as, refused_as}
 use Rattle.rhai_check.proofs.Chains.{chain_passes, chain_runs, chain_refused, rest_refused}
 use Rattle.rhai_check.proofs.Offsets.{variable_above}
 use Rattle.rhai_check.proofs.Outcome.{given_ok, err_then, runs_at, exact_expr_at, exact_stmt_at, resolved_expr_at, refused_expr_at}
 use Rattle.rhai_check.proofs.Outcome.{target_refused, exported_refused, var_passes, var_runs, control_passes, control_refused, loop_passes}
 use Rattle.rhai_check.proofs.Refused.{refused, refuses_expr, refuses_stmt, refuses_first, refuses_later}
-use Rattle.rhai_check.proofs.Walk.{refuses_expr_at, refuses_stmt_at, resolves-expr, resolves-stmt}
+use Rattle.rhai_check.proofs.Refused.{refuses_front, refuses_behind, refuses_memory}
+use Rattle.rhai_check.proofs.Links.{counted_runs}
+use Rattle.rhai_check.proofs.Walk.{refuses_expr_at, refuses_stmt_at, resolves-expr, resolves-stmt, declares-expr}
 use Rattle.rhai_check.proofs.MapKeys.{map_passes, map_runs, map_refused, keys_refused}
 use Rattle.rhai_check.proofs.check.+check.Goals as goal
 
@@ -186,7 +189,7 @@ pub chain::check_behind_dot-returns-in_err-check_named-in-Index-clause-refused :
 chain::check_behind_dot-returns-in_err-check_named-in-Index-clause-refused t c =
     refused _ _ _ _ c.from_residual-in_err-check_named-in-Index.ensures
     (chain_refused c.args.rhs.now c.in-Index.first c.in-Index.rest
-    (layer.Index c.in-Index.first c.in-Index.rest c.in-Index.field-2 c.in-Index.field-3)
+    (layer.Index c.in-Index.first c.in-Index.rest c.in-Index.options c.in-Index.field-3)
     c.args.ends _ _ c.args.pos
     (around c.args.names.now c.args.place) c.if-ends.false (rw (c.in-Index.is, outs-Index) refl) refl refl _
     (rw c.get-in-Index.ensures at c.in_err-check_named-in-Index.ensures.refused))
@@ -205,35 +208,33 @@ pub chain::check_behind_dot-returns-in_ok-check_named-in-Index-clause-exact :
     goal.chain::check_behind_dot-returns-in_ok-check_named-in-Index-clause-exact
 chain::check_behind_dot-returns-in_ok-check_named-in-Index-clause-exact t c =
     chain_passes c.args.rhs.now c.in-Index.first c.in-Index.rest
-    (layer.Index c.in-Index.first c.in-Index.rest c.in-Index.field-2 c.in-Index.field-3)
+    (layer.Index c.in-Index.first c.in-Index.rest c.in-Index.options c.in-Index.field-3)
     c.args.ends _ _ c.args.pos
     (around c.args.names.now c.args.place) c.if-ends.false (rw (c.in-Index.is, outs-Index) refl) refl _
     (rw c.get-in-Index.ensures at c.in_ok-check_named-in-Index.ensures.exact)
-    (passes_as _ _ _ (bracket_same faulty (ends_chain c.in-Index.field-2) c.in-Index.rest (around c.args.names.now c.args.place))
-    (rw (c.in_ok-check_named-in-Index.ensures.same, c.get-in-Index-2.ensures) at c.check_expr.ensures.exact))
+    (passes_as _ _ _ (bracket_same (ends_chain c.in-Index.options) c.in-Index.rest (around c.args.names.now c.args.place))
+    (rw (c.in_ok-check_named-in-Index.ensures.same, c.get-in-Index-2.ensures) at c.check_behind_bracket.ensures.exact))
 
 pub chain::check_behind_dot-returns-in_ok-check_named-in-Index-clause-resolved :
     goal.chain::check_behind_dot-returns-in_ok-check_named-in-Index-clause-resolved
 chain::check_behind_dot-returns-in_ok-check_named-in-Index-clause-resolved t c =
     chain_runs _ c.args.rhs.now c.in-Index.first
-    (layer.Index c.in-Index.first c.in-Index.rest c.in-Index.field-2 c.in-Index.field-3)
+    (layer.Index c.in-Index.first c.in-Index.rest c.in-Index.options c.in-Index.field-3)
     c.args.ends _ _ c.args.pos c.args.names.now c.if-ends.false (rw (c.in-Index.is, outs-Index) refl) refl
     (rw c.get-in-Index.ensures at c.in_ok-check_named-in-Index.ensures.resolved)
-    (runs_as _ (tests_of c.in-Index.rest).value (found_behind_bracket sound (ends_chain c.in-Index.field-2)
-    (tests_of c.in-Index.rest).link (tests_of c.in-Index.rest).value) c.args.names.now
-    (bracket_same sound (ends_chain c.in-Index.field-2) c.in-Index.rest)
-    (rw (c.in_ok-check_named-in-Index.ensures.same, c.get-in-Index-2.ensures) at c.check_expr.ensures.resolved))
+    (rw (c.in_ok-check_named-in-Index.ensures.same, c.ends_chain-in-Index.ensures, c.get-in-Index-2.ensures)
+    at c.check_behind_bracket.ensures.resolved)
 
 pub chain::check_behind_dot-returns-in_ok-check_named-in-Index-clause-refused :
     goal.chain::check_behind_dot-returns-in_ok-check_named-in-Index-clause-refused
 chain::check_behind_dot-returns-in_ok-check_named-in-Index-clause-refused t c =
     err_then _ (λ e h. rest_refused c.args.rhs.now c.in-Index.first c.in-Index.rest
-    (layer.Index c.in-Index.first c.in-Index.rest c.in-Index.field-2 c.in-Index.field-3)
+    (layer.Index c.in-Index.first c.in-Index.rest c.in-Index.options c.in-Index.field-3)
     c.args.ends _ _ c.args.pos
     (around c.args.names.now c.args.place) c.if-ends.false (rw (c.in-Index.is, outs-Index) refl) refl refl e
     (rw c.get-in-Index.ensures at c.in_ok-check_named-in-Index.ensures.exact) h)
-    (refused_as _ _ _ _ (bracket_same faulty (ends_chain c.in-Index.field-2) c.in-Index.rest (around c.args.names.now c.args.place))
-    (rw (c.in_ok-check_named-in-Index.ensures.same, c.get-in-Index-2.ensures) at c.check_expr.ensures.refused))
+    (refused_as _ _ _ _ (bracket_same (ends_chain c.in-Index.options) c.in-Index.rest (around c.args.names.now c.args.place))
+    (rw (c.in_ok-check_named-in-Index.ensures.same, c.get-in-Index-2.ensures) at c.check_behind_bracket.ensures.refused))
 
 pub chain::check_behind_dot-returns-in_default : goal.chain::check_behind_dot-returns-in_default
 chain::check_behind_dot-returns-in_default t c = record {
@@ -249,12 +250,34 @@ chain::check_behind_dot-returns-in_default t c = record {
       c.check_named-in_default.ensures.refused;
 }
 
-pub expr::check_expr-returns-in_err-check_expr-in-Dot-clause-refused : goal.expr::check_expr-returns-in_err-check_expr-in-Dot-clause-refused
+pub expr::check_expr-returns-in_err-count_links-in-Dot-clause-refused :
+    goal.expr::check_expr-returns-in_err-count_links-in-Dot-clause-refused
+expr::check_expr-returns-in_err-count_links-in-Dot-clause-refused t c =
+    refused _ _ _ _ c.from_residual.ensures (refuses_memory _ _ _ c.in_err-count_links-in-Dot.ensures.memory
+    (declares-expr c.args.expr.now (layer.Dot c.in-Dot.lhs c.in-Dot.rhs c.in-Dot.options c.in-Dot.pos) (rw (c.in-Dot.is, outs-Dot) refl)))
+
+pub expr::check_expr-returns-in_err-check_expr-in-Dot-clause-refused :
+    goal.expr::check_expr-returns-in_err-check_expr-in-Dot-clause-refused
 expr::check_expr-returns-in_err-check_expr-in-Dot-clause-refused t c =
-    refused _ _ _ _ c.from_residual.ensures
+    refused _ _ _ _ c.from_residual-in_err-check_expr-in-Dot.ensures
     (refuses_expr_at c.args.expr.now (layer.Dot c.in-Dot.lhs c.in-Dot.rhs c.in-Dot.options c.in-Dot.pos)
     (around c.args.names.now c.args.place) _ (rw (c.in-Dot.is, outs-Dot) refl)
-    (refuses_first _ _ _ _ _ (rw c.get-in-Dot.ensures at c.in_err-check_expr-in-Dot.ensures.refused)))
+    (refuses_front _ _ _ _ (rw c.get-in-Dot.ensures at c.in_err-check_expr-in-Dot.ensures.refused)))
+
+pub expr::check_expr-returns-in_err-count_links-in-Index-clause-refused :
+    goal.expr::check_expr-returns-in_err-count_links-in-Index-clause-refused
+expr::check_expr-returns-in_err-count_links-in-Index-clause-refused t c =
+    refused _ _ _ _ c.from_residual-in_err-count_links-in-Index.ensures (refuses_memory _ _ _ c.in_err-count_links-in-Index.ensures.memory
+    (declares-expr c.args.expr.now (layer.Index c.in-Index.lhs c.in-Index.rhs c.in-Index.options c.in-Index.field-3)
+    (rw (c.in-Index.is, outs-Index) refl)))
+
+pub expr::check_expr-returns-in_err-check_expr-in-Index-clause-refused :
+    goal.expr::check_expr-returns-in_err-check_expr-in-Index-clause-refused
+expr::check_expr-returns-in_err-check_expr-in-Index-clause-refused t c =
+    refused _ _ _ _ c.from_residual-in_err-check_expr-in-Index.ensures
+    (refuses_expr_at c.args.expr.now (layer.Index c.in-Index.lhs c.in-Index.rhs c.in-Index.options c.in-Index.field-3)
+    (around c.args.names.now c.args.place) _ (rw (c.in-Index.is, outs-Index) refl)
+    (refuses_front _ _ _ _ (rw c.get-in-Index.ensures at c.in_err-check_expr-in-Index.ensures.refused)))
 
 pub expr::check_expr-returns-in-DynamicConstant-clause-resolved : goal.expr::check_expr-returns-in-DynamicConstant-clause-resolved
 expr::check_expr-returns-in-DynamicConstant-clause-resolved t c base =
@@ -285,15 +308,45 @@ pub expr::check_expr-returns-in-Unit-clause-resolved : goal.expr::check_expr-ret
 expr::check_expr-returns-in-Unit-clause-resolved t c base =
     runs_at c.args.expr.now (layer.Unit c.in-Unit.field-0) (base ++ c.args.names.now) (rw (c.in-Unit.is, outs-Unit) refl) refl
 
+pub expr::check_expr-returns-in_ok-check_expr-in-Dot-clause-resolved :
+    goal.expr::check_expr-returns-in_ok-check_expr-in-Dot-clause-resolved
+expr::check_expr-returns-in_ok-check_expr-in-Dot-clause-resolved t c =
+    counted_runs _ c.args.expr.now (layer.Dot c.in-Dot.lhs c.in-Dot.rhs c.in-Dot.options c.in-Dot.pos)
+    (resolves_expr c.in-Dot.lhs) (dot_resolves (ends_chain c.in-Dot.options) (tests_of c.in-Dot.rhs).link c.in-Dot.pos) c.args.names.now
+    (rw (c.in-Dot.is, outs-Dot) refl) (λ ns. refl) c.in_ok-count_links-in-Dot.ensures.counted
+    (rw c.get-in-Dot.ensures at c.in_ok-check_expr-in-Dot.ensures.resolved)
+    (rw (c.in_ok-check_expr-in-Dot.ensures.same, c.ends_chain.ensures, c.get-in-Dot-2.ensures)
+    at c.check_behind_dot.ensures.resolved)
+
+pub expr::check_expr-returns-in_ok-check_expr-in-Dot-clause-refused :
+    goal.expr::check_expr-returns-in_ok-check_expr-in-Dot-clause-refused
+expr::check_expr-returns-in_ok-check_expr-in-Dot-clause-refused t c =
+    err_then _ (λ e h. refuses_expr_at c.args.expr.now
+    (layer.Dot c.in-Dot.lhs c.in-Dot.rhs c.in-Dot.options c.in-Dot.pos)
+    (around c.args.names.now c.args.place) e (rw (c.in-Dot.is, outs-Dot) refl)
+    (refuses_behind _ _ _ e (rw c.get-in-Dot.ensures at c.in_ok-check_expr-in-Dot.ensures.exact) h))
+    (rw (c.in_ok-check_expr-in-Dot.ensures.same, c.ends_chain.ensures, c.get-in-Dot-2.ensures)
+    at c.check_behind_dot.ensures.refused)
+
+pub expr::check_expr-returns-in_ok-check_expr-in-Index-clause-resolved :
+    goal.expr::check_expr-returns-in_ok-check_expr-in-Index-clause-resolved
+expr::check_expr-returns-in_ok-check_expr-in-Index-clause-resolved t c =
+    counted_runs _ c.args.expr.now (layer.Index c.in-Index.lhs c.in-Index.rhs c.in-Index.options c.in-Index.field-3)
+    (resolves_expr c.in-Index.lhs) (bracket_resolves (ends_chain c.in-Index.options) (tests_of c.in-Index.rhs)) c.args.names.now
+    (rw (c.in-Index.is, outs-Index) refl) (λ ns. refl) c.in_ok-count_links-in-Index.ensures.counted
+    (rw c.get-in-Index.ensures at c.in_ok-check_expr-in-Index.ensures.resolved)
+    (rw (c.in_ok-check_expr-in-Index.ensures.same, c.ends_chain-in-Index.ensures, c.get-in-Index-2.ensures)
+    at c.check_behind_bracket.ensures.resolved)
+
 pub expr::check_expr-returns-in_ok-check_expr-in-Index-clause-refused :
     goal.expr::check_expr-returns-in_ok-check_expr-in-Index-clause-refused
 expr::check_expr-returns-in_ok-check_expr-in-Index-clause-refused t c =
     err_then _ (λ e h. refuses_expr_at c.args.expr.now
-    (layer.Index c.in-Index.lhs c.in-Index.rhs c.in-Index.field-2 c.in-Index.field-3)
+    (layer.Index c.in-Index.lhs c.in-Index.rhs c.in-Index.options c.in-Index.field-3)
     (around c.args.names.now c.args.place) e (rw (c.in-Index.is, outs-Index) refl)
-    (refuses_later _ _ _ _ e (rw c.get-in-Index.ensures at c.in_ok-check_expr-in-Index.ensures.exact) h))
-    (refused_as _ _ _ _ (bracket_same faulty (ends_chain c.in-Index.field-2) c.in-Index.rhs (around c.args.names.now c.args.place))
-    (rw (c.in_ok-check_expr-in-Index.ensures.same, c.get-in-Index-2.ensures) at c.check_expr-in-Index-2.ensures.refused))
+    (refuses_behind _ _ _ e (rw c.get-in-Index.ensures at c.in_ok-check_expr-in-Index.ensures.exact) h))
+    (refused_as _ _ _ _ (bracket_same (ends_chain c.in-Index.options) c.in-Index.rhs (around c.args.names.now c.args.place))
+    (rw (c.in_ok-check_expr-in-Index.ensures.same, c.get-in-Index-2.ensures) at c.check_behind_bracket.ensures.refused))
 
 pub stmt::check_stmt-returns-in_err-check_target-in-Assignment-clause-refused :
     goal.stmt::check_stmt-returns-in_err-check_target-in-Assignment-clause-refused
@@ -311,3 +364,72 @@ stmt::check_stmt-returns-in_ok-check_target-in-Assignment-clause-refused t c =
     (around c.args.names.now c.args.place) e (rw (c.in-Assignment.is, outs-Assignment) refl)
     (refuses_later _ _ _ _ e c.in_ok-check_target-in-Assignment.ensures.exact h))
     (rw c.in_ok-check_target-in-Assignment.ensures.same at c.check_expr-in-Assignment.ensures.refused)
+
+pub chain::check_behind_bracket-returns-then-ends-clause-resolved : goal.chain::check_behind_bracket-returns-then-ends-clause-resolved
+chain::check_behind_bracket-returns-then-ends-clause-resolved t c =
+    runs_as _ (resolves_expr c.args.rhs.now) (bracket_resolves c.args.ends (tests_of c.args.rhs.now)) c.args.names.now
+    (λ ns. bracket_last sound c.args.ends c.args.rhs.now ns c.if-ends.true) c.check_expr.ensures.resolved
+
+pub chain::check_behind_bracket-returns-in_err-check_expr-in-Dot-clause-refused :
+    goal.chain::check_behind_bracket-returns-in_err-check_expr-in-Dot-clause-refused
+chain::check_behind_bracket-returns-in_err-check_expr-in-Dot-clause-refused t c =
+    refused _ _ _ _ c.from_residual.ensures
+    (refuses_expr_at c.args.rhs.now (layer.Dot c.in-Dot.first c.in-Dot.rest c.in-Dot.options c.in-Dot.dot)
+    (around c.args.names.now c.args.place) _ (rw (c.in-Dot.is, outs-Dot) refl)
+    (refuses_front _ _ _ _ (rw c.get.ensures at c.in_err-check_expr-in-Dot.ensures.refused)))
+
+pub chain::check_behind_bracket-returns-in_ok-check_expr-in-Dot-clause-resolved :
+    goal.chain::check_behind_bracket-returns-in_ok-check_expr-in-Dot-clause-resolved
+chain::check_behind_bracket-returns-in_ok-check_expr-in-Dot-clause-resolved t c =
+    bracket_runs _ c.args.rhs.now c.in-Dot.first (layer.Dot c.in-Dot.first c.in-Dot.rest c.in-Dot.options c.in-Dot.dot) c.args.ends
+    (dot_resolves (ends_chain c.in-Dot.options) (tests_of c.in-Dot.rest).link c.in-Dot.dot) _ c.args.names.now c.if-ends.false
+    (rw (c.in-Dot.is, outs-Dot) refl) refl
+    (rw c.get.ensures at c.in_ok-check_expr-in-Dot.ensures.resolved)
+    (rw (c.in_ok-check_expr-in-Dot.ensures.same, c.ends_chain.ensures, c.get-in-Dot.ensures) at c.check_behind_dot.ensures.resolved)
+
+pub chain::check_behind_bracket-returns-in_ok-check_expr-in-Dot-clause-refused :
+    goal.chain::check_behind_bracket-returns-in_ok-check_expr-in-Dot-clause-refused
+chain::check_behind_bracket-returns-in_ok-check_expr-in-Dot-clause-refused t c =
+    err_then _ (λ e h. refuses_expr_at c.args.rhs.now (layer.Dot c.in-Dot.first c.in-Dot.rest c.in-Dot.options c.in-Dot.dot)
+    (around c.args.names.now c.args.place) e (rw (c.in-Dot.is, outs-Dot) refl)
+    (refuses_behind _ _ _ e (rw c.get.ensures at c.in_ok-check_expr-in-Dot.ensures.exact) h))
+    (rw (c.in_ok-check_expr-in-Dot.ensures.same, c.ends_chain.ensures, c.get-in-Dot.ensures) at c.check_behind_dot.ensures.refused)
+
+pub chain::check_behind_bracket-returns-in_err-check_expr-in-Index-clause-refused :
+    goal.chain::check_behind_bracket-returns-in_err-check_expr-in-Index-clause-refused
+chain::check_behind_bracket-returns-in_err-check_expr-in-Index-clause-refused t c =
+    refused _ _ _ _ c.from_residual-in_err-check_expr-in-Index.ensures
+    (refuses_expr_at c.args.rhs.now (layer.Index c.in-Index.first c.in-Index.rest c.in-Index.options c.in-Index.field-3)
+    (around c.args.names.now c.args.place) _ (rw (c.in-Index.is, outs-Index) refl)
+    (refuses_front _ _ _ _ (rw c.get-in-Index.ensures at c.in_err-check_expr-in-Index.ensures.refused)))
+
+pub chain::check_behind_bracket-returns-in_ok-check_expr-in-Index-clause-resolved :
+    goal.chain::check_behind_bracket-returns-in_ok-check_expr-in-Index-clause-resolved
+chain::check_behind_bracket-returns-in_ok-check_expr-in-Index-clause-resolved t c =
+    bracket_runs _ c.args.rhs.now c.in-Index.first
+    (layer.Index c.in-Index.first c.in-Index.rest c.in-Index.options c.in-Index.field-3) c.args.ends
+    (bracket_resolves (ends_chain c.in-Index.options) (tests_of c.in-Index.rest)) _ c.args.names.now c.if-ends.false
+    (rw (c.in-Index.is, outs-Index) refl) refl
+    (rw c.get-in-Index.ensures at c.in_ok-check_expr-in-Index.ensures.resolved)
+    (rw (c.in_ok-check_expr-in-Index.ensures.same, c.ends_chain-in-Index.ensures, c.get-in-Index-2.ensures)
+    at c.check_behind_bracket.ensures.resolved)
+
+pub chain::check_behind_bracket-returns-in_ok-check_expr-in-Index-clause-refused :
+    goal.chain::check_behind_bracket-returns-in_ok-check_expr-in-Index-clause-refused
+chain::check_behind_bracket-returns-in_ok-check_expr-in-Index-clause-refused t c =
+    err_then _ (λ e h. refuses_expr_at c.args.rhs.now
+    (layer.Index c.in-Index.first c.in-Index.rest c.in-Index.options c.in-Index.field-3)
+    (around c.args.names.now c.args.place) e (rw (c.in-Index.is, outs-Index) refl)
+    (refuses_behind _ _ _ e (rw c.get-in-Index.ensures at c.in_ok-check_expr-in-Index.ensures.exact) h))
+    (refused_as _ _ _ _ (bracket_same (ends_chain c.in-Index.options) c.in-Index.rest (around c.args.names.now c.args.place))
+    (rw (c.in_ok-check_expr-in-Index.ensures.same, c.get-in-Index-2.ensures) at c.check_behind_bracket.ensures.refused))
+
+pub chain::check_behind_bracket-returns-in_default-clause-resolved : goal.chain::check_behind_bracket-returns-in_default-clause-resolved
+chain::check_behind_bracket-returns-in_default-clause-resolved t c =
+    runs_as _ (resolves_expr c.args.rhs.now) (bracket_resolves c.args.ends (tests_of c.args.rhs.now)) c.args.names.now
+    (λ ns. bracket_apart sound c.args.rhs.now c.args.ends ns c.if-ends.false c.in_default.not-Dot c.in_default.not-Index)
+    c.check_expr-in_default.ensures.resolved
+
+pub expr::check_expr-returns-in-ThisPtr-clause-resolved : goal.expr::check_expr-returns-in-ThisPtr-clause-resolved
+expr::check_expr-returns-in-ThisPtr-clause-resolved t c base =
+    runs_at c.args.expr.now (layer.ThisPtr c.in-ThisPtr.field-0) (base ++ c.args.names.now) (rw (c.in-ThisPtr.is, outs-ThisPtr) refl) refl

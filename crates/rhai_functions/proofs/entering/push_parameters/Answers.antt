@@ -2,7 +2,7 @@ use Rattle.std.proofs.Common.{◌≡◌, ◌+◌, ◌++◌, ◌∷◌, [], slice
 use Rattle.rhai_values.specs.declared.base.value.AccessMode.TheVariants.{ReadWrite}
 use Rattle.rhai_state.specs.Scope.{entries_of, new_entry}
 use Rattle.rhai_functions.specs.Entering.{unit}
-use Rattle.rhai_functions.proofs.Pushing.{begins_on, pushed_on, set_next}
+use Rattle.rhai_functions.proofs.Pushing.{begins_on, pushed_on, set_next, set_whole}
 use Rattle.rhai_functions.proofs.entering.push_parameters.Goals as goal
 
 pub params-preserved : goal.params-preserved
@@ -18,6 +18,10 @@ params-preserved g c =
       begins = rw pushed (begins_on (entries_of c.args.scope.now) (entries_of c.params.scope) _ c.params.invariant.begins);
       within = omega arith;
       left = rw step (c.taken-value.ensures.left ∙ ap (λ xs. slice_set xs c.params.at unit) c.params.invariant.left
-          ∙ set_next unit c.args.args.now c.params.at (omega (arith, c.requires)));
+          ∙ set_next unit c.args.args.now c.params.at);
       args = c.taken-value.ensures.length ∙ c.params.invariant.args;
     }
+
+pub returns-clause-left : goal.returns-clause-left
+returns-clause-left g c same =
+    set_whole unit c.args.args.now c.params.args c.params.at c.params.invariant.left (omega (arith, same, c.params.invariant.within))

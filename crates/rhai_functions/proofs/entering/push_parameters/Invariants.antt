@@ -9,7 +9,7 @@ invariant-params g l = record {
       ≡ entries_of l.fn.scope ++ parameters l.params l.fn.args;
   begins : take (length (entries_of l.fn.scope)) (entries_of l.scope) ≡ entries_of l.fn.scope;
   within : l.at ≤ length l.params;
-  args : length l.args ≡ length l.params;
+  args : length l.args ≡ length l.fn.args;
   left : l.args ≡ map (λ v. unit) (take l.at l.fn.args) ++ drop l.at l.fn.args;
 }
 

@@ -1,26 +1,25 @@
 use Rattle.std.proofs.Common.{◌++◌}
 use Rattle.rhai_machine.specs.language.Setting.{Rules, rules_of}
+use Rattle.rhai_steps.specs.States.{local_of, state_of}
 use Rattle.rhai_methods.specs.Calls.{alone_by}
-use Rattle.rhai_steps.specs.States.{state_of}
-use Rattle.rhai_steps.specs.States.{local_of}
-use Rattle.rhai_methods.proofs.Going.{exits_from, wants_from}
+use Rattle.rhai_methods.proofs.Going.{wants_from}
 use Rattle.rhai_methods.proofs.Levels.{alone_by_level}
 use Rattle.rhai_methods.proofs.calls.call_alone.Goals as goal
 
 pub returns-then-is_empty-clause-runs : goal.returns-then-is_empty-clause-runs
-returns-then-is_empty-clause-runs g c offer scope held =
-    rw (c.is_empty.ensures.0 c.if-is_empty.true) (c.call_by_itself.ensures.runs offer scope held)
+returns-then-is_empty-clause-runs g c offer scope held offers =
+    rw (c.is_empty.ensures.0 c.if-is_empty.true) (c.call_by_itself.ensures.runs offer scope held offers)
 
-pub returns-in_err-all-clause-runs : goal.returns-in_err-all-clause-runs
-returns-in_err-all-clause-runs g c offer scope held =
+pub returns-in-Ok-clause-runs : goal.returns-in-Ok-clause-runs
+returns-in-Ok-clause-runs g c offer scope held offers =
+    rw (← c.in-Ok.ensures.joined, ← c.as_mut_slice-values.ensures.value) (c.call_by_itself-call.ensures.runs offer scope held offers)
+
+pub returns-in-Err-clause-runs : goal.returns-in-Err-clause-runs
+returns-in-Err-clause-runs g c offer scope held offers =
     let rules : Rules _ _ = rules_of c.args.limits.now g.H.Host.name_of offer g.T.NativeTable.natives in
-    exits_from rules _ _ _ _ _ c.from_residual.ensures (wants_from rules
+    wants_from rules c.args.pos
     (alone_by rules.setting c.args.number c.args.name.now c.args.pos (c.args.curried ++ c.args.args.now))
-    (state_of (g.T.NativeTable.state c.args.table.now) c.args.global.now scope held)
-    c.in_err-all.field-0.0 (λ k. alone_by_level k (local_of c.args.global.now scope held) rules.setting
+    (state_of (g.T.NativeTable.state c.args.table.now) c.args.global.now scope held) c.in-Err.error
+    (λ k. alone_by_level k (local_of c.args.global.now scope held) rules.setting
     c.args.number c.args.name.now c.args.pos (c.args.curried ++ c.args.args.now))
-    c.in_err-all.ensures.refused)
-
-pub returns-clause-runs : goal.returns-clause-runs
-returns-clause-runs g c offer scope held =
-    rw (← c.in_ok-all.ensures.joined, ← c.as_mut_slice.ensures.value) (c.call_by_itself-result.ensures.runs offer scope held)
+    c.in-Err.ensures.refused

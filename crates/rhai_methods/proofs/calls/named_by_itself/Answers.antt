@@ -1,25 +1,26 @@
-use Rattle.std.proofs.Common.{◌∷◌, None}
+use Rattle.std.proofs.Common.{true, false}
 use Rattle.rhai_machine.specs.language.Setting.{Rules, rules_of}
+use Rattle.rhai_machine.specs.language.Calls.{call_of, plainly}
+use Rattle.rhai_machine.specs.language.Arguments.{natives_alone, operation_named}
 use Rattle.rhai_steps.specs.States.{state_of}
-use Rattle.rhai_methods.proofs.Going.{alone_asks, dispatched_alone}
-use Rattle.rhai_methods.proofs.Taking.{first_and_others, none_below, others}
+use Rattle.rhai_methods.proofs.Going.{dispatched_ends, named_enters_alone}
 use Rattle.rhai_methods.proofs.calls.named_by_itself.Goals as goal
 
-pub returns-in_default-clause-runs : goal.returns-in_default-clause-runs
-returns-in_default-clause-runs g c offer scope held =
+pub returns-in-Ended-clause-runs : goal.returns-in-Ended-clause-runs
+returns-in-Ended-clause-runs g c offer scope held offers =
     let rules : Rules _ _ = rules_of c.args.limits.now g.H.Host.name_of offer g.T.NativeTable.natives in
-    alone_asks rules c.args.name.now c.args.pos c.args.args.now
+    dispatched_ends rules c.args.pos (plainly (natives_alone c.args.name.now) false)
+    (record (call_of (operation_named c.args.name.now c.args.pos) c.args.args.now) { marks = true })
     (state_of (g.T.NativeTable.state c.args.table.now) c.args.global.now scope held)
-    (state_of (g.T.NativeTable.state c.pass_native_alone.new.table) c.pass_native_alone.new.global scope held)
-    c.pass_native_alone.result (none_below c.args.args.now c.in_default.len_below)
-    (c.pass_native_alone.ensures.runs offer scope held)
+    (state_of (g.T.NativeTable.state c.pass_all.new.table) c.pass_all.new.global scope held)
+    c.in-Ended.result (rw c.natives_alone-alone.ensures at (c.in-Ended.ensures.runs offer scope held false offers))
 
-pub returns-clause-runs : goal.returns-clause-runs
-returns-clause-runs g c offer scope held =
+pub returns-in-Found-clause-runs : goal.returns-in-Found-clause-runs
+returns-in-Found-clause-runs g c offer scope held offers =
     let rules : Rules _ _ = rules_of c.args.limits.now g.H.Host.name_of offer g.T.NativeTable.natives in
-    dispatched_alone rules c.args.name.now c.args.pos c.args.args.now
+    named_enters_alone rules c.args.pos c.args.name.now c.args.args.now
     (state_of (g.T.NativeTable.state c.args.table.now) c.args.global.now scope held)
-    (state_of (g.T.NativeTable.state c.pass_call.new.table) c.pass_call.new.global scope held)
-    c.pass_call.result (c.result-item.result ∷ others c.args.args.now)
-    (first_and_others c.args.args.now c.result-item.result c.result-item.result c.in-len1-up.len_at_least c.result-item.is)
-    (c.pass_call.ensures.runs offer scope held None tt)
+    (state_of (g.T.NativeTable.state c.pass_all.new.table) c.pass_all.new.global scope held)
+    c.in-Found.function c.by_itself.result
+    (rw c.natives_alone-alone.ensures at (c.in-Found.ensures.runs offer scope held false offers))
+    (rw c.in-Found.ensures.same at c.by_itself.ensures)

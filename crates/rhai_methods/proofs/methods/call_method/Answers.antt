@@ -3,41 +3,43 @@ use Rattle.rhai_machine.specs.language.Setting.{Rules, rules_of}
 use Rattle.rhai_machine.specs.language.Methods.{Method, CallWord, CurryWord, SharedWord, PlainWord}
 use Rattle.rhai_steps.specs.States.{state_of}
 use Rattle.rhai_methods.specs.Methods.{lending}
+use Rattle.rhai_methods.specs.declared.calls.MethodCall.TheVariants.{Ended}
 use Rattle.rhai_methods.proofs.Meanings.{by_word, curry_goes, shared_goes}
 use Rattle.rhai_methods.proofs.methods.call_method.Goals as goal
 
 pub returns-in-Call-clause-runs : goal.returns-in-Call-clause-runs
-returns-in-Call-clause-runs g c offer scope held =
+returns-in-Call-clause-runs g c offer scope held offers =
     let rules : Rules _ _ = rules_of c.args.limits.now g.H.Host.name_of offer g.T.NativeTable.natives in
     let method : Method = record { name = c.args.name.now; at = c.args.pos; first_at = c.args.first_arg_pos } in
     by_word rules method c.args.args.now c.args.target.now
     (state_of (g.T.NativeTable.state c.args.table.now) c.args.global.now scope (lending held c.args.target.now))
     CallWord c.in-Call.ensures c.call_word.result
     (state_of (g.T.NativeTable.state c.call_word.new.table) c.call_word.new.global scope (lending held c.call_word.new.target))
-    (c.call_word.ensures.runs offer scope held c.args.name.now)
+    (c.call_word.ensures.runs offer scope held c.args.name.now offers)
 
 pub returns-in-Curry-clause-runs : goal.returns-in-Curry-clause-runs
-returns-in-Curry-clause-runs g c offer scope held =
+returns-in-Curry-clause-runs g c offer scope held offers =
     let rules : Rules _ _ = rules_of c.args.limits.now g.H.Host.name_of offer g.T.NativeTable.natives in
     let method : Method = record { name = c.args.name.now; at = c.args.pos; first_at = c.args.first_arg_pos } in
     let old = state_of (g.T.NativeTable.state c.args.table.now) c.args.global.now scope (lending held c.args.target.now) in
-    by_word rules method c.args.args.now c.args.target.now old CurryWord c.in-Curry.ensures c.marked.result old
-    (curry_goes rules method c.args.args.now c.args.target.now old c.curried.result c.marked.result c.marked.ensures c.curried.ensures)
+    by_word rules method c.args.args.now c.args.target.now old CurryWord c.in-Curry.ensures (Ended c.marked.result) old
+    (curry_goes rules method c.args.args.now c.args.target.now old c.curried-result.result c.marked.result c.marked.ensures
+    c.curried-result.ensures)
 
 pub returns-in-Shared-clause-runs : goal.returns-in-Shared-clause-runs
-returns-in-Shared-clause-runs g c offer scope held =
+returns-in-Shared-clause-runs g c offer scope held offers =
     let rules : Rules _ _ = rules_of c.args.limits.now g.H.Host.name_of offer g.T.NativeTable.natives in
     let method : Method = record { name = c.args.name.now; at = c.args.pos; first_at = c.args.first_arg_pos } in
     let old = state_of (g.T.NativeTable.state c.args.table.now) c.args.global.now scope (lending held c.args.target.now) in
-    by_word rules method c.args.args.now c.args.target.now old SharedWord c.in-Shared.ensures (Ok (c.is_shared.result, false)) old
+    by_word rules method c.args.args.now c.args.target.now old SharedWord c.in-Shared.ensures (Ended (Ok (c.is_shared.result, false))) old
     (shared_goes rules method c.args.args.now c.args.target.now old c.is_shared.result c.is_shared.ensures)
 
 pub returns-in-Plain-clause-runs : goal.returns-in-Plain-clause-runs
-returns-in-Plain-clause-runs g c offer scope held =
+returns-in-Plain-clause-runs g c offer scope held offers =
     let rules : Rules _ _ = rules_of c.args.limits.now g.H.Host.name_of offer g.T.NativeTable.natives in
     let method : Method = record { name = c.args.name.now; at = c.args.pos; first_at = c.args.first_arg_pos } in
     by_word rules method c.args.args.now c.args.target.now
     (state_of (g.T.NativeTable.state c.args.table.now) c.args.global.now scope (lending held c.args.target.now))
     PlainWord c.in-Plain.ensures c.call_plain.result
     (state_of (g.T.NativeTable.state c.call_plain.new.table) c.call_plain.new.global scope (lending held c.call_plain.new.target))
-    (c.call_plain.ensures.runs offer scope held c.args.first_arg_pos)
+    (c.call_plain.ensures.runs offer scope held c.args.first_arg_pos offers)

@@ -1,15 +1,35 @@
-use Rattle.std.proofs.Common.{◌∙◌}
+use Rattle.std.proofs.Common.{None, Some, refl, sym, ◌∙◌}
 use Rattle.rhai_machine.specs.language.Setting.{Rules, rules_of}
-use Rattle.rhai_steps.specs.States.{state_of}
-use Rattle.rhai_methods.proofs.Pointed.{by_parts_alone}
+use Rattle.rhai_machine.specs.language.State.{State}
+use Rattle.rhai_steps.specs.States.{local_of, state_of}
+use Rattle.rhai_methods.specs.Parts.{alone_with}
+use Rattle.rhai_methods.proofs.Going.{wants_from}
+use Rattle.rhai_methods.proofs.Levels.{alone_with_level}
+use Rattle.rhai_methods.proofs.Pointed.{alone_found, linked_alone_goes}
 use Rattle.rhai_methods.proofs.methods.call_pointer.Goals as goal
 
-pub returns-clause-runs : goal.returns-clause-runs
-returns-clause-runs g c offer scope held =
+pub returns-in-Ok-Some-clause-runs : goal.returns-in-Ok-Some-clause-runs
+returns-in-Ok-Some-clause-runs g c offer scope held offers =
     let rules : Rules _ _ = rules_of c.args.limits.now g.H.Host.name_of offer g.T.NativeTable.natives in
-    by_parts_alone rules c.args.pointer c.args.pos c.args.args.now
-    (state_of (g.T.NativeTable.state c.args.table.now) c.args.global.now scope held)
-    (state_of (g.T.NativeTable.state c.call_alone-result.new.table) c.call_alone-result.new.global scope held)
-    c.call_alone-result.result c.parts_of-name.result.2 c.as_str-text.result.now c.parts_of-name.result.1
-    (c.as_str-text.ensures ∙ c.get.ensures ∙ c.parts_of-name.ensures.name) c.parts_of-name.ensures.curried c.parts_of-name.ensures.number
-    (c.call_alone-result.ensures.runs offer scope held)
+    let s : State _ _ = state_of (g.T.NativeTable.state c.args.table.now) c.args.global.now scope held in
+    alone_found rules c.args.pointer c.args.pos c.args.args.now s s c.linked_alone.result (Some c.in-Ok-Some.function)
+    (sym c.in-Ok-Some.field-0-is ∙ rw c.as_slice.ensures at c.in-Ok-Some.ensures)
+    (linked_alone_goes rules c.args.pointer c.args.pos c.args.args.now s c.linked_alone.result c.in-Ok-Some.function
+    c.linked_alone.ensures)
+
+pub returns-in-Ok-None-clause-runs : goal.returns-in-Ok-None-clause-runs
+returns-in-Ok-None-clause-runs g c offer scope held offers =
+    let rules : Rules _ _ = rules_of c.args.limits.now g.H.Host.name_of offer g.T.NativeTable.natives in
+    let s : State _ _ = state_of (g.T.NativeTable.state c.args.table.now) c.args.global.now scope held in
+    alone_found rules c.args.pointer c.args.pos c.args.args.now s
+    (state_of (g.T.NativeTable.state c.unlinked_alone.new.table) c.unlinked_alone.new.global scope held)
+    c.unlinked_alone.result None
+    (sym c.in-Ok-None.field-0-is ∙ rw c.as_slice.ensures at c.in-Ok-None.ensures)
+    (c.unlinked_alone.ensures.runs offer scope held offers)
+
+pub returns-in-Err-clause-runs : goal.returns-in-Err-clause-runs
+returns-in-Err-clause-runs g c offer scope held offers =
+    let rules : Rules _ _ = rules_of c.args.limits.now g.H.Host.name_of offer g.T.NativeTable.natives in
+    wants_from rules c.args.pos (alone_with rules.setting c.args.pointer c.args.pos c.args.args.now)
+    (state_of (g.T.NativeTable.state c.args.table.now) c.args.global.now scope held) _
+    (λ k. alone_with_level k (local_of c.args.global.now scope held) rules.setting c.args.pointer c.args.pos c.args.args.now) refl

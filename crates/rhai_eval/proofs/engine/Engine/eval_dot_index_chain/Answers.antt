@@ -1,21 +1,27 @@
-use Rattle.std.proofs.Common.{◌≡◌, Bool, true, false, None, is_some, sym, ap, subst, ◌∙◌}
+use Rattle.std.proofs.Common.{◌≡◌, ◌∙◌, Bool, true, false, is_some, Option, Some, None, MutBor, ap, refl, subst, sym}
+use Rattle.rhai_values.specs.declared.base.value.Dynamic.{Dynamic}
+use Rattle.rhai_state.specs.Native.{left_by, was}
+use Rattle.rhai_steps.specs.States.{holding, state_of}
+use Rattle.rhai_cycle.specs.States.{under as under_what_is_read}
+use Rattle.rhai_eval.specs.States.{under}
 use Rattle.std.specs.Option.{option_copied}
 use Rattle.rhai_tree.specs.declared.expr.Expr.{out-Expr}
-use Rattle.rhai_state.specs.declared.state.GlobalRuntimeState.{GlobalRuntimeState}
-use Rattle.rhai_state.specs.Native.{was}
 use Rattle.rhai_state.specs.Scope.{names_in}
-use Rattle.rhai_machine.specs.language.Frames.{ended}
 use Rattle.rhai_machine.specs.language.Links.{first_in}
-use Rattle.rhai_machine.specs.language.Runs.{Runs}
-use Rattle.rhai_steps.specs.States.{holding, state_of}
-use Rattle.rhai_laws.proofs.KeptLaws.{kept, names_stay}
 use Rattle.rhai_chains.specs.Chains.{new_of}
 use Rattle.rhai_cycle.specs.Chains.{MayWalk, StartsFrom}
 use Rattle.rhai_eval.specs.Chains.{assigned_in, whole_chain}
-use Rattle.rhai_eval.specs.States.{under}
-use Rattle.rhai_eval.proofs.Chained.{chain_assigns, chain_lent, chain_may_run}
-use Rattle.rhai_eval.proofs.Public.{ends_as, same_rules}
+use Rattle.rhai_eval.proofs.Chained.{chain_assigns, chain_may_run, over_root}
+use Rattle.rhai_machine.specs.language.Runs.{Runs}
+use Rattle.rhai_laws.proofs.KeptLaws.{kept, names_stay}
+use Rattle.rhai_eval.proofs.Public.{ends_as, five, handed_free, handed_on, same_rules}
+use Rattle.rhai_machine.specs.language.Frames.{ended}
 use Rattle.rhai_eval.proofs.engine.Engine.eval_dot_index_chain.Given.{Over}
+use Rattle.rhai_eval.proofs.engine.Engine.eval_dot_index_chain.Lts.{ps, r, xs}
+use denote.Triple.Clauses.{at_exit}
+use denote.Triple.Entry.{Args}
+use borrow.Fn.Enter.{lasts_p}
+use borrow.Fn.Kinds.{ended_of}
 use Rattle.rhai_eval.proofs.engine.Engine.eval_dot_index_chain.Goals as goal
 
 pub unreachable-requires : goal.unreachable-requires
@@ -26,13 +32,13 @@ unreachable-requires g c =
 pub run_chain-result-requires-clause-root : goal.run_chain-result-requires-clause-root
 run_chain-result-requires-clause-root g c =
     let found = sym c.first_of.ensures ∙ ap option_copied c.in-Some.is in
-    rw c.take-run.ensures.run (chain_may_run (is_some c.args.new_val) c.args.expr.now c.in-Some.root.now (names_in c.args.scope.now) found
+    rw c.take_with-run.ensures.run (chain_may_run (is_some c.args.new_val) c.args.expr.now c.in-Some.root.now (names_in c.args.scope.now) found
     c.requires.resolves).root_runs
 
 pub run_chain-result-requires-clause-behind : goal.run_chain-result-requires-clause-behind
 run_chain-result-requires-clause-behind g c =
     let found = sym c.first_of.ensures ∙ ap option_copied c.in-Some.is in
-    rw c.take-run.ensures.run (chain_may_run (is_some c.args.new_val) c.args.expr.now c.in-Some.root.now (names_in c.args.scope.now) found
+    rw c.take_with-run.ensures.run (chain_may_run (is_some c.args.new_val) c.args.expr.now c.in-Some.root.now (names_in c.args.scope.now) found
     c.requires.resolves).behind_runs
 
 pub run_chain-result-requires-clause-walks : goal.run_chain-result-requires-clause-walks
@@ -49,44 +55,131 @@ run_chain-result-requires-clause-starts g c =
     (chain_may_run (is_some c.args.new_val) c.args.expr.now c.in-Some.root.now (names_in c.args.scope.now) found
     c.requires.resolves).starts
 
--- the whole chain runs, over what the caller handed in
-whole_runs : (g : Over) (c : goal.After-give_back g) →
-    Runs (under g.H.Host.name_of c.args.self.now g.T.NativeTable.natives) (whole_chain c.args.expr.now (assigned_in c.args.new_val))
-    (state_of (g.T.NativeTable.state c.args.table.now) c.args.global.now c.args.scope.now (holding (was c.args._this)))
-    c.run_chain-result.result
-    (state_of (g.T.NativeTable.state c.run_chain-result.new.table) c.give_back.new.global c.give_back.new.scope
-    (holding (was c.args._this)))
-whole_runs g c =
+pub run_chain-result-requires-in-None-clause-root : goal.run_chain-result-requires-in-None-clause-root
+run_chain-result-requires-in-None-clause-root g c =
+    let found = sym c.first_of.ensures ∙ ap option_copied c.in-Some.is in
+    rw c.take-run.ensures.run (chain_may_run (is_some c.args.new_val) c.args.expr.now c.in-Some.root.now (names_in c.args.scope.now) found
+    c.requires.resolves).root_runs
+
+pub run_chain-result-requires-in-None-clause-behind : goal.run_chain-result-requires-in-None-clause-behind
+run_chain-result-requires-in-None-clause-behind g c =
+    let found = sym c.first_of.ensures ∙ ap option_copied c.in-Some.is in
+    rw c.take-run.ensures.run (chain_may_run (is_some c.args.new_val) c.args.expr.now c.in-Some.root.now (names_in c.args.scope.now) found
+    c.requires.resolves).behind_runs
+
+pub run_chain-result-requires-in-None-clause-walks : goal.run_chain-result-requires-in-None-clause-walks
+run_chain-result-requires-in-None-clause-walks g c =
+    let found = sym c.first_of.ensures ∙ ap option_copied c.in-Some.is in
+    subst (λ (assigned : Bool). MayWalk assigned (out-Expr c.args.expr.now)) (sym c.new_value-new.ensures.given)
+    (chain_may_run (is_some c.args.new_val) c.args.expr.now c.in-Some.root.now (names_in c.args.scope.now) found
+    c.requires.resolves).walks
+
+pub run_chain-result-requires-in-None-clause-starts : goal.run_chain-result-requires-in-None-clause-starts
+run_chain-result-requires-in-None-clause-starts g c =
+    let found = sym c.first_of.ensures ∙ ap option_copied c.in-Some.is in
+    subst (λ (assigned : Bool). StartsFrom assigned (out-Expr c.in-Some.root.now)) (sym c.new_value-new.ensures.given)
+    (chain_may_run (is_some c.args.new_val) c.args.expr.now c.in-Some.root.now (names_in c.args.scope.now) found
+    c.requires.resolves).starts
+
+-- what stands in the place of `this` as its loan ends, were this the place
+abbrev left_on : (g : Over) → goal.After-give_back_with g → Option (MutBor (Dynamic g.row.H.Denot)) → Option (Dynamic g.row.H.Denot)
+left_on g c place =
+    let kinds = ps g.row.H g.row.T g.H.laws g.T.laws g.H.Host-dict g.H.Destruct-dict g.T.NativeTable-dict in
+    let answer = r g.row.H g.row.T g.H.laws g.T.laws g.H.Host-dict g.H.Destruct-dict g.T.NativeTable-dict in
+    let types = xs g.row.H g.row.T g.H.laws g.T.laws g.H.Host-dict g.H.Destruct-dict g.T.NativeTable-dict in
+    let given : Args (ended_of 10 kinds answer).signature c.lifetimes = (c.args.self, (c.args.alloc, (c.args.global, (c.args._caches, (c.args.table, (c.args.scope, (place, (c.args.expr, (c.args.new_val, tt))))))))) in
+    left_by (at_exit (ended_of 10 kinds answer) c.lifetimes given (lasts_p c.lifetimes 4 kinds types given (c.args.self, (tt, (c.args.global, (c.args._caches, (c.args.table, (c.args.scope, (Some (record c.in-Some-this.place { now = c.give_back_with.new.this }), (c.args.expr, five (five (five (five (five (five (five (tt, (tt, (tt, tt))))))))))))))))))).1.1.1.1.1.1.0
+
+this_on : (g : Over) (c : goal.After-give_back_with g) → left_on g c c.args.this ≡ Some c.give_back_with.new.this
+this_on g c = subst (λ place. left_on g c place ≡ Some c.give_back_with.new.this) (sym c.in-Some-this.is) refl
+
+-- the run, where the caller has a `this`
+runs_on : (g : Over) (c : goal.After-give_back_with g) → Runs (under g.H.Host.name_of c.args.self.now g.T.NativeTable.natives)
+    (whole_chain c.args.expr.now (assigned_in c.args.new_val))
+    (state_of (g.T.NativeTable.state c.args.table.now) c.args.global.now c.args.scope.now (holding (was c.args.this)))
+    c.run_chain-result.result (state_of (g.T.NativeTable.state c.run_chain-result.new.table) c.give_back_with.new.global
+    c.give_back_with.new.scope (holding (left_on g c c.args.this)))
+runs_on g c =
     let reads = same_rules g.H.Host.name_of g.T.NativeTable.natives c.args.self.now c.evaluator-evaluator.result
     c.evaluator-evaluator.ensures.limits c.evaluator-evaluator.ensures.offer in
-    let found = sym c.first_of.ensures ∙ ap option_copied c.in-Some.is in
-    chain_lent (under g.H.Host.name_of c.args.self.now g.T.NativeTable.natives) c.args.expr.now c.in-Some.root.now
-    (new_of c.new_value-new.result) (assigned_in c.args.new_val) (g.T.NativeTable.state c.args.table.now)
-    (g.T.NativeTable.state c.run_chain-result.new.table) c.take-run.result c.run_chain-result.new.run c.args.global.now
-    c.give_back.new.global c.args.scope.now c.give_back.new.scope c.run_chain-result.result (was c.args._this)
-    reads c.take-run.ensures.run c.give_back.ensures.global c.give_back.ensures.scope found
-    c.new_value-new.ensures.same c.run_chain-result.ensures.runs
+    let runs = over_root (under_what_is_read g.H.Host.name_of c.evaluator-evaluator.result g.T.NativeTable.natives) c.args.expr.now
+    c.in-Some.root.now (new_of c.new_value-new.result) (assigned_in c.args.new_val) _ c.run_chain-result.result _
+    (sym c.first_of.ensures ∙ ap option_copied c.in-Some.is) c.new_value-new.ensures.same c.run_chain-result.ensures.runs in
+    handed_on reads (λ r old new. Runs r (whole_chain c.args.expr.now (assigned_in c.args.new_val)) old c.run_chain-result.result new)
+    (g.T.NativeTable.state c.args.table.now) (g.T.NativeTable.state c.run_chain-result.new.table) c.take_with-run.result
+    c.run_chain-result.new.run c.args.global.now c.give_back_with.new.global c.give_back_with.ensures.global c.args.scope.now
+    c.give_back_with.new.scope c.give_back_with.ensures.scope
+    (kept (under_what_is_read g.H.Host.name_of c.evaluator-evaluator.result g.T.NativeTable.natives)
+    (whole_chain c.args.expr.now (assigned_in c.args.new_val)) (ended c.run_chain-result.result) _ _ tt
+    (over_root (under_what_is_read g.H.Host.name_of c.evaluator-evaluator.result g.T.NativeTable.natives) c.args.expr.now
+    c.in-Some.root.now (new_of c.new_value-new.result) (assigned_in c.args.new_val) _ c.run_chain-result.result _
+    (sym c.first_of.ensures ∙ ap option_copied c.in-Some.is) c.new_value-new.ensures.same c.run_chain-result.ensures.runs)).bound
+    (was c.args.this) (left_on g c c.args.this) c.in-Some-this.place.now c.give_back_with.new.this (ap was c.in-Some-this.is)
+    (this_on g c) c.take_with-run.ensures.run c.give_back_with.ensures.this runs
 
-pub returns-clause-ends : goal.returns-clause-ends
-returns-clause-ends g c =
-    ends_as (under g.H.Host.name_of c.args.self.now g.T.NativeTable.natives)
-    (whole_chain c.args.expr.now (assigned_in c.args.new_val)) _ _ c.run_chain-result.result (whole_runs g c)
+pub returns-in-Some-this-clause-ends : goal.returns-in-Some-this-clause-ends
+returns-in-Some-this-clause-ends g c = ends_as (under g.H.Host.name_of c.args.self.now g.T.NativeTable.natives)
+    (whole_chain c.args.expr.now (assigned_in c.args.new_val)) _ _ c.run_chain-result.result (runs_on g c)
 
-pub returns-clause-kept : goal.returns-clause-kept
-returns-clause-kept g c =
-    kept (under g.H.Host.name_of c.args.self.now g.T.NativeTable.natives)
-    (whole_chain c.args.expr.now (assigned_in c.args.new_val)) (ended c.run_chain-result.result) _ _ tt (whole_runs g c)
+pub returns-in-Some-this-clause-kept : goal.returns-in-Some-this-clause-kept
+returns-in-Some-this-clause-kept g c = kept (under g.H.Host.name_of c.args.self.now g.T.NativeTable.natives)
+    (whole_chain c.args.expr.now (assigned_in c.args.new_val)) (ended c.run_chain-result.result) _ _ tt (runs_on g c)
 
-pub returns-clause-assigns : goal.returns-clause-assigns
-returns-clause-assigns g c =
-    chain_assigns (under g.H.Host.name_of c.args.self.now g.T.NativeTable.natives) c.args.expr.now (assigned_in c.args.new_val) _ _
-    c.run_chain-result.result (whole_runs g c)
+pub returns-in-Some-this-clause-names : goal.returns-in-Some-this-clause-names
+returns-in-Some-this-clause-names g c = names_stay (under g.H.Host.name_of c.args.self.now g.T.NativeTable.natives)
+    (whole_chain c.args.expr.now (assigned_in c.args.new_val)) (ended c.run_chain-result.result) _ _ tt tt (runs_on g c)
 
-pub returns-clause-names : goal.returns-clause-names
-returns-clause-names g c =
-    names_stay (under g.H.Host.name_of c.args.self.now g.T.NativeTable.natives)
-    (whole_chain c.args.expr.now (assigned_in c.args.new_val)) (ended c.run_chain-result.result) _ _ tt tt (whole_runs g c)
+pub returns-in-Some-this-clause-assigns : goal.returns-in-Some-this-clause-assigns
+returns-in-Some-this-clause-assigns g c = chain_assigns (under g.H.Host.name_of c.args.self.now g.T.NativeTable.natives) c.args.expr.now
+    (assigned_in c.args.new_val) _ _ c.run_chain-result.result (runs_on g c)
 
-pub returns-clause-search : goal.returns-clause-search
-returns-clause-search g c = ap (λ (global : GlobalRuntimeState _). global.always_search_scope) c.give_back.ensures.global
-    ∙ c.take-run.ensures.search
+-- what stands in the place of `this` as its loan ends, were this the place
+abbrev left_free : (g : Over) → goal.After-give_back g → Option (MutBor (Dynamic g.row.H.Denot)) → Option (Dynamic g.row.H.Denot)
+left_free g c place =
+    let kinds = ps g.row.H g.row.T g.H.laws g.T.laws g.H.Host-dict g.H.Destruct-dict g.T.NativeTable-dict in
+    let answer = r g.row.H g.row.T g.H.laws g.T.laws g.H.Host-dict g.H.Destruct-dict g.T.NativeTable-dict in
+    let types = xs g.row.H g.row.T g.H.laws g.T.laws g.H.Host-dict g.H.Destruct-dict g.T.NativeTable-dict in
+    let given : Args (ended_of 10 kinds answer).signature c.lifetimes = (c.args.self, (c.args.alloc, (c.args.global, (c.args._caches, (c.args.table, (c.args.scope, (place, (c.args.expr, (c.args.new_val, tt))))))))) in
+    left_by (at_exit (ended_of 10 kinds answer) c.lifetimes given (lasts_p c.lifetimes 4 kinds types given (c.args.self, (tt, (c.args.global, (c.args._caches, (c.args.table, (c.args.scope, (place, (c.args.expr, five (five (five (five (five (five (five (tt, (tt, (tt, tt))))))))))))))))))).1.1.1.1.1.1.0
+
+this_free : (g : Over) (c : goal.After-give_back g) → left_free g c c.args.this ≡ None
+this_free g c = subst (λ place. left_free g c place ≡ None) (sym c.in-None.is) refl
+
+-- and where he has none
+runs_free : (g : Over) (c : goal.After-give_back g) → Runs (under g.H.Host.name_of c.args.self.now g.T.NativeTable.natives)
+    (whole_chain c.args.expr.now (assigned_in c.args.new_val))
+    (state_of (g.T.NativeTable.state c.args.table.now) c.args.global.now c.args.scope.now (holding (was c.args.this)))
+    c.run_chain-result-in-None.result (state_of (g.T.NativeTable.state c.run_chain-result-in-None.new.table) c.give_back.new.global
+    c.give_back.new.scope (holding (left_free g c c.args.this)))
+runs_free g c =
+    let reads = same_rules g.H.Host.name_of g.T.NativeTable.natives c.args.self.now c.evaluator-evaluator.result
+    c.evaluator-evaluator.ensures.limits c.evaluator-evaluator.ensures.offer in
+    let runs = over_root (under_what_is_read g.H.Host.name_of c.evaluator-evaluator.result g.T.NativeTable.natives) c.args.expr.now
+    c.in-Some.root.now (new_of c.new_value-new.result) (assigned_in c.args.new_val) _ c.run_chain-result-in-None.result _
+    (sym c.first_of.ensures ∙ ap option_copied c.in-Some.is) c.new_value-new.ensures.same c.run_chain-result-in-None.ensures.runs in
+    handed_free reads (λ r old new. Runs r (whole_chain c.args.expr.now (assigned_in c.args.new_val)) old
+    c.run_chain-result-in-None.result new) (g.T.NativeTable.state c.args.table.now)
+    (g.T.NativeTable.state c.run_chain-result-in-None.new.table) c.take-run.result c.run_chain-result-in-None.new.run c.args.global.now
+    c.give_back.new.global c.give_back.ensures.global c.args.scope.now c.give_back.new.scope c.give_back.ensures.scope
+    (kept (under_what_is_read g.H.Host.name_of c.evaluator-evaluator.result g.T.NativeTable.natives)
+    (whole_chain c.args.expr.now (assigned_in c.args.new_val)) (ended c.run_chain-result-in-None.result) _ _ tt
+    (over_root (under_what_is_read g.H.Host.name_of c.evaluator-evaluator.result g.T.NativeTable.natives) c.args.expr.now
+    c.in-Some.root.now (new_of c.new_value-new.result) (assigned_in c.args.new_val) _ c.run_chain-result-in-None.result _
+    (sym c.first_of.ensures ∙ ap option_copied c.in-Some.is) c.new_value-new.ensures.same c.run_chain-result-in-None.ensures.runs)).bound
+    (was c.args.this) (left_free g c c.args.this) (ap was c.in-None.is) (this_free g c) c.take-run.ensures.run runs
+
+pub returns-in-None-clause-ends : goal.returns-in-None-clause-ends
+returns-in-None-clause-ends g c = ends_as (under g.H.Host.name_of c.args.self.now g.T.NativeTable.natives)
+    (whole_chain c.args.expr.now (assigned_in c.args.new_val)) _ _ c.run_chain-result-in-None.result (runs_free g c)
+
+pub returns-in-None-clause-kept : goal.returns-in-None-clause-kept
+returns-in-None-clause-kept g c = kept (under g.H.Host.name_of c.args.self.now g.T.NativeTable.natives)
+    (whole_chain c.args.expr.now (assigned_in c.args.new_val)) (ended c.run_chain-result-in-None.result) _ _ tt (runs_free g c)
+
+pub returns-in-None-clause-names : goal.returns-in-None-clause-names
+returns-in-None-clause-names g c = names_stay (under g.H.Host.name_of c.args.self.now g.T.NativeTable.natives)
+    (whole_chain c.args.expr.now (assigned_in c.args.new_val)) (ended c.run_chain-result-in-None.result) _ _ tt tt (runs_free g c)
+
+pub returns-in-None-clause-assigns : goal.returns-in-None-clause-assigns
+returns-in-None-clause-assigns g c = chain_assigns (under g.H.Host.name_of c.args.self.now g.T.NativeTable.natives) c.args.expr.now
+    (assigned_in c.args.new_val) _ _ c.run_chain-result-in-None.result (runs_free g c)

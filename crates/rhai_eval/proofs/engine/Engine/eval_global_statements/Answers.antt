@@ -1,85 +1,70 @@
-use Rattle.std.proofs.Common.{None, false, ap, ◌∙◌}
+use Rattle.std.proofs.Common.{None, false, ap, refl, ◌∙◌}
 use Rattle.rhai_state.specs.declared.state.GlobalRuntimeState.{GlobalRuntimeState}
 use Rattle.rhai_machine.specs.language.Frames.{ended, Enter}
+use Rattle.rhai_machine.specs.language.Runs.{Runs, Goes}
+use Rattle.rhai_machine.specs.language.Script.{start_of_script, end_of_script}
 use Rattle.rhai_laws.proofs.KeptLaws.{kept, names_begin, variables_stay}
 use Rattle.rhai_laws.proofs.WantLaws.{runs_up_to_memory}
+use Rattle.rhai_steps.specs.States.{holding, state_of}
+use Rattle.rhai_cycle.specs.States.{under as under_what_is_read}
 use Rattle.rhai_eval.specs.States.{under}
-use Rattle.rhai_eval.proofs.Public.{lent, same_rules}
+use Rattle.rhai_eval.proofs.Public.{handed_free, same_rules}
 use Rattle.rhai_eval.proofs.Scripts.{script_ends, script_agrees, script_goes}
+use Rattle.rhai_eval.proofs.engine.Engine.eval_global_statements.Given.{Over}
 use Rattle.rhai_eval.proofs.engine.Engine.eval_global_statements.Goals as goal
 
-pub returns-clause-ends : goal.returns-clause-ends
-returns-clause-ends g c =
-    let rules = under g.H.Host.name_of c.args.self.now g.T.NativeTable.natives in
+-- the statements run, over what the caller handed in
+statements_run : (g : Over) (c : goal.After-top g) →
+    Runs (under g.H.Host.name_of c.args.self.now g.T.NativeTable.natives) (Enter c.args.tree.now.0 false)
+    (state_of (g.T.NativeTable.state c.args.table.now) c.args.global.now c.args.scope.now (holding None))
+    c.run_stmt_block-outcome.result
+    (state_of (g.T.NativeTable.state c.run_stmt_block-outcome.new.table) c.give_back.new.global c.give_back.new.scope (holding None))
+statements_run g c =
     let reads = same_rules g.H.Host.name_of g.T.NativeTable.natives c.args.self.now c.evaluator-evaluator.result
     c.evaluator-evaluator.ensures.limits c.evaluator-evaluator.ensures.offer in
-    let runs = lent rules (Enter c.args.tree.now.0 false) _ _ c.take-run.result c.run_stmt_block-outcome.new.run c.args.global.now
-    c.give_back.new.global c.args.scope.now c.give_back.new.scope
-    c.run_stmt_block-outcome.result None reads c.take-run.ensures.run c.give_back.ensures.global c.give_back.ensures.scope tt
-    (rw c.statements.ensures.value at c.run_stmt_block-outcome.ensures.runs) in
-    let goes = script_goes rules c.args.tree.now.0 c.args.map_exit_to_return_value _ _ c.run_stmt_block-outcome.result c.top.result runs
-    c.top.ensures.value c.top.ensures.error in
-    script_ends rules c.args.tree.now.0 c.args.map_exit_to_return_value _ _ c.top.result goes
+    let runs = rw c.statements.ensures.value at c.run_stmt_block-outcome.ensures.runs in
+    handed_free reads (λ r old new. Runs r (Enter c.args.tree.now.0 false) old c.run_stmt_block-outcome.result new)
+    (g.T.NativeTable.state c.args.table.now) (g.T.NativeTable.state c.run_stmt_block-outcome.new.table) c.take-run.result
+    c.run_stmt_block-outcome.new.run c.args.global.now c.give_back.new.global c.give_back.ensures.global c.args.scope.now
+    c.give_back.new.scope c.give_back.ensures.scope
+    (kept (under_what_is_read g.H.Host.name_of c.evaluator-evaluator.result g.T.NativeTable.natives) (Enter c.args.tree.now.0 false)
+    (ended c.run_stmt_block-outcome.result) _ _ tt runs).bound None None refl refl c.take-run.ensures.run runs
+
+-- and then the script
+script_runs : (g : Over) (c : goal.After-top g) →
+    Goes (under g.H.Host.name_of c.args.self.now g.T.NativeTable.natives)
+    (start_of_script c.args.tree.now.0 c.args.map_exit_to_return_value
+    (state_of (g.T.NativeTable.state c.args.table.now) c.args.global.now c.args.scope.now (holding None)))
+    (end_of_script c.top.result
+    (state_of (g.T.NativeTable.state c.run_stmt_block-outcome.new.table) c.give_back.new.global c.give_back.new.scope (holding None)))
+script_runs g c = script_goes (under g.H.Host.name_of c.args.self.now g.T.NativeTable.natives) c.args.tree.now.0
+    c.args.map_exit_to_return_value _ _ c.run_stmt_block-outcome.result c.top.result (statements_run g c) c.top.ensures.value
+    c.top.ensures.error
+
+pub returns-clause-ends : goal.returns-clause-ends
+returns-clause-ends g c = script_ends (under g.H.Host.name_of c.args.self.now g.T.NativeTable.natives) c.args.tree.now.0
+    c.args.map_exit_to_return_value _ _ c.top.result (script_runs g c)
 
 pub returns-clause-two_limits : goal.returns-clause-two_limits
-returns-clause-two_limits g c =
-    let rules = under g.H.Host.name_of c.args.self.now g.T.NativeTable.natives in
-    let reads = same_rules g.H.Host.name_of g.T.NativeTable.natives c.args.self.now c.evaluator-evaluator.result
-    c.evaluator-evaluator.ensures.limits c.evaluator-evaluator.ensures.offer in
-    let runs = lent rules (Enter c.args.tree.now.0 false) _ _ c.take-run.result c.run_stmt_block-outcome.new.run c.args.global.now
-    c.give_back.new.global c.args.scope.now c.give_back.new.scope
-    c.run_stmt_block-outcome.result None reads c.take-run.ensures.run c.give_back.ensures.global c.give_back.ensures.scope tt
-    (rw c.statements.ensures.value at c.run_stmt_block-outcome.ensures.runs) in
-    let goes = script_goes rules c.args.tree.now.0 c.args.map_exit_to_return_value _ _ c.run_stmt_block-outcome.result c.top.result runs
-    c.top.ensures.value c.top.ensures.error in
-    script_agrees rules c.args.tree.now.0 c.args.map_exit_to_return_value _ _ c.top.result
-    (script_ends rules c.args.tree.now.0 c.args.map_exit_to_return_value _ _ c.top.result goes)
+returns-clause-two_limits g c = script_agrees (under g.H.Host.name_of c.args.self.now g.T.NativeTable.natives) c.args.tree.now.0
+    c.args.map_exit_to_return_value _ _ c.top.result
+    (script_ends (under g.H.Host.name_of c.args.self.now g.T.NativeTable.natives) c.args.tree.now.0 c.args.map_exit_to_return_value _ _
+    c.top.result (script_runs g c))
 
 pub returns-clause-up_to : goal.returns-clause-up_to
-returns-clause-up_to g c =
-    let rules = under g.H.Host.name_of c.args.self.now g.T.NativeTable.natives in
-    let reads = same_rules g.H.Host.name_of g.T.NativeTable.natives c.args.self.now c.evaluator-evaluator.result
-    c.evaluator-evaluator.ensures.limits c.evaluator-evaluator.ensures.offer in
-    let runs = lent rules (Enter c.args.tree.now.0 false) _ _ c.take-run.result c.run_stmt_block-outcome.new.run c.args.global.now
-    c.give_back.new.global c.args.scope.now c.give_back.new.scope
-    c.run_stmt_block-outcome.result None reads c.take-run.ensures.run c.give_back.ensures.global c.give_back.ensures.scope tt
-    (rw c.statements.ensures.value at c.run_stmt_block-outcome.ensures.runs) in
-    let goes = script_goes rules c.args.tree.now.0 c.args.map_exit_to_return_value _ _ c.run_stmt_block-outcome.result c.top.result runs
-    c.top.ensures.value c.top.ensures.error in
-    runs_up_to_memory rules goes
+returns-clause-up_to g c = runs_up_to_memory (under g.H.Host.name_of c.args.self.now g.T.NativeTable.natives) (script_runs g c)
 
 pub returns-clause-kept : goal.returns-clause-kept
-returns-clause-kept g c =
-    let rules = under g.H.Host.name_of c.args.self.now g.T.NativeTable.natives in
-    let reads = same_rules g.H.Host.name_of g.T.NativeTable.natives c.args.self.now c.evaluator-evaluator.result
-    c.evaluator-evaluator.ensures.limits c.evaluator-evaluator.ensures.offer in
-    let runs = lent rules (Enter c.args.tree.now.0 false) _ _ c.take-run.result c.run_stmt_block-outcome.new.run c.args.global.now
-    c.give_back.new.global c.args.scope.now c.give_back.new.scope
-    c.run_stmt_block-outcome.result None reads c.take-run.ensures.run c.give_back.ensures.global c.give_back.ensures.scope tt
-    (rw c.statements.ensures.value at c.run_stmt_block-outcome.ensures.runs) in
-    kept rules (Enter c.args.tree.now.0 false) (ended c.run_stmt_block-outcome.result) _ _ tt runs
+returns-clause-kept g c = kept (under g.H.Host.name_of c.args.self.now g.T.NativeTable.natives) (Enter c.args.tree.now.0 false)
+    (ended c.run_stmt_block-outcome.result) _ _ tt (statements_run g c)
 
 pub returns-clause-begins : goal.returns-clause-begins
-returns-clause-begins g c =
-    let rules = under g.H.Host.name_of c.args.self.now g.T.NativeTable.natives in
-    let reads = same_rules g.H.Host.name_of g.T.NativeTable.natives c.args.self.now c.evaluator-evaluator.result
-    c.evaluator-evaluator.ensures.limits c.evaluator-evaluator.ensures.offer in
-    let runs = lent rules (Enter c.args.tree.now.0 false) _ _ c.take-run.result c.run_stmt_block-outcome.new.run c.args.global.now
-    c.give_back.new.global c.args.scope.now c.give_back.new.scope
-    c.run_stmt_block-outcome.result None reads c.take-run.ensures.run c.give_back.ensures.global c.give_back.ensures.scope tt
-    (rw c.statements.ensures.value at c.run_stmt_block-outcome.ensures.runs) in
-    names_begin rules (Enter c.args.tree.now.0 false) (ended c.run_stmt_block-outcome.result) _ _ tt runs
+returns-clause-begins g c = names_begin (under g.H.Host.name_of c.args.self.now g.T.NativeTable.natives) (Enter c.args.tree.now.0 false)
+    (ended c.run_stmt_block-outcome.result) _ _ tt (statements_run g c)
 
 pub returns-clause-variables : goal.returns-clause-variables
-returns-clause-variables g c =
-    let rules = under g.H.Host.name_of c.args.self.now g.T.NativeTable.natives in
-    let reads = same_rules g.H.Host.name_of g.T.NativeTable.natives c.args.self.now c.evaluator-evaluator.result
-    c.evaluator-evaluator.ensures.limits c.evaluator-evaluator.ensures.offer in
-    let runs = lent rules (Enter c.args.tree.now.0 false) _ _ c.take-run.result c.run_stmt_block-outcome.new.run c.args.global.now
-    c.give_back.new.global c.args.scope.now c.give_back.new.scope
-    c.run_stmt_block-outcome.result None reads c.take-run.ensures.run c.give_back.ensures.global c.give_back.ensures.scope tt
-    (rw c.statements.ensures.value at c.run_stmt_block-outcome.ensures.runs) in
-    variables_stay rules (Enter c.args.tree.now.0 false) (ended c.run_stmt_block-outcome.result) _ _ tt runs
+returns-clause-variables g c = variables_stay (under g.H.Host.name_of c.args.self.now g.T.NativeTable.natives)
+    (Enter c.args.tree.now.0 false) (ended c.run_stmt_block-outcome.result) _ _ tt (statements_run g c)
 
 pub returns-clause-search : goal.returns-clause-search
 returns-clause-search g c = ap (λ (global : GlobalRuntimeState _). global.always_search_scope) c.give_back.ensures.global

@@ -1,15 +1,18 @@
-use Rattle.std.proofs.Common.{◌≡◌, ◌||◌, Option, Some, None, MutBor, ap, refl, sym, subst}
+use Rattle.std.proofs.Common.{◌≡◌, ◌||◌, [], Option, Some, None, MutBor, ap, false, refl, subst, sym, true}
 use Rattle.std.specs.Option.{option_copied}
 use Rattle.rhai_values.specs.declared.base.value.Dynamic.{Dynamic}
 use Rattle.rhai_state.specs.declared.scope.Scope.{Scope}
 use Rattle.rhai_state.specs.Native.{left_by, was}
-use Rattle.rhai_machine.specs.language.Frames.{Operation, FromFocus}
+use Rattle.rhai_machine.specs.language.Calls.{dispatch_core}
+use Rattle.rhai_machine.specs.language.Frames.{Operation}
 use Rattle.rhai_machine.specs.language.Setting.{Rules}
-use Rattle.rhai_machine.specs.language.State.{State}
 use Rattle.rhai_steps.specs.States.{state_of}
-use Rattle.rhai_eval.specs.States.{offer_of, under}
-use Rattle.rhai_eval.specs.Places.{left_of, on_place, was_of, with_place}
-use Rattle.rhai_eval.proofs.InPlace.{call_alone, call_ends, call_in_place, call_kept}
+use Rattle.rhai_eval.specs.Places.{by_name, by_value, left_of, on_place, was_of, with_place}
+use Rattle.rhai_eval.specs.States.{under}
+use Rattle.rhai_eval.proofs.Dispatching.{out_runs}
+use Rattle.rhai_eval.proofs.Marked.{call_ends, call_kept, either_way, kept_holding}
+use Rattle.rhai_eval.proofs.NamedCalls.{kept_told, lent_told, value_told}
+use Rattle.rhai_eval.proofs.Public.{five}
 use Rattle.rhai_eval.proofs.engine.Engine.exec_fn_call.Given.{Over}
 use Rattle.rhai_eval.proofs.engine.Engine.exec_fn_call.Lts.{ps, r, xs}
 use denote.Triple.Clauses.{at_exit}
@@ -18,114 +21,337 @@ use borrow.Fn.Enter.{lasts_p}
 use borrow.Fn.Kinds.{ended_of}
 use Rattle.rhai_eval.proofs.engine.Engine.exec_fn_call.Goals as goal
 
--- what stands in the place of the first argument as its loan ends, were this the place
-abbrev after : (g : Over) → goal.After-global-1 g → Option (MutBor (Dynamic g.row.H.Denot)) → Option (Dynamic g.row.H.Denot)
-after g c place =
-    let kinds = ps g.row.H g.row.T g.H.laws g.T.laws g.H.Host-dict g.H.Destruct-dict g.T.NativeTable-dict in
-    let answer = r g.row.H g.row.T g.H.laws g.T.laws g.H.Host-dict g.H.Destruct-dict g.T.NativeTable-dict in
-    let types = xs g.row.H g.row.T g.H.laws g.T.laws g.H.Host-dict g.H.Destruct-dict g.T.NativeTable-dict in
-    let given : Args (ended_of 11 kinds answer).signature c.lifetimes = (c.args.self, (c.args.alloc, (c.args.global, (c.args._caches, (c.args.table, (c.args._scope, (c.args.name, (c.args.op_token, (place, (c.args.rest, (c.args.is_ref_mut, (c.args.is_method_call, (c.args.position, tt))))))))))))) in
-    left_by (at_exit (ended_of 11 kinds answer) c.lifetimes given (lasts_p c.lifetimes 4 kinds types given (c.args.self, (tt, (c.args.global, (c.args._caches, (c.args.table, (c.args._scope, (c.args.name, (c.args.op_token, (Some (record c.in-Some.first { now = c.pass_call-result.new.first }), (c.args.rest, (tt, (tt, (tt, (tt, (tt, (tt, (tt, (tt, (tt, (tt, (tt, (tt, (tt, (tt, (tt, (tt, (tt, (tt, (tt, (tt, tt)))))))))))))))))))))))))))))))).1.1.1.1.1.1.1.1.0
-
-first_is : (g : Over) (c : goal.After-global-1 g) → after g c c.args.first ≡ Some c.pass_call-result.new.first
-first_is g c = subst (λ place. after g c place ≡ Some c.pass_call-result.new.first) (sym c.in-Some.is) refl
-
--- and in that of the scope, which nothing writes to
-abbrev scope_after : (g : Over) → goal.After-global-1 g → Option (MutBor (Scope g.row.H.Denot)) → Option (Scope g.row.H.Denot)
-scope_after g c place =
+-- what stands in the place of `scope` as its loan ends, were this the place
+abbrev scope_left_1 : (g : Over) → goal.After-finish_on g → Option (MutBor (Scope g.row.H.Denot)) → Option (Scope g.row.H.Denot)
+scope_left_1 g c place =
     let kinds = ps g.row.H g.row.T g.H.laws g.T.laws g.H.Host-dict g.H.Destruct-dict g.T.NativeTable-dict in
     let answer = r g.row.H g.row.T g.H.laws g.T.laws g.H.Host-dict g.H.Destruct-dict g.T.NativeTable-dict in
     let types = xs g.row.H g.row.T g.H.laws g.T.laws g.H.Host-dict g.H.Destruct-dict g.T.NativeTable-dict in
     let given : Args (ended_of 11 kinds answer).signature c.lifetimes = (c.args.self, (c.args.alloc, (c.args.global, (c.args._caches, (c.args.table, (place, (c.args.name, (c.args.op_token, (c.args.first, (c.args.rest, (c.args.is_ref_mut, (c.args.is_method_call, (c.args.position, tt))))))))))))) in
-    left_of (at_exit (ended_of 11 kinds answer) c.lifetimes given (lasts_p c.lifetimes 4 kinds types given (c.args.self, (tt, (c.args.global, (c.args._caches, (c.args.table, (place, (c.args.name, (c.args.op_token, (Some (record c.in-Some.first { now = c.pass_call-result.new.first }), (c.args.rest, (tt, (tt, (tt, (tt, (tt, (tt, (tt, (tt, (tt, (tt, (tt, (tt, (tt, (tt, (tt, (tt, (tt, (tt, (tt, (tt, tt)))))))))))))))))))))))))))))))).1.1.1.1.1.0
+    left_of (at_exit (ended_of 11 kinds answer) c.lifetimes given (lasts_p c.lifetimes 4 kinds types given (c.args.self, (tt, (c.args.global, (c.args._caches, (c.args.table, (Some (record c.in-Some-scope.scope { now = c.finish_on.new.scope }), (c.args.name, (c.args.op_token, (Some (record c.in-Some.first { now = c.call_with-outcome.new.first }), (c.args.rest, five (five (five (five (five (five (tt, (tt, (tt, (tt, tt))))))))))))))))))))).1.1.1.1.1.0
 
-scope_is : (g : Over) (c : goal.After-global-1 g) (place : Option (MutBor (Scope g.row.H.Denot))) → scope_after g c place ≡ was_of place
-scope_is g c None = refl
-scope_is g c (Some place) = refl
+scope_is_1 : (g : Over) (c : goal.After-finish_on g) → scope_left_1 g c c.args.scope ≡ Some c.finish_on.new.scope
+scope_is_1 g c = subst (λ place. scope_left_1 g c place ≡ Some c.finish_on.new.scope) (sym c.in-Some-scope.is) refl
 
-abbrev after_none : (g : Over) → goal.After-global-in-None-1 g → Option (MutBor (Dynamic g.row.H.Denot)) → Option (Dynamic g.row.H.Denot)
-after_none g c place =
+-- what stands in the place of `first` as its loan ends, were this the place
+abbrev first_left_1 : (g : Over) → goal.After-finish_on g → Option (MutBor (Dynamic g.row.H.Denot)) → Option (Dynamic g.row.H.Denot)
+first_left_1 g c place =
     let kinds = ps g.row.H g.row.T g.H.laws g.T.laws g.H.Host-dict g.H.Destruct-dict g.T.NativeTable-dict in
     let answer = r g.row.H g.row.T g.H.laws g.T.laws g.H.Host-dict g.H.Destruct-dict g.T.NativeTable-dict in
     let types = xs g.row.H g.row.T g.H.laws g.T.laws g.H.Host-dict g.H.Destruct-dict g.T.NativeTable-dict in
-    let given : Args (ended_of 11 kinds answer).signature c.lifetimes = (c.args.self, (c.args.alloc, (c.args.global, (c.args._caches, (c.args.table, (c.args._scope, (c.args.name, (c.args.op_token, (place, (c.args.rest, (c.args.is_ref_mut, (c.args.is_method_call, (c.args.position, tt))))))))))))) in
-    left_by (at_exit (ended_of 11 kinds answer) c.lifetimes given (lasts_p c.lifetimes 4 kinds types given (c.args.self, (tt, (c.args.global, (c.args._caches, (c.args.table, (c.args._scope, (c.args.name, (c.args.op_token, (place, (c.args.rest, (tt, (tt, (tt, (tt, (tt, (tt, (tt, (tt, (tt, (tt, (tt, (tt, (tt, (tt, (tt, (tt, (tt, (tt, (tt, (tt, tt)))))))))))))))))))))))))))))))).1.1.1.1.1.1.1.1.0
+    let given : Args (ended_of 11 kinds answer).signature c.lifetimes = (c.args.self, (c.args.alloc, (c.args.global, (c.args._caches, (c.args.table, (c.args.scope, (c.args.name, (c.args.op_token, (place, (c.args.rest, (c.args.is_ref_mut, (c.args.is_method_call, (c.args.position, tt))))))))))))) in
+    left_by (at_exit (ended_of 11 kinds answer) c.lifetimes given (lasts_p c.lifetimes 4 kinds types given (c.args.self, (tt, (c.args.global, (c.args._caches, (c.args.table, (Some (record c.in-Some-scope.scope { now = c.finish_on.new.scope }), (c.args.name, (c.args.op_token, (Some (record c.in-Some.first { now = c.call_with-outcome.new.first }), (c.args.rest, five (five (five (five (five (five (tt, (tt, (tt, (tt, tt))))))))))))))))))))).1.1.1.1.1.1.1.1.0
 
-none_is : (g : Over) (c : goal.After-global-in-None-1 g) → after_none g c c.args.first ≡ None
-none_is g c = subst (λ place. after_none g c place ≡ None) (sym c.in-None.is) refl
+first_is_1 : (g : Over) (c : goal.After-finish_on g) → first_left_1 g c c.args.first ≡ Some c.call_with-outcome.new.first
+first_is_1 g c = subst (λ place. first_left_1 g c place ≡ Some c.call_with-outcome.new.first) (sym c.in-Some.is) refl
 
-abbrev scope_after_none : (g : Over) → goal.After-global-in-None-1 g → Option (MutBor (Scope g.row.H.Denot)) → Option (Scope g.row.H.Denot)
-scope_after_none g c place =
+pub returns-in-Some-scope-clause-lent : goal.returns-in-Some-scope-clause-lent
+returns-in-Some-scope-clause-lent g c variables this lent =
+    let rules : Rules _ _ = under g.H.Host.name_of c.args.self.now g.T.NativeTable.natives in
+    let operation : Operation = record { name = c.args.name.now; token = option_copied c.args.op_token; at = c.args.position } in
+    lent_told rules operation c.args.rest.now (g.T.NativeTable.state c.args.table.now) (g.T.NativeTable.state c.finish_on.new.table)
+    c.args.global.now c.finish_on.new.global c.finish_on.result variables
+    (was_of c.args.scope) (scope_left_1 g c c.args.scope) (Some c.in-Some-scope.scope.now) (Some c.finish_on.new.scope)
+    (ap was_of c.in-Some-scope.is) (scope_is_1 g c) c.args.is_method_call this (was c.args.first) (first_left_1 g c c.args.first)
+    (Some c.in-Some.first.now) (Some c.call_with-outcome.new.first) (ap was c.in-Some.is) (first_is_1 g c)
+    (call_ends rules (by_name c.args.is_method_call true) (on_place operation true (Some c.in-Some.first.now) c.args.rest.now)
+    (state_of (g.T.NativeTable.state c.args.table.now) c.args.global.now c.in-Some-scope.scope.now
+    (with_place this (Some c.in-Some.first.now)))
+    (state_of (g.T.NativeTable.state c.finish_on.new.table) c.finish_on.new.global c.finish_on.new.scope
+    (with_place this (Some c.call_with-outcome.new.first)))
+    c.finish_on.result
+    (out_runs rules false c.args.position c.call_with-outcome.result
+    (dispatch_core rules.setting (by_name c.args.is_method_call true)
+    (on_place operation true (Some c.in-Some.first.now) c.args.rest.now))
+    (state_of (g.T.NativeTable.state c.args.table.now) c.args.global.now c.in-Some-scope.scope.now
+    (with_place this (Some c.in-Some.first.now)))
+    (state_of (g.T.NativeTable.state c.call_with-outcome.new.table) c.call_with-outcome.new.global c.in-Some-scope.scope.now
+    (with_place this (Some c.call_with-outcome.new.first)))
+    (state_of (g.T.NativeTable.state c.finish_on.new.table) c.finish_on.new.global c.finish_on.new.scope
+    (with_place this (Some c.call_with-outcome.new.first)))
+    c.finish_on.result (rw c.copied-token.ensures at (c.call_with-outcome.ensures.lent c.in-Some-scope.scope.now (with_place this None)
+    true lent)) (c.finish_on.ensures.runs (with_place this (Some c.call_with-outcome.new.first)))))
+
+pub returns-in-Some-scope-clause-by_value : goal.returns-in-Some-scope-clause-by_value
+returns-in-Some-scope-clause-by_value g c variables held none =
+    let rules : Rules _ _ = under g.H.Host.name_of c.args.self.now g.T.NativeTable.natives in
+    let operation : Operation = record { name = c.args.name.now; token = option_copied c.args.op_token; at = c.args.position } in
+    value_told rules operation c.args.rest.now (g.T.NativeTable.state c.args.table.now) (g.T.NativeTable.state c.finish_on.new.table)
+    c.args.global.now c.finish_on.new.global c.finish_on.result variables
+    (was_of c.args.scope) (scope_left_1 g c c.args.scope) (Some c.in-Some-scope.scope.now) (Some c.finish_on.new.scope)
+    (ap was_of c.in-Some-scope.is) (scope_is_1 g c) held (was c.args.first) (Some c.in-Some.first.now) (ap was c.in-Some.is)
+    (call_ends rules (by_name false true) (by_value operation (Some c.in-Some.first.now) c.args.rest.now)
+    (state_of (g.T.NativeTable.state c.args.table.now) c.args.global.now c.in-Some-scope.scope.now held)
+    (state_of (g.T.NativeTable.state c.finish_on.new.table) c.finish_on.new.global c.finish_on.new.scope held)
+    c.finish_on.result
+    (out_runs rules false c.args.position c.call_with-outcome.result
+    (dispatch_core rules.setting (by_name false true) (by_value operation (Some c.in-Some.first.now) c.args.rest.now))
+    (state_of (g.T.NativeTable.state c.args.table.now) c.args.global.now c.in-Some-scope.scope.now held)
+    (state_of (g.T.NativeTable.state c.call_with-outcome.new.table) c.call_with-outcome.new.global c.in-Some-scope.scope.now held)
+    (state_of (g.T.NativeTable.state c.finish_on.new.table) c.finish_on.new.global c.finish_on.new.scope held)
+    c.finish_on.result (rw c.copied-token.ensures at (c.call_with-outcome.ensures.by_value c.in-Some-scope.scope.now held true none))
+    (c.finish_on.ensures.runs held)))
+
+pub returns-in-Some-scope-clause-kept : goal.returns-in-Some-scope-clause-kept
+returns-in-Some-scope-clause-kept g c variables held =
+    let rules : Rules _ _ = under g.H.Host.name_of c.args.self.now g.T.NativeTable.natives in
+    let operation : Operation = record { name = c.args.name.now; token = option_copied c.args.op_token; at = c.args.position } in
+    let this : Option (Dynamic _) = None in
+    kept_told rules operation c.args.rest.now (g.T.NativeTable.state c.args.table.now) (g.T.NativeTable.state c.finish_on.new.table)
+    c.args.global.now c.finish_on.new.global c.finish_on.result variables
+    (was_of c.args.scope) (scope_left_1 g c c.args.scope) (Some c.in-Some-scope.scope.now) (Some c.finish_on.new.scope)
+    (ap was_of c.in-Some-scope.is) (scope_is_1 g c) held
+    (either_way (c.args.is_ref_mut || c.args.is_method_call)
+    (λ lent. kept_holding rules (g.T.NativeTable.state c.args.table.now) (g.T.NativeTable.state c.finish_on.new.table) c.args.global.now
+    c.finish_on.new.global c.in-Some-scope.scope.now c.finish_on.new.scope (with_place this (Some c.in-Some.first.now))
+    (with_place this (Some c.call_with-outcome.new.first)) held
+    (call_kept rules (by_name c.args.is_method_call true) (on_place operation true (Some c.in-Some.first.now) c.args.rest.now)
+    (state_of (g.T.NativeTable.state c.args.table.now) c.args.global.now c.in-Some-scope.scope.now
+    (with_place this (Some c.in-Some.first.now)))
+    (state_of (g.T.NativeTable.state c.finish_on.new.table) c.finish_on.new.global c.finish_on.new.scope
+    (with_place this (Some c.call_with-outcome.new.first)))
+    c.finish_on.result
+    (out_runs rules false c.args.position c.call_with-outcome.result
+    (dispatch_core rules.setting (by_name c.args.is_method_call true)
+    (on_place operation true (Some c.in-Some.first.now) c.args.rest.now))
+    (state_of (g.T.NativeTable.state c.args.table.now) c.args.global.now c.in-Some-scope.scope.now
+    (with_place this (Some c.in-Some.first.now)))
+    (state_of (g.T.NativeTable.state c.call_with-outcome.new.table) c.call_with-outcome.new.global c.in-Some-scope.scope.now
+    (with_place this (Some c.call_with-outcome.new.first)))
+    (state_of (g.T.NativeTable.state c.finish_on.new.table) c.finish_on.new.global c.finish_on.new.scope
+    (with_place this (Some c.call_with-outcome.new.first)))
+    c.finish_on.result (rw c.copied-token.ensures at (c.call_with-outcome.ensures.lent c.in-Some-scope.scope.now (with_place this None)
+    true lent)) (c.finish_on.ensures.runs (with_place this (Some c.call_with-outcome.new.first))))))
+    (λ none. call_kept rules (by_name false true) (by_value operation (Some c.in-Some.first.now) c.args.rest.now)
+    (state_of (g.T.NativeTable.state c.args.table.now) c.args.global.now c.in-Some-scope.scope.now held)
+    (state_of (g.T.NativeTable.state c.finish_on.new.table) c.finish_on.new.global c.finish_on.new.scope held)
+    c.finish_on.result
+    (out_runs rules false c.args.position c.call_with-outcome.result
+    (dispatch_core rules.setting (by_name false true) (by_value operation (Some c.in-Some.first.now) c.args.rest.now))
+    (state_of (g.T.NativeTable.state c.args.table.now) c.args.global.now c.in-Some-scope.scope.now held)
+    (state_of (g.T.NativeTable.state c.call_with-outcome.new.table) c.call_with-outcome.new.global c.in-Some-scope.scope.now held)
+    (state_of (g.T.NativeTable.state c.finish_on.new.table) c.finish_on.new.global c.finish_on.new.scope held)
+    c.finish_on.result (rw c.copied-token.ensures at (c.call_with-outcome.ensures.by_value c.in-Some-scope.scope.now held true none))
+    (c.finish_on.ensures.runs held))))
+
+-- what stands in the place of `scope` as its loan ends, were this the place
+abbrev scope_left_2 : (g : Over) → goal.After-finish_fresh g → Option (MutBor (Scope g.row.H.Denot)) → Option (Scope g.row.H.Denot)
+scope_left_2 g c place =
     let kinds = ps g.row.H g.row.T g.H.laws g.T.laws g.H.Host-dict g.H.Destruct-dict g.T.NativeTable-dict in
     let answer = r g.row.H g.row.T g.H.laws g.T.laws g.H.Host-dict g.H.Destruct-dict g.T.NativeTable-dict in
     let types = xs g.row.H g.row.T g.H.laws g.T.laws g.H.Host-dict g.H.Destruct-dict g.T.NativeTable-dict in
     let given : Args (ended_of 11 kinds answer).signature c.lifetimes = (c.args.self, (c.args.alloc, (c.args.global, (c.args._caches, (c.args.table, (place, (c.args.name, (c.args.op_token, (c.args.first, (c.args.rest, (c.args.is_ref_mut, (c.args.is_method_call, (c.args.position, tt))))))))))))) in
-    left_of (at_exit (ended_of 11 kinds answer) c.lifetimes given (lasts_p c.lifetimes 4 kinds types given (c.args.self, (tt, (c.args.global, (c.args._caches, (c.args.table, (place, (c.args.name, (c.args.op_token, (c.args.first, (c.args.rest, (tt, (tt, (tt, (tt, (tt, (tt, (tt, (tt, (tt, (tt, (tt, (tt, (tt, (tt, (tt, (tt, (tt, (tt, (tt, (tt, tt)))))))))))))))))))))))))))))))).1.1.1.1.1.0
+    left_of (at_exit (ended_of 11 kinds answer) c.lifetimes given (lasts_p c.lifetimes 4 kinds types given (c.args.self, (tt, (c.args.global, (c.args._caches, (c.args.table, (place, (c.args.name, (c.args.op_token, (Some (record c.in-Some.first { now = c.call_with-outcome.new.first }), (c.args.rest, five (five (five (five (five (five (tt, (tt, (tt, (tt, tt))))))))))))))))))))).1.1.1.1.1.0
 
-scope_is_none : (g : Over) (c : goal.After-global-in-None-1 g) (place : Option (MutBor (Scope g.row.H.Denot))) → scope_after_none g c place ≡ was_of place
-scope_is_none g c None = refl
-scope_is_none g c (Some place) = refl
+scope_is_2 : (g : Over) (c : goal.After-finish_fresh g) → scope_left_2 g c c.args.scope ≡ None
+scope_is_2 g c = subst (λ place. scope_left_2 g c place ≡ None) (sym c.in-None-scope.is) refl
 
-pub returns-in-Some-clause-ends : goal.returns-in-Some-clause-ends
-returns-in-Some-clause-ends g c scope this =
+-- what stands in the place of `first` as its loan ends, were this the place
+abbrev first_left_2 : (g : Over) → goal.After-finish_fresh g → Option (MutBor (Dynamic g.row.H.Denot)) → Option (Dynamic g.row.H.Denot)
+first_left_2 g c place =
+    let kinds = ps g.row.H g.row.T g.H.laws g.T.laws g.H.Host-dict g.H.Destruct-dict g.T.NativeTable-dict in
+    let answer = r g.row.H g.row.T g.H.laws g.T.laws g.H.Host-dict g.H.Destruct-dict g.T.NativeTable-dict in
+    let types = xs g.row.H g.row.T g.H.laws g.T.laws g.H.Host-dict g.H.Destruct-dict g.T.NativeTable-dict in
+    let given : Args (ended_of 11 kinds answer).signature c.lifetimes = (c.args.self, (c.args.alloc, (c.args.global, (c.args._caches, (c.args.table, (c.args.scope, (c.args.name, (c.args.op_token, (place, (c.args.rest, (c.args.is_ref_mut, (c.args.is_method_call, (c.args.position, tt))))))))))))) in
+    left_by (at_exit (ended_of 11 kinds answer) c.lifetimes given (lasts_p c.lifetimes 4 kinds types given (c.args.self, (tt, (c.args.global, (c.args._caches, (c.args.table, (c.args.scope, (c.args.name, (c.args.op_token, (Some (record c.in-Some.first { now = c.call_with-outcome.new.first }), (c.args.rest, five (five (five (five (five (five (tt, (tt, (tt, (tt, tt))))))))))))))))))))).1.1.1.1.1.1.1.1.0
+
+first_is_2 : (g : Over) (c : goal.After-finish_fresh g) → first_left_2 g c c.args.first ≡ Some c.call_with-outcome.new.first
+first_is_2 g c = subst (λ place. first_left_2 g c place ≡ Some c.call_with-outcome.new.first) (sym c.in-Some.is) refl
+
+pub returns-in-None-scope-clause-lent : goal.returns-in-None-scope-clause-lent
+returns-in-None-scope-clause-lent g c variables this lent =
     let rules : Rules _ _ = under g.H.Host.name_of c.args.self.now g.T.NativeTable.natives in
     let operation : Operation = record { name = c.args.name.now; token = option_copied c.args.op_token; at = c.args.position } in
-    let call = on_place operation (c.args.is_ref_mut || c.args.is_method_call) (was c.args.first) c.args.rest.now in
-    let old : State _ _ = state_of (g.T.NativeTable.state c.args.table.now) c.args.global.now scope (with_place this (was c.args.first)) in
-    let new : State _ _ = state_of (g.T.NativeTable.state c.pass_call-result.new.table) c.pass_call-result.new.global scope
-    (with_place this (after g c c.args.first)) in
-    call_ends rules old new c.pass_call-result.result call
-    (call_in_place rules operation (c.args.is_ref_mut || c.args.is_method_call) c.args.rest.now (g.T.NativeTable.state c.args.table.now)
-    (g.T.NativeTable.state c.pass_call-result.new.table) c.args.global.now c.pass_call-result.new.global scope this
-    c.pass_call-result.result (was c.args.first) (after g c c.args.first) c.in-Some.first.now c.pass_call-result.new.first (ap was c.in-Some.is) (first_is g c)
-    (rw (c.copied-token.ensures, c.is_guarded-guarded.ensures) at
-    (c.pass_call-result.ensures.runs (offer_of c.args.self.now) scope (with_place this (Some c.in-Some.first.now)) (Some FromFocus) refl)))
+    lent_told rules operation c.args.rest.now (g.T.NativeTable.state c.args.table.now) (g.T.NativeTable.state c.finish_fresh.new.table)
+    c.args.global.now c.finish_fresh.new.global c.finish_fresh.result variables
+    (was_of c.args.scope) (scope_left_2 g c c.args.scope) None None (ap was_of c.in-None-scope.is) (scope_is_2 g c) c.args.is_method_call
+    this (was c.args.first) (first_left_2 g c c.args.first) (Some c.in-Some.first.now) (Some c.call_with-outcome.new.first)
+    (ap was c.in-Some.is) (first_is_2 g c)
+    (call_ends rules (by_name c.args.is_method_call false) (on_place operation true (Some c.in-Some.first.now) c.args.rest.now)
+    (state_of (g.T.NativeTable.state c.args.table.now) c.args.global.now variables (with_place this (Some c.in-Some.first.now)))
+    (state_of (g.T.NativeTable.state c.finish_fresh.new.table) c.finish_fresh.new.global variables
+    (with_place this (Some c.call_with-outcome.new.first)))
+    c.finish_fresh.result
+    (out_runs rules true c.args.position c.call_with-outcome.result
+    (dispatch_core rules.setting (by_name c.args.is_method_call false)
+    (on_place operation true (Some c.in-Some.first.now) c.args.rest.now))
+    (state_of (g.T.NativeTable.state c.args.table.now) c.args.global.now variables (with_place this (Some c.in-Some.first.now)))
+    (state_of (g.T.NativeTable.state c.call_with-outcome.new.table) c.call_with-outcome.new.global variables
+    (with_place this (Some c.call_with-outcome.new.first)))
+    (state_of (g.T.NativeTable.state c.finish_fresh.new.table) c.finish_fresh.new.global variables
+    (with_place this (Some c.call_with-outcome.new.first)))
+    c.finish_fresh.result (rw c.copied-token.ensures at (c.call_with-outcome.ensures.lent variables (with_place this None) false lent))
+    (c.finish_fresh.ensures.runs variables (with_place this (Some c.call_with-outcome.new.first)))))
 
-pub returns-in-Some-clause-kept : goal.returns-in-Some-clause-kept
-returns-in-Some-clause-kept g c scope this =
+pub returns-in-None-scope-clause-by_value : goal.returns-in-None-scope-clause-by_value
+returns-in-None-scope-clause-by_value g c variables held none =
     let rules : Rules _ _ = under g.H.Host.name_of c.args.self.now g.T.NativeTable.natives in
     let operation : Operation = record { name = c.args.name.now; token = option_copied c.args.op_token; at = c.args.position } in
-    let call = on_place operation (c.args.is_ref_mut || c.args.is_method_call) (was c.args.first) c.args.rest.now in
-    let old : State _ _ = state_of (g.T.NativeTable.state c.args.table.now) c.args.global.now scope (with_place this (was c.args.first)) in
-    let new : State _ _ = state_of (g.T.NativeTable.state c.pass_call-result.new.table) c.pass_call-result.new.global scope
-    (with_place this (after g c c.args.first)) in
-    call_kept rules old new c.pass_call-result.result call
-    (call_in_place rules operation (c.args.is_ref_mut || c.args.is_method_call) c.args.rest.now (g.T.NativeTable.state c.args.table.now)
-    (g.T.NativeTable.state c.pass_call-result.new.table) c.args.global.now c.pass_call-result.new.global scope this
-    c.pass_call-result.result (was c.args.first) (after g c c.args.first) c.in-Some.first.now c.pass_call-result.new.first (ap was c.in-Some.is) (first_is g c)
-    (rw (c.copied-token.ensures, c.is_guarded-guarded.ensures) at
-    (c.pass_call-result.ensures.runs (offer_of c.args.self.now) scope (with_place this (Some c.in-Some.first.now)) (Some FromFocus) refl)))
+    value_told rules operation c.args.rest.now (g.T.NativeTable.state c.args.table.now) (g.T.NativeTable.state c.finish_fresh.new.table)
+    c.args.global.now c.finish_fresh.new.global c.finish_fresh.result variables
+    (was_of c.args.scope) (scope_left_2 g c c.args.scope) None None (ap was_of c.in-None-scope.is) (scope_is_2 g c) held
+    (was c.args.first) (Some c.in-Some.first.now) (ap was c.in-Some.is)
+    (call_ends rules (by_name false false) (by_value operation (Some c.in-Some.first.now) c.args.rest.now)
+    (state_of (g.T.NativeTable.state c.args.table.now) c.args.global.now variables held)
+    (state_of (g.T.NativeTable.state c.finish_fresh.new.table) c.finish_fresh.new.global variables held)
+    c.finish_fresh.result
+    (out_runs rules true c.args.position c.call_with-outcome.result
+    (dispatch_core rules.setting (by_name false false) (by_value operation (Some c.in-Some.first.now) c.args.rest.now))
+    (state_of (g.T.NativeTable.state c.args.table.now) c.args.global.now variables held)
+    (state_of (g.T.NativeTable.state c.call_with-outcome.new.table) c.call_with-outcome.new.global variables held)
+    (state_of (g.T.NativeTable.state c.finish_fresh.new.table) c.finish_fresh.new.global variables held)
+    c.finish_fresh.result (rw c.copied-token.ensures at (c.call_with-outcome.ensures.by_value variables held false none))
+    (c.finish_fresh.ensures.runs variables held)))
 
-pub returns-in-Some-clause-scope : goal.returns-in-Some-clause-scope
-returns-in-Some-clause-scope g c = scope_is g c c.args._scope
-
-pub returns-in-None-clause-ends : goal.returns-in-None-clause-ends
-returns-in-None-clause-ends g c scope this =
+pub returns-in-None-scope-clause-kept : goal.returns-in-None-scope-clause-kept
+returns-in-None-scope-clause-kept g c variables held =
     let rules : Rules _ _ = under g.H.Host.name_of c.args.self.now g.T.NativeTable.natives in
     let operation : Operation = record { name = c.args.name.now; token = option_copied c.args.op_token; at = c.args.position } in
-    let call = on_place operation (c.args.is_ref_mut || c.args.is_method_call) (was c.args.first) c.args.rest.now in
-    let old : State _ _ = state_of (g.T.NativeTable.state c.args.table.now) c.args.global.now scope (with_place this (was c.args.first)) in
-    let new : State _ _ = state_of (g.T.NativeTable.state c.pass_native_alone-result.new.table) c.pass_native_alone-result.new.global scope
-    (with_place this (after_none g c c.args.first)) in
-    call_ends rules old new c.pass_native_alone-result.result call
-    (call_alone rules operation (c.args.is_ref_mut || c.args.is_method_call) c.args.rest.now (g.T.NativeTable.state c.args.table.now)
-    (g.T.NativeTable.state c.pass_native_alone-result.new.table) c.args.global.now c.pass_native_alone-result.new.global scope this
-    c.pass_native_alone-result.result (was c.args.first) (after_none g c c.args.first) (ap was c.in-None.is) (none_is g c)
-    (rw c.copied-token.ensures at (c.pass_native_alone-result.ensures.runs (offer_of c.args.self.now) scope (with_place this None))))
+    let this : Option (Dynamic _) = None in
+    kept_told rules operation c.args.rest.now (g.T.NativeTable.state c.args.table.now) (g.T.NativeTable.state c.finish_fresh.new.table)
+    c.args.global.now c.finish_fresh.new.global c.finish_fresh.result variables
+    (was_of c.args.scope) (scope_left_2 g c c.args.scope) None None (ap was_of c.in-None-scope.is) (scope_is_2 g c) held
+    (either_way (c.args.is_ref_mut || c.args.is_method_call)
+    (λ lent. kept_holding rules (g.T.NativeTable.state c.args.table.now) (g.T.NativeTable.state c.finish_fresh.new.table)
+    c.args.global.now c.finish_fresh.new.global variables variables (with_place this (Some c.in-Some.first.now))
+    (with_place this (Some c.call_with-outcome.new.first)) held
+    (call_kept rules (by_name c.args.is_method_call false) (on_place operation true (Some c.in-Some.first.now) c.args.rest.now)
+    (state_of (g.T.NativeTable.state c.args.table.now) c.args.global.now variables (with_place this (Some c.in-Some.first.now)))
+    (state_of (g.T.NativeTable.state c.finish_fresh.new.table) c.finish_fresh.new.global variables
+    (with_place this (Some c.call_with-outcome.new.first)))
+    c.finish_fresh.result
+    (out_runs rules true c.args.position c.call_with-outcome.result
+    (dispatch_core rules.setting (by_name c.args.is_method_call false)
+    (on_place operation true (Some c.in-Some.first.now) c.args.rest.now))
+    (state_of (g.T.NativeTable.state c.args.table.now) c.args.global.now variables (with_place this (Some c.in-Some.first.now)))
+    (state_of (g.T.NativeTable.state c.call_with-outcome.new.table) c.call_with-outcome.new.global variables
+    (with_place this (Some c.call_with-outcome.new.first)))
+    (state_of (g.T.NativeTable.state c.finish_fresh.new.table) c.finish_fresh.new.global variables
+    (with_place this (Some c.call_with-outcome.new.first)))
+    c.finish_fresh.result (rw c.copied-token.ensures at (c.call_with-outcome.ensures.lent variables (with_place this None) false lent))
+    (c.finish_fresh.ensures.runs variables (with_place this (Some c.call_with-outcome.new.first))))))
+    (λ none. call_kept rules (by_name false false) (by_value operation (Some c.in-Some.first.now) c.args.rest.now)
+    (state_of (g.T.NativeTable.state c.args.table.now) c.args.global.now variables held)
+    (state_of (g.T.NativeTable.state c.finish_fresh.new.table) c.finish_fresh.new.global variables held)
+    c.finish_fresh.result
+    (out_runs rules true c.args.position c.call_with-outcome.result
+    (dispatch_core rules.setting (by_name false false) (by_value operation (Some c.in-Some.first.now) c.args.rest.now))
+    (state_of (g.T.NativeTable.state c.args.table.now) c.args.global.now variables held)
+    (state_of (g.T.NativeTable.state c.call_with-outcome.new.table) c.call_with-outcome.new.global variables held)
+    (state_of (g.T.NativeTable.state c.finish_fresh.new.table) c.finish_fresh.new.global variables held)
+    c.finish_fresh.result (rw c.copied-token.ensures at (c.call_with-outcome.ensures.by_value variables held false none))
+    (c.finish_fresh.ensures.runs variables held))))
 
-pub returns-in-None-clause-kept : goal.returns-in-None-clause-kept
-returns-in-None-clause-kept g c scope this =
+-- what stands in the place of `scope` as its loan ends, were this the place
+abbrev scope_left_3 : (g : Over) → goal.After-finish_on-in-Some-scope-2 g → Option (MutBor (Scope g.row.H.Denot)) → Option
+    (Scope g.row.H.Denot)
+scope_left_3 g c place =
+    let kinds = ps g.row.H g.row.T g.H.laws g.T.laws g.H.Host-dict g.H.Destruct-dict g.T.NativeTable-dict in
+    let answer = r g.row.H g.row.T g.H.laws g.T.laws g.H.Host-dict g.H.Destruct-dict g.T.NativeTable-dict in
+    let types = xs g.row.H g.row.T g.H.laws g.T.laws g.H.Host-dict g.H.Destruct-dict g.T.NativeTable-dict in
+    let given : Args (ended_of 11 kinds answer).signature c.lifetimes = (c.args.self, (c.args.alloc, (c.args.global, (c.args._caches, (c.args.table, (place, (c.args.name, (c.args.op_token, (c.args.first, (c.args.rest, (c.args.is_ref_mut, (c.args.is_method_call, (c.args.position, tt))))))))))))) in
+    left_of (at_exit (ended_of 11 kinds answer) c.lifetimes given (lasts_p c.lifetimes 4 kinds types given (c.args.self, (tt, (c.args.global, (c.args._caches, (c.args.table, (Some (record c.in-Some-scope-2.scope { now = c.finish_on-in-Some-scope-2.new.scope }), (c.args.name, (c.args.op_token, (c.args.first, (c.args.rest, five (five (five (five (five (five (tt, (tt, (tt, (tt, tt))))))))))))))))))))).1.1.1.1.1.0
+
+scope_is_3 : (g : Over) (c : goal.After-finish_on-in-Some-scope-2 g) → scope_left_3 g c c.args.scope ≡ Some
+    c.finish_on-in-Some-scope-2.new.scope
+scope_is_3 g c = subst (λ place. scope_left_3 g c place ≡ Some c.finish_on-in-Some-scope-2.new.scope) (sym c.in-Some-scope-2.is) refl
+
+pub returns-in-Some-scope-2-clause-by_value : goal.returns-in-Some-scope-2-clause-by_value
+returns-in-Some-scope-2-clause-by_value g c variables held none =
     let rules : Rules _ _ = under g.H.Host.name_of c.args.self.now g.T.NativeTable.natives in
     let operation : Operation = record { name = c.args.name.now; token = option_copied c.args.op_token; at = c.args.position } in
-    let call = on_place operation (c.args.is_ref_mut || c.args.is_method_call) (was c.args.first) c.args.rest.now in
-    let old : State _ _ = state_of (g.T.NativeTable.state c.args.table.now) c.args.global.now scope (with_place this (was c.args.first)) in
-    let new : State _ _ = state_of (g.T.NativeTable.state c.pass_native_alone-result.new.table) c.pass_native_alone-result.new.global scope
-    (with_place this (after_none g c c.args.first)) in
-    call_kept rules old new c.pass_native_alone-result.result call
-    (call_alone rules operation (c.args.is_ref_mut || c.args.is_method_call) c.args.rest.now (g.T.NativeTable.state c.args.table.now)
-    (g.T.NativeTable.state c.pass_native_alone-result.new.table) c.args.global.now c.pass_native_alone-result.new.global scope this
-    c.pass_native_alone-result.result (was c.args.first) (after_none g c c.args.first) (ap was c.in-None.is) (none_is g c)
-    (rw c.copied-token.ensures at (c.pass_native_alone-result.ensures.runs (offer_of c.args.self.now) scope (with_place this None))))
+    value_told rules operation c.args.rest.now (g.T.NativeTable.state c.args.table.now)
+    (g.T.NativeTable.state c.finish_on-in-Some-scope-2.new.table) c.args.global.now c.finish_on-in-Some-scope-2.new.global
+    c.finish_on-in-Some-scope-2.result variables
+    (was_of c.args.scope) (scope_left_3 g c c.args.scope) (Some c.in-Some-scope-2.scope.now) (Some c.finish_on-in-Some-scope-2.new.scope)
+    (ap was_of c.in-Some-scope-2.is) (scope_is_3 g c) held (was c.args.first) None (ap was c.in-None.is)
+    (call_ends rules (by_name false true) (by_value operation None [])
+    (state_of (g.T.NativeTable.state c.args.table.now) c.args.global.now c.in-Some-scope-2.scope.now held)
+    (state_of (g.T.NativeTable.state c.finish_on-in-Some-scope-2.new.table) c.finish_on-in-Some-scope-2.new.global
+    c.finish_on-in-Some-scope-2.new.scope held)
+    c.finish_on-in-Some-scope-2.result
+    (out_runs rules false c.args.position c.call_none-outcome.result
+    (dispatch_core rules.setting (by_name false true) (by_value operation None []))
+    (state_of (g.T.NativeTable.state c.args.table.now) c.args.global.now c.in-Some-scope-2.scope.now held)
+    (state_of (g.T.NativeTable.state c.call_none-outcome.new.table) c.call_none-outcome.new.global c.in-Some-scope-2.scope.now held)
+    (state_of (g.T.NativeTable.state c.finish_on-in-Some-scope-2.new.table) c.finish_on-in-Some-scope-2.new.global
+    c.finish_on-in-Some-scope-2.new.scope held)
+    c.finish_on-in-Some-scope-2.result (rw c.copied-token.ensures at
+    (c.call_none-outcome.ensures.runs c.in-Some-scope-2.scope.now held true)) (c.finish_on-in-Some-scope-2.ensures.runs held)))
 
-pub returns-in-None-clause-scope : goal.returns-in-None-clause-scope
-returns-in-None-clause-scope g c = scope_is_none g c c.args._scope
+pub returns-in-Some-scope-2-clause-kept : goal.returns-in-Some-scope-2-clause-kept
+returns-in-Some-scope-2-clause-kept g c variables held =
+    let rules : Rules _ _ = under g.H.Host.name_of c.args.self.now g.T.NativeTable.natives in
+    let operation : Operation = record { name = c.args.name.now; token = option_copied c.args.op_token; at = c.args.position } in
+    kept_told rules operation c.args.rest.now (g.T.NativeTable.state c.args.table.now)
+    (g.T.NativeTable.state c.finish_on-in-Some-scope-2.new.table) c.args.global.now c.finish_on-in-Some-scope-2.new.global
+    c.finish_on-in-Some-scope-2.result variables
+    (was_of c.args.scope) (scope_left_3 g c c.args.scope) (Some c.in-Some-scope-2.scope.now) (Some c.finish_on-in-Some-scope-2.new.scope)
+    (ap was_of c.in-Some-scope-2.is) (scope_is_3 g c) held
+    (call_kept rules (by_name false true) (by_value operation None [])
+    (state_of (g.T.NativeTable.state c.args.table.now) c.args.global.now c.in-Some-scope-2.scope.now held)
+    (state_of (g.T.NativeTable.state c.finish_on-in-Some-scope-2.new.table) c.finish_on-in-Some-scope-2.new.global
+    c.finish_on-in-Some-scope-2.new.scope held)
+    c.finish_on-in-Some-scope-2.result
+    (out_runs rules false c.args.position c.call_none-outcome.result
+    (dispatch_core rules.setting (by_name false true) (by_value operation None []))
+    (state_of (g.T.NativeTable.state c.args.table.now) c.args.global.now c.in-Some-scope-2.scope.now held)
+    (state_of (g.T.NativeTable.state c.call_none-outcome.new.table) c.call_none-outcome.new.global c.in-Some-scope-2.scope.now held)
+    (state_of (g.T.NativeTable.state c.finish_on-in-Some-scope-2.new.table) c.finish_on-in-Some-scope-2.new.global
+    c.finish_on-in-Some-scope-2.new.scope held)
+    c.finish_on-in-Some-scope-2.result (rw c.copied-token.ensures at
+    (c.call_none-outcome.ensures.runs c.in-Some-scope-2.scope.now held true)) (c.finish_on-in-Some-scope-2.ensures.runs held)))
+
+-- what stands in the place of `scope` as its loan ends, were this the place
+abbrev scope_left_4 : (g : Over) → goal.After-finish_fresh-in-None-scope-2 g → Option (MutBor (Scope g.row.H.Denot)) → Option
+    (Scope g.row.H.Denot)
+scope_left_4 g c place =
+    let kinds = ps g.row.H g.row.T g.H.laws g.T.laws g.H.Host-dict g.H.Destruct-dict g.T.NativeTable-dict in
+    let answer = r g.row.H g.row.T g.H.laws g.T.laws g.H.Host-dict g.H.Destruct-dict g.T.NativeTable-dict in
+    let types = xs g.row.H g.row.T g.H.laws g.T.laws g.H.Host-dict g.H.Destruct-dict g.T.NativeTable-dict in
+    let given : Args (ended_of 11 kinds answer).signature c.lifetimes = (c.args.self, (c.args.alloc, (c.args.global, (c.args._caches, (c.args.table, (place, (c.args.name, (c.args.op_token, (c.args.first, (c.args.rest, (c.args.is_ref_mut, (c.args.is_method_call, (c.args.position, tt))))))))))))) in
+    left_of (at_exit (ended_of 11 kinds answer) c.lifetimes given (lasts_p c.lifetimes 4 kinds types given (c.args.self, (tt, (c.args.global, (c.args._caches, (c.args.table, (place, (c.args.name, (c.args.op_token, (c.args.first, (c.args.rest, five (five (five (five (five (five (tt, (tt, (tt, (tt, tt))))))))))))))))))))).1.1.1.1.1.0
+
+scope_is_4 : (g : Over) (c : goal.After-finish_fresh-in-None-scope-2 g) → scope_left_4 g c c.args.scope ≡ None
+scope_is_4 g c = subst (λ place. scope_left_4 g c place ≡ None) (sym c.in-None-scope-2.is) refl
+
+pub returns-in-None-scope-2-clause-by_value : goal.returns-in-None-scope-2-clause-by_value
+returns-in-None-scope-2-clause-by_value g c variables held none =
+    let rules : Rules _ _ = under g.H.Host.name_of c.args.self.now g.T.NativeTable.natives in
+    let operation : Operation = record { name = c.args.name.now; token = option_copied c.args.op_token; at = c.args.position } in
+    value_told rules operation c.args.rest.now (g.T.NativeTable.state c.args.table.now)
+    (g.T.NativeTable.state c.finish_fresh-in-None-scope-2.new.table) c.args.global.now c.finish_fresh-in-None-scope-2.new.global
+    c.finish_fresh-in-None-scope-2.result variables
+    (was_of c.args.scope) (scope_left_4 g c c.args.scope) None None (ap was_of c.in-None-scope-2.is) (scope_is_4 g c) held
+    (was c.args.first) None (ap was c.in-None.is)
+    (call_ends rules (by_name false false) (by_value operation None [])
+    (state_of (g.T.NativeTable.state c.args.table.now) c.args.global.now variables held)
+    (state_of (g.T.NativeTable.state c.finish_fresh-in-None-scope-2.new.table) c.finish_fresh-in-None-scope-2.new.global variables held)
+    c.finish_fresh-in-None-scope-2.result
+    (out_runs rules true c.args.position c.call_none-outcome.result
+    (dispatch_core rules.setting (by_name false false) (by_value operation None []))
+    (state_of (g.T.NativeTable.state c.args.table.now) c.args.global.now variables held)
+    (state_of (g.T.NativeTable.state c.call_none-outcome.new.table) c.call_none-outcome.new.global variables held)
+    (state_of (g.T.NativeTable.state c.finish_fresh-in-None-scope-2.new.table) c.finish_fresh-in-None-scope-2.new.global variables held)
+    c.finish_fresh-in-None-scope-2.result (rw c.copied-token.ensures at (c.call_none-outcome.ensures.runs variables held false))
+    (c.finish_fresh-in-None-scope-2.ensures.runs variables held)))
+
+pub returns-in-None-scope-2-clause-kept : goal.returns-in-None-scope-2-clause-kept
+returns-in-None-scope-2-clause-kept g c variables held =
+    let rules : Rules _ _ = under g.H.Host.name_of c.args.self.now g.T.NativeTable.natives in
+    let operation : Operation = record { name = c.args.name.now; token = option_copied c.args.op_token; at = c.args.position } in
+    kept_told rules operation c.args.rest.now (g.T.NativeTable.state c.args.table.now)
+    (g.T.NativeTable.state c.finish_fresh-in-None-scope-2.new.table) c.args.global.now c.finish_fresh-in-None-scope-2.new.global
+    c.finish_fresh-in-None-scope-2.result variables
+    (was_of c.args.scope) (scope_left_4 g c c.args.scope) None None (ap was_of c.in-None-scope-2.is) (scope_is_4 g c) held
+    (call_kept rules (by_name false false) (by_value operation None [])
+    (state_of (g.T.NativeTable.state c.args.table.now) c.args.global.now variables held)
+    (state_of (g.T.NativeTable.state c.finish_fresh-in-None-scope-2.new.table) c.finish_fresh-in-None-scope-2.new.global variables held)
+    c.finish_fresh-in-None-scope-2.result
+    (out_runs rules true c.args.position c.call_none-outcome.result
+    (dispatch_core rules.setting (by_name false false) (by_value operation None []))
+    (state_of (g.T.NativeTable.state c.args.table.now) c.args.global.now variables held)
+    (state_of (g.T.NativeTable.state c.call_none-outcome.new.table) c.call_none-outcome.new.global variables held)
+    (state_of (g.T.NativeTable.state c.finish_fresh-in-None-scope-2.new.table) c.finish_fresh-in-None-scope-2.new.global variables held)
+    c.finish_fresh-in-None-scope-2.result (rw c.copied-token.ensures at (c.call_none-outcome.ensures.runs variables held false))
+    (c.finish_fresh-in-None-scope-2.ensures.runs variables held)))

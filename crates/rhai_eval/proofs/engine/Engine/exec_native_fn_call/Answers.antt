@@ -8,7 +8,7 @@ use Rattle.rhai_machine.specs.language.State.{State}
 use Rattle.rhai_steps.specs.States.{state_of}
 use Rattle.rhai_eval.specs.States.{offer_of, under}
 use Rattle.rhai_eval.specs.Places.{on_place, with_place}
-use Rattle.rhai_eval.proofs.InPlace.{native_ends, native_in_place, native_alone, native_kept}
+use Rattle.rhai_eval.proofs.Marked.{native_ends, native_in_place, native_alone, native_kept}
 use Rattle.rhai_eval.proofs.engine.Engine.exec_native_fn_call.Given.{Over}
 use Rattle.rhai_eval.proofs.engine.Engine.exec_native_fn_call.Lts.{ps, r, xs}
 use denote.Triple.Clauses.{at_exit}

@@ -1,33 +1,52 @@
-use Rattle.std.proofs.Common.{Some, None}
+use Rattle.std.proofs.Common.{Some, None, Option, ap, ◌∙◌}
+use Rattle.rhai_values.specs.declared.base.value.Dynamic.{Dynamic}
+use Rattle.rhai_state.specs.declared.scope.Scope.{Scope}
+use Rattle.rhai_state.specs.declared.state.GlobalRuntimeState.{GlobalRuntimeState}
 use Rattle.rhai_places.specs.Targets.{shown}
-use Rattle.rhai_machine.specs.language.Setting.{Rules}
-use Rattle.rhai_machine.specs.language.State.{State}
 use Rattle.rhai_machine.specs.language.Methods.{Method}
+use Rattle.rhai_methods.specs.Methods.{RunsFrom}
+use Rattle.rhai_methods.specs.Targets.{on_target, stands}
 use Rattle.rhai_steps.specs.States.{state_of}
-use Rattle.rhai_methods.specs.Targets.{stands}
+use Rattle.rhai_context.specs.declared.Context.{Context}
 use Rattle.rhai_eval.specs.Places.{with_place}
-use Rattle.rhai_eval.specs.States.{offer_of, under}
+use Rattle.rhai_eval.specs.States.{under}
 use Rattle.rhai_eval.proofs.OnTargets.{target_ends, target_kept}
+use Rattle.rhai_eval.proofs.Public.{handed_apart, same_rules}
+use Rattle.rhai_eval.proofs.engine.Engine.make_method_call.Given.{Over}
 use Rattle.rhai_eval.proofs.engine.Engine.make_method_call.Goals as goal
 
+-- the method, as it is called
+abbrev method : (g : Over) → goal.After-drop g → Method
+method g c = record { name = c.args.fn_name.now; at = c.args.pos; first_at = Some c.args.first_arg_pos }
+
+-- its run, over what the caller handed in
+method_runs : (g : Over) (c : goal.After-drop g) (scope : Scope g.row.H.Denot) (this : Option (Dynamic g.row.H.Denot)) →
+    RunsFrom (under g.H.Host.name_of c.args.self.now g.T.NativeTable.natives)
+    (on_target (under g.H.Host.name_of c.args.self.now g.T.NativeTable.natives).setting (method g c) c.args.call_args.now
+    c.args.target.now.part c.args.target.now.at.now)
+    (state_of (g.T.NativeTable.state c.args.table.now) c.args.global.now scope
+    (with_place this (Some (shown c.args.target.now.part c.args.target.now.at.now))))
+    c.method_on-result.result
+    (state_of (g.T.NativeTable.state c.method_on-result.new.table) c.give_back.new.global scope
+    (with_place this (Some (stands c.method_on-result.new.target.part c.method_on-result.new.target.at.now))))
+method_runs g c scope this =
+    let reads = same_rules g.H.Host.name_of g.T.NativeTable.natives c.args.self.now c.evaluator-evaluator.result
+    c.evaluator-evaluator.ensures.limits c.evaluator-evaluator.ensures.offer in
+    handed_apart reads (λ rules old new. RunsFrom rules (on_target rules.setting (method g c) c.args.call_args.now c.args.target.now.part
+    c.args.target.now.at.now) old c.method_on-result.result new) _ _ c.take-run.result c.method_on-result.new.run c.args.global.now
+    c.give_back.new.global c.give_back.ensures.global scope scope
+    (with_place this (Some (shown c.args.target.now.part c.args.target.now.at.now)))
+    (with_place this (Some (stands c.method_on-result.new.target.part c.method_on-result.new.target.at.now)))
+    (ap (λ (run : Context _). run.global) c.take-run.ensures.run) (c.method_on-result.ensures.runs scope (with_place this None))
+
 pub returns-clause-ends : goal.returns-clause-ends
-returns-clause-ends g c scope this =
-    let rules : Rules _ _ = under g.H.Host.name_of c.args.self.now g.T.NativeTable.natives in
-    let method : Method = record { name = c.args.fn_name.now; at = c.args.pos; first_at = Some c.args.first_arg_pos } in
-    let old : State _ _ = state_of (g.T.NativeTable.state c.args.table.now) c.args.global.now scope
-    (with_place this (Some (shown c.args.target.now.part c.args.target.now.at.now))) in
-    let new : State _ _ = state_of (g.T.NativeTable.state c.call_method_on-result.new.table) c.call_method_on-result.new.global scope
-    (with_place this (Some (stands c.call_method_on-result.new.target.part c.call_method_on-result.new.target.at.now))) in
-    target_ends rules method c.args.call_args.now c.args.target.now.part c.args.target.now.at.now old new c.call_method_on-result.result
-    (c.call_method_on-result.ensures.runs (offer_of c.args.self.now) scope (with_place this None))
+returns-clause-ends g c scope this = target_ends (under g.H.Host.name_of c.args.self.now g.T.NativeTable.natives) (method g c)
+    c.args.call_args.now c.args.target.now.part c.args.target.now.at.now _ _ c.method_on-result.result (method_runs g c scope this)
 
 pub returns-clause-kept : goal.returns-clause-kept
-returns-clause-kept g c scope this =
-    let rules : Rules _ _ = under g.H.Host.name_of c.args.self.now g.T.NativeTable.natives in
-    let method : Method = record { name = c.args.fn_name.now; at = c.args.pos; first_at = Some c.args.first_arg_pos } in
-    let old : State _ _ = state_of (g.T.NativeTable.state c.args.table.now) c.args.global.now scope
-    (with_place this (Some (shown c.args.target.now.part c.args.target.now.at.now))) in
-    let new : State _ _ = state_of (g.T.NativeTable.state c.call_method_on-result.new.table) c.call_method_on-result.new.global scope
-    (with_place this (Some (stands c.call_method_on-result.new.target.part c.call_method_on-result.new.target.at.now))) in
-    target_kept rules method c.args.call_args.now c.args.target.now.part c.args.target.now.at.now old new c.call_method_on-result.result
-    (c.call_method_on-result.ensures.runs (offer_of c.args.self.now) scope (with_place this None))
+returns-clause-kept g c scope this = target_kept (under g.H.Host.name_of c.args.self.now g.T.NativeTable.natives) (method g c)
+    c.args.call_args.now c.args.target.now.part c.args.target.now.at.now _ _ c.method_on-result.result (method_runs g c scope this)
+
+pub returns-clause-search : goal.returns-clause-search
+returns-clause-search g c = ap (λ (global : GlobalRuntimeState _). global.always_search_scope) c.give_back.ensures.global
+    ∙ c.take-run.ensures.search

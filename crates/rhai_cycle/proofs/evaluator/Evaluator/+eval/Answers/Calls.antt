@@ -6,6 +6,7 @@ use Rattle.rhai_machine.specs.machine.Memory.{here, next, ◌⨾◌}
 use Rattle.rhai_machine.specs.language.Frames.{core, Eval, UnaryOperand, LeftOperand, RightOperand}
 use Rattle.rhai_machine.specs.language.Runs.{Steps}
 use Rattle.rhai_steps.proofs.Pieces.{exits, step_by}
+use Rattle.rhai_cycle.specs.Calls.{StartsAs}
 use Rattle.rhai_cycle.specs.States.{names, offer_of, state_in, under}
 use Rattle.rhai_operands.proofs.Names.{operands_of_call, operands_resolve}
 use Rattle.rhai_operands.proofs.InPlace.{opens_binary}
@@ -30,10 +31,6 @@ run_fn_call_expr-run_operator-requires g t c =
 pub run_operator-returns-in-Some-clause-runs : goal.run_operator-returns-in-Some-clause-runs
 run_operator-returns-in-Some-clause-runs g t c =
     c.in-Some.ensures.runs (offer_of c.args.self.now) (holding c.args.run.now.this) c.requires.fast
-
-pub run_operator-returns-in-None-clause-runs : goal.run_operator-returns-in-None-clause-runs
-run_operator-returns-in-None-clause-runs g t c =
-    rw (c.operate_in_place.ensures.left_alone c.in-None.is) at c.run_binary.ensures.runs
 
 pub run_arg-returns-in-Some-clause-runs : goal.run_arg-returns-in-Some-clause-runs
 run_arg-returns-in-Some-clause-runs g t c =
@@ -66,65 +63,67 @@ run_unary-returns-in_err-value-2-clause-runs g t c =
     ⨾ flat_fails rules _ _ k _ _ (UnaryOperand _ _) refl (rw c.position.ensures at c.in_err-value-2.ensures.exact))
 
 pub run_unary-returns-clause-runs : goal.run_unary-returns-clause-runs
-unfolding after Steps
+unfolding after Steps StartsAs
 run_unary-returns-clause-runs g t c k =
     let rules = under g.H.Host.name_of c.args.self.now g.T.NativeTable.natives in
     opens_unary rules c.args.call.now c.args.token c.args.operand.now c.args.pos k _ c.requires.fast c.requires.token c.requires.args
     ⨾ c.in_ok-value.ensures.runs (UnaryOperand _ _ ∷ k)
     ⨾ next (rw (← c.position.ensures, ← (c.in_ok-value-2.ensures.exact tt))
-    ((rw (c.as_str.ensures, c.get.ensures) at (c.operate_one.ensures.runs (offer_of c.args.self.now) c.run_arg.new.run.scope
-    (holding c.run_arg.new.run.this))) k))
+    ((rw (c.as_str.ensures, c.get.ensures) at (c.operate_one-called.ensures.runs (offer_of c.args.self.now) c.run_arg.new.run.scope
+    (holding c.run_arg.new.run.this) c.offered-offered.ensures)) k))
+    ⨾ c.run_out.ensures.runs k
 
-pub run_binary-returns-in_err-first-clause-runs : goal.run_binary-returns-in_err-first-clause-runs
+pub run_operator-returns-in_err-first-in-None-clause-runs : goal.run_operator-returns-in_err-first-in-None-clause-runs
 unfolding after Steps
-run_binary-returns-in_err-first-clause-runs g t c =
+run_operator-returns-in_err-first-in-None-clause-runs g t c =
     let rules = under g.H.Host.name_of c.args.self.now g.T.NativeTable.natives in
     exits rules _ _ _ _ _ c.from_residual.ensures (λ k.
     opens_binary rules c.args.call.now c.args.token c.args.left.now c.args.right.now c.args.pos k _ c.requires.fast c.requires.token
     c.requires.args
-    ⨾ c.in_err-first.ensures.runs (LeftOperand _ _ _ ∷ k) ⨾ next here)
+    ⨾ (rw (c.operate_in_place.ensures.left_alone c.in-None.is) at c.in_err-first-in-None.ensures.runs) (LeftOperand _ _ _ ∷ k) ⨾ next here)
 
-pub run_binary-returns-in_err-first-2-clause-runs : goal.run_binary-returns-in_err-first-2-clause-runs
+pub run_operator-returns-in_err-first-in-None-2-clause-runs : goal.run_operator-returns-in_err-first-in-None-2-clause-runs
 unfolding after Steps
-run_binary-returns-in_err-first-2-clause-runs g t c =
+run_operator-returns-in_err-first-in-None-2-clause-runs g t c =
     let rules = under g.H.Host.name_of c.args.self.now g.T.NativeTable.natives in
-    exits rules _ _ _ _ _ c.from_residual-in_err-first-2.ensures (λ k.
+    exits rules _ _ _ _ _ c.from_residual-in_err-first-in-None-2.ensures (λ k.
     opens_binary rules c.args.call.now c.args.token c.args.left.now c.args.right.now c.args.pos k _ c.requires.fast c.requires.token
     c.requires.args
-    ⨾ c.in_ok-first.ensures.runs (LeftOperand _ _ _ ∷ k)
-    ⨾ flat_fails rules _ _ k _ _ (LeftOperand _ _ _) refl (rw c.position.ensures at c.in_err-first-2.ensures.exact))
+    ⨾ (rw (c.operate_in_place.ensures.left_alone c.in-None.is) at c.in_ok-first-in-None.ensures.runs) (LeftOperand _ _ _ ∷ k)
+    ⨾ flat_fails rules _ _ k _ _ (LeftOperand _ _ _) refl (rw c.position.ensures at c.in_err-first-in-None-2.ensures.exact))
 
-pub run_binary-returns-in-Err-clause-runs : goal.run_binary-returns-in-Err-clause-runs
+pub run_operator-returns-in-Err-clause-runs : goal.run_operator-returns-in-Err-clause-runs
 unfolding after Steps
-run_binary-returns-in-Err-clause-runs g t c k =
+run_operator-returns-in-Err-clause-runs g t c k =
     let rules = under g.H.Host.name_of c.args.self.now g.T.NativeTable.natives in
     opens_binary rules c.args.call.now c.args.token c.args.left.now c.args.right.now c.args.pos k _ c.requires.fast c.requires.token
     c.requires.args
-    ⨾ c.in_ok-first.ensures.runs (LeftOperand _ _ _ ∷ k)
-    ⨾ next (rw (← c.position.ensures, ← (c.in_ok-first-2.ensures.exact tt)) ((rw c.in-Err.is at c.run_arg-2.ensures.runs) (RightOperand
+    ⨾ (rw (c.operate_in_place.ensures.left_alone c.in-None.is) at c.in_ok-first-in-None.ensures.runs) (LeftOperand _ _ _ ∷ k)
+    ⨾ next (rw (← c.position.ensures, ← (c.in_ok-first-in-None-2.ensures.exact tt)) ((rw c.in-Err.is at c.run_arg-in-None.ensures.runs) (RightOperand
     _ _ _ ∷ k) ⨾ next here))
 
-pub run_binary-returns-in-Err-flatten-clause-runs : goal.run_binary-returns-in-Err-flatten-clause-runs
+pub run_operator-returns-in-Err-flatten-clause-runs : goal.run_operator-returns-in-Err-flatten-clause-runs
 unfolding after Steps
-run_binary-returns-in-Err-flatten-clause-runs g t c k =
+run_operator-returns-in-Err-flatten-clause-runs g t c k =
     let rules = under g.H.Host.name_of c.args.self.now g.T.NativeTable.natives in
     opens_binary rules c.args.call.now c.args.token c.args.left.now c.args.right.now c.args.pos k _ c.requires.fast c.requires.token
     c.requires.args
-    ⨾ c.in_ok-first.ensures.runs (LeftOperand _ _ _ ∷ k)
-    ⨾ next (rw (← c.position.ensures, ← (c.in_ok-first-2.ensures.exact tt)) ((rw c.in-Ok.is at c.run_arg-2.ensures.runs) (RightOperand
+    ⨾ (rw (c.operate_in_place.ensures.left_alone c.in-None.is) at c.in_ok-first-in-None.ensures.runs) (LeftOperand _ _ _ ∷ k)
+    ⨾ next (rw (← c.position.ensures, ← (c.in_ok-first-in-None-2.ensures.exact tt)) ((rw c.in-Ok.is at c.run_arg-in-None.ensures.runs) (RightOperand
     _ _ _ ∷ k)
     ⨾ flat_fails rules _ _ k _ _ (RightOperand _ _ _) refl (rw (c.position-in-Ok.ensures, c.in-Err-flatten.is) at
     c.flatten-in-Ok.ensures.exact)))
 
-pub run_binary-returns-in-Ok-flatten-clause-runs : goal.run_binary-returns-in-Ok-flatten-clause-runs
-unfolding after Steps
-run_binary-returns-in-Ok-flatten-clause-runs g t c k =
+pub run_operator-returns-in-Ok-flatten-clause-runs : goal.run_operator-returns-in-Ok-flatten-clause-runs
+unfolding after Steps StartsAs
+run_operator-returns-in-Ok-flatten-clause-runs g t c k =
     let rules = under g.H.Host.name_of c.args.self.now g.T.NativeTable.natives in
     opens_binary rules c.args.call.now c.args.token c.args.left.now c.args.right.now c.args.pos k _ c.requires.fast c.requires.token
     c.requires.args
-    ⨾ c.in_ok-first.ensures.runs (LeftOperand _ _ _ ∷ k)
-    ⨾ next (rw (← c.position.ensures, ← (c.in_ok-first-2.ensures.exact tt)) ((rw c.in-Ok.is at c.run_arg-2.ensures.runs) (RightOperand
+    ⨾ (rw (c.operate_in_place.ensures.left_alone c.in-None.is) at c.in_ok-first-in-None.ensures.runs) (LeftOperand _ _ _ ∷ k)
+    ⨾ next (rw (← c.position.ensures, ← (c.in_ok-first-in-None-2.ensures.exact tt)) ((rw c.in-Ok.is at c.run_arg-in-None.ensures.runs) (RightOperand
     _ _ _ ∷ k)
     ⨾ next (rw (← c.position-in-Ok.ensures, ← ((rw c.in-Ok-flatten.is at c.flatten-in-Ok.ensures.exact) tt))
-    ((rw (c.as_str.ensures, c.get.ensures) at (c.operate_two.ensures.runs (offer_of c.args.self.now) c.run_arg-2.new.run.scope
-    (holding c.run_arg-2.new.run.this))) k))))
+    ((rw (c.as_str.ensures, c.get.ensures) at (c.operate_two-called.ensures.runs (offer_of c.args.self.now) c.run_arg-in-None.new.run.scope
+    (holding c.run_arg-in-None.new.run.this) c.offered-offered.ensures)) k))))
+    ⨾ c.run_out.ensures.runs k

@@ -1,4 +1,5 @@
-use Rattle.std.proofs.Common.{◌≡◌, ◌∷◌, [], false, true, length, Option, Some, None, is_none, is_some, refl, sym, ap, subst, ◌∙◌, arith}
+use Rattle.std.proofs.Common.{◌≡◌, ◌∷◌, false, true, length}
+use Rattle.std.proofs.Common.{Option, Some, None, Ok, Err, is_none, is_some, refl, sym, ap, subst, ◌∙◌, arith}
 use Rattle.std.specs.Option.{option_copied, option_map}
 use Rattle.rhai_steps.specs.States.{holding}
 use Rattle.rhai_tree.specs.declared.expr.Expr.{out-Expr}
@@ -10,40 +11,46 @@ use Rattle.rhai_machine.specs.machine.Point.{after}
 use Rattle.rhai_machine.specs.machine.Memory.{here, next, ◌⨾◌}
 use Rattle.rhai_machine.specs.language.Frames.{AssignChain, AssignedChain, ChainRoot, ReadRoot, RootValue, ToChain, chain_on}
 use Rattle.rhai_machine.specs.language.Arguments.{arguments_core}
+use Rattle.rhai_machine.specs.language.Chains.{this_root_core}
 use Rattle.rhai_machine.specs.language.Links.{asked_by, first_in}
 use Rattle.rhai_machine.specs.language.Runs.{Steps}
 use Rattle.rhai_steps.proofs.Pieces.{charged, exits, passed, refused}
 use Rattle.rhai_operands.proofs.Names.{good_name, plain_name}
 use Rattle.rhai_chains.specs.Chains.{chain_at, link_seen, new_of}
-use Rattle.rhai_walk.specs.Roots.{RunsUnder}
 use Rattle.rhai_context.specs.declared.Context.{Context}
-use Rattle.rhai_cycle.specs.Calls.{Collects}
-use Rattle.rhai_cycle.specs.Chains.{Gathers, Opens}
-use Rattle.rhai_cycle.specs.States.{names, offer_of, state_in, under}
+use Rattle.rhai_cycle.specs.Calls.{Collects, RunsUnder, StartsAs}
+use Rattle.rhai_cycle.specs.Chains.{Gathers}
+use Rattle.rhai_cycle.specs.States.{names, state_in, under}
+use Rattle.rhai_check.proofs.Links.{few_links}
 use Rattle.rhai_cycle.proofs.Chain.{begins, flat_fails}
 use Rattle.rhai_cycle.proofs.CallSteps.{charged_on, refused_on}
-use Rattle.rhai_cycle.proofs.ChainLemmas.{has_link, left_chain, link_resolves, may_walk, no_variable}
+use Rattle.rhai_cycle.proofs.ChainLemmas.{has_link, left_chain, link_resolves, may_walk, no_name}
 use Rattle.rhai_cycle.proofs.ChainLemmas.{RestResolves, root_resolves, target_parts}
 use Rattle.rhai_cycle.proofs.ChainSteps.{arrives_last, arrives_on, asks_further, asks_last, asks_link, begins_chain}
 use Rattle.rhai_cycle.proofs.ChainSteps.{evaluates_root, given_asked, is_given, not_assigned, nothing_there, opens_asking, opens_given}
-use Rattle.rhai_cycle.proofs.ChainSteps.{variable_root, walks_given}
+use Rattle.rhai_cycle.proofs.ChainSteps.{this_root, variable_root, walks_given}
 use Rattle.rhai_cycle.proofs.evaluator.Evaluator.+eval.Goals as goal
 
 -- a chain, its arguments and its root
 
+pub run_chain-ready_args-requires : goal.run_chain-ready_args-requires
+run_chain-ready_args-requires g t c = is_given c.in-Some.ready _ (rw c.in-Some.is at c.needs_no_step.ensures)
+
 pub run_chain-run_root-result-requires : goal.run_chain-run_root-result-requires
 run_chain-run_root-result-requires g t c =
+    let asked = given_asked c.in-Some.ready (out-Expr c.args.chain.now) (Ok c.in-Ok.values) (rw c.in-Some.is at c.needs_no_step.ensures)
+    c.in-Ok.ensures.given in
     λ κs lives. (
-      omega (arith, c.in-Ok.ensures.counts),
+      omega (arith, ap (λ (r : Context _). r.global.num_operations) c.in-Ok.ensures.run),
       (
         lives.0,
         (
           lives.1,
           (
-            rw c.in-Ok.ensures.names c.requires.root,
+            rw c.in-Ok.ensures.run c.requires.root,
             (
-              rw c.as_mut_slice.ensures.value
-                  (walks_given _ (out-Expr c.args.chain.now) c.in-Ok.values c.requires.walks c.in-Ok.ensures.asked),
+              rw c.as_mut_slice-args.ensures.value
+                  (walks_given _ (out-Expr c.args.chain.now) c.in-Ok.values c.requires.walks asked),
               c.requires.starts,
             ),
           ),
@@ -52,51 +59,76 @@ run_chain-run_root-result-requires g t c =
     )
 
 pub run_chain-returns-in-Ok-clause-runs : goal.run_chain-returns-in-Ok-clause-runs
-unfolding Steps Opens
+unfolding Steps
 run_chain-returns-in-Ok-clause-runs g t c k =
+    let rules = under g.H.Host.name_of c.args.self.now g.T.NativeTable.natives in
+    let chain = chain_on c.args.root.now (out-Expr c.args.chain.now) (new_of c.args.new) in
     rw c.keep_list.ensures
-    (c.in-Ok.ensures.opens (chain_on c.args.root.now (out-Expr c.args.chain.now) (new_of c.args.new)) refl k
-    ⨾ (rw c.as_mut_slice.ensures.value at c.run_root-result.ensures.runs false) k)
+    (opens_given rules chain (out-Expr c.args.chain.now) refl k (state_in (g.T.NativeTable.state c.args.table.now) c.args.run.now)
+    c.in-Some.ready (Ok c.in-Ok.values) (rw c.in-Some.is at c.needs_no_step.ensures) c.in-Ok.ensures.given tt
+    ⨾ (rw (c.as_mut_slice-args.ensures.value, c.in-Ok.ensures.run) at c.run_root-result.ensures.runs false) k)
 
 pub run_chain-returns-in-Err-clause-runs : goal.run_chain-returns-in-Err-clause-runs
-unfolding Steps Opens
+unfolding Steps
 run_chain-returns-in-Err-clause-runs g t c k =
-    c.in-Err.ensures.opens (chain_on c.args.root.now (out-Expr c.args.chain.now) (new_of c.args.new)) refl k
+    let rules = under g.H.Host.name_of c.args.self.now g.T.NativeTable.natives in
+    let chain = chain_on c.args.root.now (out-Expr c.args.chain.now) (new_of c.args.new) in
+    rw c.in-Err.ensures.run
+    (opens_given rules chain (out-Expr c.args.chain.now) refl k (state_in (g.T.NativeTable.state c.args.table.now) c.args.run.now)
+    c.in-Some.ready (Err c.in-Err.error) (rw c.in-Some.is at c.needs_no_step.ensures) tt c.in-Err.ensures.refused)
 
-pub run_chain_args-ready_args-requires : goal.run_chain_args-ready_args-requires
-run_chain_args-ready_args-requires g t c = is_given c.in-Some.ready _ (rw c.in-Some.is at c.needs_no_step.ensures)
-
-pub run_chain_args-run_link_args-requires : goal.run_chain_args-run_link_args-requires
-run_chain_args-run_link_args-requires g t c =
+pub run_chain-run_link_args-requires : goal.run_chain-run_link_args-requires
+run_chain-run_link_args-requires g t c =
     λ κs lives. (
       omega (arith, ap (λ (r : Context _). r.global.num_operations) c.lend_list-made.ensures.run),
-      (lives.0, (lives.1, rw c.lend_list-made.ensures.run c.requires)),
+      (lives.0, (lives.1, rw c.lend_list-made.ensures.run c.requires.behind)),
     )
 
-pub run_chain_args-returns-in-Some-clause-asked : goal.run_chain_args-returns-in-Some-clause-asked
-run_chain_args-returns-in-Some-clause-asked g t c =
-    given_asked c.in-Some.ready (out-Expr c.args.chain.now) c.ready_args.result (rw c.in-Some.is at c.needs_no_step.ensures)
-    c.ready_args.ensures.given
+pub run_chain-run_root-result-requires-in-Ok-run_link_args : goal.run_chain-run_root-result-requires-in-Ok-run_link_args
+run_chain-run_root-result-requires-in-Ok-run_link_args g t c =
+    let asked = rw c.lend_list-made.ensures.list at c.in-Ok-run_link_args.ensures.asked in
+    let same = ap (λ (r : Context _). names r) c.lend_list-made.ensures.run in
+    λ κs lives. (
+      omega (
+        arith,
+        c.in-Ok-run_link_args.ensures.counts,
+        ap (λ (r : Context _). r.global.num_operations) c.lend_list-made.ensures.run,
+      ),
+      (
+        lives.0,
+        (
+          lives.1,
+          (
+            rw (c.in-Ok-run_link_args.ensures.names, same) c.requires.root,
+            (
+              rw c.as_mut_slice-args-in-Ok-run_link_args.ensures.value
+                  (walks_given _ (out-Expr c.args.chain.now) c.in-Ok-run_link_args.values c.requires.walks asked),
+              c.requires.starts,
+            ),
+          ),
+        ),
+      ),
+    )
 
-pub run_chain_args-returns-in-Some-clause-opens : goal.run_chain_args-returns-in-Some-clause-opens
-unfolding Opens
-run_chain_args-returns-in-Some-clause-opens g t c chain whole k =
+pub run_chain-returns-in-Ok-run_link_args-clause-runs : goal.run_chain-returns-in-Ok-run_link_args-clause-runs
+unfolding Steps Gathers
+run_chain-returns-in-Ok-run_link_args-clause-runs g t c k =
     let rules = under g.H.Host.name_of c.args.self.now g.T.NativeTable.natives in
-    rw c.ready_args.ensures.run
-    (opens_given rules chain (out-Expr c.args.chain.now) whole k (state_in (g.T.NativeTable.state c.args.table.now) c.args.run.now)
-    c.in-Some.ready c.ready_args.result (rw c.in-Some.is at c.needs_no_step.ensures) c.ready_args.ensures.given
-    c.ready_args.ensures.refused)
+    let chain = chain_on c.args.root.now (out-Expr c.args.chain.now) (new_of c.args.new) in
+    let there = has_link (out-Expr c.args.chain.now) (names c.args.run.now) c.requires.behind in
+    rw c.keep_list-in-Ok-run_link_args.ensures
+    (opens_asking rules chain (out-Expr c.args.chain.now) refl k _ there.0 there.1 (rw c.in-None.is at c.needs_no_step.ensures)
+    ⨾ (rw (c.lend_list-made.ensures.list, c.lend_list-made.ensures.run) at c.in-Ok-run_link_args.ensures.gathers) chain k
+    ⨾ (rw c.as_mut_slice-args-in-Ok-run_link_args.ensures.value at c.run_root-result-in-Ok-run_link_args.ensures.runs false) k)
 
-pub run_chain_args-returns-in-None-clause-asked : goal.run_chain_args-returns-in-None-clause-asked
-run_chain_args-returns-in-None-clause-asked g t c = rw c.lend_list-made.ensures.list at c.run_link_args.ensures.asked
-
-pub run_chain_args-returns-in-None-clause-opens : goal.run_chain_args-returns-in-None-clause-opens
-unfolding Opens Gathers
-run_chain_args-returns-in-None-clause-opens g t c chain whole k =
+pub run_chain-returns-in-Err-run_link_args-clause-runs : goal.run_chain-returns-in-Err-run_link_args-clause-runs
+unfolding Steps Gathers
+run_chain-returns-in-Err-run_link_args-clause-runs g t c k =
     let rules = under g.H.Host.name_of c.args.self.now g.T.NativeTable.natives in
-    let there = has_link (out-Expr c.args.chain.now) (names c.args.run.now) c.requires in
-    opens_asking rules chain (out-Expr c.args.chain.now) whole k _ there.0 there.1 (rw c.in-None.is at c.needs_no_step.ensures)
-    ⨾ (rw (c.lend_list-made.ensures.list, c.lend_list-made.ensures.run) at c.run_link_args.ensures.gathers) chain k
+    let chain = chain_on c.args.root.now (out-Expr c.args.chain.now) (new_of c.args.new) in
+    let there = has_link (out-Expr c.args.chain.now) (names c.args.run.now) c.requires.behind in
+    opens_asking rules chain (out-Expr c.args.chain.now) refl k _ there.0 there.1 (rw c.in-None.is at c.needs_no_step.ensures)
+    ⨾ (rw (c.lend_list-made.ensures.list, c.lend_list-made.ensures.run) at c.in-Err-run_link_args.ensures.gathers) chain k
 
 -- what the links ask for
 
@@ -208,33 +240,32 @@ run_link_args-returns-in-None-clause-asked g t c =
 
 pub run_root-walk_value-requires : goal.run_root-walk_value-requires
 run_root-walk_value-requires g t c =
-    let other = no_variable c.args.root.now c.in_default.not-Variable in
+    let other = no_name c.args.root.now c.in_default.not-Variable c.in_default.not-ThisPtr in
     let none = not_assigned c.args.new (out-Expr c.args.root.now) other c.requires.starts in
-    record { walks = rw none at c.requires.walks }
+    λ κs lives. (omega (arith, c.in_ok-value-in_default.ensures.charges), (lives.0, (lives.1, rw none at c.requires.walks)))
 
-pub run_root-returns-in_err-value-clause-runs : goal.run_root-returns-in_err-value-clause-runs
+pub run_root-returns-in_err-value-in_default-clause-runs : goal.run_root-returns-in_err-value-in_default-clause-runs
 unfolding after Steps
-run_root-returns-in_err-value-clause-runs g t c in_place =
+run_root-returns-in_err-value-in_default-clause-runs g t c in_place =
     let rules = under g.H.Host.name_of c.args.self.now g.T.NativeTable.natives in
-    let other = no_variable c.args.root.now c.in_default.not-Variable in
+    let other = no_name c.args.root.now c.in_default.not-Variable c.in_default.not-ThisPtr in
     let none = not_assigned c.args.new (out-Expr c.args.root.now) other c.requires.starts in
     let chain = chain_at c.args.root.now (out-Expr c.args.chain.now) c.args.args.now c.args.new in_place in
     exits rules _ _ _ _ _ c.from_residual.ensures (λ k.
     evaluates_root rules c.args.root.now (names c.args.run.now) other c.requires.root chain refl (ap (λ o. is_none (new_of o)) none) k _
-    ⨾ c.in_err-value.ensures.runs (RootValue chain ∷ k) ⨾ next here)
+    ⨾ c.in_err-value-in_default.ensures.runs (RootValue chain ∷ k) ⨾ next here)
 
-pub run_root-returns-in_default-clause-runs : goal.run_root-returns-in_default-clause-runs
+pub run_root-returns-in_ok-value-in_default-clause-runs : goal.run_root-returns-in_ok-value-in_default-clause-runs
 unfolding Steps RunsUnder
-run_root-returns-in_default-clause-runs g t c in_place k =
+run_root-returns-in_ok-value-in_default-clause-runs g t c in_place k =
     let rules = under g.H.Host.name_of c.args.self.now g.T.NativeTable.natives in
-    let other = no_variable c.args.root.now c.in_default.not-Variable in
+    let other = no_name c.args.root.now c.in_default.not-Variable c.in_default.not-ThisPtr in
     let none = not_assigned c.args.new (out-Expr c.args.root.now) other c.requires.starts in
     let chain = chain_at c.args.root.now (out-Expr c.args.chain.now) c.args.args.now None in_place in
-    rw none
+    rw (none, c.walk_value.ensures.scope, c.walk_value.ensures.this)
     (evaluates_root rules c.args.root.now (names c.args.run.now) other c.requires.root chain refl refl k _
-    ⨾ c.in_ok-value.ensures.runs (RootValue chain ∷ k)
-    ⨾ c.walk_value.ensures.runs (offer_of c.args.self.now) c.run_expr.new.run.scope (holding c.run_expr.new.run.this) in_place
-    c.switches-switches.ensures k)
+    ⨾ c.in_ok-value-in_default.ensures.runs (RootValue chain ∷ k)
+    ⨾ c.walk_value.ensures.runs c.run_expr.new.run.scope (holding c.run_expr.new.run.this) in_place k)
 
 pub run_root-returns-in-Err-clause-runs : goal.run_root-returns-in-Err-clause-runs
 unfolding Steps
@@ -250,25 +281,66 @@ run_root-returns-in-Err-clause-runs g t c in_place k =
     (λ k. variable_root rules c.args.root.now c.in-Variable.offset c.in-Variable.name c.in-Variable.namespace c.in-Variable.pos form plain
     chain refl k _) _ c.in-Err.ensures.full c.in-Err.ensures.refused c.in-Err.ensures.same k
 
-pub run_root-walk_variable-requires-clause-good : goal.run_root-walk_variable-requires-clause-good
-run_root-walk_variable-requires-clause-good g t c =
-    good_name c.args.root.now c.in-Variable.offset c.in-Variable.name c.in-Variable.namespace c.in-Variable.pos _
-    (rw (c.in-Variable.is, exprs.outs-Variable) refl) c.requires.root
+pub run_root-walk_variable-requires : goal.run_root-walk_variable-requires
+run_root-walk_variable-requires g t c =
+    let good = good_name c.args.root.now c.in-Variable.offset c.in-Variable.name c.in-Variable.namespace c.in-Variable.pos _
+    (rw (c.in-Variable.is, exprs.outs-Variable) refl) c.requires.root in
+    λ κs lives. (
+      omega (
+        arith,
+        ap (λ (global : GlobalRuntimeState _). global.num_operations) c.in_default-track_operation.ensures.charged,
+      ),
+      (lives.0, (lives.1, (good, c.requires.walks))),
+    )
 
-pub run_root-returns-clause-runs : goal.run_root-returns-clause-runs
+pub run_root-returns-in_default-track_operation-clause-runs : goal.run_root-returns-in_default-track_operation-clause-runs
 unfolding Steps
-run_root-returns-clause-runs g t c in_place k =
+run_root-returns-in_default-track_operation-clause-runs g t c in_place k =
     let rules = under g.H.Host.name_of c.args.self.now g.T.NativeTable.natives in
     let chain = chain_at c.args.root.now (out-Expr c.args.chain.now) c.args.args.now c.args.new in_place in
     let form : out-Expr c.args.root.now ≡ layer.Variable c.in-Variable.offset c.in-Variable.name c.in-Variable.namespace
     c.in-Variable.pos = rw (c.in-Variable.is, exprs.outs-Variable) refl in
     let plain = plain_name c.args.root.now c.in-Variable.offset c.in-Variable.name c.in-Variable.namespace c.in-Variable.pos
     (names c.args.run.now) form c.requires.root in
-    charged rules _ c.args.run.now.global c.track_operation.new.global _ _ (ChainRoot chain)
+    rw c.walk_variable.ensures.this
+    (charged rules _ c.args.run.now.global c.track_operation.new.global _ _ (ChainRoot chain)
     (ReadRoot c.in-Variable.name c.in-Variable.pos chain) c.in-Variable.pos
     (λ k. variable_root rules c.args.root.now c.in-Variable.offset c.in-Variable.name c.in-Variable.namespace c.in-Variable.pos form plain
     chain refl k _) c.in_default-track_operation.ensures.room c.in_default-track_operation.ensures.charged k
-    ⨾ c.walk_variable.ensures.runs (offer_of c.args.self.now) (holding c.args.run.now.this) in_place c.switches-switches.ensures k
+    ⨾ c.walk_variable.ensures.runs (holding c.args.run.now.this) in_place k)
+
+pub run_root-returns-in-Err-track_operation-clause-runs : goal.run_root-returns-in-Err-track_operation-clause-runs
+unfolding Steps
+run_root-returns-in-Err-track_operation-clause-runs g t c in_place k =
+    let rules = under g.H.Host.name_of c.args.self.now g.T.NativeTable.natives in
+    let chain = chain_at c.args.root.now (out-Expr c.args.chain.now) c.args.args.now c.args.new in_place in
+    let form : out-Expr c.args.root.now ≡ layer.ThisPtr c.in-ThisPtr.pos = rw (c.in-ThisPtr.is, exprs.outs-ThisPtr) refl in
+    refused_on rules _ c.args.run.now.global c.track_operation-in-ThisPtr.new.global _ _ (ChainRoot chain) c.in-ThisPtr.pos k
+    (λ l. this_root_core c.in-ThisPtr.pos chain k l) (this_root rules c.args.root.now c.in-ThisPtr.pos form chain refl k _) _
+    c.in-Err-track_operation.ensures.full c.in-Err-track_operation.ensures.refused
+    c.in-Err-track_operation.ensures.same
+
+pub run_root-walk_this-requires : goal.run_root-walk_this-requires
+run_root-walk_this-requires g t c =
+    λ κs lives. (
+      omega (
+        arith,
+        ap (λ (global : GlobalRuntimeState _). global.num_operations) c.in_default-track_operation-2.ensures.charged,
+      ),
+      (lives.0, (lives.1, c.requires.walks)),
+    )
+
+pub run_root-returns-in_default-track_operation-2-clause-runs : goal.run_root-returns-in_default-track_operation-2-clause-runs
+unfolding Steps StartsAs
+run_root-returns-in_default-track_operation-2-clause-runs g t c in_place k =
+    let rules = under g.H.Host.name_of c.args.self.now g.T.NativeTable.natives in
+    let chain = chain_at c.args.root.now (out-Expr c.args.chain.now) c.args.args.now c.args.new in_place in
+    let form : out-Expr c.args.root.now ≡ layer.ThisPtr c.in-ThisPtr.pos = rw (c.in-ThisPtr.is, exprs.outs-ThisPtr) refl in
+    rw c.walk_this.ensures.scope
+    (charged_on rules _ c.args.run.now.global c.track_operation-in-ThisPtr.new.global _ _ (ChainRoot chain) c.in-ThisPtr.pos k
+    (λ l. this_root_core c.in-ThisPtr.pos chain k l) (this_root rules c.args.root.now c.in-ThisPtr.pos form chain refl k _)
+    c.in_default-track_operation-2.ensures.room c.in_default-track_operation-2.ensures.charged
+    ⨾ c.walk_this.ensures.runs c.args.run.now.scope None in_place k)
 
 -- an assignment
 
@@ -342,11 +414,13 @@ assign_chain-returns-clause-runs g t c k =
 
 pub run_expr-run_chain-requires : goal.run_expr-run_chain-requires
 run_expr-run_chain-requires g t c =
+    let few = few_links c.args.expr.now (names c.args.run.now) c.requires.resolves in
     let parts = root_resolves c.args.expr.now c.in-Dot.root (names c.args.run.now) (rw (c.in-Dot.is, exprs.outs-Dot) refl)
     c.requires.resolves in
     λ κs lives. (
       omega (
         arith,
+        few,
         c.in_ok-track_operation.ensures.room,
         ap (λ (global : GlobalRuntimeState _). global.num_operations) c.in_ok-track_operation.ensures.charged,
       ),
@@ -364,11 +438,13 @@ run_expr-run_chain-requires g t c =
 
 pub run_expr-run_chain-requires-in-Index : goal.run_expr-run_chain-requires-in-Index
 run_expr-run_chain-requires-in-Index g t c =
+    let few = few_links c.args.expr.now (names c.args.run.now) c.requires.resolves in
     let parts = root_resolves c.args.expr.now c.in-Index.root (names c.args.run.now) (rw (c.in-Index.is, exprs.outs-Index) refl)
     c.requires.resolves in
     λ κs lives. (
       omega (
         arith,
+        few,
         c.in_ok-track_operation.ensures.room,
         ap (λ (global : GlobalRuntimeState _). global.num_operations) c.in_ok-track_operation.ensures.charged,
       ),
@@ -402,8 +478,13 @@ run_expr-returns-in-Index-clause-runs g t c k =
     (rw (c.in-Index.is, exprs.outs-Index) refl) k
     ⨾ next ((rw (c.get-in-Index.ensures, c.in-Index.is, exprs.outs-Index) at c.run_chain-in-Index.ensures.runs) k)
 
-pub assign_value-assign_chain-requires : goal.assign_value-assign_chain-requires
-assign_value-assign_chain-requires g t c =
-    let chain = left_chain c.args.lhs.now (names c.args.run.now) (no_variable c.args.lhs.now c.in_default.not-Variable)
+pub run_assignment-assign_chain-requires : goal.run_assignment-assign_chain-requires
+run_assignment-assign_chain-requires g t c =
+    let chain = left_chain c.args.lhs.now (names c.args.run.now)
+    (no_name c.args.lhs.now c.in_default-lhs-2.not-Variable c.in_default-lhs.not-ThisPtr)
     c.requires.resolves_target in
-    λ κs lives. (omega arith, (lives.0, (lives.1, (chain, (c.requires.resolves_target, c.requires.resolves)))))
+    let scope = c.assign_at_once-at_once.ensures.left_scope c.in_default.is in
+    λ κs lives. (
+      omega (arith, c.assign_at_once-at_once.ensures.keeps.counts),
+      (lives.0, (lives.1, (chain, (rw scope c.requires.resolves_target, rw scope c.requires.resolves)))),
+    )

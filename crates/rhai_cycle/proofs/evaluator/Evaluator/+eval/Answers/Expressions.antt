@@ -112,6 +112,14 @@ run_expr-returns-in-Variable-clause-runs g t c k =
     c.in-Variable.pos _
     (rw (c.in-Variable.is, exprs.outs-Variable) refl) c.requires.resolves) (told rules _ _ c.read_variable.ensures k _)
 
+pub run_expr-returns-in-ThisPtr-clause-runs : goal.run_expr-returns-in-ThisPtr-clause-runs
+unfolding after Steps
+run_expr-returns-in-ThisPtr-clause-runs g t c k =
+    let rules = under g.H.Host.name_of c.args.self.now g.T.NativeTable.natives in
+    begins rules _ c.args.run.now.global c.track_operation.new.global _ _ c.in_ok-track_operation.ensures.room
+    c.in_ok-track_operation.ensures.charged _ (layer.ThisPtr c.in-ThisPtr.pos) (rw (c.in-ThisPtr.is, exprs.outs-ThisPtr) refl) k
+    ⨾ next (told rules _ _ c.read_this.ensures k _)
+
 pub run_expr-returns-in-Stmt-clause-runs : goal.run_expr-returns-in-Stmt-clause-runs
 unfolding after Steps
 run_expr-returns-in-Stmt-clause-runs g t c k =
@@ -131,14 +139,14 @@ run_expr-returns-in-And-clause-runs g t c =
     let rules = under g.H.Host.name_of c.args.self.now g.T.NativeTable.natives in
     opens rules _ c.args.run.now.global c.track_operation.new.global _ _ c.in_ok-track_operation.ensures.room
     c.in_ok-track_operation.ensures.charged _ _ _ (layer.And c.in-And.parts c.in-And.field-1)
-    (rw c.as_slice-in-And.ensures at c.run_and.ensures.runs c.in-And.field-1) (rw (c.in-And.is, exprs.outs-And) refl)
+    (rw c.as_slice-in-And.ensures at c.run_until.ensures.runs c.in-And.field-1) (rw (c.in-And.is, exprs.outs-And) refl)
 
 pub run_expr-returns-in-Or-clause-runs : goal.run_expr-returns-in-Or-clause-runs
 run_expr-returns-in-Or-clause-runs g t c =
     let rules = under g.H.Host.name_of c.args.self.now g.T.NativeTable.natives in
     opens rules _ c.args.run.now.global c.track_operation.new.global _ _ c.in_ok-track_operation.ensures.room
     c.in_ok-track_operation.ensures.charged _ _ _ (layer.Or c.in-Or.parts c.in-Or.field-1)
-    (rw c.as_slice-in-Or.ensures at c.run_or.ensures.runs c.in-Or.field-1) (rw (c.in-Or.is, exprs.outs-Or) refl)
+    (rw c.as_slice-in-Or.ensures at c.run_until-in-Or.ensures.runs c.in-Or.field-1) (rw (c.in-Or.is, exprs.outs-Or) refl)
 
 pub run_expr-returns-in-Coalesce-clause-runs : goal.run_expr-returns-in-Coalesce-clause-runs
 run_expr-returns-in-Coalesce-clause-runs g t c =
@@ -152,19 +160,17 @@ run_expr-returns-in-Coalesce-clause-runs g t c =
 
 pub run_condition-returns-in-Some-clause-runs : goal.run_condition-returns-in-Some-clause-runs
 run_condition-returns-in-Some-clause-runs g t c =
-    c.in-Some.ensures.runs (offer_of c.args.self.now) (holding c.args.run.now.this) c.if-not-is_fast.false
+    c.in-Some.ensures.runs (offer_of c.args.self.now) (holding c.args.run.now.this) refl
 
-pub run_condition-returns-in-None-clause-runs : goal.run_condition-returns-in-None-clause-runs
-run_condition-returns-in-None-clause-runs g t c =
-    rw (c.holds_in_place.ensures.left_alone c.in-None.is) at c.run_test-in-None.ensures.runs
-
-pub run_test-returns-in_err-value-clause-runs : goal.run_test-returns-in_err-value-clause-runs
-run_test-returns-in_err-value-clause-runs g t c =
+pub run_condition-returns-in_err-value-in-None-clause-runs : goal.run_condition-returns-in_err-value-in-None-clause-runs
+run_condition-returns-in_err-value-in-None-clause-runs g t c =
     let rules = under g.H.Host.name_of c.args.self.now g.T.NativeTable.natives in
-    rw (passed _ c.from_residual.ensures) (tests_fail rules c.args.test.now _ _ _ c.in_err-value.ensures.runs)
+    rw (passed _ c.from_residual.ensures) (tests_fail rules c.args.test.now _ _ _
+    (rw (c.holds_at_once.ensures.left_alone c.in-None.is) at c.in_err-value-in-None.ensures.runs))
 
-pub run_test-returns-clause-runs : goal.run_test-returns-clause-runs
-run_test-returns-clause-runs g t c =
+pub run_condition-returns-in_ok-value-in-None-clause-runs : goal.run_condition-returns-in_ok-value-in-None-clause-runs
+run_condition-returns-in_ok-value-in-None-clause-runs g t c =
     let rules = under g.H.Host.name_of c.args.self.now g.T.NativeTable.natives in
-    tests_by rules c.args.test.now c.in_ok-value.value _ _ c.truth_value.result c.in_ok-value.ensures.runs
+    tests_by rules c.args.test.now c.in_ok-value-in-None.value _ _ c.truth_value.result
+    (rw (c.holds_at_once.ensures.left_alone c.in-None.is) at c.in_ok-value-in-None.ensures.runs)
     (rw c.position.ensures at c.truth_value.ensures.exact)

@@ -5,7 +5,7 @@ use Rattle.rhai_machine.specs.language.Frames.{BreakValue, ReturnValue}
 use Rattle.rhai_machine.specs.language.Runs.{Steps}
 use Rattle.rhai_steps.proofs.Pieces.{exits, faulted}
 use Rattle.rhai_cycle.specs.States.{under}
-use Rattle.rhai_cycle.proofs.LoopSteps.{breaks_unit, returns_unit, returns_value}
+use Rattle.rhai_cycle.proofs.LoopSteps.{breaks_unit, breaks_value, returns_unit, returns_value}
 use Rattle.rhai_cycle.proofs.Chain.{flat_fails}
 use Rattle.rhai_cycle.proofs.evaluator.Evaluator.+eval.Goals as goal
 
@@ -16,21 +16,6 @@ run_break-returns-in-None-clause-runs g t c restoring k =
     rw c.in-None.is (breaks_unit rules c.args.options _ _ _ c.args.pos restoring k _ c.breaks.ensures c.unit_value.ensures
     c.loop_break.ensures)
 
-pub run_break-returns-in-Some-clause-runs : goal.run_break-returns-in-Some-clause-runs
-run_break-returns-in-Some-clause-runs g t c = rw c.in-Some.is c.break_with.ensures.runs
-
-pub break_with-returns-in_err-value-clause-runs : goal.break_with-returns-in_err-value-clause-runs
-unfolding after Steps
-break_with-returns-in_err-value-clause-runs g t c restoring =
-    let rules = under g.H.Host.name_of c.args.self.now g.T.NativeTable.natives in
-    exits rules _ _ _ _ _ c.from_residual.ensures (λ k. next (c.in_err-value.ensures.runs (BreakValue _ _ ∷ k) ⨾ next here))
-
-pub break_with-returns-clause-runs : goal.break_with-returns-clause-runs
-unfolding after Steps
-break_with-returns-clause-runs g t c restoring k =
-    let rules = under g.H.Host.name_of c.args.self.now g.T.NativeTable.natives in
-    next (c.in_ok-value.ensures.runs (BreakValue _ _ ∷ k) ⨾ next (rw (← c.breaks.ensures) (faulted rules _ _ c.loop_break.ensures k _)))
-
 pub run_return-returns-in-None-clause-runs : goal.run_return-returns-in-None-clause-runs
 unfolding after Steps
 run_return-returns-in-None-clause-runs g t c options restoring plain k =
@@ -38,27 +23,38 @@ run_return-returns-in-None-clause-runs g t c options restoring plain k =
     rw c.in-None.is (returns_unit rules _ _ restoring k _ plain ⨾ rw (← c.unit_value.ensures) (faulted rules _ _ c.returned.ensures k
     _))
 
-pub run_return-returns-in-Some-clause-runs : goal.run_return-returns-in-Some-clause-runs
-run_return-returns-in-Some-clause-runs g t c = rw c.in-Some.is c.return_with.ensures.runs
-
-pub return_with-returns-in_err-value-clause-runs : goal.return_with-returns-in_err-value-clause-runs
+pub run_break-returns-in_err-value-in-Some-clause-runs : goal.run_break-returns-in_err-value-in-Some-clause-runs
 unfolding after Steps
-return_with-returns-in_err-value-clause-runs g t c options restoring plain =
+run_break-returns-in_err-value-in-Some-clause-runs g t c restoring =
     let rules = under g.H.Host.name_of c.args.self.now g.T.NativeTable.natives in
     exits rules _ _ _ _ _ c.from_residual.ensures (λ k.
-    returns_value rules _ _ _ restoring k _ plain ⨾ c.in_err-value.ensures.runs (ReturnValue _ _ ∷ k) ⨾ next here)
+    rw c.in-Some.is (breaks_value rules _ _ _ restoring k _ ⨾ c.in_err-value-in-Some.ensures.runs (BreakValue _ _ ∷ k) ⨾ next here))
 
-pub return_with-returns-in_err-value-2-clause-runs : goal.return_with-returns-in_err-value-2-clause-runs
+pub run_break-returns-in_ok-value-in-Some-clause-runs : goal.run_break-returns-in_ok-value-in-Some-clause-runs
 unfolding after Steps
-return_with-returns-in_err-value-2-clause-runs g t c options restoring plain =
+run_break-returns-in_ok-value-in-Some-clause-runs g t c restoring k =
     let rules = under g.H.Host.name_of c.args.self.now g.T.NativeTable.natives in
-    exits rules _ _ _ _ _ c.from_residual-in_err-value-2.ensures (λ k.
-    returns_value rules _ _ _ restoring k _ plain ⨾ c.in_ok-value.ensures.runs (ReturnValue _ _ ∷ k)
-    ⨾ flat_fails rules _ _ k _ _ (ReturnValue _ _) refl (rw c.position-place.ensures at c.in_err-value-2.ensures.exact))
+    rw c.in-Some.is (breaks_value rules _ _ _ restoring k _ ⨾ c.in_ok-value-in-Some.ensures.runs (BreakValue _ _ ∷ k)
+    ⨾ next (rw (← c.breaks-in-Some.ensures) (faulted rules _ _ c.loop_break-in-Some.ensures k _)))
 
-pub return_with-returns-clause-runs : goal.return_with-returns-clause-runs
+pub run_return-returns-in_err-value-in-Some-clause-runs : goal.run_return-returns-in_err-value-in-Some-clause-runs
 unfolding after Steps
-return_with-returns-clause-runs g t c options restoring plain k =
+run_return-returns-in_err-value-in-Some-clause-runs g t c options restoring plain =
     let rules = under g.H.Host.name_of c.args.self.now g.T.NativeTable.natives in
-    returns_value rules _ _ _ restoring k _ plain ⨾ c.in_ok-value.ensures.runs (ReturnValue _ _ ∷ k)
-    ⨾ next (rw (← c.position-place.ensures, ← (c.in_ok-value-2.ensures.exact tt)) (faulted rules _ _ c.returned.ensures k _))
+    exits rules _ _ _ _ _ c.from_residual.ensures (λ k.
+    rw c.in-Some.is (returns_value rules _ _ _ restoring k _ plain ⨾ c.in_err-value-in-Some.ensures.runs (ReturnValue _ _ ∷ k) ⨾ next here))
+
+pub run_return-returns-in_err-value-in-Some-2-clause-runs : goal.run_return-returns-in_err-value-in-Some-2-clause-runs
+unfolding after Steps
+run_return-returns-in_err-value-in-Some-2-clause-runs g t c options restoring plain =
+    let rules = under g.H.Host.name_of c.args.self.now g.T.NativeTable.natives in
+    exits rules _ _ _ _ _ c.from_residual-in_err-value-in-Some-2.ensures (λ k.
+    rw c.in-Some.is (returns_value rules _ _ _ restoring k _ plain ⨾ c.in_ok-value-in-Some.ensures.runs (ReturnValue _ _ ∷ k)
+    ⨾ flat_fails rules _ _ k _ _ (ReturnValue _ _) refl (rw c.position-place.ensures at c.in_err-value-in-Some-2.ensures.exact)))
+
+pub run_return-returns-in_ok-value-in-Some-2-clause-runs : goal.run_return-returns-in_ok-value-in-Some-2-clause-runs
+unfolding after Steps
+run_return-returns-in_ok-value-in-Some-2-clause-runs g t c options restoring plain k =
+    let rules = under g.H.Host.name_of c.args.self.now g.T.NativeTable.natives in
+    rw c.in-Some.is (returns_value rules _ _ _ restoring k _ plain ⨾ c.in_ok-value-in-Some.ensures.runs (ReturnValue _ _ ∷ k)
+    ⨾ next (rw (← c.position-place.ensures, ← (c.in_ok-value-in-Some-2.ensures.exact tt)) (faulted rules _ _ c.returned-in-Some.ensures k _)))

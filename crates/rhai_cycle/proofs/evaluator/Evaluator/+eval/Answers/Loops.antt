@@ -7,7 +7,7 @@ use Rattle.rhai_machine.specs.language.Frames.{ended, Enter, WhileCondition, Whi
 use Rattle.rhai_machine.specs.language.Runs.{Steps}
 use Rattle.rhai_machine.specs.language.Statements.{has_option}
 use Rattle.rhai_laws.proofs.KeptLaws.{counted, names_stay}
-use Rattle.rhai_steps.proofs.Pieces.{passed, exits}
+use Rattle.rhai_steps.proofs.Pieces.{exits}
 use Rattle.rhai_cycle.specs.States.{names, under}
 use Rattle.rhai_steps.specs.declared.loops.BodyEnd.TheVariants.{Continue, Break}
 use Rattle.rhai_operands.specs.Tests.{Tests}
@@ -15,7 +15,7 @@ use Rattle.rhai_cycle.proofs.Conditions.{do_tested}
 use Rattle.rhai_cycle.proofs.LoopSteps.{while_ends, do_leads, turn_exits, while_asks, endless_enters, endless_charged}
 use Rattle.rhai_cycle.proofs.LoopSteps.{endless_refused, stays_full}
 use Rattle.rhai_cycle.proofs.Turns.{body_charges, left_charges}
-use Rattle.rhai_cycle.proofs.Chain.{on_ok_map, on_ok}
+use Rattle.rhai_cycle.proofs.Chain.{on_ok}
 use Rattle.rhai_cycle.proofs.evaluator.Evaluator.+eval.Goals as goal
 
 pub run_while-turns-init : goal.run_while-turns-init
@@ -86,30 +86,6 @@ unfolding after Steps
 run_do-returns-in-Some-clause-runs g t c k =
     c.turns.invariant.steps k ⨾ (rw c.in-Some.is at c.in_ok-turn.ensures.runs) k
 
-pub while_body-returns-clause-runs : goal.while_body-returns-clause-runs
-unfolding after Steps
-while_body-returns-clause-runs g t c k =
-    let rules = under g.H.Host.name_of c.args.self.now g.T.NativeTable.natives in
-    rw c.while_next.ensures ((rw c.as_slice-statements.ensures at c.run_stmt_block-outcome.ensures.runs) (WhileBody _ _ ∷ k) ⨾
-    while_ends rules c.run_stmt_block-outcome.result _ _ k _)
-
-pub while_body-returns-clause-charges : goal.while_body-returns-clause-charges
-while_body-returns-clause-charges g t c =
-    let rules = under g.H.Host.name_of c.args.self.now g.T.NativeTable.natives in
-    rw c.while_next.ensures (body_charges rules c.args.body.now.statements _ _ c.run_stmt_block-outcome.result (rw
-    c.as_slice-statements.ensures at c.run_stmt_block-outcome.ensures.runs))
-
-pub while_body-returns-clause-counts : goal.while_body-returns-clause-counts
-while_body-returns-clause-counts g t c =
-    let rules = under g.H.Host.name_of c.args.self.now g.T.NativeTable.natives in
-    on_ok _ (counted rules _ _ _ _ (rw c.as_slice-statements.ensures at c.run_stmt_block-outcome.ensures.runs))
-
-pub while_body-returns-clause-names : goal.while_body-returns-clause-names
-while_body-returns-clause-names g t c =
-    let rules = under g.H.Host.name_of c.args.self.now g.T.NativeTable.natives in
-    on_ok _ (names_stay rules (Enter c.args.body.now.statements true) (ended c.run_stmt_block-outcome.result) _ _ tt tt (rw
-    c.as_slice-statements.ensures at c.run_stmt_block-outcome.ensures.runs))
-
 pub do_turn-returns-in_err-value-clause-runs : goal.do_turn-returns-in_err-value-clause-runs
 unfolding after Steps
 do_turn-returns-in_err-value-clause-runs g t c =
@@ -158,90 +134,103 @@ do_turn-returns-in-Continue-clause-names g t c =
     names_stay rules (Enter c.args.body.now.statements true) (ended c.run_stmt_block-outcome.result) _ _ tt tt (rw
     c.as_slice-statements.ensures at c.run_stmt_block-outcome.ensures.runs)
 
-pub do_turn-returns-in-Done-clause-runs : goal.do_turn-returns-in-Done-clause-runs
-unfolding after Steps
-do_turn-returns-in-Done-clause-runs g t c k =
-    let rules = under g.H.Host.name_of c.args.self.now g.T.NativeTable.natives in
-    next ((rw c.as_slice-statements.ensures at c.run_stmt_block-outcome.ensures.runs) (DoBody _ _ _ ∷ k) ⨾ do_leads rules
-    c.run_stmt_block-outcome.result c.args.test.now c.args.body.now c.args.options k _ _ (sym c.in_ok-value.ensures ∙ ap Ok
-    c.in-Done.is) ⨾ c.do_test.ensures.runs _ k)
-
-pub do_turn-returns-in-Done-clause-charges : goal.do_turn-returns-in-Done-clause-charges
-do_turn-returns-in-Done-clause-charges g t c =
-    let rules = under g.H.Host.name_of c.args.self.now g.T.NativeTable.natives in
-    let counts = counted rules _ _ _ _ c.run_stmt_block-outcome.ensures.runs in
-    on_ok_map c.do_test.result c.do_test.ensures.charges (λ (lt : c.run_stmt_block-outcome.new.run.global.num_operations <
-    c.do_test.new.run.global.num_operations). omega (arith, lt, counts))
-
-pub do_turn-returns-in-Done-clause-names : goal.do_turn-returns-in-Done-clause-names
-do_turn-returns-in-Done-clause-names g t c =
-    let rules = under g.H.Host.name_of c.args.self.now g.T.NativeTable.natives in
-    let stays = names_stay rules (Enter c.args.body.now.statements true) (ended c.run_stmt_block-outcome.result) _ _ tt tt (rw
-    c.as_slice-statements.ensures at c.run_stmt_block-outcome.ensures.runs) in
-    on_ok_map c.do_test.result c.do_test.ensures.names (λ (same : names c.do_test.new.run ≡ names c.run_stmt_block-outcome.new.run).
-    same ∙ stays)
-
-pub do_turn-do_test-requires : goal.do_turn-do_test-requires
-do_turn-do_test-requires g t c =
-    let rules = under g.H.Host.name_of c.args.self.now g.T.NativeTable.natives in
-    let counts = counted rules _ _ _ _ c.run_stmt_block-outcome.ensures.runs in
-    let stays = names_stay rules (Enter c.args.body.now.statements true) (ended c.run_stmt_block-outcome.result) _ _ tt tt (rw
-    c.as_slice-statements.ensures at c.run_stmt_block-outcome.ensures.runs) in
-    λ κs lives. (omega (arith, counts), (lives.0, (lives.1, rw stays c.requires.resolves_test)))
-
-pub do_test-returns-in_err-holds-clause-runs : goal.do_test-returns-in_err-holds-clause-runs
-unfolding after Steps Tests
-do_test-returns-in_err-holds-clause-runs g t c body k =
-    rw (passed _ c.from_residual.ensures) (c.in_err-holds.ensures.runs (DoCondition _ _ _) k refl)
-
-pub do_test-returns-clause-runs : goal.do_test-returns-clause-runs
-unfolding after Steps Tests
-do_test-returns-clause-runs g t c body k =
-    let rules = under g.H.Host.name_of c.args.self.now g.T.NativeTable.natives in
-    c.in_ok-holds.ensures.runs (DoCondition _ _ _) k refl
-    ⨾ do_tested rules _ (has_option 1 c.args.options) c.in_ok-holds.holds _ k _ c.do_next.ensures
-
-pub endless_turn-returns-in_err-track_operation-clause-runs : goal.endless_turn-returns-in_err-track_operation-clause-runs
-unfolding after Steps
-endless_turn-returns-in_err-track_operation-clause-runs g t c =
-    let rules = under g.H.Host.name_of c.args.self.now g.T.NativeTable.natives in
-    turn_exits rules _ _ _ _ _ _ c.from_residual.ensures (λ k.
-    endless_refused rules _ _ k _ c.args.run.now.global c.track_operation.new.global _ _ _ c.in_err-track_operation.ensures.full
-    c.in_err-track_operation.ensures.refused c.in_err-track_operation.ensures.same
-    c.requires.endless (c.is_empty.ensures.0 c.if-is_empty.true))
-
-pub endless_turn-returns-then-is_empty-clause-runs : goal.endless_turn-returns-then-is_empty-clause-runs
-unfolding after Steps
-endless_turn-returns-then-is_empty-clause-runs g t c k =
-    let rules = under g.H.Host.name_of c.args.self.now g.T.NativeTable.natives in
-    endless_charged rules _ _ k _ c.args.run.now.global c.track_operation.new.global _ _ c.in_ok-track_operation.ensures.room
-    c.in_ok-track_operation.ensures.charged c.requires.endless (c.is_empty.ensures.0 c.if-is_empty.true)
-
-pub endless_turn-returns-clause-runs : goal.endless_turn-returns-clause-runs
-unfolding after Steps
-endless_turn-returns-clause-runs g t c k =
-    let rules = under g.H.Host.name_of c.args.self.now g.T.NativeTable.natives in
-    endless_enters rules _ _ k _ c.requires.endless (λ empty. absurd (true≢false (sym (c.is_empty.ensures.1 empty) ∙
-    c.if-is_empty.false)))
-    ⨾ c.while_body.ensures.runs k
-
 pub while_turn-returns-in_err-holds-clause-runs : goal.while_turn-returns-in_err-holds-clause-runs
 unfolding after Steps Tests
 while_turn-returns-in_err-holds-clause-runs g t c =
     let rules = under g.H.Host.name_of c.args.self.now g.T.NativeTable.natives in
-    turn_exits rules _ _ _ _ _ _ c.from_residual.ensures (λ k.
+    turn_exits rules _ _ _ _ _ _ c.from_residual-in_err-holds.ensures (λ k.
     while_asks rules _ _ k _ (sym c.is_endless.ensures ∙ c.if-is_endless.false) ⨾ c.in_err-holds.ensures.runs (WhileCondition _ _) k refl)
+
+pub while_turn-returns-in_err-track_operation-clause-runs : goal.while_turn-returns-in_err-track_operation-clause-runs
+unfolding after Steps
+while_turn-returns-in_err-track_operation-clause-runs g t c =
+    let rules = under g.H.Host.name_of c.args.self.now g.T.NativeTable.natives in
+    turn_exits rules _ _ _ _ _ _ c.from_residual.ensures (λ k.
+    endless_refused rules _ _ k _ c.args.run.now.global c.track_operation.new.global _ _ _ c.in_err-track_operation.ensures.full
+    c.in_err-track_operation.ensures.refused c.in_err-track_operation.ensures.same
+    (sym c.is_endless.ensures ∙ c.if-is_endless.true) (c.is_empty.ensures.0 c.if-is_empty.true))
+
+pub while_turn-returns-then-is_empty-clause-runs : goal.while_turn-returns-then-is_empty-clause-runs
+unfolding after Steps
+while_turn-returns-then-is_empty-clause-runs g t c k =
+    let rules = under g.H.Host.name_of c.args.self.now g.T.NativeTable.natives in
+    endless_charged rules _ _ k _ c.args.run.now.global c.track_operation.new.global _ _ c.in_ok-track_operation.ensures.room
+    c.in_ok-track_operation.ensures.charged (sym c.is_endless.ensures ∙ c.if-is_endless.true) (c.is_empty.ensures.0 c.if-is_empty.true)
+
+pub while_turn-returns-then-is_endless-clause-runs : goal.while_turn-returns-then-is_endless-clause-runs
+unfolding after Steps
+while_turn-returns-then-is_endless-clause-runs g t c k =
+    let rules = under g.H.Host.name_of c.args.self.now g.T.NativeTable.natives in
+    endless_enters rules _ _ k _ (sym c.is_endless.ensures ∙ c.if-is_endless.true) (λ empty. absurd
+    (true≢false (sym (c.is_empty.ensures.1 empty) ∙ c.if-is_empty.false)))
+    ⨾ rw c.while_next.ensures ((rw c.as_slice.ensures at c.run_stmt_block-outcome.ensures.runs) (WhileBody _ _ ∷ k)
+    ⨾ while_ends rules c.run_stmt_block-outcome.result _ _ k _)
+
+pub while_turn-returns-then-is_endless-clause-charges : goal.while_turn-returns-then-is_endless-clause-charges
+while_turn-returns-then-is_endless-clause-charges g t c =
+    let rules = under g.H.Host.name_of c.args.self.now g.T.NativeTable.natives in
+    rw c.while_next.ensures (body_charges rules c.args.body.now.statements _ _ c.run_stmt_block-outcome.result (λ empty. absurd
+    (true≢false (sym (c.is_empty.ensures.1 empty) ∙ c.if-is_empty.false)))
+    (rw c.as_slice.ensures at c.run_stmt_block-outcome.ensures.runs))
+
+pub while_turn-returns-then-is_endless-clause-names : goal.while_turn-returns-then-is_endless-clause-names
+while_turn-returns-then-is_endless-clause-names g t c =
+    let rules = under g.H.Host.name_of c.args.self.now g.T.NativeTable.natives in
+    on_ok _ (names_stay rules (Enter c.args.body.now.statements true) (ended c.run_stmt_block-outcome.result) _ _ tt tt
+    (rw c.as_slice.ensures at c.run_stmt_block-outcome.ensures.runs))
 
 pub while_turn-returns-then-holds-clause-runs : goal.while_turn-returns-then-holds-clause-runs
 unfolding after Steps Tests
 while_turn-returns-then-holds-clause-runs g t c k =
     let rules = under g.H.Host.name_of c.args.self.now g.T.NativeTable.natives in
     while_asks rules _ _ k _ (sym c.is_endless.ensures ∙ c.if-is_endless.false)
-    ⨾ (rw c.if-holds.true at c.in_ok-holds.ensures.runs) (WhileCondition _ _) k refl ⨾ c.while_body.ensures.runs k
+    ⨾ (rw c.if-holds.true at c.in_ok-holds.ensures.runs) (WhileCondition _ _) k refl
+    ⨾ rw c.while_next-then-holds.ensures ((rw c.as_slice-then-holds.ensures at c.run_stmt_block-outcome-then-holds.ensures.runs) (WhileBody _ _ ∷ k)
+    ⨾ while_ends rules c.run_stmt_block-outcome-then-holds.result _ _ k _)
 
-pub while_turn-returns-else-holds-clause-runs : goal.while_turn-returns-else-holds-clause-runs
+pub while_turn-returns-then-holds-clause-charges : goal.while_turn-returns-then-holds-clause-charges
+while_turn-returns-then-holds-clause-charges g t c =
+    let rules = under g.H.Host.name_of c.args.self.now g.T.NativeTable.natives in
+    let counts = counted rules _ _ _ _ c.run_stmt_block-outcome-then-holds.ensures.runs in
+    let charged : c.args.run.now.global.num_operations < c.run_stmt_block-outcome-then-holds.new.run.global.num_operations =
+    omega (arith, c.in_ok-holds.ensures.charges, counts) in
+    on_ok _ charged
+
+pub while_turn-returns-then-holds-clause-names : goal.while_turn-returns-then-holds-clause-names
+while_turn-returns-then-holds-clause-names g t c =
+    let rules = under g.H.Host.name_of c.args.self.now g.T.NativeTable.natives in
+    on_ok _ (names_stay rules (Enter c.args.body.now.statements true) (ended c.run_stmt_block-outcome-then-holds.result) _ _ tt tt
+    (rw c.as_slice-then-holds.ensures at c.run_stmt_block-outcome-then-holds.ensures.runs) ∙ c.in_ok-holds.ensures.names)
+
+pub while_turn-returns-clause-runs : goal.while_turn-returns-clause-runs
 unfolding after Steps Tests
-while_turn-returns-else-holds-clause-runs g t c k =
+while_turn-returns-clause-runs g t c k =
     let rules = under g.H.Host.name_of c.args.self.now g.T.NativeTable.natives in
     while_asks rules _ _ k _ (sym c.is_endless.ensures ∙ c.if-is_endless.false)
     ⨾ (rw c.if-holds.false at c.in_ok-holds.ensures.runs) (WhileCondition _ _) k refl ⨾ rw c.unit_value.ensures here
+
+pub do_turn-run_condition-requires : goal.do_turn-run_condition-requires
+do_turn-run_condition-requires g t c =
+    let rules = under g.H.Host.name_of c.args.self.now g.T.NativeTable.natives in
+    let counts = counted rules _ _ _ _ c.run_stmt_block-outcome.ensures.runs in
+    let stays = names_stay rules (Enter c.args.body.now.statements true) (ended c.run_stmt_block-outcome.result) _ _ tt tt
+    (rw c.as_slice-statements.ensures at c.run_stmt_block-outcome.ensures.runs) in
+    λ κs lives. (omega (arith, counts), (lives.0, (lives.1, rw stays c.requires.resolves_test)))
+
+pub do_turn-returns-in_err-holds-in-Done-clause-runs : goal.do_turn-returns-in_err-holds-in-Done-clause-runs
+unfolding after Steps Tests
+do_turn-returns-in_err-holds-in-Done-clause-runs g t c =
+    let rules = under g.H.Host.name_of c.args.self.now g.T.NativeTable.natives in
+    turn_exits rules _ _ _ _ _ _ c.from_residual-in_err-holds-in-Done.ensures (λ k.
+    next ((rw c.as_slice-statements.ensures at c.run_stmt_block-outcome.ensures.runs) (DoBody _ _ _ ∷ k) ⨾ do_leads rules
+    c.run_stmt_block-outcome.result c.args.test.now c.args.body.now c.args.options k _ _ (sym c.in_ok-value.ensures ∙ ap Ok
+    c.in-Done.is) ⨾ c.in_err-holds-in-Done.ensures.runs (DoCondition _ _ _) k refl))
+
+pub do_turn-returns-in_ok-holds-in-Done-clause-runs : goal.do_turn-returns-in_ok-holds-in-Done-clause-runs
+unfolding after Steps Tests
+do_turn-returns-in_ok-holds-in-Done-clause-runs g t c k =
+    let rules = under g.H.Host.name_of c.args.self.now g.T.NativeTable.natives in
+    next ((rw c.as_slice-statements.ensures at c.run_stmt_block-outcome.ensures.runs) (DoBody _ _ _ ∷ k) ⨾ do_leads rules
+    c.run_stmt_block-outcome.result c.args.test.now c.args.body.now c.args.options k _ _ (sym c.in_ok-value.ensures ∙ ap Ok
+    c.in-Done.is) ⨾ c.in_ok-holds-in-Done.ensures.runs (DoCondition _ _ _) k refl
+    ⨾ do_tested rules _ (has_option 1 c.args.options) c.in_ok-holds-in-Done.holds _ k _ c.do_next.ensures)

@@ -1,0 +1,113 @@
+//! Assignment to `this`. Ports what upstream's assignments do where the left side is `this`.
+
+ghost use Rattle.std.specs.Prelude.{◌≡◌, ◌≤◌, [], Some, false};
+ghost use Rattle.rhai_values.specs.Cells.{cells_of, value_of_cell};
+ghost use Rattle.rhai_machine.specs.language.Places.{focus_in_cell, this_target as this_target_of};
+ghost use Rattle.rhai_machine.specs.language.Setting.{rules_of};
+ghost use Rattle.rhai_steps.specs.States.{state_of};
+ghost use Rattle.rhai_assign.specs.Chains.{FindsThis, FollowsThis};
+ghost use Rattle.rhai_assign.specs.Keeps.{KeepsHeld};
+
+use crate::focus::{assign_in_cell, nameless_constant};
+use crate::place::is_constant;
+use crate::update::assign_lent;
+use rhai_state::error::EvalAltResult;
+use rhai_state::limits::Limits;
+use rhai_state::state::GlobalRuntimeState;
+use rhai_state::table::NativeTable;
+use rhai_steps::errors::data_race;
+use rhai_steps::values::let_go;
+use rhai_tree::expr::OpAssignment;
+use rhai_tree::position::Position;
+use rhai_values::base::value::{CellId, Dynamic, Host, Union};
+use rhai_values::cells::CellStore;
+use std::alloc::Global;
+
+/// The target in the cell of a handle, which may make a constant of it too.
+fn target_in_cell<H: Host>(
+    alloc: Global,
+    cells: &CellStore<H>,
+    this: &Dynamic<H>,
+    id: CellId,
+    pos: Position,
+) -> Result<Option<CellId>, EvalAltResult<H>>
+    ensures { FindsThis result (cells_of cells.now) this.now (focus_in_cell [] pos this.now.mode id.number
+        (value_of_cell (cells_of cells.now) id.number)) }
+{
+    let mode = this.access_mode();
+    match cells.get(id) {
+        Some(inner) => {
+            if is_constant(mode, inner.access_mode()) {
+                return Err(nameless_constant(alloc, pos));
+            }
+            Ok(Some(id))
+        }
+        None => {
+            if is_constant(mode, mode) {
+                return Err(nameless_constant(alloc, pos));
+            }
+            Err(data_race(alloc, pos))
+        }
+    }
+}
+
+/// Where the target of an assignment to `this` is: in the cell that it is a handle of, or None where it is
+/// `this` itself.
+fn this_target<H: Host>(
+    alloc: Global,
+    cells: &CellStore<H>,
+    this: &Dynamic<H>,
+    pos: Position,
+) -> Result<Option<CellId>, EvalAltResult<H>>
+    ensures { FindsThis result (cells_of cells.now) this.now
+        (this_target_of (cells_of cells.now) pos (Some this.now)) }
+{
+    let mode = this.access_mode();
+    match &this.value {
+        Union::Cell(id) => target_in_cell(alloc, cells, this, *id, pos),
+        _ => {
+            let constant = is_constant(mode, mode);
+            if constant {
+                return Err(nameless_constant(alloc, pos));
+            }
+            Ok(None)
+        }
+    }
+}
+
+/// Assigns a value to `this`, which is charged already: as it is, or by an operator as `assign_variable`
+/// does. A handle stands for the value of its cell, which is held so long.
+///
+/// # Errors
+/// At `this`: `ErrorAssignmentToConstant` without a name for a constant, by its own mode or for a handle by
+/// that of its cell's value, and `ErrorDataRace` for the handle of a cell that is held. At the operator:
+/// what the operator answers, and `ErrorDataTooLarge` for a value above a limit; what a native left in the
+/// target is measured at `this`.
+pub fn assign_this<H: Host, T: NativeTable<H>>(
+    limits: &Limits,
+    alloc: Global,
+    global: &mut GlobalRuntimeState<H>,
+    table: &mut T,
+    this: &mut Dynamic<H>,
+    pos: Position,
+    op: OpAssignment,
+    value: Dynamic<H>,
+    fast: bool,
+) -> Result<Dynamic<H>, EvalAltResult<H>>
+    ensures keeps { KeepsHeld global.old global.new }
+    ensures runs { (offer : _) (scope : _) (focus : _) → offer.fast_operators ≡ fast →
+        FollowsThis (rules_of limits.now H.name_of offer T.natives) op pos value
+        (state_of (T.state table.old) global.old scope (record { this = Some this.old; focus = focus }))
+        result (state_of (T.state table.new) global.new scope (record { this = Some this.new; focus = focus })) }
+{
+    match this_target(alloc, &global.cells, this, pos) {
+        Ok(None) => assign_lent(
+            limits, alloc, global, table, this, None, pos, op, value, fast,
+        ),
+        Ok(Some(id)) => assign_in_cell(limits, alloc, global, table, id, pos, op, value, fast),
+        Err(error) => {
+            let_go(value);
+            Err(error)
+        }
+    }
+}

@@ -1,0 +1,155 @@
+//! A body is left. The contracts cite `returned` of the machine's specs/language/Bodies.antt and the crate's
+//! own specs/Closing.antt.
+
+ghost use Rattle.std.specs.Prelude.{◌≡◌, false, true, IfErr, IfOk};
+ghost use Rattle.std.specs.Option.{option_copied};
+ghost use Rattle.rhai_state.specs.declared.error.EvalAltResult.TheVariants as variant;
+ghost use Rattle.rhai_state.specs.Errors.{at_position, is_out_of_memory, is_system};
+ghost use Rattle.rhai_machine.specs.language.Activations as machine;
+ghost use Rattle.rhai_machine.specs.language.Bodies.{left_by_error as left_by, library_name as last_library};
+ghost use Rattle.rhai_machine.specs.language.Bodies.{returned as returned_by};
+ghost use Rattle.rhai_machine.specs.language.State.{Answers};
+ghost use Rattle.rhai_bodies.specs.Closing.{is_wrapped, outcome_of, source_under, taken_back, wrapped, Ends};
+
+use crate::opening::{CallExit, take_back};
+use rhai_items::{Boxed, Shared, Text};
+use rhai_state::error::{EvalAltResult, FunctionCallError};
+use rhai_state::state::GlobalRuntimeState;
+use rhai_tree::function::ScriptFuncDef;
+use rhai_tree::position::Position;
+use rhai_values::base::value::{Dynamic, EncapsulatedEnviron, Host};
+use std::alloc::{AllocError, Global};
+
+/// The name of the last library of a function's environment.
+fn library_name<H: Host>(environ: Option<&EncapsulatedEnviron<H>>) -> Option<&Shared<Text>>
+    ensures { option_copied result ≡ last_library (option_copied environ.entry) }
+{
+    let last = environ?.lib.as_slice().last()?;
+    match &last.get().id {
+        Some(id) => Some(id),
+        None => None,
+    }
+}
+
+/// Where an error of a function comes from: a library by its name, else the state's source, else nowhere.
+fn source_of<H: Host>(
+    alloc: Global,
+    global: &GlobalRuntimeState<H>,
+    environ: Option<&EncapsulatedEnviron<H>>,
+) -> Result<Shared<Text>, AllocError>
+    ensures { IfOk result (λ source. source
+        ≡ source_under global.now.source (option_copied environ.entry)) }
+{
+    if let Some(name) = library_name(environ) {
+        return name.share();
+    }
+    match &global.source {
+        Some(source) => source.share(),
+        None => Shared::new(alloc, Text::new(alloc)),
+    }
+}
+
+/// An error of a body under the function's name and its source. Where there is no memory it is let go.
+fn in_call<H: Host>(
+    alloc: Global,
+    global: &GlobalRuntimeState<H>,
+    def: &ScriptFuncDef,
+    environ: Option<&EncapsulatedEnviron<H>>,
+    error: EvalAltResult<H>,
+) -> Result<Boxed<FunctionCallError<H>>, AllocError>
+    ensures { IfOk result (λ call. call
+        ≡ wrapped global.now.source def.now.name (option_copied environ.entry) error) }
+{
+    let source = source_of(alloc, global, environ)?;
+    let name = def.name.share()?;
+    Boxed::new(
+        alloc,
+        FunctionCallError {
+            name,
+            source,
+            error,
+        },
+    )
+}
+
+/// What a body's end makes of an error that is no way out of it: one of the system stands at the call, and
+/// any other is wrapped.
+fn left_by_error<H: Host>(
+    alloc: Global,
+    global: &GlobalRuntimeState<H>,
+    def: &ScriptFuncDef,
+    environ: Option<&EncapsulatedEnviron<H>>,
+    mut error: EvalAltResult<H>,
+    pos: Position,
+) -> EvalAltResult<H>
+    ensures error { (exit : machine.CallExit H) →
+        Ends def.now.name (option_copied environ.entry) global.now.source pos exit →
+        is_out_of_memory result ≡ false → result ≡ left_by (is_system error) exit error }
+    ensures at_once { is_system error ≡ true → result ≡ at_position pos error }
+    ensures wanting { is_out_of_memory result ≡ true → result ≡ variant.ErrorOutOfMemory pos }
+{
+    let is_system = error.is_system_exception();
+    if is_system {
+        error.set_position(pos);
+        return error;
+    }
+    match in_call(alloc, global, def, environ, error) {
+        Ok(call) => EvalAltResult::ErrorInFunctionCall(call, pos),
+        Err(_) => EvalAltResult::ErrorOutOfMemory(pos),
+    }
+}
+
+/// What a body's end makes of an error: a `return` gives its value, an exit stands at the call, and so does
+/// what the end makes of any other.
+fn returned<H: Host>(
+    alloc: Global,
+    global: &GlobalRuntimeState<H>,
+    def: &ScriptFuncDef,
+    environ: Option<&EncapsulatedEnviron<H>>,
+    error: EvalAltResult<H>,
+    pos: Position,
+) -> Result<Dynamic<H>, EvalAltResult<H>>
+    ensures outcome { (exit : machine.CallExit H) →
+        Ends def.now.name (option_copied environ.entry) global.now.source pos exit →
+        Answers result (returned_by exit error) }
+    ensures at_once { (exit : machine.CallExit H) → exit.at ≡ pos → is_wrapped error ≡ false →
+        result ≡ returned_by exit error }
+    ensures wanting { IfErr result (λ e. is_out_of_memory e ≡ true → e ≡ variant.ErrorOutOfMemory pos) }
+{
+    match error {
+        EvalAltResult::Return(value, _) => Ok(value.into_inner()),
+        EvalAltResult::Exit(value, _) => Err(EvalAltResult::Exit(value, pos)),
+        error => Err(left_by_error(alloc, global, def, environ, error, pos)),
+    }
+}
+
+/// A body is left, on every way out: the libraries and imports that it brought go, and the table of constants
+/// and the level are its caller's again. Its value stays, and a `return` gives its own. Ports what upstream's
+/// `call_script_fn` does behind the body.
+///
+/// # Errors
+/// The body's: an exit and those of the system at the call, any other in an `ErrorInFunctionCall` there.
+pub fn close_function<H: Host>(
+    alloc: Global,
+    global: &mut GlobalRuntimeState<H>,
+    def: &ScriptFuncDef,
+    environ: Option<&EncapsulatedEnviron<H>>,
+    exit: CallExit,
+    outcome: Result<Dynamic<H>, EvalAltResult<H>>,
+    pos: Position,
+) -> Result<Dynamic<H>, EvalAltResult<H>>
+    ensures state { global.new ≡ taken_back exit global.old }
+    ensures outcome { (end : machine.CallExit H) →
+        Ends def.now.name (option_copied environ.entry) global.old.source pos end →
+        Answers result (outcome_of end outcome) }
+    ensures value { IfOk outcome (λ value. result ≡ Ok value) }
+    ensures at_once { IfErr outcome (λ e. (end : machine.CallExit H) → end.at ≡ pos →
+        is_wrapped e ≡ false → result ≡ returned_by end e) }
+    ensures wanting { IfErr result (λ e. is_out_of_memory e ≡ true → e ≡ variant.ErrorOutOfMemory pos) }
+{
+    take_back(global, exit);
+    match outcome {
+        Ok(value) => Ok(value),
+        Err(error) => returned(alloc, &*global, def, environ, error, pos),
+    }
+}

@@ -1,0 +1,231 @@
+//! A body is entered. The contracts cite the machine's specs/language/Bodies.antt and the crate's own
+//! specs/Opening.antt and specs/Closing.antt.
+
+ghost use Rattle.std.specs.Prelude.{◌≡◌, ◌≢◌, [], ◌++◌, false, true, length, map, take};
+ghost use Rattle.std.specs.Prelude.{IfErr, IfOk, IfSome, OnErr, OnOk};
+ghost use Rattle.std.specs.Option.{option_copied};
+ghost use Rattle.rhai_state.specs.declared.error.EvalAltResult.TheVariants as error;
+ghost use Rattle.rhai_state.specs.Errors.{is_out_of_memory};
+ghost use Rattle.rhai_state.specs.Scope.{entries_of};
+ghost use Rattle.rhai_functions.specs.Entering.{parameters, unit};
+ghost use Rattle.rhai_machine.specs.language.Bodies.{statements_of as statements_in};
+ghost use Rattle.rhai_bodies.specs.Closing.{taken_back};
+ghost use Rattle.rhai_bodies.specs.Opening.{brought, entered_global, entry, exit_seen};
+ghost use Rattle.rhai_bodies.specs.Opening.{is_deep, is_full as full_with};
+ghost use Rattle.rhai_bodies.specs.Opening.{OnEntered, OnPassed, UnlessEntered};
+
+use rhai_functions::entering::push_parameters;
+use rhai_items::{Items, Shared};
+use rhai_state::error::EvalAltResult;
+use rhai_state::limits::Limits;
+use rhai_state::scope::Scope;
+use rhai_state::state::GlobalRuntimeState;
+use rhai_tree::expr::Stmt;
+use rhai_tree::function::{ScriptFuncDef, ScriptFuncPayload};
+use rhai_tree::position::Position;
+use rhai_values::base::value::{Dynamic, EncapsulatedEnviron, Host, Import, Module};
+use std::alloc::AllocError;
+
+/// What the end of a call takes back: the scope, the libraries and the imports up to these lengths, the table
+/// of constants, and the level.
+#[derive(Clone, Copy, Debug, PartialEq, Eq)]
+pub struct CallExit {
+    pub scope_length: usize,
+    pub lib_length: usize,
+    pub imports_length: usize,
+    pub constants: usize,
+    pub level: usize,
+}
+
+/// What the end of a call will take back, as it stands now.
+fn exit_now<H: Host>(global: &GlobalRuntimeState<H>, scope: &Scope<H>) -> CallExit
+    ensures { result ≡ exit_seen global.now scope.now }
+{
+    CallExit {
+        scope_length: scope.len(),
+        lib_length: global.lib.len(),
+        imports_length: global.imports.len(),
+        constants: global.constants,
+        level: global.level,
+    }
+}
+
+/// The statements of a function.
+pub fn statements_of(def: &ScriptFuncDef) -> &[Stmt]
+    ensures { result.now ≡ statements_in def.now.body }
+{
+    match &def.body {
+        ScriptFuncPayload::Statements(block) => block.statements.as_slice(),
+    }
+}
+
+/// Whether a scope of so many variables has no room for so many parameters.
+fn is_full(limits: &Limits, variables: usize, parameters: usize) -> bool
+    ensures { result ≡ full_with limits.now variables parameters }
+{
+    variables > limits.max_variables || parameters > limits.max_variables - variables
+}
+
+/// Whether a body may be entered: calls are only so deep, and the scope holds at most so many variables.
+///
+/// # Errors
+/// `ErrorStackOverflow` first, then `ErrorTooManyVariables`, both at the call.
+fn may_enter<H: Host>(
+    limits: &Limits,
+    level: usize,
+    scope: &Scope<H>,
+    parameters: usize,
+    pos: Position,
+) -> Result<(), EvalAltResult<H>>
+    ensures { result ≡ entry limits.now level (length (entries_of scope.now)) parameters pos }
+{
+    if level > limits.max_call_levels {
+        return Err(EvalAltResult::ErrorStackOverflow(pos));
+    }
+    if is_full(limits, scope.len(), parameters) {
+        return Err(EvalAltResult::ErrorTooManyVariables(pos));
+    }
+    Ok(())
+}
+
+/// More libraries behind those that are there. Where memory runs out some may be there.
+fn add_libraries<H: Host>(
+    lib: &mut Items<Shared<Module<H>>>,
+    more: &[Shared<Module<H>>],
+) -> Result<(), AllocError>
+    ensures ok { OnOk result (lib.new ≡ lib.old ++ more.now) }
+    ensures err { OnErr result (take (length lib.old) lib.new ≡ lib.old) }
+{
+    let mut at = 0;
+    'modules: while at < more.len() {
+        lib.push(more[at].share()?)?;
+        at += 1;
+    }
+    Ok(())
+}
+
+/// More imports behind those that are there. Where memory runs out some may be there.
+fn add_imports<H: Host>(
+    imports: &mut Items<Import<H>>,
+    more: &[Import<H>],
+) -> Result<(), AllocError>
+    ensures ok { OnOk result (imports.new ≡ imports.old ++ more.now) }
+    ensures err { OnErr result (take (length imports.old) imports.new ≡ imports.old) }
+{
+    let mut at = 0;
+    'imports: while at < more.len() {
+        imports.push(Import {
+            name: more[at].name.share()?,
+            module: more[at].module.share()?,
+        })?;
+        at += 1;
+    }
+    Ok(())
+}
+
+/// The environment of a function brings its imports and libraries, and its table of constants. Where memory
+/// runs out some may be there.
+fn bring<H: Host>(
+    global: &mut GlobalRuntimeState<H>,
+    environ: Option<&EncapsulatedEnviron<H>>,
+) -> Result<(), AllocError>
+    ensures ok { OnOk result (global.new ≡ brought (option_copied environ.entry) global.old) }
+    ensures err { OnErr result ((scope : _) →
+        taken_back (exit_seen global.old scope) global.new ≡ global.old) }
+{
+    let Some(environ) = environ else {
+        return Ok(());
+    };
+    add_libraries(&mut global.lib, environ.lib.as_slice())?;
+    add_imports(&mut global.imports, environ.imports.as_slice())?;
+    global.constants = environ.constants;
+    Ok(())
+}
+
+/// The variables and the surroundings of a body, its level aside. Where memory runs out some may be there.
+fn surround<H: Host>(
+    global: &mut GlobalRuntimeState<H>,
+    scope: &mut Scope<H>,
+    def: &ScriptFuncDef,
+    environ: Option<&EncapsulatedEnviron<H>>,
+    args: &mut [Dynamic<H>],
+) -> Result<(), AllocError>
+    ensures state { OnOk result (global.new ≡ brought (option_copied environ.entry) global.old) }
+    ensures variables { OnOk result (entries_of scope.new ≡ entries_of scope.old
+        ++ parameters def.now.params args.old) }
+    ensures left { OnOk result (length def.now.params ≡ length args.old → args.new ≡ map (λ _. unit) args.old) }
+    ensures state_back { OnErr result (taken_back (exit_seen global.old scope.old) global.new ≡ global.old) }
+    ensures variables_back { OnErr result (take (length (entries_of scope.old)) (entries_of scope.new)
+        ≡ entries_of scope.old) }
+{
+    bring(global, environ)?;
+    push_parameters(scope, def.params.as_slice(), args)
+}
+
+/// Everything that a call has brought goes again.
+pub(crate) fn take_back<H: Host>(global: &mut GlobalRuntimeState<H>, exit: CallExit)
+    ensures { global.new ≡ taken_back exit global.old }
+{
+    global.lib.truncate(exit.lib_length);
+    global.truncate_imports(exit.imports_length);
+    global.constants = exit.constants;
+    global.level = exit.level;
+}
+
+/// A body that is entered at a level, its call charged: the parameters are pushed as variables that may be
+/// written, each with its argument, of which `()` is left, or with `()` where there is none; and an environment
+/// brings its imports and libraries, and its table of constants. None for a body without statements, which
+/// takes nothing. Ports what upstream's `call_script_fn` does before the body.
+///
+/// # Errors
+/// All at the call: `ErrorStackOverflow`, then `ErrorTooManyVariables`. Scope and state are then as they
+/// were, and so are the arguments, but that some may have been taken where memory ran out.
+pub fn open_function<H: Host>(
+    limits: &Limits,
+    level: usize,
+    global: &mut GlobalRuntimeState<H>,
+    scope: &mut Scope<H>,
+    def: &ScriptFuncDef,
+    environ: Option<&EncapsulatedEnviron<H>>,
+    args: &mut [Dynamic<H>],
+    pos: Position,
+) -> Result<Option<CallExit>, EvalAltResult<H>>
+    ensures not_deep { OnOk result (is_deep limits.now level ≡ false) }
+    ensures not_full { OnOk result (full_with limits.now (length (entries_of scope.old))
+        (length def.now.params) ≡ false) }
+    ensures refused { IfErr result (λ e. is_out_of_memory e ≡ false → entry limits.now
+        level (length (entries_of scope.old)) (length def.now.params) pos ≡ Err e) }
+    ensures wanting { IfErr result (λ e. is_out_of_memory e ≡ true → (e ≡ error.ErrorOutOfMemory pos)
+        × (entry {H = H} limits.now level (length (entries_of scope.old))
+        (length def.now.params) pos ≡ Ok tt)) }
+    ensures exit { IfOk result (λ opened. IfSome opened (λ exit. exit ≡ exit_seen global.old scope.old)) }
+    ensures body { OnEntered result (statements_in def.now.body ≢ []) }
+    ensures variables { OnEntered result (entries_of scope.new ≡ entries_of scope.old
+        ++ parameters def.now.params args.old) }
+    ensures state { OnEntered result (global.new
+        ≡ entered_global (option_copied environ.entry) level global.old) }
+    ensures left { OnEntered result (length def.now.params ≡ length args.old
+        → args.new ≡ map (λ _. unit) args.old) }
+    ensures no_body { OnPassed result (statements_in def.now.body ≡ []) }
+    ensures same_scope { UnlessEntered result (entries_of scope.new ≡ entries_of scope.old) }
+    ensures same_state { UnlessEntered result (global.new ≡ global.old) }
+    ensures same_args { OnPassed result (args.new ≡ args.old) }
+    ensures untaken { IfErr result (λ e. is_out_of_memory e ≡ false → args.new ≡ args.old) }
+{
+    may_enter(limits, level, scope, def.params.len(), pos)?;
+    if statements_of(def).is_empty() {
+        return Ok(None);
+    }
+    let exit = exit_now(global, scope);
+    match surround(global, scope, def, environ, args) {
+        Ok(()) => {
+            global.level = level;
+            Ok(Some(exit))
+        }
+        Err(_) => {
+            take_back(global, exit);
+            scope.rewind(exit.scope_length);
+            Err(EvalAltResult::ErrorOutOfMemory(pos))
+        }
+    }
+}

@@ -1,0 +1,237 @@
+-- The root of a chain: where its walk begins, and how its end comes back.
+use Rattle.std.proofs.Common.{◌≡◌, ℕ, Bool, true, false, not, List, ◌∷◌, Option, Some, None, Result, Ok, Err, slice_get, is_some}
+use Rattle.std.proofs.Common.{refl, sym, ap, subst, ◌∙◌}
+use Rattle.std.specs.Option.{option_map, option_or}
+use Rattle.rhai_tree.specs.Positions.{position_of}
+use Rattle.rhai_tree.specs.declared.position.Position.{Position}
+use Rattle.rhai_values.specs.declared.base.value.Dynamic.{Dynamic}
+use Rattle.rhai_values.specs.declared.base.value.Union.{Union}
+use Rattle.rhai_values.specs.declared.base.value.Union.TheVariants as value
+use Rattle.rhai_values.specs.Cells.{value_of_cell}
+use Rattle.rhai_state.specs.declared.scope.Scope.{Scope}
+use Rattle.rhai_state.specs.declared.scope.ScopeEntry.{ScopeEntry}
+use Rattle.rhai_state.specs.declared.state.GlobalRuntimeState.{GlobalRuntimeState}
+use Rattle.rhai_state.specs.declared.error.EvalAltResult.{EvalAltResult}
+use Rattle.rhai_state.specs.declared.error.EvalAltResult.TheVariants as error
+use Rattle.rhai_state.specs.Errors.{is_out_of_memory}
+use Rattle.rhai_state.specs.Scope.{entries_of, index_of, revalued, value_in}
+use Rattle.rhai_machine.specs.machine.Machine.{Go}
+use Rattle.rhai_machine.specs.machine.Memory.{here, wanting, ◌⨾◌}
+use Rattle.rhai_machine.specs.language.Setting.{Rules}
+use Rattle.rhai_machine.specs.language.State.{Held, State}
+use Rattle.rhai_machine.specs.language.Values.{Cells, copied, flat}
+use Rattle.rhai_machine.specs.language.Functions.{meant_function, pointer_to}
+use Rattle.rhai_functions.specs.Functions.{named_in}
+use Rattle.rhai_machine.specs.language.Names.{bound_this, entered, looked_up, variable_of}
+use Rattle.rhai_machine.specs.language.Calls.{is_held}
+use Rattle.rhai_machine.specs.language.Chains.{begun_core, read_root_core, this_root_core}
+use Rattle.rhai_machine.specs.language.Frames.{Lender, FromEntry, FromThis, Chain, Frame, Core, core, ended, marked, on_value, Back, Fail, ReadRoot, RootValue, ChainEnd}
+use Rattle.rhai_machine.specs.language.Members.{focused_on}
+use Rattle.rhai_machine.specs.language.Runs.{at, with_core, Goes, Runs, Steps}
+use Rattle.rhai_machine.specs.language.Unwinding.{ended_chain, up_core}
+use Rattle.rhai_steps.specs.States.{local_of, state_of}
+use Rattle.rhai_steps.proofs.FunctionNames.{copied_itself}
+use Rattle.rhai_steps.proofs.Pieces.{faulted, step_by}
+use Rattle.rhai_assign.proofs.Places.{revalued_twice}
+use Rattle.rhai_calls.specs.Marks.{without_mark}
+use Rattle.rhai_methods.specs.Methods.{lending, RunsFrom}
+use Rattle.rhai_chains.specs.Chains.{WalkRuns}
+use Rattle.rhai_cycle.specs.Calls.{RunsUnder, StartsAs}
+
+module _ {H : Type 0} (cells : Cells H) (name : List ℕ) (at : Position) where
+  entered_held : (v : Dynamic H) (o : Option (Dynamic H)) → not (is_some o) ≡ true → entered name at v o ≡ Err (error.ErrorDataRace name at)
+  entered_held v None is = refl
+  entered_held v (Some x) is = cc
+
+  entered_free : (v : Dynamic H) (o : Option (Dynamic H)) → not (is_some o) ≡ false → entered name at v o ≡ Ok v
+  entered_free v None is = cc
+  entered_free v (Some x) is = refl
+
+  -- a variable that is the handle of a held cell is another's
+  looked_held : (u : Union H) (v : Dynamic H) → is_held cells u ≡ true → looked_up cells name at u v ≡ Err (error.ErrorDataRace name at)
+  looked_held (value.Cell id) v is = entered_held v (value_of_cell cells id.number) is
+  looked_held _ v is = cc
+
+  -- and any other is read
+  looked_free : (u : Union H) (v : Dynamic H) → is_held cells u ≡ false → looked_up cells name at u v ≡ Ok v
+  looked_free (value.Cell id) v is = entered_free v (value_of_cell cells id.number) is
+  looked_free _ v is = refl
+
+module _ {S H : Type 0} (rules : Rules S H) where
+  -- a state where this is worked on
+  abbrev working : Dynamic H → State S H → State S H
+  working v s = record s { local = focused_on (Some v) s.local }
+
+  -- the state once the focus of a chain is back with who lent its root
+  abbrev restored_state : (lender : Option Lender) → (outer : Option (Dynamic H)) → State S H → State S H
+  restored_state lender outer s = record s { local = ended_chain lender outer s.local }
+
+  module _ (lender : Option Lender) (outer : Option (Dynamic H)) (k : List (Frame H)) (s : State S H) where
+    value_ends : (v : Dynamic H) → Goes rules (at (Back v) (ChainEnd lender outer ∷ k) s) (at (Back v) k (restored_state lender outer s))
+    value_ends v = step_by rules _ _ (Go (core (Back v) k (ended_chain lender outer s.local))) refl here
+
+    -- how a walk ended comes back, without its mark
+    chain_ends : (answer : Result (Dynamic H × Bool) (EvalAltResult H)) →
+        Goes rules (at (marked answer) (ChainEnd lender outer ∷ k) s) (at (ended (without_mark answer)) k (restored_state lender outer s))
+    chain_ends (Ok (v, true)) = step_by rules _ _ (Go (core (Back v) (ChainEnd lender outer ∷ k) s.local)) refl (value_ends v)
+    chain_ends (Ok (v, false)) = value_ends v
+    chain_ends (Err e) = step_by rules _ _ (Go (core (Fail e) k (ended_chain lender outer s.local))) refl here
+
+  module _ (chain : Chain H) (answer : Result (Dynamic H × Bool) (EvalAltResult H)) (r : Result (Dynamic H) (EvalAltResult H))
+      (same : r ≡ without_mark answer) where
+    -- the walk between its beginning and its end
+    pub begins : (in_place : Bool) (lender : Option Lender) (v : Dynamic H) (old new : State S H) →
+        WalkRuns rules (record chain { in_place = in_place }) (working v old) answer new →
+        StartsAs rules (begun_core in_place lender v chain) old r (restored_state lender old.local.focus new)
+    unfolding StartsAs RunsFrom
+    begins in_place lender v old new runs k = rw same
+        (runs (ChainEnd lender old.local.focus ∷ k) ⨾ chain_ends lender old.local.focus k new answer)
+
+    -- on a value that is lent from its entry and goes back there
+    module _ (old mid new : Scope H) (i : ℕ) (u v w : Dynamic H)
+        (taken : entries_of mid ≡ revalued (entries_of old) i (slice_get (entries_of old) i) u)
+        (given : entries_of new ≡ revalued (entries_of mid) i (slice_get (entries_of mid) i) w) where
+      lent_entries : entries_of new ≡ revalued (entries_of old) i (slice_get (entries_of old) i) w
+      lent_entries =
+          given ∙ ap (λ (entries : List (ScopeEntry H)). revalued entries i (slice_get entries i) w) taken
+          ∙ revalued_twice (entries_of old) i (slice_get (entries_of old) i) w u refl
+
+      pub lent_begins : (before left : S) (was is : GlobalRuntimeState H) (held : Held H) →
+          WalkRuns rules (record chain { in_place = true }) (state_of before was old (lending held v)) answer
+          (state_of left is old (lending held w)) →
+          StartsAs rules (begun_core true (Some (FromEntry i)) v chain) (state_of before was old held) r (state_of left is new held)
+      lent_begins before left was is held runs =
+          subst (λ (entries : List (ScopeEntry H)).
+          StartsAs rules (begun_core true (Some (FromEntry i)) v chain) (state_of before was old held) r
+          (record (state_of left is old held) { local = record (local_of is old held) { scope = entries } })) (sym lent_entries)
+          (begins true (Some (FromEntry i)) v (state_of before was old held) (state_of left is old (lending held w)) runs)
+
+    -- on `this`, which gets it back
+    pub this_begins : (v w : Dynamic H) (before left : S) (was is : GlobalRuntimeState H) (scope : Scope H)
+        (focus : Option (Dynamic H)) →
+        WalkRuns rules (record chain { in_place = true })
+        (state_of before was scope (record { this = Some v; focus = Some v })) answer
+        (state_of left is scope (record { this = Some v; focus = Some w })) →
+        StartsAs rules (begun_core true (Some FromThis) v chain)
+        (state_of before was scope (record { this = Some v; focus = focus })) r
+        (state_of left is scope (record { this = Some w; focus = focus }))
+    this_begins v w before left was is scope focus runs =
+        begins true (Some FromThis) v (state_of before was scope (record { this = Some v; focus = focus }))
+        (state_of left is scope (record { this = Some v; focus = Some w })) runs
+
+  -- there is no `this` to begin on
+  pub this_missing : (pos : Position) (chain : Chain H) (s : State S H) → s.local.this ≡ None →
+      StartsAs rules (this_root_core pos chain) s (Err (error.ErrorUnboundThis pos)) s
+  unfolding StartsAs
+  this_missing pos chain s is k =
+      subst (λ (o : Option (Dynamic H)). Goes rules (with_core (on_value (bound_this pos o)
+      (λ v. begun_core true (Some FromThis) v chain k s.local) k s.local) s) (at (Fail (error.ErrorUnboundThis pos)) k s)) (sym is) here
+
+  -- ---- a variable
+
+  module _ (name : List ℕ) (pos : Position) (chain : Chain H) (s : State S H) where
+    -- what a name is read as, with who lends it
+    abbrev reads : Option ℕ → Result (Dynamic H) (EvalAltResult H) → List (Frame H) → Core H
+    reads entry v k = on_value v (λ x. begun_core (is_some entry) (option_map FromEntry entry) x chain k s.local) k s.local
+
+    -- by where the newest entry of the name stands
+    abbrev read_at : Option ℕ → List (Frame H) → Core H
+    read_at entry k = reads entry (variable_of s.local.around.cells name pos
+        (option_or (value_in s.local.scope entry) (meant_function s.local.around.lib name))) k
+
+    read_as : (c : List (Frame H) → Core H) (new : State S H) (r : Result (Dynamic H) (EvalAltResult H)) →
+        ((k : List (Frame H)) → read_root_core name pos chain k s.local ≡ c k) →
+        ((k : List (Frame H)) → Goes rules (with_core (c k) s) (at (ended r) k new)) → Runs rules (ReadRoot name pos chain) s r new
+    unfolding Steps
+    read_as c new r same goes k = step_by rules _ _ (Go (read_root_core name pos chain k s.local)) refl
+        (subst (λ (x : Core H). Goes rules (with_core x s) (at (ended r) k new)) (sym (same k)) (goes k))
+
+    -- there is none of the name, and a function is meant, or nothing is
+    module _ (missing : index_of name s.local.scope ≡ None) where
+      abbrev found_function : Result (Dynamic H) (EvalAltResult H)
+      found_function = variable_of s.local.around.cells name pos (meant_function s.local.around.lib name)
+
+      by_function : (x : Result (Dynamic H) (EvalAltResult H)) → found_function ≡ x → (k : List (Frame H)) →
+          read_root_core name pos chain k s.local ≡ reads None x k
+      by_function x is k = ap (λ (o : Option ℕ). read_at o k) missing
+          ∙ ap (λ (y : Result (Dynamic H) (EvalAltResult H)). reads None y k) is
+
+      -- a pointer to a function is its own copy
+      own_copy : (arity : Option ℕ) → copied (variable_of s.local.around.cells name pos (option_map (pointer_to name) arity))
+          ≡ variable_of s.local.around.cells name pos (option_map (pointer_to name) arity)
+      own_copy None = refl
+      own_copy (Some n) = ap Ok (copied_itself name n)
+
+      uncopied : (r : Result (Dynamic H) (EvalAltResult H)) → r ≡ copied found_function → found_function ≡ r
+      uncopied r is = sym (own_copy (named_in name s.local.around.lib)) ∙ sym is
+
+      -- the walk begins on a pointer to the function, as a temporary
+      pub function_begins : (v : Dynamic H) (new : State S H) (r : Result (Dynamic H) (EvalAltResult H)) → Ok v ≡ copied found_function →
+          StartsAs rules (begun_core false None v chain) s r new → Runs rules (ReadRoot name pos chain) s r new
+      unfolding StartsAs
+      function_begins v new r is runs =
+          read_as (λ k. begun_core false None v chain k s.local) new r (by_function (Ok v) (uncopied (Ok v) is)) runs
+
+      -- or there is none
+      pub function_missing : (e : EvalAltResult H) → (is_out_of_memory e ≡ false → Err e ≡ copied found_function) →
+          Runs rules (ReadRoot name pos chain) s (Err e) s
+      unfolding Steps
+      function_missing (error.ErrorOutOfMemory p) told k = wanting {at = p} here
+      function_missing e told k =
+          step_by rules _ _ (Go (read_root_core name pos chain k s.local)) refl
+          (subst (λ (x : Core H). Goes rules (with_core x s) (at (Fail e) k s)) (sym (by_function (Err e) (uncopied (Err e) (told refl)) k))
+          here)
+
+    module _ (i : ℕ) (v : Dynamic H) (there : index_of name s.local.scope ≡ Some i)
+        (stands : value_in s.local.scope (Some i) ≡ Some v) where
+      seen : (k : List (Frame H)) →
+          read_root_core name pos chain k s.local ≡ reads (Some i) (looked_up s.local.around.cells name pos v.value v) k
+      seen k =
+          ap (λ (o : Option ℕ). read_at o k) there
+          ∙ ap (λ (o : Option (Dynamic H)).
+          reads (Some i) (variable_of s.local.around.cells name pos (option_or o (meant_function s.local.around.lib name))) k) stands
+
+      -- its cell is held
+      pub root_held : (e : EvalAltResult H) (held : Bool) → held ≡ is_held s.local.around.cells v.value → held ≡ true →
+          (is_out_of_memory e ≡ false → e ≡ error.ErrorDataRace name pos) → Runs rules (ReadRoot name pos chain) s (Err e) s
+      root_held e held says is told = read_as (λ k. core (Fail (error.ErrorDataRace name pos)) k s.local) s (Err e)
+          (λ k. seen k ∙ ap (λ (x : Result (Dynamic H) (EvalAltResult H)). reads (Some i) x k)
+          (looked_held s.local.around.cells name pos v.value v (sym says ∙ is)))
+          (λ k. faulted rules e (error.ErrorDataRace name pos) told k s)
+
+      -- the walk begins on its value
+      pub root_begins : (new : State S H) (r : Result (Dynamic H) (EvalAltResult H)) (held : Bool) →
+          held ≡ is_held s.local.around.cells v.value → held ≡ false →
+          StartsAs rules (begun_core true (Some (FromEntry i)) v chain) s r new → Runs rules (ReadRoot name pos chain) s r new
+      unfolding StartsAs
+      root_begins new r held says is runs = read_as (λ k. begun_core true (Some (FromEntry i)) v chain k s.local) new r
+          (λ k. seen k ∙ ap (λ (x : Result (Dynamic H) (EvalAltResult H)). reads (Some i) x k)
+          (looked_free s.local.around.cells name pos v.value v (sym says ∙ is))) runs
+
+  -- ---- any other value
+
+  module _ (chain : Chain H) (v : Dynamic H) (s : State S H) (pos : Position) (is : pos ≡ position_of chain.root) where
+    -- what comes of it, flattened
+    came_up : (x : Result (Dynamic H) (EvalAltResult H)) → x ≡ flat s.local.around.cells v pos → (new : State S H)
+        (r : Result (Dynamic H) (EvalAltResult H)) (k : List (Frame H)) →
+        Goes rules (with_core (on_value x (λ y. begun_core false None y chain k s.local) k s.local) s) (at (ended r) k new) →
+        Goes rules (at (Back v) (RootValue chain ∷ k) s) (at (ended r) k new)
+    came_up x same new r k goes = step_by rules _ _ (Go (up_core rules.setting (RootValue chain) v k s.local)) refl
+        (subst (λ (y : Result (Dynamic H) (EvalAltResult H)).
+        Goes rules (with_core (on_value y (λ z. begun_core false None z chain k s.local) k s.local) s) (at (ended r) k new))
+        (same ∙ ap (flat s.local.around.cells v) is) goes)
+
+    -- the walk begins on it
+    pub value_begins : (x : Dynamic H) → Ok x ≡ flat s.local.around.cells v pos → (new : State S H)
+        (r : Result (Dynamic H) (EvalAltResult H)) →
+        StartsAs rules (begun_core false None x chain) s r new → RunsUnder rules (Back v) (RootValue chain) s r new
+    unfolding StartsAs RunsUnder
+    value_begins x same new r runs k = came_up (Ok x) same new r k (runs k)
+
+    -- or it is not had
+    pub value_fails : (e : EvalAltResult H) → (is_out_of_memory e ≡ false → Err e ≡ flat s.local.around.cells v pos) →
+        RunsUnder rules (Back v) (RootValue chain) s (Err e) s
+    unfolding RunsUnder
+    value_fails (error.ErrorOutOfMemory p) same k =
+        wanting {at = p} (step_by rules _ _ (Go (core (Fail (error.ErrorOutOfMemory p)) k s.local)) refl here)
+    value_fails e same k = came_up (Err e) (same refl) s (Err e) k here

@@ -1,0 +1,164 @@
+use Rattle.std.proofs.Common.{Err, sym, ap, ◌∙◌, arith, length, is_some}
+use Rattle.rhai_values.specs.Cells.{cells_of}
+use Rattle.rhai_cycle.specs.States.{under}
+use Rattle.rhai_steps.specs.States.{state_of}
+use Rattle.rhai_methods.specs.Methods.{lending}
+use Rattle.rhai_chains.specs.Chains.{chain_at, form_seen, link_seen}
+use Rattle.rhai_walk.proofs.Entering.{enters}
+use Rattle.rhai_walk.proofs.Inside.{entry_there, given_is, item_by_natives, item_inside}
+use Rattle.rhai_walk.proofs.Inside.{item_there, named_inside, property_by_natives, wants_first}
+use Rattle.rhai_walk.proofs.Walked.{first_and_others, index_left, index_there, index_walks, named_behind, named_walks, others}
+use Rattle.rhai_walk.specs.Walking.{inside_core}
+use Rattle.rhai_cycle.proofs.evaluator.Evaluator.+eval.Goals as goal
+
+pub walk_entered-unreachable-requires : goal.walk_entered-unreachable-requires
+walk_entered-unreachable-requires g t c =
+    let there = index_there (is_some c.args.new) (link_seen c.args.link) (length c.args.args.now) c.requires.walks
+    c.in-Index.field-0.now (ap form_seen c.in-Index.is) in
+    absurd (omega (arith, there, c.in_default.len_below))
+
+pub walk_entered-unreachable-requires-in-Method : goal.walk_entered-unreachable-requires-in-Method
+walk_entered-unreachable-requires-in-Method g t c = rw (ap form_seen c.in-Method.is) at c.requires.located
+
+pub walk_entered-walk_spot-result-requires : goal.walk_entered-walk_spot-result-requires
+walk_entered-walk_spot-result-requires g t c =
+    let all = first_and_others c.args.args.now c.result-item.result c.result-item.result c.in-len1-up.len_at_least c.result-item.is in
+    let behind = index_walks (is_some c.args.new) (link_seen c.args.link) (length c.args.args.now) c.requires.walks _
+    (length (others c.args.args.now)) (ap form_seen c.in-Index.is) (omega (arith, ap (λ args. length args) all)) in
+    λ κs lives. (omega arith, (lives.0, (lives.1, behind)))
+
+pub walk_entered-walk_member-result-requires : goal.walk_entered-walk_member-result-requires
+walk_entered-walk_member-result-requires g t c =
+    let all = first_and_others c.args.args.now c.result-item.result c.result-item.result c.in-len1-up.len_at_least c.result-item.is in
+    let behind = index_walks (is_some c.args.new) (link_seen c.args.link) (length c.args.args.now) c.requires.walks _
+    (length (others c.args.args.now)) (ap form_seen c.in-Index.is) (omega (arith, ap (λ args. length args) all)) in
+    λ κs lives. (omega arith, (lives.0, (lives.1, behind)))
+
+pub walk_entered-walk_spot-result-requires-then-is_map : goal.walk_entered-walk_spot-result-requires-then-is_map
+walk_entered-walk_spot-result-requires-then-is_map g t c =
+    let form = ap form_seen c.in-Property.is in
+    let behind = named_walks (is_some c.args.new) (link_seen c.args.link) (length c.args.args.now) c.requires.walks c.in-Property.name.now
+    c.in-Property.pos form in
+    λ κs lives. (omega arith, (lives.0, (lives.1, behind)))
+
+pub walk_entered-walk_member-result-requires-else-is_map : goal.walk_entered-walk_member-result-requires-else-is_map
+walk_entered-walk_member-result-requires-else-is_map g t c =
+    let form = ap form_seen c.in-Property.is in
+    let behind = named_walks (is_some c.args.new) (link_seen c.args.link) (length c.args.args.now) c.requires.walks c.in-Property.name.now
+    c.in-Property.pos form in
+    λ κs lives. (omega arith, (lives.0, (lives.1, behind)))
+
+pub walk_entered-returns-then-is_indexed-clause-runs : goal.walk_entered-returns-then-is_indexed-clause-runs
+walk_entered-returns-then-is_indexed-clause-runs g t c scope held rest =
+    let rules = under g.H.Host.name_of c.args.self.now g.T.NativeTable.natives in
+    let link = link_seen c.args.link in
+    let chain = chain_at c.args.root.now rest c.args.args.now c.args.new c.args.in_place in
+    let inner = c.step_in-above.new.focus in
+    let old = state_of (g.T.NativeTable.state c.args.table.now) c.args.run.now.global scope (lending held c.args.focus.now) in
+    let taken = state_of (g.T.NativeTable.state c.args.table.now) (record c.args.run.now.global { cells = c.step_in-above.new.cells }) scope
+    (lending held inner) in
+    let worked = state_of (g.T.NativeTable.state c.walk_spot-result.new.table) c.walk_spot-result.new.run.global scope (lending held
+    c.walk_spot-result.new.source) in
+    let form = ap form_seen c.in-Index.is in
+    let index = c.result-item.result in
+    let all = first_and_others c.args.args.now index index c.in-len1-up.len_at_least c.result-item.is in
+    let left = index_left (form_seen c.args.link.form) c.in-Index.field-0.now c.args.args.now (others c.args.args.now) index form all in
+    enters rules link chain old worked c.walk_spot-result.result c.step_in-above.result c.args.focus.now inner
+    c.walk_spot-result.new.source c.step_out.new.focus
+    (cells_of c.args.run.now.global.cells) (cells_of c.step_in-above.new.cells) (cells_of c.walk_spot-result.new.run.global.cells)
+    (cells_of c.step_out.new.cells) c.step_in-above.ensures
+    (item_inside rules link chain inner taken worked c.walk_spot-result.result c.in-Index.field-0.now index (others c.args.args.now) form
+    all
+    (item_there rules link chain inner taken worked c.walk_spot-result.result index (sym c.is_indexed.ensures ∙ c.if-is_indexed.true)
+    (c.walk_spot-result.ensures.runs scope held rest c.args.args.now left))) c.step_out.ensures
+
+pub walk_entered-returns-else-is_indexed-clause-runs : goal.walk_entered-returns-else-is_indexed-clause-runs
+walk_entered-returns-else-is_indexed-clause-runs g t c scope held rest =
+    let rules = under g.H.Host.name_of c.args.self.now g.T.NativeTable.natives in
+    let link = link_seen c.args.link in
+    let chain = chain_at c.args.root.now rest c.args.args.now c.args.new c.args.in_place in
+    let inner = c.step_in-above.new.focus in
+    let old = state_of (g.T.NativeTable.state c.args.table.now) c.args.run.now.global scope (lending held c.args.focus.now) in
+    let taken = state_of (g.T.NativeTable.state c.args.table.now) (record c.args.run.now.global { cells = c.step_in-above.new.cells }) scope
+    (lending held inner) in
+    let worked = state_of (g.T.NativeTable.state c.walk_member-result.new.table) c.walk_member-result.new.run.global scope (lending held
+    c.walk_member-result.new.source) in
+    let form = ap form_seen c.in-Index.is in
+    let index = c.result-item.result in
+    let all = first_and_others c.args.args.now index index c.in-len1-up.len_at_least c.result-item.is in
+    let left = index_left (form_seen c.args.link.form) c.in-Index.field-0.now c.args.args.now (others c.args.args.now) index form all in
+    enters rules link chain old worked c.walk_member-result.result c.step_in-above.result c.args.focus.now inner
+    c.walk_member-result.new.source c.step_out-else-is_indexed.new.focus
+    (cells_of c.args.run.now.global.cells) (cells_of c.step_in-above.new.cells) (cells_of c.walk_member-result.new.run.global.cells)
+    (cells_of c.step_out-else-is_indexed.new.cells) c.step_in-above.ensures
+    (item_inside rules link chain inner taken worked c.walk_member-result.result c.in-Index.field-0.now index (others c.args.args.now)
+    form all
+    (item_by_natives rules link chain inner taken worked c.walk_member-result.result index (sym c.is_indexed.ensures ∙
+    c.if-is_indexed.false)
+    (rw c.item_access-access.ensures at (c.walk_member-result.ensures.runs scope held rest c.args.args.now c.args.in_place left))))
+    c.step_out-else-is_indexed.ensures
+
+pub walk_entered-returns-in-Err-clause-runs : goal.walk_entered-returns-in-Err-clause-runs
+walk_entered-returns-in-Err-clause-runs g t c scope held rest =
+    let rules = under g.H.Host.name_of c.args.self.now g.T.NativeTable.natives in
+    let link = link_seen c.args.link in
+    let chain = chain_at c.args.root.now rest c.args.args.now c.args.new c.args.in_place in
+    let inner = c.step_in-above.new.focus in
+    let old = state_of (g.T.NativeTable.state c.args.table.now) c.args.run.now.global scope (lending held c.args.focus.now) in
+    let taken = state_of (g.T.NativeTable.state c.args.table.now) (record c.args.run.now.global { cells = c.step_in-above.new.cells }) scope
+    (lending held inner) in
+    enters rules link chain old taken (Err c.in-Err.error) c.step_in-above.result c.args.focus.now inner inner c.step_out-in-Err.new.focus
+    (cells_of c.args.run.now.global.cells) (cells_of c.step_in-above.new.cells) (cells_of c.step_in-above.new.cells)
+    (cells_of c.step_out-in-Err.new.cells) c.step_in-above.ensures
+    (wants_first rules (inside_core rules.setting link inner chain) taken c.in-Err.error _ c.in-Err.ensures) c.step_out-in-Err.ensures
+
+pub walk_entered-returns-in-Ok-clause-runs : goal.walk_entered-returns-in-Ok-clause-runs
+walk_entered-returns-in-Ok-clause-runs g t c scope held rest =
+    let rules = under g.H.Host.name_of c.args.self.now g.T.NativeTable.natives in
+    let link = link_seen c.args.link in
+    let chain = chain_at c.args.root.now rest c.args.args.now c.args.new c.args.in_place in
+    let inner = c.step_in-above.new.focus in
+    let old = state_of (g.T.NativeTable.state c.args.table.now) c.args.run.now.global scope (lending held c.args.focus.now) in
+    let taken = state_of (g.T.NativeTable.state c.args.table.now) (record c.args.run.now.global { cells = c.step_in-above.new.cells }) scope
+    (lending held inner) in
+    let worked = state_of (g.T.NativeTable.state c.walk_spot-result-then-is_map.new.table) c.walk_spot-result-then-is_map.new.run.global
+    scope (lending held c.walk_spot-result-then-is_map.new.source) in
+    let name = c.in-Property.name.now in
+    let at = c.in-Property.pos in
+    let form = ap form_seen c.in-Property.is in
+    let left = named_behind (form_seen c.args.link.form) name at c.args.args.now form in
+    enters rules link chain old worked c.walk_spot-result-then-is_map.result c.step_in-above.result c.args.focus.now inner
+    c.walk_spot-result-then-is_map.new.source c.step_out-then-is_map.new.focus
+    (cells_of c.args.run.now.global.cells) (cells_of c.step_in-above.new.cells) (cells_of
+    c.walk_spot-result-then-is_map.new.run.global.cells)
+    (cells_of c.step_out-then-is_map.new.cells) c.step_in-above.ensures
+    (named_inside rules link chain inner taken worked c.walk_spot-result-then-is_map.result name at form
+    (entry_there rules link chain inner taken worked c.walk_spot-result-then-is_map.result name at c.in-Ok.key (given_is c.in-Ok.key _
+    c.in-Ok.ensures)
+    (sym c.is_map.ensures ∙ c.if-is_map.true) (c.walk_spot-result-then-is_map.ensures.runs scope held rest c.args.args.now left)))
+    c.step_out-then-is_map.ensures
+
+pub walk_entered-returns-else-is_map-clause-runs : goal.walk_entered-returns-else-is_map-clause-runs
+walk_entered-returns-else-is_map-clause-runs g t c scope held rest =
+    let rules = under g.H.Host.name_of c.args.self.now g.T.NativeTable.natives in
+    let link = link_seen c.args.link in
+    let chain = chain_at c.args.root.now rest c.args.args.now c.args.new c.args.in_place in
+    let inner = c.step_in-above.new.focus in
+    let old = state_of (g.T.NativeTable.state c.args.table.now) c.args.run.now.global scope (lending held c.args.focus.now) in
+    let taken = state_of (g.T.NativeTable.state c.args.table.now) (record c.args.run.now.global { cells = c.step_in-above.new.cells }) scope
+    (lending held inner) in
+    let worked = state_of (g.T.NativeTable.state c.walk_member-result-else-is_map.new.table)
+    c.walk_member-result-else-is_map.new.run.global scope (lending held c.walk_member-result-else-is_map.new.source) in
+    let name = c.in-Property.name.now in
+    let at = c.in-Property.pos in
+    let form = ap form_seen c.in-Property.is in
+    let left = named_behind (form_seen c.args.link.form) name at c.args.args.now form in
+    enters rules link chain old worked c.walk_member-result-else-is_map.result c.step_in-above.result c.args.focus.now inner
+    c.walk_member-result-else-is_map.new.source c.step_out-else-is_map.new.focus
+    (cells_of c.args.run.now.global.cells) (cells_of c.step_in-above.new.cells) (cells_of
+    c.walk_member-result-else-is_map.new.run.global.cells)
+    (cells_of c.step_out-else-is_map.new.cells) c.step_in-above.ensures
+    (named_inside rules link chain inner taken worked c.walk_member-result-else-is_map.result name at form
+    (property_by_natives rules link chain inner taken worked c.walk_member-result-else-is_map.result name at (sym c.is_map.ensures ∙
+    c.if-is_map.false)
+    (c.walk_member-result-else-is_map.ensures.runs scope held rest c.args.args.now c.args.in_place left))) c.step_out-else-is_map.ensures

@@ -1,0 +1,43 @@
+-- How a function of a script that is entered is told: what it is entered with, and what its caller has again behind it.
+use Rattle.std.specs.Prelude.{ℕ, Bool, List, Option, length}
+use Rattle.rhai_tree.specs.declared.function.ScriptFuncDef.{ScriptFuncDef}
+use Rattle.rhai_tree.specs.declared.position.Position.{Position}
+use Rattle.rhai_values.specs.declared.base.value.Dynamic.{Dynamic}
+use Rattle.rhai_values.specs.declared.base.value.EncapsulatedEnviron.{EncapsulatedEnviron}
+use Rattle.rhai_machine.specs.language.State.{Held, Local, State}
+use Rattle.rhai_machine.specs.language.Activations.{Entered, Object}
+use Rattle.rhai_machine.specs.language.Bodies.{back_by, focus_back, variables_after, variables_back}
+
+module _ {H : Type 0} where
+  -- a function that runs at a level, whose list restores or does not
+  abbrev pub entered : ScriptFuncDef → Option (EncapsulatedEnviron H) → Object → (is_fresh restores : Bool) → List (Dynamic H) →
+      (level : ℕ) → Position → Entered H
+  entered def environ object is_fresh restores args level at = record {
+    def = def;
+    environ = environ;
+    args = args;
+    object = object;
+    is_fresh = is_fresh;
+    restores = restores;
+    level = level;
+    at = at;
+  }
+
+  -- what a caller has in hand again, of the `this` that a function leaves
+  abbrev pub held_again : Object → Held H → (left : Option (Dynamic H)) → Held H
+  held_again object held left = record {
+    this = back_by object held.this left;
+    focus = focus_back object held.focus left;
+  }
+
+  -- what a caller has again of what stands at the end of a body
+  abbrev pub caller_again : Entered H → (caller left : Local H) → Local H
+  caller_again e caller left = record left {
+    scope = variables_back (variables_after e.is_fresh e.restores caller.scope (length e.def.params)) left.scope;
+    this = back_by e.object caller.this left.this;
+    focus = focus_back e.object caller.focus left.this;
+  }
+
+  -- the state behind a call
+  abbrev pub behind_call : {S : Type 0} → Entered H → (caller : Local H) → State S H → State S H
+  behind_call e caller left = record left { local = caller_again e caller left.local }

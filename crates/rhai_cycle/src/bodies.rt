@@ -1,0 +1,316 @@
+//! Functions of scripts that are entered. Ports upstream's `call_script_fn`; the contracts speak of the
+//! machine's runs.
+
+ghost use Rattle.std.specs.Prelude.{◌≡◌, ◌≤◌, ◌<◌, OnOk, Some, false, is_some, length, true};
+ghost use Rattle.std.specs.Option.{option_copied};
+ghost use Rattle.rhai_state.specs.Scope.{entries_of};
+ghost use Rattle.rhai_machine.specs.language.Activations.{NoObject};
+ghost use Rattle.rhai_machine.specs.language.Bodies.{this_by, variables_before};
+ghost use Rattle.rhai_machine.specs.language.Calls.{entry_of};
+ghost use Rattle.rhai_machine.specs.language.Frames.{EnterFunction, EnterOnFocus};
+ghost use Rattle.rhai_machine.specs.language.Methods.{method_core};
+ghost use Rattle.rhai_machine.specs.language.Runs.{Runs};
+ghost use Rattle.rhai_machine.specs.language.State.{deeper};
+ghost use Rattle.rhai_steps.specs.States.{local_of, state_of};
+ghost use Rattle.rhai_calls.specs.Called.{came_out};
+ghost use Rattle.rhai_calls.specs.Dispatch.{Offers};
+ghost use Rattle.rhai_methods.specs.Methods.{lending, RunsFrom};
+ghost use Rattle.rhai_cycle.specs.Bodies.{behind_call, entered};
+ghost use Rattle.rhai_cycle.specs.Calls.{StartsAs};
+ghost use Rattle.rhai_cycle.specs.States.{names, offer_of, state_in, under};
+
+use crate::evaluator::Evaluator;
+use rhai_bodies::closing::close_function;
+use rhai_bodies::opening::{open_function, statements_of};
+use rhai_calls::dispatch::{Called, is_held, races};
+use rhai_check::checked::CheckedFn;
+use rhai_context::{Context, keep_list, put_aside, take_up};
+use rhai_functions::function::{Function, Offered};
+use rhai_items::Items;
+use rhai_methods::calls::MethodCall;
+use rhai_methods::methods::call_method;
+use rhai_state::error::EvalAltResult;
+use rhai_state::table::NativeTable;
+use rhai_steps::charges::track_operation;
+use rhai_steps::errors::{data_race, data_race_by};
+use rhai_steps::values::{let_go, unit_value};
+use rhai_tree::position::Position;
+use rhai_values::base::value::{Dynamic, EncapsulatedEnviron, Host};
+use rhai_walk::ways::{step_in, step_out};
+use std::alloc::Global;
+use std::mem::replace;
+
+/// The environment that a function runs in, if it has one.
+fn environ_in<H: Host>(function: &Function<H>) -> Option<&EncapsulatedEnviron<H>>
+    ensures { option_copied result ≡ function.now.environ }
+{
+    match &function.environ {
+        Some(environ) => Some(environ.get()),
+        None => None,
+    }
+}
+
+/// The level of a function that a call dispatches to.
+fn level_below(level: usize) -> usize
+    ensures { result ≡ deeper level }
+{
+    level.saturating_add(1)
+}
+
+/// The `this` that a function leaves goes back into the place that lent it.
+fn put_this<H: Host>(place: &mut Dynamic<H>, left: Option<Dynamic<H>>)
+    ensures { is_some left ≡ true → left ≡ Some place.new }
+{
+    match left {
+        Some(value) => let_go(replace(place, value)),
+        None => {}
+    }
+}
+
+impl<'e, H: Host> Evaluator<'e, H> {
+    /// The modules of the engine that functions are found in.
+    pub fn offered(&self) -> Offered<'e, H>
+        ensures { Offers (offer_of self.now) result }
+    {
+        Offered {
+            global_modules: self.global_modules.as_slice(),
+            global_sub_modules: self.global_sub_modules.values(),
+        }
+    }
+
+    /// A function that is entered at a level, on the variables and with the `this` that the run has, its call
+    /// charged first. Its arguments are taken, unless its body has no statements. Its variables stay.
+    #[cycle(eval)]
+    pub fn run_body<T: NativeTable<H>>(
+        &self,
+        alloc: Global,
+        run: &mut Context<H>,
+        table: &mut T,
+        def: &CheckedFn,
+        environ: Option<&EncapsulatedEnviron<H>>,
+        args: &mut [Dynamic<H>],
+        restores: bool,
+        level: usize,
+        pos: Position,
+    ) -> Result<Dynamic<H>, EvalAltResult<H>>
+        ensures charges { OnOk result (run.old.global.num_operations < run.new.global.num_operations) }
+        ensures runs { (scope : _) (held : _) (object : _) (is_fresh : _) →
+            let caller = local_of run.old.global scope held in
+            let e = entered def.now (option_copied environ.entry) object is_fresh restores args.old level pos in
+            entries_of run.old.scope ≡ variables_before is_fresh caller.scope →
+            run.old.this ≡ this_by object caller →
+            Runs (under H.name_of self.now T.natives) (EnterFunction e)
+            (state_of (T.state table.old) run.old.global scope held) result
+            (behind_call e caller (state_in (T.state table.new) run.new)) }
+    {
+        track_operation(self.limits, &mut run.global, pos)?;
+        let limits = self.limits;
+        let (global, scope) = (&mut run.global, &mut run.scope);
+        let def = def.def();
+        match open_function(limits, level, global, scope, def, environ, args, pos)? {
+            None => Ok(unit_value()),
+            Some(exit) => {
+                let statements = statements_of(def);
+                let result = self.run_stmt_block(alloc, run, table, statements, restores);
+                close_function(alloc, &mut run.global, def, environ, exit, result, pos)
+            }
+        }
+    }
+
+    /// A function by itself that was called with a list of arguments, with variables of its own.
+    #[cycle(eval)]
+    pub fn enter_fresh<T: NativeTable<H>>(
+        &self,
+        alloc: Global,
+        run: &mut Context<H>,
+        table: &mut T,
+        function: Function<H>,
+        args: Items<Dynamic<H>>,
+        pos: Position,
+    ) -> Result<Dynamic<H>, EvalAltResult<H>>
+        ensures counts { run.old.global.num_operations ≤ run.new.global.num_operations }
+        ensures scope { run.new.scope ≡ run.old.scope }
+        ensures this { run.new.this ≡ run.old.this }
+        ensures runs { (scope : _) (held : _) → let caller = local_of run.old.global scope held in
+            Runs (under H.name_of self.now T.natives)
+            (EnterFunction (entry_of function NoObject true args pos caller))
+            (state_of (T.state table.old) run.old.global scope held) result
+            (state_of (T.state table.new) run.new.global scope held) }
+    {
+        let mut args = args;
+        let aside = put_aside(alloc, run, None);
+        let level = level_below(run.global.level);
+        let (def, environ) = (function.def.get(), environ_in(&function));
+        let values = args.as_mut_slice();
+        let result = self.run_body(alloc, run, table, def, environ, values, true, level, pos);
+        drop(take_up(run, aside));
+        keep_list(run, args);
+        drop(function);
+        result
+    }
+
+    /// The same on the caller's variables, without `this`. Its own go at its end.
+    #[cycle(eval)]
+    pub fn enter_captured<T: NativeTable<H>>(
+        &self,
+        alloc: Global,
+        run: &mut Context<H>,
+        table: &mut T,
+        function: Function<H>,
+        args: Items<Dynamic<H>>,
+        pos: Position,
+    ) -> Result<Dynamic<H>, EvalAltResult<H>>
+        ensures counts { run.old.global.num_operations ≤ run.new.global.num_operations }
+        ensures names { OnOk result (names run.new ≡ names run.old) }
+        ensures this { run.new.this ≡ run.old.this }
+        ensures runs { (held : _) → let caller = local_of run.old.global run.old.scope held in
+            Runs (under H.name_of self.now T.natives)
+            (EnterFunction (entry_of function NoObject false args pos caller))
+            (state_of (T.state table.old) run.old.global run.old.scope held) result
+            (state_of (T.state table.new) run.new.global run.new.scope held) }
+    {
+        let mut args = args;
+        let length = run.scope.len();
+        let outer = replace(&mut run.this, None);
+        let level = level_below(run.global.level);
+        let (def, environ) = (function.def.get(), environ_in(&function));
+        let values = args.as_mut_slice();
+        let result = self.run_body(alloc, run, table, def, environ, values, true, level, pos);
+        run.scope.rewind(length);
+        drop(replace(&mut run.this, outer));
+        keep_list(run, args);
+        drop(function);
+        result
+    }
+
+    /// What becomes of a call that lends nothing: it has ended, or enters a function, which has variables of its
+    /// own or runs on the caller's.
+    #[cycle(eval)]
+    pub(crate) fn run_out<T: NativeTable<H>>(
+        &self,
+        alloc: Global,
+        run: &mut Context<H>,
+        table: &mut T,
+        called: Called<H>,
+        is_fresh: bool,
+        pos: Position,
+    ) -> Result<Dynamic<H>, EvalAltResult<H>>
+        ensures counts { run.old.global.num_operations ≤ run.new.global.num_operations }
+        ensures names { OnOk result (names run.new ≡ names run.old) }
+        ensures runs { StartsAs (under H.name_of self.now T.natives) (came_out is_fresh pos called)
+            (state_in (T.state table.old) run.old) result (state_in (T.state table.new) run.new) }
+    {
+        match called {
+            Called::Ended(result) => result,
+            Called::Enters(function, args) => {
+                if is_fresh {
+                    self.enter_fresh(alloc, run, table, function, args, pos)
+                } else {
+                    self.enter_captured(alloc, run, table, function, args, pos)
+                }
+            }
+        }
+    }
+
+    /// The same on the focus, which is lent to it as its `this`, and goes back on every way out. Of a handle it
+    /// runs on the cell's value, and the cell is held meanwhile.
+    #[cycle(eval)]
+    pub fn enter_on_focus<T: NativeTable<H>>(
+        &self,
+        alloc: Global,
+        run: &mut Context<H>,
+        table: &mut T,
+        function: Function<H>,
+        focus: &mut Dynamic<H>,
+        args: Items<Dynamic<H>>,
+        pos: Position,
+    ) -> Result<Dynamic<H>, EvalAltResult<H>>
+        ensures counts { run.old.global.num_operations ≤ run.new.global.num_operations }
+        ensures scope { run.new.scope ≡ run.old.scope }
+        ensures this { run.new.this ≡ run.old.this }
+        ensures runs { (scope : _) (held : _) → Runs (under H.name_of self.now T.natives)
+            (EnterOnFocus function args pos)
+            (state_of (T.state table.old) run.old.global scope (lending held focus.old)) result
+            (state_of (T.state table.new) run.new.global scope (lending held focus.new)) }
+    {
+        let is_anothers = is_held(&run.global.cells, focus);
+        if is_anothers {
+            keep_list(run, args);
+            drop(function);
+            return Err(data_race(alloc, pos));
+        }
+        let above = step_in(&mut run.global.cells, focus);
+        let is_racing = races(&run.global.cells, args.as_slice());
+        if is_racing {
+            let error = data_race_by(alloc, function.def.get().def().name.get().as_str(), pos);
+            step_out(&mut run.global.cells, focus, above);
+            keep_list(run, args);
+            drop(function);
+            return Err(error);
+        }
+        let this = replace(focus, unit_value());
+        let mut args = args;
+        let aside = put_aside(alloc, run, Some(this));
+        let level = level_below(run.global.level);
+        let (def, environ) = (function.def.get(), environ_in(&function));
+        let values = args.as_mut_slice();
+        let result = self.run_body(alloc, run, table, def, environ, values, true, level, pos);
+        put_this(focus, take_up(run, aside));
+        step_out(&mut run.global.cells, focus, above);
+        keep_list(run, args);
+        drop(function);
+        result
+    }
+
+    /// A method that is called on a value, its arguments there, with the function that it enters.
+    #[cycle(eval)]
+    pub fn run_method<T: NativeTable<H>>(
+        &self,
+        alloc: Global,
+        run: &mut Context<H>,
+        table: &mut T,
+        name: &str,
+        focus: &mut Dynamic<H>,
+        args: &mut [Dynamic<H>],
+        first_arg_pos: Option<Position>,
+        pos: Position,
+    ) -> Result<(Dynamic<H>, bool), EvalAltResult<H>>
+        ensures counts { run.old.global.num_operations ≤ run.new.global.num_operations }
+        ensures scope { run.new.scope ≡ run.old.scope }
+        ensures this { run.new.this ≡ run.old.this }
+        ensures runs { (scope : _) (held : _) → let rules = under H.name_of self.now T.natives in
+            RunsFrom rules (method_core rules.setting
+            (record { name = name.now; at = pos; first_at = first_arg_pos }) args.old focus.old)
+            (state_of (T.state table.old) run.old.global scope (lending held focus.old)) result
+            (state_of (T.state table.new) run.new.global scope (lending held focus.new)) }
+    {
+        let (limits, global) = (self.limits, &mut run.global);
+        let offered = self.offered();
+        match call_method(
+            limits,
+            alloc,
+            &offered,
+            global,
+            table,
+            name,
+            focus,
+            args,
+            first_arg_pos,
+            pos,
+        ) {
+            MethodCall::Ended(result) => result,
+            MethodCall::OnTarget(function, args) => {
+                match self.enter_on_focus(alloc, run, table, function, focus, args, pos) {
+                    Ok(value) => Ok((value, false)),
+                    Err(error) => Err(error),
+                }
+            }
+            MethodCall::Alone(function, args) => {
+                match self.enter_fresh(alloc, run, table, function, args, pos) {
+                    Ok(value) => Ok((value, false)),
+                    Err(error) => Err(error),
+                }
+            }
+        }
+    }
+}

@@ -1,0 +1,127 @@
+//! The walk at an index or a property.
+
+ghost use Rattle.std.specs.Prelude.{◌≡◌, ◌≤◌, length, is_some};
+ghost use Rattle.rhai_values.specs.Cells.{cells_of};
+ghost use Rattle.rhai_machine.specs.language.Frames.{Item};
+ghost use Rattle.rhai_cycle.specs.States.{under};
+ghost use Rattle.rhai_steps.specs.States.{state_of};
+ghost use Rattle.rhai_methods.specs.Methods.{lending};
+ghost use Rattle.rhai_chains.specs.Chains.{chain_at, FollowsFrom, form_seen};
+ghost use Rattle.rhai_chains.specs.Chains.{link_seen};
+ghost use Rattle.rhai_chains.specs.Members.{access_of};
+ghost use Rattle.rhai_walk.specs.Walking.{entered_core, IsFree};
+ghost use Rattle.rhai_walk.specs.Walking.{IsLocated, LinkWalks};
+
+use crate::evaluator::Evaluator;
+use rhai_chains::chain::NewValue;
+use rhai_chains::links::{Link, LinkForm};
+use rhai_chains::members::{Member, MemberAccess};
+use rhai_context::Context;
+use rhai_state::error::EvalAltResult;
+use rhai_state::table::NativeTable;
+use rhai_steps::values::{text_value, unit_value};
+use rhai_tree::expr::Expr;
+use rhai_tree::position::Position;
+use rhai_values::base::value::{Dynamic, Host};
+use rhai_walk::ways::{is_indexed, is_map, step_in, step_out};
+use std::alloc::Global;
+use std::mem::replace;
+
+/// An item that natives get and set. Its index is taken.
+fn item_access<'m, H: Host>(
+    index: &mut Dynamic<H>,
+    at: Position,
+    guarded: bool,
+) -> MemberAccess<'m, H>
+    ensures { access_of result ≡ record { member = Item index.old; at = at; guarded = guarded } }
+{
+    MemberAccess {
+        member: Member::Item(replace(index, unit_value())),
+        at,
+        guarded,
+    }
+}
+
+impl<'e, H: Host> Evaluator<'e, H> {
+    /// An index or a property of the focus: what stands in it, or else a member by natives. Of a handle it is one
+    /// of its cell's value, which is taken from there and goes back whatever comes of it.
+    #[cycle(eval)]
+    pub(crate) fn walk_entered<T: NativeTable<H>>(
+        &self,
+        alloc: Global,
+        run: &mut Context<H>,
+        table: &mut T,
+        root: &Expr,
+        focus: &mut Dynamic<H>,
+        link: Link<'_>,
+        args: &mut [Dynamic<H>],
+        new: Option<NewValue<H>>,
+        in_place: bool,
+    ) -> Result<(Dynamic<H>, bool), EvalAltResult<H>>
+        requires located { IsLocated (form_seen link.form) }
+        requires free { IsFree (cells_of run.old.global.cells) focus.old.value }
+        requires walks { LinkWalks (is_some new) (link_seen link) (length args.old) }
+        ensures counts { run.old.global.num_operations ≤ run.new.global.num_operations }
+        ensures scope { run.new.scope ≡ run.old.scope }
+        ensures this { run.new.this ≡ run.old.this }
+        ensures runs { (scope : _) (held : _) (rest : _) →
+            let rules = under H.name_of self.now T.natives in
+            FollowsFrom rules (entered_core rules.setting (link_seen link.entry)
+            (chain_at root.now rest args.old new in_place))
+            (state_of (T.state table.old) run.old.global scope (lending held focus.old))
+            result (state_of (T.state table.new) run.new.global scope (lending held focus.new)) }
+    {
+        let above = step_in(&mut run.global.cells, focus);
+        match link.form {
+            LinkForm::Index(_) => {
+                let [index, behind @ ..] = args else {
+                    unreachable!()
+                };
+                if is_indexed(focus) {
+                    let result = self.walk_spot(
+                        alloc, run, table, root, focus, index, link, behind, new, in_place,
+                    );
+                    step_out(&mut run.global.cells, focus, above);
+                    result
+                } else {
+                    let access = item_access(index, link.at, in_place);
+                    let result = self.walk_member(
+                        alloc, run, table, root, focus, access, link, behind, new,
+                    );
+                    step_out(&mut run.global.cells, focus, above);
+                    result
+                }
+            }
+            LinkForm::Property(name, pos) => {
+                if is_map(focus) {
+                    let key = match text_value(name, pos) {
+                        Ok(key) => key,
+                        Err(error) => {
+                            drop(new);
+                            step_out(&mut run.global.cells, focus, above);
+                            return Err(error);
+                        }
+                    };
+                    let result = self.walk_spot(
+                        alloc, run, table, root, focus, &key, link, args, new, in_place,
+                    );
+                    drop(key);
+                    step_out(&mut run.global.cells, focus, above);
+                    result
+                } else {
+                    let access = MemberAccess {
+                        member: Member::Property(name, pos),
+                        at: link.at,
+                        guarded: in_place,
+                    };
+                    let result = self.walk_member(
+                        alloc, run, table, root, focus, access, link, args, new,
+                    );
+                    step_out(&mut run.global.cells, focus, above);
+                    result
+                }
+            }
+            LinkForm::Method(_, _) => unreachable!(),
+        }
+    }
+}

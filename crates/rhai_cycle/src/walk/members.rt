@@ -1,0 +1,84 @@
+//! The walk at a member that natives get and set.
+
+ghost use Rattle.std.specs.Prelude.{◌≡◌, ◌≤◌, length, is_some};
+ghost use Rattle.std.specs.Option.{option_copied, option_map};
+ghost use Rattle.rhai_tree.specs.declared.expr.Expr.{out-Expr};
+ghost use Rattle.rhai_machine.specs.language.Chains.{member_core};
+ghost use Rattle.rhai_machine.specs.language.Located.{args_behind};
+ghost use Rattle.rhai_cycle.specs.States.{under};
+ghost use Rattle.rhai_steps.specs.States.{state_of};
+ghost use Rattle.rhai_methods.specs.Methods.{lending};
+ghost use Rattle.rhai_chains.specs.Chains.{BehindWalks, chain_at, FollowsFrom, form_seen};
+ghost use Rattle.rhai_chains.specs.Chains.{link_seen, new_of};
+ghost use Rattle.rhai_chains.specs.Members.{access_of};
+
+use crate::evaluator::Evaluator;
+use rhai_chains::chain::NewValue;
+use rhai_chains::links::Link;
+use rhai_chains::members::MemberAccess;
+use rhai_context::Context;
+use rhai_state::error::EvalAltResult;
+use rhai_state::table::NativeTable;
+use rhai_tree::expr::Expr;
+use rhai_values::base::value::{Dynamic, Host};
+use rhai_walk::ends::end_member;
+use rhai_walk::temporaries::{come_back, get_kept, is_property};
+use std::alloc::Global;
+
+impl<'e, H: Host> Evaluator<'e, H> {
+    /// A member of the focus: the chain ends in it, or goes on from its value. Where that may have been changed,
+    /// it is set again.
+    #[cycle(eval)]
+    pub(crate) fn walk_member<T: NativeTable<H>>(
+        &self,
+        alloc: Global,
+        run: &mut Context<H>,
+        table: &mut T,
+        root: &Expr,
+        source: &mut Dynamic<H>,
+        access: MemberAccess<'_, H>,
+        link: Link<'_>,
+        args: &mut [Dynamic<H>],
+        new: Option<NewValue<H>>,
+    ) -> Result<(Dynamic<H>, bool), EvalAltResult<H>>
+        requires walks { BehindWalks (is_some new) (form_seen link.form)
+            (option_map out-Expr (option_copied link.behind)) (length args.old) }
+        ensures counts { run.old.global.num_operations ≤ run.new.global.num_operations }
+        ensures scope { run.new.scope ≡ run.old.scope }
+        ensures this { run.new.this ≡ run.old.this }
+        ensures runs { (scope : _) (held : _) (rest : _) (all : _) (in_place : _) → args_behind (form_seen link.entry.form) all ≡ args.old →
+            let rules = under H.name_of self.now T.natives in
+            FollowsFrom rules (member_core rules.setting (option_map out-Expr (option_copied link.entry.behind))
+            (new_of new) (link_seen link.entry) (access_of access.entry)
+            (chain_at root.now rest all new in_place))
+            (state_of (T.state table.old) run.old.global scope (lending held source.old))
+            result (state_of (T.state table.new) run.new.global scope (lending held source.new)) }
+    {
+        let walker = (&*self).walker(alloc, &*root);
+        let Some(rest) = link.behind else {
+            return end_member(&walker, &mut run.global, table, source, access, new);
+        };
+        let in_place = is_property(&access);
+        match get_kept(&walker, &mut run.global, table, source, access) {
+            Ok((value, back)) => {
+                let mut value = value;
+                let result = self.walk_chain(
+                    alloc, run, table, root, &mut value, rest, args, new, in_place,
+                );
+                come_back(
+                    &walker,
+                    &mut run.global,
+                    table,
+                    source,
+                    Some(back),
+                    value,
+                    result,
+                )
+            }
+            Err(error) => {
+                drop(new);
+                Err(error)
+            }
+        }
+    }
+}

@@ -1,0 +1,85 @@
+//! The walk at a method: what it is asked for, and how the chain goes on from its value.
+
+ghost use Rattle.std.specs.Prelude.{◌≡◌, ◌≤◌, length, is_some, Some, false};
+ghost use Rattle.std.specs.Option.{option_copied, option_map};
+ghost use Rattle.rhai_tree.specs.declared.expr.Expr.{out-Expr};
+ghost use Rattle.rhai_machine.specs.language.Frames.{core, marked};
+ghost use Rattle.rhai_machine.specs.language.Links.{first_position as first_position_in};
+ghost use Rattle.rhai_cycle.specs.States.{under};
+ghost use Rattle.rhai_steps.specs.States.{state_of};
+ghost use Rattle.rhai_methods.specs.Methods.{RunsFrom};
+ghost use Rattle.rhai_chains.specs.Chains.{BehindWalks, chain_at, form_seen};
+ghost use Rattle.rhai_walk.specs.Walking.{behind_value};
+
+use crate::evaluator::Evaluator;
+use rhai_chains::chain::NewValue;
+use rhai_chains::links::Link;
+use rhai_context::Context;
+use rhai_state::error::EvalAltResult;
+use rhai_state::table::NativeTable;
+use rhai_tree::expr::Expr;
+use rhai_tree::position::Position;
+use rhai_values::base::value::{Dynamic, Host};
+use rhai_walk::calls::first_position;
+use rhai_walk::ways::MethodIn;
+use std::alloc::Global;
+
+/// The name that a method is called by, and where its first argument stands.
+pub(crate) fn asked_by<'m>(method: MethodIn<'m>) -> (&'m str, Option<Position>)
+    ensures name { result.0.now ≡ method.entry.call.now.name }
+    ensures first { result.1 ≡ first_position_in method.entry.call.now.args }
+{
+    let call = method.call;
+    (
+        call.name.get().as_str(),
+        first_position(call.args.as_slice()),
+    )
+}
+
+impl<'e, H: Host> Evaluator<'e, H> {
+    /// What is behind a method goes on from its value, a temporary that has no way back; and where nothing is, that
+    /// value is the answer.
+    #[cycle(eval)]
+    pub(crate) fn walk_behind<T: NativeTable<H>>(
+        &self,
+        alloc: Global,
+        run: &mut Context<H>,
+        table: &mut T,
+        root: &Expr,
+        answer: Result<(Dynamic<H>, bool), EvalAltResult<H>>,
+        link: Link<'_>,
+        args: &mut [Dynamic<H>],
+        new: Option<NewValue<H>>,
+    ) -> Result<(Dynamic<H>, bool), EvalAltResult<H>>
+        requires walks { BehindWalks (is_some new) (form_seen link.form)
+            (option_map out-Expr (option_copied link.behind)) (length args.old) }
+        ensures counts { run.old.global.num_operations ≤ run.new.global.num_operations }
+        ensures scope { run.new.scope ≡ run.old.scope }
+        ensures this { run.new.this ≡ run.old.this }
+        ensures runs { (scope : _) (held : _) (rest : _) →
+            RunsFrom (under H.name_of self.now T.natives) (λ k l. core (marked answer)
+            (behind_value (option_map out-Expr (option_copied link.entry.behind))
+            (chain_at root.now rest args.old new false) k) l)
+            (state_of (T.state table.old) run.old.global scope held)
+            result (state_of (T.state table.new) run.new.global scope held) }
+    {
+        let Some(rest) = link.behind else {
+            drop(new);
+            return answer;
+        };
+        match answer {
+            Ok((value, _)) => {
+                let mut focus = value;
+                let result = self.walk_chain(
+                    alloc, run, table, root, &mut focus, rest, args, new, false,
+                );
+                drop(focus);
+                result
+            }
+            Err(error) => {
+                drop(new);
+                Err(error)
+            }
+        }
+    }
+}

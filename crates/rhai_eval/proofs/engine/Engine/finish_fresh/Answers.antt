@@ -1,0 +1,29 @@
+use Rattle.std.proofs.Common.{ap, true}
+use Rattle.rhai_machine.specs.language.Activations.{NoObject}
+use Rattle.rhai_machine.specs.language.Calls.{entry_of}
+use Rattle.rhai_machine.specs.language.Frames.{EnterFunction}
+use Rattle.rhai_machine.specs.language.Runs.{Runs}
+use Rattle.rhai_steps.specs.States.{state_of}
+use Rattle.rhai_context.specs.declared.Context.{Context}
+use Rattle.rhai_eval.specs.States.{under}
+use Rattle.rhai_eval.proofs.Dispatching.{ended_runs, entered_runs}
+use Rattle.rhai_eval.proofs.Public.{handed_apart, same_rules}
+use Rattle.rhai_eval.proofs.engine.Engine.finish_fresh.Goals as goal
+
+pub returns-in-Ended-clause-runs : goal.returns-in-Ended-clause-runs
+returns-in-Ended-clause-runs g c scope held = ended_runs (under g.H.Host.name_of c.args.self.now g.T.NativeTable.natives) true c.args.pos
+    c.args.outcome c.in-Ended.result (state_of (g.T.NativeTable.state c.args.table.now) c.args.global.now scope held) c.in-Ended.is
+
+pub returns-in-Enters-clause-runs : goal.returns-in-Enters-clause-runs
+returns-in-Enters-clause-runs g c scope held =
+    let reads = same_rules g.H.Host.name_of g.T.NativeTable.natives c.args.self.now c.evaluator-evaluator.result
+    c.evaluator-evaluator.ensures.limits c.evaluator-evaluator.ensures.offer in
+    let runs = handed_apart reads (λ rules old new. Runs rules
+    (EnterFunction (entry_of c.in-Enters.function NoObject true c.in-Enters.args c.args.pos old.local)) old c.enter_fresh-result.result new)
+    (g.T.NativeTable.state c.args.table.now) (g.T.NativeTable.state c.enter_fresh-result.new.table) c.take-run.result
+    c.enter_fresh-result.new.run c.args.global.now c.give_back.new.global c.give_back.ensures.global scope scope held held
+    (ap (λ (run : Context _). run.global) c.take-run.ensures.run) (c.enter_fresh-result.ensures.runs scope held) in
+    entered_runs (under g.H.Host.name_of c.args.self.now g.T.NativeTable.natives) true c.args.pos c.args.outcome c.in-Enters.function
+    c.in-Enters.args (state_of (g.T.NativeTable.state c.args.table.now) c.args.global.now scope held)
+    (state_of (g.T.NativeTable.state c.enter_fresh-result.new.table) c.give_back.new.global scope held)
+    c.enter_fresh-result.result c.marked.result c.in-Enters.is c.marked.ensures runs

@@ -1,0 +1,445 @@
+//! Calls by name whose arguments are there. Ports what upstream's `exec_fn_call` does; the contracts cite
+//! specs/Places.antt, specs/Entering.antt and specs/Ends.antt.
+
+ghost use Rattle.std.specs.Prelude.{◌≡◌, ◌∷◌, [], ◌||◌, IfErr, IfOk, None, Ok, Some, false, if◌then◌else◌};
+ghost use Rattle.std.specs.Prelude.{is_some, not, true, unwrap_or};
+ghost use Rattle.std.specs.Option.{option_copied};
+ghost use Rattle.rhai_values.specs.Copy.{copy_of};
+ghost use Rattle.rhai_state.specs.Errors.{is_out_of_memory};
+ghost use Rattle.rhai_state.specs.Native.{left_by, was};
+ghost use Rattle.rhai_machine.specs.language.Calls.{dispatch_core};
+ghost use Rattle.rhai_machine.specs.language.Frames.{EnterOnFocus};
+ghost use Rattle.rhai_machine.specs.language.State.{Answers};
+ghost use Rattle.rhai_calls.specs.Marks.{MarkedRuns};
+ghost use Rattle.rhai_methods.specs.Methods.{lending, IsEntered, RunsFrom};
+ghost use Rattle.rhai_methods.specs.declared.calls.MethodCall.TheVariants.{Alone, OnTarget};
+ghost use Rattle.rhai_steps.specs.States.{state_of};
+ghost use Rattle.rhai_laws.specs.Kept.{Kept};
+ghost use Rattle.rhai_eval.specs.Ends.{EndsMarked};
+ghost use Rattle.rhai_eval.specs.Entering.{came_out, ComesOut, ComesTo, IsByItself};
+ghost use Rattle.rhai_eval.specs.Places.{by_name, by_value, left_of, on_place, was_of, with_place};
+ghost use Rattle.rhai_eval.specs.Plain.{Plain};
+ghost use Rattle.rhai_eval.specs.States.{under};
+
+use crate::engine::Engine;
+use rhai_calls::dispatch::{Dispatched, Seeks, pass_all, pass_call};
+use rhai_calls::native::{Passing, marked};
+use rhai_context::{give_back, take};
+use rhai_functions::function::Function;
+use rhai_items::Items;
+use rhai_methods::calls::{MethodCall, on_target};
+use rhai_methods::copies::taken_behind;
+use rhai_state::caches::Caches;
+use rhai_state::error::EvalAltResult;
+use rhai_state::scope::Scope;
+use rhai_state::state::GlobalRuntimeState;
+use rhai_state::table::NativeTable;
+use rhai_steps::values::{copy, let_go, list_of, unit_value};
+use rhai_tree::position::Position;
+use rhai_tree::token::Token;
+use rhai_values::base::value::{Dynamic, Host};
+use std::alloc::Global;
+use std::mem::replace;
+
+/// What a call by name comes to that enters no method any more.
+#[derive(Drop)]
+enum Outcome<H> {
+    /// It has ended, and a value has its mark.
+    Ended(Result<(Dynamic<H>, bool), EvalAltResult<H>>),
+    /// A function of a script is to be entered by itself, with these arguments.
+    Enters(Function<H>, Items<Dynamic<H>>),
+}
+
+/// Whether a constant is kept from a native that is not pure: in a place of the caller, and for a method.
+fn is_guarded(is_ref_mut: bool, is_method_call: bool) -> bool
+    ensures { result ≡ (is_ref_mut || is_method_call) }
+{
+    is_ref_mut || is_method_call
+}
+
+/// The first argument of a function that is called by itself: of one in a place of the caller a copy, and any
+/// other is taken out of its place.
+fn own_first<H: Host>(
+    alloc: Global,
+    first: &mut Dynamic<H>,
+    is_ref_mut: bool,
+    pos: Position,
+) -> Result<Dynamic<H>, EvalAltResult<H>>
+    ensures value { Answers result (Ok (if is_ref_mut then copy_of first.old else first.old)) }
+    ensures same { is_ref_mut ≡ true → first.new ≡ first.old }
+{
+    if is_ref_mut {
+        return copy(alloc, first, pos);
+    }
+    Ok(replace(first, unit_value()))
+}
+
+/// All its arguments. The others are taken out of their places.
+///
+/// # Errors
+/// `ErrorOutOfMemory` at the position alone.
+fn own_args<H: Host>(
+    alloc: Global,
+    first: &mut Dynamic<H>,
+    rest: &mut [Dynamic<H>],
+    is_ref_mut: bool,
+    pos: Position,
+) -> Result<Items<Dynamic<H>>, EvalAltResult<H>>
+    ensures args { IfOk result (λ args.
+        args ≡ (if is_ref_mut then copy_of first.old else first.old) ∷ rest.old) }
+    ensures refused { IfErr result (λ e. is_out_of_memory e ≡ true) }
+    ensures same { is_ref_mut ≡ true → first.new ≡ first.old }
+{
+    let value = own_first(alloc, first, is_ref_mut, pos)?;
+    match list_of(alloc, value) {
+        Ok(leading) => taken_behind(alloc, leading, rest, pos),
+        Err(value) => {
+            let_go(value);
+            Err(EvalAltResult::ErrorOutOfMemory(pos))
+        }
+    }
+}
+
+/// A function that a call with arguments has found is to be entered: on its first argument for a method, and
+/// else by itself.
+fn to_enter<H: Host>(
+    alloc: Global,
+    function: Function<H>,
+    first: &mut Dynamic<H>,
+    rest: &mut [Dynamic<H>],
+    is_ref_mut: bool,
+    is_method_call: bool,
+    pos: Position,
+) -> MethodCall<H>
+    ensures method { is_method_call ≡ true → IsEntered result (OnTarget function rest.old) }
+    ensures by_itself { is_method_call ≡ false → IsEntered result
+        (Alone function ((if is_ref_mut then copy_of first.old else first.old) ∷ rest.old)) }
+    ensures alone { is_method_call ≡ false → IsByItself result }
+    ensures same { (is_ref_mut || is_method_call) ≡ true → first.new ≡ first.old }
+{
+    if is_method_call {
+        return on_target(alloc, function, Items::new(alloc), rest, pos);
+    }
+    match own_args(alloc, first, rest, is_ref_mut, pos) {
+        Ok(args) => MethodCall::Alone(function, args),
+        Err(error) => {
+            drop(function);
+            MethodCall::Ended(Err(error))
+        }
+    }
+}
+
+impl<H: Host> Engine<H> {
+    /// A call by name with arguments: how it ended, or the function of a script that is to be entered, with its
+    /// own variables or on the caller's.
+    fn call_first<T: NativeTable<H>>(
+        &self,
+        alloc: Global,
+        global: &mut GlobalRuntimeState<H>,
+        table: &mut T,
+        name: &str,
+        token: Option<Token>,
+        first: &mut Dynamic<H>,
+        rest: &mut [Dynamic<H>],
+        is_ref_mut: bool,
+        is_method_call: bool,
+        pos: Position,
+    ) -> MethodCall<H>
+        ensures by_itself { is_method_call ≡ false → IsByItself result }
+        ensures lent { (scope : _) (held : _) (on_scope : _) → (is_ref_mut || is_method_call) ≡ true →
+            let rules = under H.name_of self.now T.natives in
+            ComesTo (not on_scope) pos rules (dispatch_core rules.setting (by_name is_method_call on_scope)
+            (on_place (record { name = name.now; token = token; at = pos }) true (Some first.old) rest.old))
+            (state_of (T.state table.old) global.old scope (lending held first.old)) result
+            (state_of (T.state table.new) global.new scope (lending held first.new)) }
+        ensures by_value { (scope : _) (held : _) (on_scope : _) → (is_ref_mut || is_method_call) ≡ false →
+            let rules = under H.name_of self.now T.natives in
+            ComesTo (not on_scope) pos rules (dispatch_core rules.setting (by_name false on_scope)
+            (by_value (record { name = name.now; token = token; at = pos }) (Some first.old) rest.old))
+            (state_of (T.state table.old) global.old scope held) result
+            (state_of (T.state table.new) global.new scope held) }
+        ensures search { global.new.always_search_scope ≡ global.old.always_search_scope }
+    {
+        let limits = &self.limits;
+        let search = global.always_search_scope;
+        let offered = self.evaluator().offered();
+        let seeks = Seeks {
+            of_method: is_method_call,
+            natives_alone: false,
+        };
+        let passing = Passing {
+            guarded: is_guarded(is_ref_mut, is_method_call),
+            marks: true,
+        };
+        let dispatched = pass_call(
+            limits, alloc, &offered, global, table, seeks, name, token, first, &*rest, passing, pos,
+        );
+        global.always_search_scope = search;
+        match dispatched {
+            Dispatched::Ended(result) => MethodCall::Ended(result),
+            Dispatched::Found(function) => {
+                to_enter(
+                    alloc,
+                    function,
+                    first,
+                    rest,
+                    is_ref_mut,
+                    is_method_call,
+                    pos,
+                )
+            }
+        }
+    }
+
+    /// The same, and a method of a script is entered on its object.
+    fn call_with<T: NativeTable<H>>(
+        &self,
+        alloc: Global,
+        global: &mut GlobalRuntimeState<H>,
+        table: &mut T,
+        name: &str,
+        token: Option<Token>,
+        first: &mut Dynamic<H>,
+        rest: &mut [Dynamic<H>],
+        is_ref_mut: bool,
+        is_method_call: bool,
+        pos: Position,
+    ) -> Outcome<H>
+        ensures lent { (scope : _) (held : _) (on_scope : _) → (is_ref_mut || is_method_call) ≡ true →
+            let rules = under H.name_of self.now T.natives in
+            ComesOut (not on_scope) pos rules (dispatch_core rules.setting (by_name is_method_call on_scope)
+            (on_place (record { name = name.now; token = token; at = pos }) true (Some first.old) rest.old))
+            (state_of (T.state table.old) global.old scope (lending held first.old)) result
+            (state_of (T.state table.new) global.new scope (lending held first.new)) }
+        ensures by_value { (scope : _) (held : _) (on_scope : _) → (is_ref_mut || is_method_call) ≡ false →
+            let rules = under H.name_of self.now T.natives in
+            ComesOut (not on_scope) pos rules (dispatch_core rules.setting (by_name false on_scope)
+            (by_value (record { name = name.now; token = token; at = pos }) (Some first.old) rest.old))
+            (state_of (T.state table.old) global.old scope held) result
+            (state_of (T.state table.new) global.new scope held) }
+        ensures search { global.new.always_search_scope ≡ global.old.always_search_scope }
+    {
+        let call = self.call_first(
+            alloc,
+            global,
+            table,
+            name,
+            token,
+            first,
+            rest,
+            is_ref_mut,
+            is_method_call,
+            pos,
+        );
+        match call {
+            MethodCall::Ended(result) => Outcome::Ended(result),
+            MethodCall::OnTarget(function, args) => {
+                Outcome::Ended(self.enter_on(alloc, global, table, function, first, args, pos))
+            }
+            MethodCall::Alone(function, args) => Outcome::Enters(function, args),
+        }
+    }
+
+    /// A call by name without arguments.
+    fn call_none<T: NativeTable<H>>(
+        &self,
+        alloc: Global,
+        global: &mut GlobalRuntimeState<H>,
+        table: &mut T,
+        name: &str,
+        token: Option<Token>,
+        pos: Position,
+    ) -> Outcome<H>
+        ensures runs { (scope : _) (held : _) (on_scope : _) →
+            let rules = under H.name_of self.now T.natives in
+            ComesOut (not on_scope) pos rules (dispatch_core rules.setting (by_name false on_scope)
+            (by_value (record { name = name.now; token = token; at = pos }) None []))
+            (state_of (T.state table.old) global.old scope held) result
+            (state_of (T.state table.new) global.new scope held) }
+        ensures search { global.new.always_search_scope ≡ global.old.always_search_scope }
+    {
+        let limits = &self.limits;
+        let search = global.always_search_scope;
+        let offered = self.evaluator().offered();
+        let mut none = Items::new(alloc);
+        let args = none.as_mut_slice();
+        let dispatched = pass_all(
+            limits, alloc, &offered, global, table, false, name, token, args, true, pos,
+        );
+        global.always_search_scope = search;
+        match dispatched {
+            Dispatched::Ended(result) => {
+                drop(none);
+                Outcome::Ended(result)
+            }
+            Dispatched::Found(function) => Outcome::Enters(function, none),
+        }
+    }
+
+    /// A function of a script that has a place of the caller as its `this`, and variables of its own.
+    fn enter_on<T: NativeTable<H>>(
+        &self,
+        alloc: Global,
+        global: &mut GlobalRuntimeState<H>,
+        table: &mut T,
+        function: Function<H>,
+        place: &mut Dynamic<H>,
+        args: Items<Dynamic<H>>,
+        pos: Position,
+    ) -> Result<(Dynamic<H>, bool), EvalAltResult<H>>
+        ensures runs { (scope : _) (held : _) → MarkedRuns (under H.name_of self.now T.natives)
+            (EnterOnFocus function args pos)
+            (state_of (T.state table.old) global.old scope (lending held place.old)) result
+            (state_of (T.state table.new) global.new scope (lending held place.new)) }
+        ensures search { global.new.always_search_scope ≡ global.old.always_search_scope }
+    {
+        let mut scope = Scope::new(alloc);
+        let mut run = take(alloc, global, &mut scope);
+        let evaluator = self.evaluator();
+        let result = evaluator.enter_on_focus(alloc, &mut run, table, function, place, args, pos);
+        give_back(run, global, &mut scope);
+        drop(scope);
+        marked(result, false)
+    }
+
+    /// What becomes of such a call on the caller's variables: it has ended, or its function runs on them, and
+    /// leaves none of its own.
+    fn finish_on<T: NativeTable<H>>(
+        &self,
+        alloc: Global,
+        global: &mut GlobalRuntimeState<H>,
+        table: &mut T,
+        scope: &mut Scope<H>,
+        outcome: Outcome<H>,
+        pos: Position,
+    ) -> Result<(Dynamic<H>, bool), EvalAltResult<H>>
+        ensures runs { (held : _) → RunsFrom (under H.name_of self.now T.natives) (came_out false pos outcome)
+            (state_of (T.state table.old) global.old scope.old held) result
+            (state_of (T.state table.new) global.new scope.new held) }
+        ensures search { global.new.always_search_scope ≡ global.old.always_search_scope }
+    {
+        match outcome {
+            Outcome::Ended(result) => result,
+            Outcome::Enters(function, args) => {
+                let mut run = take(alloc, global, scope);
+                let evaluator = self.evaluator();
+                let result = evaluator.enter_captured(alloc, &mut run, table, function, args, pos);
+                give_back(run, global, scope);
+                marked(result, false)
+            }
+        }
+    }
+
+    /// The same where there is no scope: its function has variables of its own.
+    fn finish_fresh<T: NativeTable<H>>(
+        &self,
+        alloc: Global,
+        global: &mut GlobalRuntimeState<H>,
+        table: &mut T,
+        outcome: Outcome<H>,
+        pos: Position,
+    ) -> Result<(Dynamic<H>, bool), EvalAltResult<H>>
+        ensures runs { (scope : _) (held : _) →
+            RunsFrom (under H.name_of self.now T.natives) (came_out true pos outcome)
+            (state_of (T.state table.old) global.old scope held) result
+            (state_of (T.state table.new) global.new scope held) }
+        ensures search { global.new.always_search_scope ≡ global.old.always_search_scope }
+    {
+        match outcome {
+            Outcome::Ended(result) => result,
+            Outcome::Enters(function, args) => {
+                let mut scope = Scope::new(alloc);
+                let mut run = take(alloc, global, &mut scope);
+                let evaluator = self.evaluator();
+                let result = evaluator.enter_fresh(alloc, &mut run, table, function, args, pos);
+                give_back(run, global, &mut scope);
+                drop(scope);
+                marked(result, false)
+            }
+        }
+    }
+
+    /// A call by name: the type of a value, whether a script has a function, a function of a script, or else
+    /// the native of the name as `exec_native_fn_call` calls it. With the value comes whether a native gave it
+    /// that is not pure. Ports upstream's `exec_fn_call`.
+    ///
+    /// A function of a script runs one level deeper. For a method it has the first argument as its `this`, in
+    /// its own place, and variables of its own. Otherwise it gets all arguments, of a first one in a place of
+    /// the caller (`is_ref_mut`) a copy, and runs on the variables of the scope where there is one; its own
+    /// go at its end. What stands in the places of the arguments that it took is not told.
+    ///
+    /// Asked: a first argument where there is a mark; and no global modules, whose constants the machine has no
+    /// rule of yet (`Plain`). Where there is no first argument the call has none.
+    ///
+    /// # Errors
+    /// At the call: `ErrorDataRace` for an argument that is the handle of a cell which is held;
+    /// `ErrorFunctionNotFound` for `eval`; and those of `call_script_fn` and `exec_native_fn_call`.
+    pub fn exec_fn_call<T: NativeTable<H>>(
+        &self,
+        alloc: Global,
+        global: &mut GlobalRuntimeState<H>,
+        _caches: &mut Caches<H>,
+        table: &mut T,
+        scope: Option<&mut Scope<H>>,
+        name: &str,
+        op_token: Option<&Token>,
+        first: Option<&mut Dynamic<H>>,
+        rest: &mut [Dynamic<H>],
+        is_ref_mut: bool,
+        is_method_call: bool,
+        position: Position,
+    ) -> Result<(Dynamic<H>, bool), EvalAltResult<H>>
+        requires first { (is_ref_mut || is_method_call) ≡ true → is_some first ≡ true }
+        requires plain { Plain self.now global.old }
+        ensures lent { (variables : _) (this : _) → (is_ref_mut || is_method_call) ≡ true →
+            let rules = under H.name_of self.now T.natives in EndsMarked rules
+            (dispatch_core rules.setting (by_name is_method_call (is_some (was_of scope.entry))) (on_place
+            (record { name = name.now; token = option_copied op_token.entry; at = position }) true
+            (was first.entry) rest.old))
+            (state_of (T.state table.old) global.old (unwrap_or (was_of scope.entry) variables)
+            (with_place this (was first.entry))) result
+            (state_of (T.state table.new) global.new (unwrap_or (left_of scope.exit) variables)
+            (with_place this (left_by first.exit))) }
+        ensures by_value { (variables : _) (held : _) → (is_ref_mut || is_method_call) ≡ false →
+            let rules = under H.name_of self.now T.natives in EndsMarked rules
+            (dispatch_core rules.setting (by_name false (is_some (was_of scope.entry))) (by_value
+            (record { name = name.now; token = option_copied op_token.entry; at = position })
+            (was first.entry) rest.old))
+            (state_of (T.state table.old) global.old (unwrap_or (was_of scope.entry) variables) held) result
+            (state_of (T.state table.new) global.new (unwrap_or (left_of scope.exit) variables) held) }
+        ensures kept { (variables : _) (held : _) → Kept (under H.name_of self.now T.natives)
+            (state_of (T.state table.old) global.old (unwrap_or (was_of scope.entry) variables) held)
+            (state_of (T.state table.new) global.new (unwrap_or (left_of scope.exit) variables) held) }
+        ensures caches { _caches.new ≡ _caches.old }
+        ensures search { global.new.always_search_scope ≡ global.old.always_search_scope }
+    {
+        let (token, pos) = (op_token.copied(), position);
+        match first {
+            Some(first) => {
+                let outcome = self.call_with(
+                    alloc,
+                    global,
+                    table,
+                    name,
+                    token,
+                    first,
+                    rest,
+                    is_ref_mut,
+                    is_method_call,
+                    pos,
+                );
+                match scope {
+                    Some(scope) => return self.finish_on(alloc, global, table, scope, outcome, pos),
+                    None => return self.finish_fresh(alloc, global, table, outcome, pos),
+                }
+            }
+            None => {
+                let outcome = self.call_none(alloc, global, table, name, token, pos);
+                match scope {
+                    Some(scope) => return self.finish_on(alloc, global, table, scope, outcome, pos),
+                    None => return self.finish_fresh(alloc, global, table, outcome, pos),
+                }
+            }
+        }
+    }
+}

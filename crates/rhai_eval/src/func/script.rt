@@ -1,0 +1,202 @@
+//! Functions of scripts, as a host calls them and asks for them. Ports upstream's `func/script.rs` as far as
+//! it is public; the contracts speak of the machine's runs and of the search of `rhai_functions`.
+
+ghost use Rattle.std.specs.Prelude.{◌≡◌, ◌<◌, ◌≤◌, ◌+◌, ◌++◌, IsTrue, OnOk, drop, false, is_some, length, take};
+ghost use Rattle.std.specs.Prelude.{true};
+ghost use Rattle.std.specs.Option.{option_copied};
+ghost use Rattle.rhai_check.specs.Names.{Begins};
+ghost use Rattle.rhai_functions.specs.Functions.{found_in};
+ghost use Rattle.rhai_functions.specs.Keys.{key_seen};
+ghost use Rattle.rhai_machine.specs.language.Activations.{OwnThis};
+ghost use Rattle.rhai_machine.specs.language.Frames.{EnterFunction};
+ghost use Rattle.rhai_machine.specs.language.Runs.{Runs};
+ghost use Rattle.rhai_state.specs.Native.{left_by, was};
+ghost use Rattle.rhai_state.specs.Scope.{entries_of, names_in};
+ghost use Rattle.rhai_steps.specs.States.{holding, state_of};
+ghost use Rattle.rhai_cycle.specs.Bodies.{entered};
+ghost use Rattle.rhai_cycle.specs.States.{state_in};
+ghost use Rattle.rhai_laws.specs.Kept.{Kept};
+ghost use Rattle.rhai_eval.specs.Ends.{AgreesAbove, EndsAs};
+ghost use Rattle.rhai_eval.specs.Plain.{Plain};
+ghost use Rattle.rhai_eval.specs.States.{under};
+
+use crate::engine::Engine;
+use crate::this::{give_back_with, take_with};
+use rhai_check::checked::CheckedFn;
+use rhai_context::{Context, give_back, take};
+use rhai_functions::key::FnKey;
+use rhai_functions::lookup::find_function;
+use rhai_state::caches::Caches;
+use rhai_state::error::EvalAltResult;
+use rhai_state::scope::Scope;
+use rhai_state::state::GlobalRuntimeState;
+use rhai_state::table::NativeTable;
+use rhai_tree::position::Position;
+use rhai_values::base::value::{Dynamic, EncapsulatedEnviron, Host};
+use std::alloc::Global;
+
+/// Takes a function's variables out of a scope that had so many before: all of them, or its parameters alone.
+fn leave_variables<H: Host>(scope: &mut Scope<H>, before: usize, parameters: usize, rewinds: bool)
+    ensures all { rewinds ≡ true → entries_of scope.new ≡ take before (entries_of scope.old) }
+    ensures parameters { rewinds ≡ false → entries_of scope.new
+        ≡ take before (entries_of scope.old) ++ drop (before + parameters) (entries_of scope.old) }
+{
+    if rewinds {
+        scope.rewind(before);
+    } else {
+        scope.remove_range(before, parameters);
+    }
+}
+
+impl<H: Host> Engine<H> {
+    /// A function on the variables and with the `this` that the run has, at the level as it stands.
+    fn call_in<T: NativeTable<H>>(
+        &self,
+        alloc: Global,
+        run: &mut Context<H>,
+        table: &mut T,
+        env: Option<&EncapsulatedEnviron<H>>,
+        def: &CheckedFn,
+        args: &mut [Dynamic<H>],
+        rewind_scope: bool,
+        pos: Position,
+    ) -> Result<Dynamic<H>, EvalAltResult<H>>
+        ensures charges { OnOk result (run.old.global.num_operations < run.new.global.num_operations) }
+        ensures runs { Runs (under H.name_of self.now T.natives)
+            (EnterFunction (entered def.now (option_copied env.entry) OwnThis false rewind_scope args.old
+            run.old.global.level pos))
+            (state_in (T.state table.old) run.old) result (state_in (T.state table.new) run.new) }
+    {
+        let before = run.scope.len();
+        let parameters = def.def().params.len();
+        let level = run.global.level;
+        let evaluator = self.evaluator();
+        let result = evaluator.run_body(
+            alloc,
+            run,
+            table,
+            def,
+            env,
+            args,
+            rewind_scope,
+            level,
+            pos,
+        );
+        leave_variables(&mut run.scope, before, parameters, rewind_scope);
+        result
+    }
+
+    /// Calls a function of a script, at the level as it stands and on the caller's variables. The call is
+    /// charged first. The parameters are pushed as variables that may be written, each with its argument, of
+    /// which `()` is left; an empty body answers `()` and takes no argument. An environment brings its
+    /// libraries and imports and its table of constants, which go again on every way out. With `rewind_scope`
+    /// so do all variables that the body added; otherwise only the parameters leave the scope, and the body's
+    /// list does not restore. `this` is taken out of its place meanwhile, and put back on every way out. Ports
+    /// upstream's `call_script_fn`.
+    ///
+    /// Asked: no global modules, whose constants the machine has no rule of yet (`Plain`).
+    ///
+    /// # Errors
+    /// At the call: `ErrorTooManyOperations` where the count has reached the limit; `ErrorStackOverflow` where
+    /// the level is above its limit; `ErrorTooManyVariables` where the scope has no room for the parameters.
+    /// Of the body's errors a `return` is a value, an exit and those of the system stand at the call, and any
+    /// other is in an `ErrorInFunctionCall` there.
+    pub fn call_script_fn<T: NativeTable<H>>(
+        &self,
+        alloc: Global,
+        global: &mut GlobalRuntimeState<H>,
+        _caches: &mut Caches<H>,
+        table: &mut T,
+        scope: &mut Scope<H>,
+        this: Option<&mut Dynamic<H>>,
+        env: Option<&EncapsulatedEnviron<H>>,
+        def: &CheckedFn,
+        args: &mut [Dynamic<H>],
+        rewind_scope: bool,
+        pos: Position,
+    ) -> Result<Dynamic<H>, EvalAltResult<H>>
+        requires plain { Plain self.now global.old }
+        ensures ends { EndsAs (under H.name_of self.now T.natives)
+            (EnterFunction (entered def.now (option_copied env.entry) OwnThis false rewind_scope args.old
+            global.old.level pos))
+            (state_of (T.state table.old) global.old scope.old (holding (was this.entry))) result
+            (state_of (T.state table.new) global.new scope.new (holding (left_by this.exit))) }
+        ensures kept { Kept (under H.name_of self.now T.natives)
+            (state_of (T.state table.old) global.old scope.old (holding (was this.entry)))
+            (state_of (T.state table.new) global.new scope.new (holding (left_by this.exit))) }
+        ensures charges { OnOk result (global.old.num_operations < global.new.num_operations) }
+        ensures two_limits { AgreesAbove (under H.name_of self.now T.natives)
+            (EnterFunction (entered def.now (option_copied env.entry) OwnThis false rewind_scope args.old
+            global.old.level pos))
+            (state_of (T.state table.old) global.old scope.old (holding (was this.entry))) result
+            (state_of (T.state table.new) global.new scope.new (holding (left_by this.exit))) }
+        ensures lib { global.new.lib ≡ global.old.lib }
+        ensures imports { global.new.imports ≡ global.old.imports }
+        ensures constants { global.new.constants ≡ global.old.constants }
+        ensures level { global.new.level ≡ global.old.level }
+        ensures scope_level { global.new.scope_level ≡ global.old.scope_level }
+        ensures this { is_some (left_by this.exit) ≡ is_some (was this.entry) }
+        ensures begins { Begins (names_in scope.old) (names_in scope.new) }
+        ensures restores { IsTrue rewind_scope → names_in scope.new ≡ names_in scope.old }
+        ensures variables { length (names_in scope.old) ≤ self.now.limits.max_variables →
+            length (names_in scope.new) ≤ self.now.limits.max_variables }
+        ensures caches { _caches.new ≡ _caches.old }
+        ensures search { global.new.always_search_scope ≡ global.old.always_search_scope }
+    {
+        match this {
+            Some(place) => {
+                let mut run = take_with(alloc, global, scope, place);
+                let result = self.call_in(
+                    alloc,
+                    &mut run,
+                    table,
+                    env,
+                    def,
+                    args,
+                    rewind_scope,
+                    pos,
+                );
+                give_back_with(run, global, scope, place);
+                result
+            }
+            None => {
+                let mut run = take(alloc, global, scope);
+                let result = self.call_in(
+                    alloc,
+                    &mut run,
+                    table,
+                    env,
+                    def,
+                    args,
+                    rewind_scope,
+                    pos,
+                );
+                give_back(run, global, scope);
+                result
+            }
+        }
+    }
+
+    /// Whether a function of a script has a key: in the libraries of the state, in the engine's global modules,
+    /// in the imports, or in the engine's global modules under names, where what is shown alone is found. It
+    /// takes no memory. Ports upstream's `has_script_fn`.
+    pub fn has_script_fn(
+        &self,
+        state: &GlobalRuntimeState<H>,
+        _caches: &mut Caches<H>,
+        key: FnKey<'_>,
+    ) -> bool
+        ensures found { result ≡ is_some (found_in (key_seen key.entry) state.now.lib self.now.global_modules
+            state.now.imports self.now.global_sub_modules.1) }
+        ensures caches { _caches.new ≡ _caches.old }
+    {
+        let found = find_function(
+            key,
+            state.lib.as_slice(),
+            self.global_modules.as_slice(),
+            state.imports.as_slice(),
+            self.global_sub_modules.values(),
+        );
+        found.is_some()
+    }
+}

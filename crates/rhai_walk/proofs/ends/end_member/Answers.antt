@@ -1,0 +1,9 @@
+use Rattle.rhai_walk.proofs.ends.end_member.Goals as goal
+
+pub returns-in-Some-clause-runs : goal.returns-in-Some-clause-runs
+returns-in-Some-clause-runs g c offer scope held link rest all in_place switches =
+    rw c.in-Some.is (c.assign_member-result.ensures.runs offer scope held switches)
+
+pub returns-in-None-clause-runs : goal.returns-in-None-clause-runs
+returns-in-None-clause-runs g c offer scope held link rest all in_place switches =
+    rw c.in-None.is (c.get_member-result.ensures.runs offer scope held)

@@ -1,0 +1,117 @@
+//! The end of a walk: what an index, a key or a member gives, or an assignment to it.
+
+ghost use Rattle.std.specs.Prelude.{◌≤◌, None};
+ghost use Rattle.rhai_machine.specs.language.Chains.{member_core, spot_core};
+ghost use Rattle.rhai_machine.specs.language.Setting.{rules_of};
+ghost use Rattle.rhai_steps.specs.States.{state_of};
+ghost use Rattle.rhai_methods.specs.Methods.{lending, RunsFrom};
+ghost use Rattle.rhai_chains.specs.Chains.{chain_at, FollowsFrom, HasSwitches, link_seen};
+ghost use Rattle.rhai_chains.specs.Chains.{new_of};
+ghost use Rattle.rhai_chains.specs.Members.{access_of};
+
+use crate::Walker;
+use crate::ways::take_below;
+use rhai_chains::assign::{assign_at, assign_member};
+use rhai_chains::chain::NewValue;
+use rhai_chains::links::Link;
+use rhai_chains::members::{MemberAccess, get_member};
+use rhai_state::error::EvalAltResult;
+use rhai_state::state::GlobalRuntimeState;
+use rhai_state::table::NativeTable;
+use rhai_values::base::value::{Dynamic, Host};
+
+/// The chain ends in what an index or a key leads to, which is taken or assigned to.
+pub fn end_at<H: Host, T: NativeTable<H>>(
+    walker: &Walker<'_>,
+    global: &mut GlobalRuntimeState<H>,
+    table: &mut T,
+    source: &mut Dynamic<H>,
+    index: &Dynamic<H>,
+    link: Link<'_>,
+    new: Option<NewValue<H>>,
+) -> Result<(Dynamic<H>, bool), EvalAltResult<H>>
+    ensures counts { global.old.num_operations ≤ global.new.num_operations }
+    ensures runs { (offer : _) (scope : _) (held : _) (rest : _) (all : _) (in_place : _) →
+        HasSwitches offer walker.now.switches →
+        let rules = rules_of walker.now.limits.now H.name_of offer T.natives in
+        FollowsFrom rules (spot_core rules.setting None (new_of new) (link_seen link.entry) index.now
+        (chain_at walker.now.root.now rest all new in_place) source.old)
+        (state_of (T.state table.old) global.old scope (lending held source.old))
+        result (state_of (T.state table.new) global.new scope (lending held source.new)) }
+{
+    match new {
+        Some(new) => assign_at(
+            walker.limits,
+            walker.switches,
+            walker.alloc,
+            global,
+            table,
+            source,
+            index,
+            link,
+            walker.root,
+            new,
+        ),
+        None => match take_below(
+            walker.switches,
+            walker.alloc,
+            &global.cells,
+            source,
+            index,
+            link,
+        ) {
+            Ok(value) => Ok((value, false)),
+            Err(error) => Err(error),
+        },
+    }
+}
+
+/// The chain ends in a member, which is got or assigned to.
+pub fn end_member<H: Host, T: NativeTable<H>>(
+    walker: &Walker<'_>,
+    global: &mut GlobalRuntimeState<H>,
+    table: &mut T,
+    focus: &mut Dynamic<H>,
+    access: MemberAccess<'_, H>,
+    new: Option<NewValue<H>>,
+) -> Result<(Dynamic<H>, bool), EvalAltResult<H>>
+    ensures counts { global.old.num_operations ≤ global.new.num_operations }
+    ensures runs { (offer : _) (scope : _) (held : _) (link : _) (rest : _) (all : _) (in_place : _) →
+        HasSwitches offer walker.now.switches →
+        let rules = rules_of walker.now.limits.now H.name_of offer T.natives in
+        RunsFrom rules (member_core rules.setting None (new_of new) link (access_of access.entry)
+        (chain_at walker.now.root.now rest all new in_place))
+        (state_of (T.state table.old) global.old scope (lending held focus.old))
+        result (state_of (T.state table.new) global.new scope (lending held focus.new)) }
+{
+    let mut access = access;
+    match new {
+        Some(new) => {
+            let result = assign_member(
+                walker.limits,
+                walker.switches,
+                walker.alloc,
+                global,
+                table,
+                focus,
+                &mut access,
+                walker.root,
+                new,
+            );
+            drop(access);
+            result
+        }
+        None => {
+            let result = get_member(
+                walker.limits,
+                walker.alloc,
+                global,
+                table,
+                focus,
+                &mut access,
+            );
+            drop(access);
+            result
+        }
+    }
+}

@@ -1,0 +1,305 @@
+//! What the walk does at a link, by the form of the link and by what it finds.
+
+ghost use Rattle.std.specs.Prelude.{◌≡◌, ◌≤◌, ◌&&◌, [], Some};
+ghost use Rattle.std.specs.Option.{option_copied};
+ghost use Rattle.rhai_tree.specs.declared.expr.Expr.{out-Expr};
+ghost use Rattle.rhai_values.specs.Cells.{cells_of, with_value};
+ghost use Rattle.rhai_values.specs.Layers.{layer_of};
+ghost use Rattle.rhai_places.specs.Found.{found};
+ghost use Rattle.rhai_machine.specs.language.Links.{link_of as link_in};
+ghost use Rattle.rhai_machine.specs.language.Located.{is_map as is_map_in, is_indexed as is_indexed_in};
+ghost use Rattle.rhai_machine.specs.language.Located.{is_unit as is_unit_in};
+ghost use Rattle.rhai_machine.specs.language.Setting.{rules_of};
+ghost use Rattle.rhai_machine.specs.language.Values.{through, used};
+ghost use Rattle.rhai_steps.specs.States.{state_of};
+ghost use Rattle.rhai_methods.specs.Methods.{lending};
+ghost use Rattle.rhai_chains.specs.Chains.{form_seen, link_seen};
+ghost use Rattle.rhai_walk.specs.Walking.{Begins, Enters, FindsDown, FitsLink, IsDescent};
+ghost use Rattle.rhai_walk.specs.Walking.{IsFree, IsMethodIn, IsSpotBelow, IsWay, Leaves};
+ghost use Rattle.rhai_walk.specs.Walking.{TakesBelow, WayBy, way_below};
+
+use rhai_chains::chain::Switches;
+use rhai_chains::links::{Link, LinkForm, link_of};
+use rhai_chains::spots::{find_spot, take_spot, way_by};
+use rhai_places::spot::Spot;
+use rhai_state::error::EvalAltResult;
+use rhai_state::limits::Limits;
+use rhai_state::state::GlobalRuntimeState;
+use rhai_state::table::NativeTable;
+use rhai_steps::charges::track_operation;
+use rhai_steps::errors::data_race;
+use rhai_steps::values::unit_value;
+use rhai_tree::expr::{Expr, FnCallExpr};
+use rhai_tree::position::Position;
+use rhai_values::base::value::{CellId, Dynamic, Host, Union};
+use rhai_values::cells::CellStore;
+use std::alloc::Global;
+use std::mem::replace;
+
+/// Which way the walk goes at a link.
+#[derive(Clone, Copy)]
+pub enum Way<'e> {
+    /// Nowhere: the focus is the handle of a cell that is held.
+    Races,
+    /// Nowhere: the chain stops at `()`.
+    Stops,
+    /// It charges, and enters the focus.
+    Charges,
+    /// It enters the focus.
+    Enters,
+    /// It calls a method.
+    Calls(&'e FnCallExpr, Position),
+}
+
+/// A value, seen through a handle. None where the handle's cell is held.
+fn seen<'a, H: Host>(cells: &'a CellStore<H>, value: &'a Dynamic<H>) -> Option<&'a Dynamic<H>>
+    ensures { (pos : _) → used [] pos (option_copied result) ≡ through (cells_of cells.now) value.now pos }
+{
+    match &value.value {
+        Union::Cell(id) => cells.get(*id),
+        _ => Some(value),
+    }
+}
+
+/// Whether a value is a map.
+pub fn is_map<H: Host>(value: &Dynamic<H>) -> bool
+    ensures { result ≡ is_map_in (layer_of value.now) }
+{
+    matches!(&value.value, Union::Map(_))
+}
+
+/// Whether a value has places or parts of its own.
+pub fn is_indexed<H: Host>(value: &Dynamic<H>) -> bool
+    ensures { result ≡ is_indexed_in (layer_of value.now) }
+{
+    match &value.value {
+        Union::Int(_) | Union::Str(_) | Union::Array(_) | Union::Blob(_) | Union::Map(_) => true,
+        _ => false,
+    }
+}
+
+/// Whether a value is `()`.
+fn is_unit<H: Host>(value: &Dynamic<H>) -> bool
+    ensures { result ≡ is_unit_in value.now.value }
+{
+    matches!(&value.value, Union::Unit)
+}
+
+/// Which way the walk goes by the form of a link, on a value that is seen through a handle.
+fn way_at<'e, H: Host>(form: LinkForm<'e>, inner: &Dynamic<H>) -> Way<'e>
+    ensures { WayBy result (form_seen form.entry) (layer_of inner.now) }
+{
+    match form {
+        LinkForm::Index(_) => Way::Charges,
+        LinkForm::Property(_, _) => {
+            if is_map(inner) {
+                Way::Charges
+            } else {
+                Way::Enters
+            }
+        }
+        LinkForm::Method(call, pos) => Way::Calls(call, pos),
+    }
+}
+
+/// Whether the chain stops there at `()`.
+fn stops_there<H: Host>(link: Link<'_>, inner: &Dynamic<H>) -> bool
+    ensures { result ≡ (link.entry.stops_at_unit && is_unit_in inner.now.value) }
+{
+    link.stops_at_unit && is_unit(inner)
+}
+
+/// Which way the walk goes at a link.
+fn way_of<'e, H: Host>(cells: &CellStore<H>, focus: &Dynamic<H>, link: Link<'e>) -> Way<'e>
+    ensures { IsWay result (link_seen link.entry) (cells_of cells.now) focus.now }
+{
+    let Some(inner) = seen(cells, focus) else {
+        return Way::Races;
+    };
+    let stops = stops_there(link, inner);
+    if stops {
+        return Way::Stops;
+    }
+    way_at(link.form, inner)
+}
+
+/// A link that is a method.
+#[derive(Clone, Copy)]
+pub struct MethodIn<'e> {
+    pub link: Link<'e>,
+    pub call: &'e FnCallExpr,
+    pub at: Position,
+}
+
+/// How the walk begins at a link.
+pub enum Begun<'e, H> {
+    /// It has ended there.
+    Ended(Result<(Dynamic<H>, bool), EvalAltResult<H>>),
+    /// It enters the focus.
+    Enters,
+    /// It calls a method.
+    Calls(MethodIn<'e>),
+}
+
+/// The beginning of the walk at a link: the focus is looked at, and the charge is made.
+///
+/// # Errors
+/// At the operator `ErrorDataRace` for the handle of a cell that is held; and a charge's.
+pub fn begin_link<'e, H: Host, T: NativeTable<H>>(
+    limits: &Limits,
+    alloc: Global,
+    global: &mut GlobalRuntimeState<H>,
+    table: &T,
+    focus: &Dynamic<H>,
+    link: Link<'e>,
+) -> Begun<'e, H>
+    ensures counts { global.old.num_operations ≤ global.new.num_operations }
+    ensures fits { FitsLink result (link_seen link.entry) (cells_of global.new.cells) focus.now }
+    ensures begins { (offer : _) (scope : _) (held : _) (chain : _) →
+        link_in chain.rest ≡ Some (link_seen link.entry) →
+        Begins (rules_of limits.now H.name_of offer T.natives) (link_seen link.entry) chain
+        (state_of (T.state table.now) global.old scope (lending held focus.now))
+        result (state_of (T.state table.now) global.new scope (lending held focus.now)) }
+{
+    match way_of(&global.cells, focus, link) {
+        Way::Races => Begun::Ended(Err(data_race(alloc, link.at))),
+        Way::Stops => Begun::Ended(Ok((unit_value(), false))),
+        Way::Charges => match track_operation(limits, global, Position::NONE) {
+            Ok(()) => Begun::Enters,
+            Err(error) => Begun::Ended(Err(error)),
+        },
+        Way::Enters => Begun::Enters,
+        Way::Calls(call, at) => Begun::Calls(MethodIn { link, call, at }),
+    }
+}
+
+/// Where the focus is a handle, its cell's value is taken from there to be worked on, and the cell is held
+/// meanwhile. The answer keeps the handle.
+pub fn step_in<H: Host>(
+    cells: &mut CellStore<H>,
+    focus: &mut Dynamic<H>,
+) -> Option<(CellId, Dynamic<H>)>
+    requires { IsFree (cells_of cells.old) focus.old.value }
+    ensures { Enters result focus.old focus.new (cells_of cells.old) (cells_of cells.new) }
+{
+    let Union::Cell(id) = &focus.value else {
+        return None;
+    };
+    let id = *id;
+    let inner = cells.take(id).unwrap();
+    Some((id, replace(focus, inner)))
+}
+
+/// Gives a cell a value, where there is such a cell.
+fn put_in_cell<H: Host>(cells: &mut CellStore<H>, id: CellId, value: Dynamic<H>)
+    ensures { cells_of cells.new ≡ with_value (cells_of cells.old) id.number value }
+{
+    let is_there = id.number < cells.len();
+    if is_there {
+        cells.set(id, value);
+    } else {
+        drop(value);
+    }
+}
+
+/// What has become of the cell's value goes back there, and the handle to its place.
+pub fn step_out<H: Host>(
+    cells: &mut CellStore<H>,
+    focus: &mut Dynamic<H>,
+    above: Option<(CellId, Dynamic<H>)>,
+)
+    ensures { Leaves above focus.old focus.new (cells_of cells.old) (cells_of cells.new) }
+{
+    if let Some((id, handle)) = above {
+        let inner = replace(focus, handle);
+        put_in_cell(cells, id, inner);
+    }
+}
+
+/// Where the walk goes on below a value.
+#[derive(Clone, Copy)]
+pub enum Descent {
+    /// On a place in it.
+    Place(Spot),
+    /// On a temporary, in the place of a key that is missing.
+    Missing,
+    /// On a part of it.
+    Part(Spot),
+}
+
+/// The first link of a chain where that is a method.
+pub fn method_in(rest: &Expr) -> Option<MethodIn<'_>>
+    ensures { IsMethodIn result (link_in (out-Expr rest.now)) }
+{
+    let link = link_of(rest)?;
+    match link.form {
+        LinkForm::Method(call, at) => Some(MethodIn { link, call, at }),
+        _ => None,
+    }
+}
+
+/// Where the walk goes on at a spot.
+fn descent_to(spot: Spot) -> Descent
+    ensures { IsDescent result spot }
+{
+    match spot {
+        Spot::Item(_) | Spot::Value(_) => Descent::Place(spot),
+        Spot::Missing => Descent::Missing,
+        _ => Descent::Part(spot),
+    }
+}
+
+/// The spot that an index or a key leads to, where no key is inserted.
+pub fn spot_below<H: Host>(
+    switches: Switches,
+    alloc: Global,
+    cells: &CellStore<H>,
+    source: &mut Dynamic<H>,
+    index: &Dynamic<H>,
+    link: Link<'_>,
+) -> Result<Spot, EvalAltResult<H>>
+    ensures same { source.new ≡ source.old }
+    ensures finds { IsSpotBelow result (found (way_below link.entry switches) H.name_of (cells_of cells.now)
+        source.old index.now) source.old }
+{
+    let how = way_by(link, false, switches);
+    find_spot(alloc, cells, source, index, how)
+}
+
+/// Where the walk goes on below a value, by an index or a key.
+pub fn find_down<H: Host>(
+    switches: Switches,
+    alloc: Global,
+    cells: &CellStore<H>,
+    source: &mut Dynamic<H>,
+    index: &Dynamic<H>,
+    link: Link<'_>,
+) -> Result<Descent, EvalAltResult<H>>
+    ensures same { source.new ≡ source.old }
+    ensures finds { FindsDown result (found (way_below link.entry switches) H.name_of (cells_of cells.now)
+        source.old index.now) source.old }
+{
+    match spot_below(switches, alloc, cells, source, index, link) {
+        Ok(spot) => Ok(descent_to(spot)),
+        Err(error) => Err(error),
+    }
+}
+
+/// What an index or a key leads to, as it is taken from there.
+pub fn take_below<H: Host>(
+    switches: Switches,
+    alloc: Global,
+    cells: &CellStore<H>,
+    source: &mut Dynamic<H>,
+    index: &Dynamic<H>,
+    link: Link<'_>,
+) -> Result<Dynamic<H>, EvalAltResult<H>>
+    ensures same { source.new ≡ source.old }
+    ensures takes { TakesBelow result (found (way_below link.entry switches) H.name_of (cells_of cells.now)
+        source.old index.now) source.old }
+{
+    match spot_below(switches, alloc, cells, source, index, link) {
+        Ok(spot) => take_spot(alloc, source, spot, link.at),
+        Err(error) => Err(error),
+    }
+}

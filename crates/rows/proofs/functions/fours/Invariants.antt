@@ -1,0 +1,9 @@
+use Rattle.std.specs.Prelude.{◌≤◌, ◌-◌, length}
+use Rattle.rows.proofs.functions.fours.Given as goal
+
+-- no more than are wanted
+abbrev pub invariant-pushes : goal.invariant-pushes
+invariant-pushes l = length l.args ≤ l.count
+
+abbrev pub decreases-pushes : goal.decreases-pushes
+decreases-pushes l = l.count - length l.args

@@ -1,0 +1,248 @@
+//! What a host's own calls of functions answer, and what they leave.
+
+ghost use Rattle.std.specs.Prelude.{◌≡◌, IfOk, length};
+
+use rhai_bench::outcome::Ending;
+use rhai_bench::print::{write_ending, write_value};
+use rhai_bench::script::add_library;
+use rhai_build::functions::TreeParts;
+use rhai_eval::base::{AccessMode, Dynamic, EvalAltResult, Items, Position, Scope, Shared, Union};
+use rhai_eval::check::{CheckedFn, check_tree};
+use rhai_eval::engine::Engine;
+use rhai_eval::script::FnKey;
+use rhai_eval::state::{Caches, GlobalRuntimeState};
+use rhai_eval::target::{Part, Target};
+use rhai_samples::functions::{
+    empty_function, method_that_changes_an_item, parameter_assigned, variable_declared,
+    variable_of_the_caller_increased,
+};
+use rhai_tables::host::Pair;
+use rhai_tables::tables::NoNatives;
+use std::alloc::{AllocError, Global};
+use std::io;
+use std::io::Write;
+use std::mem::replace;
+
+/// What a host has for its calls.
+#[derive(Drop)]
+struct Caller {
+    global: GlobalRuntimeState<Pair>,
+    caches: Caches<Pair>,
+    table: NoNatives,
+    /// The variable `x` with 1.
+    scope: Scope<Pair>,
+    /// An object, or a first argument: 1.
+    object: Dynamic<Pair>,
+    /// The other arguments, each of them 4.
+    args: Items<Dynamic<Pair>>,
+}
+
+/// A value with whether it may have changed the object.
+type Answer = Result<(Dynamic<Pair>, bool), EvalAltResult<Pair>>;
+
+fn int(value: i64) -> Dynamic<Pair> {
+    Dynamic::new(Union::Int(value))
+}
+
+/// So many arguments.
+fn fours(alloc: Global, count: usize) -> Result<Items<Dynamic<Pair>>, AllocError>
+    ensures { IfOk result (λ args. length args ≡ count) }
+{
+    let mut args = Items::new(alloc);
+    'pushes: while args.len() < count {
+        args.push(int(4))?;
+    }
+    Ok(args)
+}
+
+impl Caller {
+    /// A caller with so many arguments.
+    fn new(alloc: Global, count: usize) -> Result<Caller, AllocError> {
+        let mut scope = Scope::new(alloc);
+        let name = String::from_str(alloc, "x")?;
+        scope.push_entry(name, AccessMode::ReadWrite, int(1))?;
+        Ok(Caller {
+            global: GlobalRuntimeState::new(alloc)?,
+            caches: Caches::new(alloc),
+            table: NoNatives,
+            scope,
+            object: int(1),
+            args: fours(alloc, count)?,
+        })
+    }
+
+    /// A function at a level, with the object as its `this` and an argument for each parameter, and whether all
+    /// of its variables go.
+    fn call(
+        &mut self,
+        alloc: Global,
+        def: &CheckedFn,
+        level: usize,
+        rewinds: bool,
+    ) -> Result<Answer, AllocError> {
+        let mut args = fours(alloc, def.def().params.len())?;
+        self.global.level = level;
+        let result = Engine::new(alloc).call_script_fn(
+            alloc,
+            &mut self.global,
+            &mut self.caches,
+            &mut self.table,
+            &mut self.scope,
+            Some(&mut self.object),
+            None,
+            def,
+            args.as_mut_slice(),
+            rewinds,
+            Position::new(1, 1),
+        );
+        drop(replace(&mut self.args, args));
+        match result {
+            Ok(value) => Ok(Ok((value, false))),
+            Err(error) => Ok(Err(error)),
+        }
+    }
+
+    /// A function by its name, on the object before the arguments.
+    fn call_named(&mut self, alloc: Global, name: &str, is_ref: bool, is_method: bool) -> Answer {
+        Engine::new(alloc).exec_fn_call(
+            alloc,
+            &mut self.global,
+            &mut self.caches,
+            &mut self.table,
+            None,
+            name,
+            None,
+            Some(&mut self.object),
+            self.args.as_mut_slice(),
+            is_ref,
+            is_method,
+            Position::new(1, 1),
+        )
+    }
+
+    /// A function by its name on the variables, with the object before the arguments.
+    fn call_captured(&mut self, alloc: Global, name: &str) -> Answer {
+        Engine::new(alloc).exec_fn_call(
+            alloc,
+            &mut self.global,
+            &mut self.caches,
+            &mut self.table,
+            Some(&mut self.scope),
+            name,
+            None,
+            Some(&mut self.object),
+            self.args.as_mut_slice(),
+            false,
+            false,
+            Position::new(1, 1),
+        )
+    }
+
+    /// A method on the object.
+    fn call_method(&mut self, alloc: Global, name: &str) -> Answer {
+        let mut target = Target {
+            at: &mut self.object,
+            part: Part::Whole,
+        };
+        Engine::new(alloc).make_method_call(
+            alloc,
+            &mut self.global,
+            &mut self.caches,
+            &mut self.table,
+            name,
+            &mut target,
+            self.args.as_mut_slice(),
+            Position::new(1, 2),
+            Position::new(1, 1),
+        )
+    }
+
+    /// Whether a function of a name without arguments is there.
+    fn seeks(&mut self, alloc: Global, name: &str) -> Answer {
+        let key = FnKey {
+            name,
+            arity: 0,
+            this_type: None,
+        };
+        let found = Engine::new(alloc).has_script_fn(&self.global, &mut self.caches, key);
+        Ok((Dynamic::new(Union::Bool(found)), false))
+    }
+
+    /// Writes what a call answered, and what it left: the object, the arguments and the variables.
+    fn write_left(&self, answer: Answer, out: &mut Vec<u8>) -> io::Result<()> {
+        match answer {
+            Ok((value, _)) => write_ending(out, &Ending::Value(value))?,
+            Err(error) => write_ending(out, &Ending::Error(error))?,
+        }
+        write!(out, "; ")?;
+        write_value(out, &self.object)?;
+        for arg in self.args.as_slice() {
+            write!(out, ", ")?;
+            write_value(out, arg)?;
+        }
+        for entry in self.scope.entries() {
+            write!(out, "; {} = ", entry.name.get().as_str())?;
+            write_value(out, &entry.value)?;
+        }
+        Ok(())
+    }
+}
+
+/// Writes what a call of a name comes to, and what it leaves.
+pub fn write_call(alloc: Global, name: &str, out: &mut Vec<u8>) -> io::Result<()> {
+    let TreeParts {
+        statements,
+        functions,
+    } = parts_for(alloc, name)?;
+    match check_tree(alloc, statements, functions) {
+        Ok(tree) => match tree.functions() {
+            [function] => write_called(alloc, name, function, out),
+            _ => write!(out, "no function"),
+        },
+        Err(_) => write!(out, "no tree"),
+    }
+}
+
+/// The tree with the function of a call.
+fn parts_for(alloc: Global, name: &str) -> Result<TreeParts, AllocError> {
+    match name {
+        "this" | "a method" | "on a target" => method_that_changes_an_item(alloc),
+        "all variables" | "its variables" | "too deep" => variable_declared(alloc),
+        "a reference" | "a value" => parameter_assigned(alloc),
+        "the scope" => variable_of_the_caller_increased(alloc),
+        _ => empty_function(alloc),
+    }
+}
+
+fn write_called(
+    alloc: Global,
+    name: &str,
+    function: &Shared<CheckedFn>,
+    out: &mut Vec<u8>,
+) -> io::Result<()> {
+    let count = usize::from(matches!(name, "a method" | "on a target"));
+    let mut caller = Caller::new(alloc, count)?;
+    add_library(alloc, &mut caller.global, &[function.share()?])?;
+    let answer = answer_of(alloc, &mut caller, name, function.get())?;
+    caller.write_left(answer, out)
+}
+
+fn answer_of(
+    alloc: Global,
+    caller: &mut Caller,
+    name: &str,
+    def: &CheckedFn,
+) -> Result<Answer, AllocError> {
+    match name {
+        "this" | "all variables" | "no statements" => caller.call(alloc, def, 64, true),
+        "its variables" => caller.call(alloc, def, 0, false),
+        "too deep" => caller.call(alloc, def, 65, true),
+        "a method" => Ok(caller.call_named(alloc, "add", false, true)),
+        "a reference" => Ok(caller.call_named(alloc, "chg", true, false)),
+        "a value" => Ok(caller.call_named(alloc, "chg", false, false)),
+        "the scope" => Ok(caller.call_captured(alloc, "bump")),
+        "on a target" => Ok(caller.call_method(alloc, "add")),
+        "a name" => Ok(caller.seeks(alloc, "e")),
+        _ => Ok(caller.seeks(alloc, "f")),
+    }
+}
