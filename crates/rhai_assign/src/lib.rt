@@ -39,9 +39,9 @@ use std::num::NonZeroUsize;
 
 /// Assigns a value to a variable, charged first at the variable. By an operator the built-in is tried
 /// first under fast operators, then the native `op=`, which may change the target, or its built-in, and
-/// where both are missing the native `op`, which gives its new value. The variable is found by its offset where that is given and
-/// variables are not searched for, and else by its name. Asked: the offset leads to the newest
-/// variable of the name.
+/// where both are missing the native `op`, which gives its new value. The variable is found by its offset
+/// where that is given and variables are not searched for, and else by its name. Asked: the offset leads to
+/// the newest variable of the name.
 ///
 /// # Errors
 /// At the variable: `ErrorTooManyOperations` where the count has reached the limit,

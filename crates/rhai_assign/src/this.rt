@@ -98,7 +98,8 @@ pub fn assign_this<H: Host, T: NativeTable<H>>(
     ensures runs { (offer : _) (scope : _) (focus : _) → offer.fast_operators ≡ fast →
         FollowsThis (rules_of limits.now H.name_of offer T.natives) op pos value
         (state_of (T.state table.old) global.old scope (record { this = Some this.old; focus = focus }))
-        result (state_of (T.state table.new) global.new scope (record { this = Some this.new; focus = focus })) }
+        result
+        (state_of (T.state table.new) global.new scope (record { this = Some this.new; focus = focus })) }
 {
     match this_target(alloc, &global.cells, this, pos) {
         Ok(None) => assign_lent(

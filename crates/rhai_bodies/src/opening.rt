@@ -153,7 +153,8 @@ fn surround<H: Host>(
     ensures state { OnOk result (global.new ≡ brought (option_copied environ.entry) global.old) }
     ensures variables { OnOk result (entries_of scope.new ≡ entries_of scope.old
         ++ parameters def.now.params args.old) }
-    ensures left { OnOk result (length def.now.params ≡ length args.old → args.new ≡ map (λ _. unit) args.old) }
+    ensures left { OnOk result
+        (length def.now.params ≡ length args.old → args.new ≡ map (λ _. unit) args.old) }
     ensures state_back { OnErr result (taken_back (exit_seen global.old scope.old) global.new ≡ global.old) }
     ensures variables_back { OnErr result (take (length (entries_of scope.old)) (entries_of scope.new)
         ≡ entries_of scope.old) }

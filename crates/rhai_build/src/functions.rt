@@ -28,7 +28,8 @@ pub fn script_function(
     body: StmtBlock,
 ) -> Result<ScriptFuncDef, AllocError>
     ensures { IfOk result (λ def.
-        def ≡ function_of access (option_copied this_type.entry) name.now (map (λ p. p.now) params.now) body) }
+        def
+        ≡ function_of access (option_copied this_type.entry) name.now (map (λ p. p.now) params.now) body) }
 {
     let params = shared_names(alloc, params)?;
     let this_type = match this_type {

@@ -15,8 +15,9 @@ ghost use Rattle.rhai_machine.specs.language.State.{Answers};
 ghost use Rattle.rhai_machine.specs.language.Values.{through};
 ghost use Rattle.rhai_steps.specs.States.{local_of, state_of, surroundings_of};
 ghost use Rattle.rhai_calls.specs.Called.{Calls};
-ghost use Rattle.rhai_calls.specs.Dispatch.{knows, meant, meant_of, meant_of_two, method_found, plain_found, script_function};
-ghost use Rattle.rhai_calls.specs.Dispatch.{seen_number, seen_text, how_of, Dispatches, IfEnded, IfFound};
+ghost use Rattle.rhai_calls.specs.Dispatch.{knows, meant, meant_of, meant_of_two, method_found, plain_found};
+ghost use Rattle.rhai_calls.specs.Dispatch.{script_function, seen_number, seen_text, how_of};
+ghost use Rattle.rhai_calls.specs.Dispatch.{Dispatches, IfEnded, IfFound};
 ghost use Rattle.rhai_calls.specs.Dispatch.{Means, Offers, ResolvesCall};
 ghost use Rattle.rhai_calls.specs.Marks.{MarkedRuns};
 ghost use Rattle.rhai_calls.specs.Lending.{back_in, passed_call, Stands};
@@ -214,7 +215,8 @@ fn meaning_of_two<H: Host>(
     second: &Dynamic<H>,
     pos: Position,
 ) -> Option<Result<Dynamic<H>, EvalAltResult<H>>>
-    ensures { (offer : _) → Offers offer offered.now → Means result (meant_of_two offer (surroundings_of global.now)
+    ensures { (offer : _) → Offers offer offered.now →
+        Means result (meant_of_two offer (surroundings_of global.now)
         (record { name = name.now; token = token; at = pos }) first.now second.now) }
 {
     if name != "is_def_fn" {
@@ -278,7 +280,8 @@ fn method_by<H: Host>(
     arity: usize,
 ) -> Result<Option<Function<H>>, AllocError>
     ensures { (offer : _) → Offers offer offered.now →
-        IfOk result (λ found. found ≡ method_found offer (surroundings_of global.now) name.now this_type.now arity) }
+        IfOk result (λ found.
+        found ≡ method_found offer (surroundings_of global.now) name.now this_type.now arity) }
 {
     let key = FnKey {
         name,
@@ -306,7 +309,8 @@ fn function_of<H: Host>(
     rest: &[Dynamic<H>],
 ) -> Result<Option<Function<H>>, AllocError>
     ensures { (offer : _) → Offers offer offered.now →
-        IfOk result (λ found. found ≡ script_function offer (surroundings_of global.now) H.name_of seeks name.now
+        IfOk result (λ found.
+        found ≡ script_function offer (surroundings_of global.now) H.name_of seeks name.now
         (first.now ∷ rest.now)) }
 {
     if seeks.natives_alone {
@@ -331,7 +335,8 @@ fn resolve<H: Host>(
     rest: &[Dynamic<H>],
     pos: Position,
 ) -> Resolved<H>
-    ensures { (offer : _) → Offers offer offered.now → ResolvesCall offer (surroundings_of global.now) H.name_of seeks
+    ensures { (offer : _) → Offers offer offered.now →
+        ResolvesCall offer (surroundings_of global.now) H.name_of seeks
         (record { name = name.now; token = token; at = pos }) (first.now ∷ rest.now) result }
 {
     if call_races(&global.cells, first, rest) {
@@ -420,7 +425,8 @@ fn resolve_all<H: Host>(
     args: &[Dynamic<H>],
     pos: Position,
 ) -> Resolved<H>
-    ensures { (offer : _) → Offers offer offered.now → ResolvesCall offer (surroundings_of global.now) H.name_of
+    ensures { (offer : _) → Offers offer offered.now →
+        ResolvesCall offer (surroundings_of global.now) H.name_of
         (record { of_method = false; natives_alone = natives_alone })
         (record { name = name.now; token = token; at = pos }) args.now result }
 {

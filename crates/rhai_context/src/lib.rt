@@ -5,6 +5,9 @@
 ghost use Rattle.std.specs.Prelude.{◌≡◌, [], None};
 ghost use Rattle.rhai_state.specs.Scope.{entries_of};
 
+pub mod spare;
+
+use crate::spare::Spare;
 use rhai_items::Items;
 use rhai_state::room::Room;
 use rhai_state::scope::Scope;
@@ -14,14 +17,14 @@ use rhai_values::cells::CellStore;
 use std::alloc::Global;
 use std::mem::replace;
 
-/// The state of a run: what stays beside the variables, the variables and `this`. Besides it has a list
-/// that holds arguments while a call collects them.
+/// The state of a run: what stays beside the variables, the variables and `this`. Besides it has lists
+/// that hold arguments while calls collect them.
 #[derive(Drop)]
 pub struct Context<H> {
     pub global: GlobalRuntimeState<H>,
     pub scope: Scope<H>,
     pub this: Option<Dynamic<H>>,
-    pub spare: Items<Dynamic<H>>,
+    pub spare: Spare<H>,
 }
 
 /// A state with nothing in it but whether variables are searched for. No memory is asked for it.
@@ -51,11 +54,11 @@ pub fn take<H: Host>(
     global: &mut GlobalRuntimeState<H>,
     scope: &mut Scope<H>,
 ) -> Context<H>
-    ensures run { result ≡ record { global = global.old; scope = scope.old; this = None; spare = [] } }
+    ensures run { result ≡ record { global = global.old; scope = scope.old; this = None; spare = tt } }
     ensures search { global.new.always_search_scope ≡ global.old.always_search_scope }
 {
     let empty = nothing(alloc, global.always_search_scope);
-    let spare = global.room.lend(alloc);
+    let spare = Spare::new(alloc, global.room.lend(alloc));
     Context {
         global: replace(global, empty),
         scope: replace(scope, Scope::new(alloc)),
@@ -64,23 +67,28 @@ pub fn take<H: Host>(
     }
 }
 
-/// An empty list for arguments: the one that the last call left, with its room, or else a new one.
+/// An empty list for arguments: one that a call left, with its room, or else a new one.
 pub fn lend_list<H: Host>(alloc: Global, run: &mut Context<H>) -> Items<Dynamic<H>>
     ensures list { result ≡ [] }
-    ensures run { run.new ≡ record run.old { spare = [] } }
+    ensures run { run.new ≡ run.old }
 {
-    let mut list = replace(&mut run.spare, Items::new(alloc));
-    list.truncate(0);
-    list
+    run.spare.lend(alloc)
 }
 
-/// Keeps a list of arguments for the next call, without what it holds.
+/// Keeps a list of arguments for another call, without what it holds.
 pub fn keep_list<H: Host>(run: &mut Context<H>, list: Items<Dynamic<H>>)
-    ensures { run.new ≡ record run.old { spare = [] } }
+    ensures { run.new ≡ run.old }
 {
-    let mut list = list;
-    list.truncate(0);
-    drop(replace(&mut run.spare, list));
+    run.spare.keep(list);
+}
+
+/// Keeps one of the lists of a run for the next.
+fn keep_room<H: Host>(room: &mut Room<H>, spare: Spare<H>)
+    ensures { room.new ≡ room.old }
+{
+    if let Some(list) = spare.into_first() {
+        room.keep(list);
+    }
 }
 
 /// Puts the values of a run back in their places. No run changes whether its caller's variables are
@@ -92,7 +100,7 @@ pub fn give_back<H: Host>(run: Context<H>, global: &mut GlobalRuntimeState<H>, s
 {
     let mut left = run.global;
     left.always_search_scope = global.always_search_scope;
-    left.room.keep(run.spare);
+    keep_room(&mut left.room, run.spare);
     drop(replace(global, left));
     drop(replace(scope, run.scope));
 }

@@ -36,7 +36,6 @@ use Rattle.rhai_machine.specs.language.Bodies.{source_of, statements_of}
 use Rattle.rhai_machine.specs.language.Bodies.{this_by, variables_after, variables_back, variables_before, with_environ}
 use Rattle.rhai_machine.specs.language.Frames.{Frame, core, ended, Enter, EnterFunction, Back, Fail, CallEnd}
 use Rattle.rhai_machine.specs.language.Runs.{at, with_core, Goes, Runs, Steps}
-use Rattle.rhai_machine.specs.language.Unwinding.{down_core}
 use Rattle.rhai_steps.specs.States.{local_of, state_of, surroundings_of}
 use Rattle.rhai_steps.proofs.Pieces.{step_by, told}
 use Rattle.rhai_bodies.specs.Closing.{outcome_of, taken_back, Ends}
@@ -45,7 +44,7 @@ use Rattle.rhai_bodies.specs.Opening.{enterable, entered_global, entry, exit_see
 use Rattle.rhai_bodies.proofs.Calls.{enters, passes, refuses}
 use Rattle.rhai_context.specs.declared.Context.{Context}
 use Rattle.rhai_laws.proofs.Keeping.{few_parameters}
-use Rattle.rhai_cycle.specs.Bodies.{behind_call, caller_again, entered, held_again}
+use Rattle.rhai_cycle.specs.Bodies.{behind_call, entered, held_again}
 use Rattle.rhai_functions.specs.declared.function.Function.{Function}
 use Rattle.rhai_machine.specs.language.Calls.{entry_of}
 use Rattle.rhai_cycle.specs.States.{state_in}

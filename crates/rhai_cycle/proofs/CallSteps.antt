@@ -1,7 +1,7 @@
 -- Steps of calls.
 use Rattle.std.proofs.Common.{◌≡◌, ◌<◌, ◌≤◌, ◌+◌, ℕ, Bool, true, false, List, [], ◌∷◌, ◌++◌, Option, Some, None, Result, Ok, Err}
 use Rattle.std.proofs.Common.{refl, sym, ap, ◌∙◌, arith, codes, is_some, length, suc}
-use Rattle.std.specs.Prelude.{IfErr, OnOk, if◌then◌else◌}
+use Rattle.std.specs.Prelude.{if◌then◌else◌}
 use Rattle.std.proofs.lemmas.Bool.{lt-ltb, le-ltb}
 use Rattle.rhai_tree.specs.declared.position.Position.{Position}
 use Rattle.rhai_tree.specs.declared.token.Token.{Token}
@@ -47,7 +47,9 @@ use Rattle.rhai_machine.specs.language.Calls.{entry_of, races}
 use Rattle.rhai_dispatch.specs.Kept.{HasKept}
 use Rattle.rhai_dispatch.specs.Linked.{linked_call, Comes}
 use Rattle.rhai_dispatch.specs.Pointers.{number_in}
-use Rattle.rhai_cycle.specs.Calls.{called, has_taken, pointer_called}
+use Rattle.rhai_cycle.specs.declared.call.PointerUse.{PointerUse}
+use Rattle.rhai_cycle.specs.declared.call.PointerUse.TheVariants as code
+use Rattle.rhai_cycle.specs.Calls.{called, pointer_called, purpose_of}
 use Rattle.rhai_cycle.proofs.Chain.{fails_on}
 
 -- a first argument is one more than the others
@@ -57,6 +59,12 @@ one_more n = omega arith
 pub counted : (token : Option Token) (name : List ℕ) (rest : List Expr) →
     keyword_of token name (suc (length rest)) ≡ keyword_of token name (1 + length rest)
 counted token name rest = ap (keyword_of token name) (one_more (length rest))
+
+-- a pointer's arguments are not flattened
+pub kept_as_they_are : {H : Type 0} (pointer : PointerUse H) (pos : Position) → flattens (purpose_of pointer pos) ≡ false
+kept_as_they_are (code.Curry pointer) pos = refl
+kept_as_they_are (code.Linked function curried) pos = refl
+kept_as_they_are (code.Number id curried) pos = refl
 
 module _ {S H : Type 0} (rules : Rules S H) where
   module _ (call : FnCallExpr) (pos : Position) (k : List (Frame H)) (s : State S H)
@@ -120,16 +128,6 @@ module _ {S H : Type 0} (rules : Rules S H) where
         Goes rules (at (Back v) (CallArgument purpose made pos rest ∷ k) l) (at (Fail e) k l)
     taken_fails flattened e is refused = fails_on rules v (CallArgument purpose made pos rest) k l e (λ x. refl)
         (λ m. rw (is, refused m) refl)
-
-  -- an argument that was evaluated is taken, or an error comes down
-  pub takes_told : (purpose : Purpose H) (made : List (Dynamic H)) (v : Dynamic H) (pos : Position) (rest : List Expr) (k : List (Frame H))
-      (l : State S H) (flattened : Bool) (more : List (Dynamic H)) (r : Result (Unit {0}) (EvalAltResult H)) →
-      flattens purpose ≡ flattened → OnOk r (HasKept (taken flattened l.local.around.cells v pos) made more) →
-      IfErr r (λ e. is_out_of_memory e ≡ false → taken flattened l.local.around.cells v pos ≡ Err e) →
-      Goes rules (at (Back v) (CallArgument purpose made pos rest ∷ k) l) (has_taken rules purpose r more rest k l)
-  takes_told purpose made v pos rest k l flattened more (Ok x) is kept refused = taken_on purpose made v pos rest k l flattened more is kept
-  takes_told purpose made v pos rest k l flattened more (Err e) is kept refused = taken_fails purpose made v pos rest k l flattened e is
-      refused
 
   -- a pointer is called as the function that it is linked to; and else by its number, or by its name
   module _ (pointer : FnPtr H) (pos : Position) (args : List Expr) (captures : Bool) (k : List (Frame H)) (l : Local H) where

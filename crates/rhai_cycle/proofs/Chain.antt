@@ -3,7 +3,7 @@ use Rattle.std.proofs.Common.{◌≡◌, ◌≢◌, ◌<◌, ◌≤◌, ◌+◌,
 use Rattle.std.proofs.Common.{drop-cons, add-one, Option, Some, None, Result, Ok, Err, refl, sym, ap, is_some, rules}
 use Rattle.std.proofs.lemmas.Bool.{lt-ltb, le-ltb, true≢false}
 use Rattle.std.proofs.lemmas.List as Lemmas
-use Rattle.std.specs.Prelude.{OnOk, IfOk, IfErr}
+use Rattle.std.specs.Prelude.{OnOk}
 use Rattle.rhai_tree.specs.declared.position.Position.{Position}
 use Rattle.rhai_tree.specs.declared.expr.Expr.{Expr, out-Expr}
 use Rattle.rhai_tree.specs.declared.expr.Stmt.{Stmt, out-Stmt}
@@ -21,17 +21,15 @@ use Rattle.rhai_machine.specs.language.Setting.{Rules, limit_under}
 use Rattle.rhai_machine.specs.language.State.{Held, State}
 use Rattle.rhai_state.specs.Errors.{is_out_of_memory}
 use Rattle.rhai_machine.specs.language.Frames.{StatementValue, RightOperand, AssignChain, AssignThisValue, AssignValue}
-use Rattle.rhai_machine.specs.language.Frames.{ReturnValue, Control, Frame, Core, core, ended, UnaryOperand, LeftOperand}
+use Rattle.rhai_machine.specs.language.Frames.{ReturnValue, Frame, Core, core, ended, UnaryOperand, LeftOperand}
 use Rattle.rhai_machine.specs.language.Frames.{DefineValue, Eval, Exec, Argument, OpenExpr, OpenStmt, Enter, Run, Back, Fail, RestoreList}
 use Rattle.rhai_machine.specs.language.Frames.{Saved}
 use Rattle.rhai_machine.specs.language.Calls.{operation_at}
 use Rattle.rhai_tree.specs.declared.expr.Expr.TheOpen as layer
 use Rattle.rhai_tree.specs.declared.expr.FnCallExpr.{FnCallExpr}
 use Rattle.rhai_tree.specs.declared.token.Token.{Token}
-use Rattle.rhai_machine.specs.language.Statements.{restored_by, saved_by, deeper, define_core, mode_of}
+use Rattle.rhai_machine.specs.language.Statements.{restored_by, saved_by, deeper, define_core}
 use Rattle.rhai_machine.specs.language.Unwinding.{down_core, up_core}
-use Rattle.std.specs.Prelude.{OnErr}
-use Rattle.rhai_values.specs.Cells.{cells_of}
 use Rattle.std.specs.declared.num.NonZeroUsize.{NonZeroUsize}
 use Rattle.rhai_tree.specs.declared.expr.Namespace.{Namespace}
 use Rattle.rhai_check.specs.Forms.{is_exported, is_unqualified}
@@ -42,8 +40,8 @@ use Rattle.rhai_machine.specs.language.Runs.{at, Goes, Steps, Runs}
 use Rattle.rhai_tree.specs.declared.expr.Ident.{Ident}
 use Rattle.rhai_tree.specs.declared.flags.ASTFlags.{ASTFlags}
 use Rattle.rhai_values.specs.declared.base.value.AccessMode.{AccessMode}
-use Rattle.rhai_state.specs.Scope.{entries_of, new_entry}
-use Rattle.rhai_steps.specs.States.{holding, local_of, state_of}
+use Rattle.rhai_state.specs.Scope.{entries_of}
+use Rattle.rhai_steps.specs.States.{local_of, state_of}
 use Rattle.rhai_steps.specs.Declaring.{declarable, is_full, is_taken}
 use Rattle.rhai_steps.proofs.Pieces.{or_wants, step_by}
 use Rattle.rhai_steps.specs.Saves.{saved_in, left_global}

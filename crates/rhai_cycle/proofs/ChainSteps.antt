@@ -12,7 +12,7 @@ use Rattle.rhai_tree.specs.declared.position.Position.{Position}
 use Rattle.rhai_tree.specs.Layers.{ExprLayer}
 use Rattle.rhai_tree.specs.Positions.{position_of}
 use Rattle.rhai_check.specs.Forms.{is_unqualified}
-use Rattle.rhai_check.specs.Frame.{resolves_expr, tests_of}
+use Rattle.rhai_check.specs.Frame.{resolves_expr}
 use Rattle.rhai_check.specs.Names.{Name}
 use Rattle.rhai_check.specs.Reading as walk
 use Rattle.rhai_check.specs.Reading.{sound}
@@ -20,14 +20,14 @@ use Rattle.rhai_check.proofs.Walk.{expr_tests, resolves-expr}
 use Rattle.rhai_values.specs.declared.base.value.Dynamic.{Dynamic}
 use Rattle.rhai_state.specs.declared.error.EvalAltResult.{EvalAltResult}
 use Rattle.rhai_state.specs.Errors.{is_out_of_memory}
-use Rattle.rhai_machine.specs.machine.Machine.{Move, Go, Charge}
+use Rattle.rhai_machine.specs.machine.Machine.{Go, Charge}
 use Rattle.rhai_machine.specs.machine.Memory.{here}
 use Rattle.rhai_machine.specs.machine.Point.{Point}
 use Rattle.rhai_machine.specs.language.Setting.{Rules}
 use Rattle.rhai_machine.specs.language.State.{Answers, Local, State}
 use Rattle.rhai_machine.specs.language.Links.{Link, LinkForm, AtIndex, AtProperty, AtMethod, asked_by, first_in, link_of}
-use Rattle.rhai_machine.specs.language.Frames.{Chain, Frame, Core, core, where_there, AssignChain, ChainArguments, ChainRoot, Eval, Fail}
-use Rattle.rhai_machine.specs.language.Frames.{NewValue, OpenChain, OpenStmt, ReadRoot, RootValue, ToChain, chain_on}
+use Rattle.rhai_machine.specs.language.Frames.{Chain, Frame, core, AssignChain, ChainArguments, ChainRoot, Eval}
+use Rattle.rhai_machine.specs.language.Frames.{OpenChain, OpenStmt, ReadRoot, RootValue, ToChain}
 use Rattle.rhai_machine.specs.language.Arguments.{arguments_core, arguments_there}
 use Rattle.rhai_machine.specs.language.Assignment.{assignment_move}
 use Rattle.rhai_machine.specs.language.Chains.{asked_move, open_move, opened_core, ready, root_move}

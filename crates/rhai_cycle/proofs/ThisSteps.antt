@@ -12,7 +12,7 @@ use Rattle.rhai_state.specs.declared.error.EvalAltResult.TheVariants as error
 use Rattle.rhai_machine.specs.machine.Machine.{Go}
 use Rattle.rhai_machine.specs.machine.Memory.{here, wanting}
 use Rattle.rhai_machine.specs.language.Setting.{Rules}
-use Rattle.rhai_machine.specs.language.State.{Local, State}
+use Rattle.rhai_machine.specs.language.State.{State}
 use Rattle.rhai_machine.specs.language.Names.{bound_this}
 use Rattle.rhai_machine.specs.language.Assignment.{assignment_move, store_this, to_this}
 use Rattle.rhai_machine.specs.language.Frames.{Frame, core, ended, AssignThisValue, Eval, Fail, OpenStmt, StoreThis}

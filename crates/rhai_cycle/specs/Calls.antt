@@ -1,31 +1,26 @@
 -- How the parts of a call are told.
-use Rattle.std.specs.Prelude.{◌≡◌, ◌+◌, Bool, List, ◌∷◌, Result, Ok, Err, length}
+use Rattle.std.specs.Prelude.{◌≡◌, ◌+◌, Bool, List, ◌∷◌, Result, Ok, Err, codes, length}
 use Rattle.rhai_tree.specs.declared.expr.Expr.{Expr}
 use Rattle.rhai_tree.specs.declared.position.Position.{Position}
 use Rattle.rhai_values.specs.declared.base.value.Dynamic.{Dynamic}
 use Rattle.rhai_values.specs.declared.base.value.FnPtr.{FnPtr, out-FnPtr}
 use Rattle.rhai_state.specs.declared.error.EvalAltResult.{EvalAltResult}
-use Rattle.rhai_machine.specs.machine.Machine.{Charge}
 use Rattle.rhai_machine.specs.machine.Point.{Point}
 use Rattle.rhai_machine.specs.language.Setting.{Rules}
 use Rattle.rhai_machine.specs.language.State.{Local, State}
 use Rattle.rhai_machine.specs.language.Frames.{Operation, Control, Purpose, Frame, Core, core, Fail, ended}
+use Rattle.rhai_machine.specs.language.Frames.{ToCallFunction, ToCallNumber, ToCurry}
 use Rattle.rhai_machine.specs.language.Arguments.{arguments_core, arguments_there, flattens, function_core, keyword_of, linked_to}
-use Rattle.rhai_machine.specs.language.Arguments.{pointer_core}
-use Rattle.rhai_machine.specs.language.Language.{move}
+use Rattle.rhai_machine.specs.language.Arguments.{operation_named, pointer_core}
 use Rattle.rhai_machine.specs.language.Runs.{at, with_core, Goes}
+use Rattle.rhai_cycle.specs.declared.call.PointerUse.{PointerUse}
+use Rattle.rhai_cycle.specs.declared.call.PointerUse.TheVariants as code
 
 module _ {S H : Type 0} (rules : Rules S H) where
   -- from the core to which a rule leads, over any stack, to how it ended
   unfoldable pub StartsAs : (start : List (Frame H) → Local H → Core H) → State S H → Result (Dynamic H) (EvalAltResult H) → State S H →
       Type 0
   StartsAs start old result new = (k : List (Frame H)) → Goes rules (with_core (start k old.local) old) (at (ended result) k new)
-
-  -- from any control that charges and then begins so, over any stack, to how it ended
-  unfoldable pub ChargesFirst : Position → (start : List (Frame H) → Local H → Core H) → State S H →
-      Result (Dynamic H) (EvalAltResult H) → State S H → Type 0
-  ChargesFirst pos start old result new = (c : Control H) (k : List (Frame H)) →
-      move rules.setting (core c k old.local) ≡ Charge pos (start k old.local) → Goes rules (at c k old) (at (ended result) k new)
 
   -- from a control over a frame to what comes of the frame
   unfoldable pub RunsUnder : Control H → Frame H → State S H → Result (Dynamic H) (EvalAltResult H) → State S H → Type 0
@@ -48,21 +43,14 @@ module _ {S H : Type 0} (rules : Rules S H) where
   Collects flattened made args old result new = (purpose : Purpose H) → flattens purpose ≡ flattened → (k : List (Frame H)) →
       Goes rules (with_core (arguments_core rules.setting purpose made args k old.local) old) (collected purpose result k new)
 
-  -- an argument has been taken, or an error comes down
-  abbrev pub has_taken : Purpose H → Result (Unit {0}) (EvalAltResult H) → (more : List (Dynamic H)) → (rest : List Expr) →
-      List (Frame H) → State S H → Point S (Core H)
-  has_taken purpose (Ok _) more rest k new = with_core (arguments_core rules.setting purpose more rest k new.local) new
-  has_taken purpose (Err e) more rest k new = at (Fail e) k new
-
-  -- from an argument behind those that are there to the others, whatever they are for
-  unfoldable pub TakesNext : (flattened : Bool) → (made : List (Dynamic H)) → Expr → State S H → Result (Unit {0}) (EvalAltResult H) →
-      (more : List (Dynamic H)) → State S H → Type 0
-  TakesNext flattened made arg old result more new = (purpose : Purpose H) → flattens purpose ≡ flattened → (rest : List Expr) →
-      (k : List (Frame H)) →
-      Goes rules (with_core (arguments_core rules.setting purpose made (arg ∷ rest) k old.local) old) (has_taken purpose result more rest k new)
-
 module _ {H : Type 0} where
   -- what is no operator on its operands is a keyword, or a call by name
   abbrev pub called : Operation → List Expr → (captures : Bool) → List (Frame H) → Local H → Core H
   called operation args captures k l =
       function_core (keyword_of operation.token operation.name (length args)) operation args captures k l
+
+  -- what a pointer's arguments are for
+  abbrev pub purpose_of : PointerUse H → Position → Purpose H
+  purpose_of (code.Curry pointer) at = ToCurry pointer
+  purpose_of (code.Linked function curried) at = ToCallFunction function at curried
+  purpose_of (code.Number id curried) at = ToCallNumber id.number (operation_named (codes "call") at) curried

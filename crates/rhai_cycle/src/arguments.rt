@@ -1,9 +1,10 @@
 //! The arguments of calls, and calls by name. Ports upstream's `func/call.rs`; the contracts speak of
 //! the machine's runs and of specs/Calls.antt.
 
-ghost use Rattle.std.specs.Prelude.{◌≡◌, ◌≤◌, ◌+◌, [], IfOk, IsTrue, OnOk, false, length, map, true};
+ghost use Rattle.std.specs.Prelude.{◌≡◌, ◌≤◌, ◌+◌, [], IfOk, IsTrue, OnOk, false, length, map, not};
+ghost use Rattle.std.specs.Prelude.{true};
 ghost use Rattle.std.specs.Option.{option_copied};
-ghost use Rattle.rhai_check.specs.Frame.{all_resolve_exprs, resolves_expr, tests_of};
+ghost use Rattle.rhai_check.specs.Frame.{all_resolve_exprs, tests_of};
 ghost use Rattle.rhai_check.specs.Names.{is_good};
 ghost use Rattle.rhai_state.specs.Scope.{entries_of};
 ghost use Rattle.rhai_machine.specs.language.Arguments.{arguments_core, is_captured};
@@ -11,10 +12,12 @@ ghost use Rattle.rhai_machine.specs.language.Calls.{plainly};
 ghost use Rattle.rhai_machine.specs.language.Frames.{CallNamed, ToCall, ToCallOn, ToCallOnThis};
 ghost use Rattle.rhai_machine.specs.language.Runs.{Runs};
 ghost use Rattle.rhai_pointers.specs.Leading.{all_args};
-ghost use Rattle.rhai_cycle.specs.Calls.{ChargesFirst, Collects, StartsAs, TakesNext};
+ghost use Rattle.rhai_dispatch.specs.Going.{GoesOut};
+ghost use Rattle.rhai_cycle.specs.Calls.{Collects, StartsAs};
 ghost use Rattle.rhai_cycle.specs.States.{names, state_in, under};
 
 use crate::evaluator::Evaluator;
+use rhai_calls::dispatch::Called;
 use rhai_context::{Context, keep_list, lend_list};
 use rhai_dispatch::arguments::take_argument;
 use rhai_dispatch::call_values;
@@ -76,22 +79,40 @@ impl<'e, H: Host> Evaluator<'e, H> {
             captures,
         ) {
             drop(curried);
-            return self.run_on_this(
+            track_operation(self.limits, &mut run.global, this_at)?;
+            let made = lend_list(alloc, run);
+            let values = self.run_more_args(alloc, run, table, made, rest, true)?;
+            let called = self.call_with_this(
                 alloc,
                 run,
                 table,
                 name,
                 token,
                 this_at,
-                rest,
+                values,
                 natives_alone,
                 pos,
             );
+            return self.run_out(alloc, run, table, called, true, pos);
         }
         match first_variable(&run.scope, curried.as_slice(), first, rest, captures) {
             Some(variable) => {
                 drop(curried);
-                self.run_on_variable(alloc, run, table, name, token, variable, natives_alone, pos)
+                track_operation(self.limits, &mut run.global, variable.pos)?;
+                let made = lend_list(alloc, run);
+                let values = self.run_more_args(alloc, run, table, made, variable.rest, true)?;
+                let called = self.call_with_variable(
+                    alloc,
+                    run,
+                    table,
+                    name,
+                    token,
+                    variable,
+                    values,
+                    natives_alone,
+                    pos,
+                );
+                self.run_out(alloc, run, table, called, true, pos)
             }
             None => self.run_on_values(
                 alloc,
@@ -109,9 +130,8 @@ impl<'e, H: Host> Evaluator<'e, H> {
         }
     }
 
-    /// A call by name with a variable before its other arguments.
-    #[cycle(eval)]
-    fn run_on_variable<T: NativeTable<H>>(
+    /// A call by name of a variable and of values behind it. The list is kept for the next call.
+    fn call_with_variable<T: NativeTable<H>>(
         &self,
         alloc: Global,
         run: &mut Context<H>,
@@ -119,22 +139,19 @@ impl<'e, H: Host> Evaluator<'e, H> {
         name: &str,
         token: Option<Token>,
         variable: FirstVariable<'_>,
+        values: Items<Dynamic<H>>,
         natives_alone: bool,
         pos: Position,
-    ) -> Result<Dynamic<H>, EvalAltResult<H>>
-        requires good { IsTrue (is_good variable.offset variable.name.now (names run.old)) }
-        requires resolves { IsTrue (all_resolve_exprs (map tests_of variable.rest.now) (names run.old)) }
-        ensures counts { OnOk result (run.old.global.num_operations ≤ run.new.global.num_operations) }
-        ensures names { OnOk result (names run.new ≡ names run.old) }
-        ensures runs { let rules = under H.name_of self.now T.natives in
-            ChargesFirst rules variable.entry.pos (arguments_core rules.setting
-            (ToCallOn (record { name = name.now; token = token; at = pos }) variable.entry.name.now variable.entry.pos
-            (plainly natives_alone false)) [] variable.entry.rest.now)
-            (state_in (T.state table.old) run.old) result (state_in (T.state table.new) run.new) }
+    ) -> Called<H>
+        requires { IsTrue (is_good variable.offset variable.name.now (names run.old)) }
+        ensures counts { run.old.global.num_operations ≤ run.new.global.num_operations }
+        ensures names { names run.new ≡ names run.old }
+        ensures runs { GoesOut (under H.name_of self.now T.natives)
+            (ToCallOn (record { name = name.now; token = token; at = pos })
+            variable.entry.name.now variable.entry.pos
+            (plainly natives_alone false)) values true pos (state_in (T.state table.old) run.old)
+            result (state_in (T.state table.new) run.new) }
     {
-        track_operation(self.limits, &mut run.global, variable.pos)?;
-        let made = lend_list(alloc, run);
-        let values = self.run_more_args(alloc, run, table, made, variable.rest, true)?;
         let mut values = values;
         let offered = self.offered();
         let called = call_on_variable(
@@ -154,12 +171,11 @@ impl<'e, H: Host> Evaluator<'e, H> {
             pos,
         );
         keep_list(run, values);
-        self.run_out(alloc, run, table, called, true, pos)
+        called
     }
 
-    /// A call by name with `this` before its other arguments.
-    #[cycle(eval)]
-    fn run_on_this<T: NativeTable<H>>(
+    /// A call by name of `this` and of values behind it. The list is kept for the next call.
+    fn call_with_this<T: NativeTable<H>>(
         &self,
         alloc: Global,
         run: &mut Context<H>,
@@ -167,22 +183,17 @@ impl<'e, H: Host> Evaluator<'e, H> {
         name: &str,
         token: Option<Token>,
         this_at: Position,
-        args: &[Expr],
+        values: Items<Dynamic<H>>,
         natives_alone: bool,
         pos: Position,
-    ) -> Result<Dynamic<H>, EvalAltResult<H>>
-        requires { IsTrue (all_resolve_exprs (map tests_of args.now) (names run.old)) }
-        ensures counts { OnOk result (run.old.global.num_operations ≤ run.new.global.num_operations) }
-        ensures names { OnOk result (names run.new ≡ names run.old) }
-        ensures runs { let rules = under H.name_of self.now T.natives in
-            ChargesFirst rules this_at (arguments_core rules.setting
+    ) -> Called<H>
+        ensures counts { run.old.global.num_operations ≤ run.new.global.num_operations }
+        ensures scope { run.new.scope ≡ run.old.scope }
+        ensures runs { GoesOut (under H.name_of self.now T.natives)
             (ToCallOnThis (record { name = name.now; token = token; at = pos }) this_at
-            (plainly natives_alone false)) [] args.now)
-            (state_in (T.state table.old) run.old) result (state_in (T.state table.new) run.new) }
+            (plainly natives_alone false)) values true pos (state_in (T.state table.old) run.old)
+            result (state_in (T.state table.new) run.new) }
     {
-        track_operation(self.limits, &mut run.global, this_at)?;
-        let made = lend_list(alloc, run);
-        let values = self.run_more_args(alloc, run, table, made, args, true)?;
         let mut values = values;
         let offered = self.offered();
         let called = call_on_this(
@@ -200,7 +211,46 @@ impl<'e, H: Host> Evaluator<'e, H> {
             pos,
         );
         keep_list(run, values);
-        self.run_out(alloc, run, table, called, true, pos)
+        called
+    }
+
+    /// A call by name of values, behind those that a pointer has. The list is kept for the next call.
+    fn call_with<T: NativeTable<H>>(
+        &self,
+        alloc: Global,
+        run: &mut Context<H>,
+        table: &mut T,
+        name: &str,
+        token: Option<Token>,
+        curried: Items<Dynamic<H>>,
+        values: Items<Dynamic<H>>,
+        natives_alone: bool,
+        pos: Position,
+    ) -> Called<H>
+        ensures counts { run.old.global.num_operations ≤ run.new.global.num_operations }
+        ensures scope { run.new.scope ≡ run.old.scope }
+        ensures runs { (on_scope : _) → GoesOut (under H.name_of self.now T.natives)
+            (ToCall (record { name = name.now; token = token; at = pos }) curried
+            (plainly natives_alone on_scope)) values (not on_scope) pos (state_in (T.state table.old) run.old)
+            result (state_in (T.state table.new) run.new) }
+    {
+        let mut values = values;
+        let offered = self.offered();
+        let called = call_values(
+            self.limits,
+            alloc,
+            &offered,
+            &mut run.global,
+            table,
+            natives_alone,
+            name,
+            token,
+            curried,
+            &mut values,
+            pos,
+        );
+        keep_list(run, values);
+        called
     }
 
     /// A call by name whose arguments are all passed by their values, behind those that a pointer has.
@@ -231,61 +281,60 @@ impl<'e, H: Host> Evaluator<'e, H> {
             (state_in (T.state table.old) run.old) result (state_in (T.state table.new) run.new) }
     {
         let on_scope = is_on_scope(&run.scope, captures);
-        match self.run_args(alloc, run, table, first, rest) {
-            Ok(values) => {
-                let mut values = values;
-                let offered = self.offered();
-                let called = call_values(
-                    self.limits,
+        let made = lend_list(alloc, run);
+        match first {
+            None => {
+                let called = self.call_with(
                     alloc,
-                    &offered,
-                    &mut run.global,
+                    run,
                     table,
-                    natives_alone,
                     name,
                     token,
                     curried,
-                    &mut values,
+                    made,
+                    natives_alone,
                     pos,
                 );
-                keep_list(run, values);
                 self.run_out(alloc, run, table, called, !on_scope, pos)
             }
-            Err(error) => {
-                drop(curried);
-                Err(error)
-            }
-        }
-    }
-
-    /// The values of a function's arguments, the first of which is told apart. They are evaluated from
-    /// left to right, and flattened.
-    #[cycle(eval)]
-    fn run_args<T: NativeTable<H>>(
-        &self,
-        alloc: Global,
-        run: &mut Context<H>,
-        table: &mut T,
-        first: Option<&Expr>,
-        rest: &[Expr],
-    ) -> Result<Items<Dynamic<H>>, EvalAltResult<H>>
-        requires { IsTrue (all_resolve_exprs (map tests_of (all_args (option_copied first) rest.now))
-            (names run.old)) }
-        ensures counts { OnOk result (run.old.global.num_operations ≤ run.new.global.num_operations) }
-        ensures names { OnOk result (names run.new ≡ names run.old) }
-        ensures collects { Collects (under H.name_of self.now T.natives) true []
-            (all_args (option_copied first.entry) rest.now)
-            (state_in (T.state table.old) run.old) result (state_in (T.state table.new) run.new) }
-    {
-        let made = lend_list(alloc, run);
-        match first {
-            None => Ok(made),
             Some(arg) => {
                 let mut made = made;
-                match self.run_next_arg(alloc, run, table, &mut made, arg, true) {
-                    Ok(()) => self.run_more_args(alloc, run, table, made, rest, true),
+                match self.run_arg(alloc, run, table, arg) {
+                    Ok(value) => {
+                        let cells = &run.global.cells;
+                        match take_argument(alloc, cells, &mut made, value, true, arg.position()) {
+                            Ok(()) => match self.run_more_args(
+                                alloc, run, table, made, rest, true,
+                            ) {
+                                Ok(values) => {
+                                    let called = self.call_with(
+                                        alloc,
+                                        run,
+                                        table,
+                                        name,
+                                        token,
+                                        curried,
+                                        values,
+                                        natives_alone,
+                                        pos,
+                                    );
+                                    self.run_out(alloc, run, table, called, !on_scope, pos)
+                                }
+                                Err(error) => {
+                                    drop(curried);
+                                    Err(error)
+                                }
+                            },
+                            Err(error) => {
+                                drop(made);
+                                drop(curried);
+                                Err(error)
+                            }
+                        }
+                    }
                     Err(error) => {
                         drop(made);
+                        drop(curried);
                         Err(error)
                     }
                 }
@@ -314,8 +363,24 @@ impl<'e, H: Host> Evaluator<'e, H> {
     {
         let mut values = made;
         'each_arg: for arg in args {
-            match self.run_next_arg(alloc, run, table, &mut values, arg, flattened) {
-                Ok(()) => {}
+            match self.run_arg(alloc, run, table, arg) {
+                Ok(value) => {
+                    let cells = &run.global.cells;
+                    match take_argument(
+                        alloc,
+                        cells,
+                        &mut values,
+                        value,
+                        flattened,
+                        arg.position(),
+                    ) {
+                        Ok(()) => {}
+                        Err(error) => {
+                            drop(values);
+                            return Err(error);
+                        }
+                    }
+                }
                 Err(error) => {
                     drop(values);
                     return Err(error);
@@ -323,28 +388,5 @@ impl<'e, H: Host> Evaluator<'e, H> {
             }
         }
         Ok(values)
-    }
-
-    /// The value of one argument, behind those that are there.
-    #[cycle(eval)]
-    fn run_next_arg<T: NativeTable<H>>(
-        &self,
-        alloc: Global,
-        run: &mut Context<H>,
-        table: &mut T,
-        made: &mut Items<Dynamic<H>>,
-        arg: &Expr,
-        flattened: bool,
-    ) -> Result<(), EvalAltResult<H>>
-        requires { IsTrue (resolves_expr arg.now (names run.old)) }
-        ensures counts { OnOk result (run.old.global.num_operations ≤ run.new.global.num_operations) }
-        ensures names { OnOk result (names run.new ≡ names run.old) }
-        ensures more { OnOk result (length made.new ≡ length made.old + 1) }
-        ensures takes { TakesNext (under H.name_of self.now T.natives) flattened made.old arg.now
-            (state_in (T.state table.old) run.old) result made.new (state_in (T.state table.new) run.new) }
-    {
-        let value = self.run_arg(alloc, run, table, arg)?;
-        let cells = &run.global.cells;
-        take_argument(alloc, cells, made, value, flattened, arg.position())
     }
 }

@@ -96,7 +96,8 @@ impl<'e, H: Host> Evaluator<'e, H> {
         ensures charges { OnOk result (run.old.global.num_operations < run.new.global.num_operations) }
         ensures runs { (scope : _) (held : _) (object : _) (is_fresh : _) →
             let caller = local_of run.old.global scope held in
-            let e = entered def.now (option_copied environ.entry) object is_fresh restores args.old level pos in
+            let e = entered def.now (option_copied environ.entry) object is_fresh restores args.old level
+            pos in
             entries_of run.old.scope ≡ variables_before is_fresh caller.scope →
             run.old.this ≡ this_by object caller →
             Runs (under H.name_of self.now T.natives) (EnterFunction e)

@@ -1,24 +1,23 @@
 //! Calls: operators, keywords and pointers. Ports upstream's `func/call.rs`; the contracts speak of the
 //! machine's runs and of specs/Calls.antt.
 
-ghost use Rattle.std.specs.Prelude.{◌≡◌, ◌<◌, ◌≤◌, ◌∷◌, [], IsTrue, Some, OnOk, codes, map};
+ghost use Rattle.std.specs.Prelude.{◌≡◌, ◌<◌, ◌≤◌, ◌∷◌, [], IsTrue, Some, OnOk, map};
 ghost use Rattle.std.specs.Prelude.{true, false};
 ghost use Rattle.std.specs.Option.{option_copied};
 ghost use Rattle.rhai_check.specs.Frame.{all_resolve_exprs, resolves_expr, resolves_call, tests_of};
 ghost use Rattle.rhai_tree.specs.declared.expr.Expr.TheOpen as layer;
 ghost use Rattle.rhai_tree.specs.Positions.{start_of};
-ghost use Rattle.rhai_machine.specs.language.Frames.{Argument, Back, KeywordArgument, OpenExpr};
-ghost use Rattle.rhai_machine.specs.language.Frames.{ToCallFunction, ToCallNumber, ToCurry};
-ghost use Rattle.rhai_machine.specs.language.Arguments.{arguments_core, operation_named, unlinked_core};
-ghost use Rattle.rhai_values.specs.declared.base.value.FnPtr.{out-FnPtr};
+ghost use Rattle.rhai_machine.specs.language.Frames.{Argument, KeywordArgument, OpenExpr};
+ghost use Rattle.rhai_machine.specs.language.Arguments.{arguments_core};
 ghost use Rattle.rhai_machine.specs.language.Runs.{Runs};
-ghost use Rattle.rhai_pointers.specs.Forms.{is_operator_form};
 ghost use Rattle.rhai_pointers.specs.Keywords.{word_of};
 ghost use Rattle.rhai_pointers.specs.Leading.{all_args};
-ghost use Rattle.rhai_cycle.specs.Calls.{RunsUnder, StartsAs, called, pointer_called};
+ghost use Rattle.rhai_dispatch.specs.Going.{GoesOut};
+ghost use Rattle.rhai_cycle.specs.Calls.{RunsUnder, StartsAs, called, purpose_of};
 ghost use Rattle.rhai_cycle.specs.States.{names, state_in, under};
 
 use crate::evaluator::Evaluator;
+use rhai_calls::dispatch::Called;
 use rhai_calls::operators::{operate_one, operate_two};
 use rhai_context::{Context, lend_list};
 use rhai_dispatch::pointer::parts_of;
@@ -45,6 +44,17 @@ use rhai_tree::token::Token;
 use rhai_values::base::value::{Dynamic, FnPtr, Host};
 use std::alloc::Global;
 
+/// What a pointer's arguments are for.
+#[derive(Drop)]
+enum PointerUse<H> {
+    /// It gets them behind the values that it has already.
+    Curry(FnPtr<H>),
+    /// They go to a function that it is linked to, behind the values that it has.
+    Linked(Function<H>, Items<Dynamic<H>>),
+    /// They go to a native by its number, behind these values.
+    Number(NativeId, Items<Dynamic<H>>),
+}
+
 impl<'e, H: Host> Evaluator<'e, H> {
     /// A call: an operator on its operands, or of a function.
     #[cycle(eval)]
@@ -64,7 +74,21 @@ impl<'e, H: Host> Evaluator<'e, H> {
     {
         match form_of(self.fast_operators, call) {
             CallForm::Unary(token, operand) => {
-                self.run_unary(alloc, run, table, call, token, operand, pos)
+                let value = self.run_arg(alloc, run, table, operand)?;
+                let value = flatten(alloc, &run.global.cells, value, operand.position())?;
+                let offered = self.offered();
+                let called = operate_one(
+                    self.limits,
+                    alloc,
+                    &offered,
+                    &mut run.global,
+                    table,
+                    call.name.get().as_str(),
+                    token,
+                    value,
+                    pos,
+                );
+                self.run_out(alloc, run, table, called, true, pos)
             }
             CallForm::Binary(token, left, right) => {
                 self.run_operator(alloc, run, table, call, token, left, right, pos)
@@ -130,7 +154,8 @@ impl<'e, H: Host> Evaluator<'e, H> {
         }
     }
 
-    /// A keyword, from its first argument on.
+    /// A keyword, from its first argument on. A pointer that is called is the function that it is linked
+    /// to, or a native's number, or else it is called by its name.
     #[cycle(eval)]
     fn run_keyword<T: NativeTable<H>>(
         &self,
@@ -153,30 +178,6 @@ impl<'e, H: Host> Evaluator<'e, H> {
     {
         let value = self.run_arg(alloc, run, table, first)?;
         let start = first.start_position();
-        self.run_word(alloc, run, table, word, value, start, rest, captures, pos)
-    }
-
-    /// A keyword whose first argument is there.
-    #[cycle(eval)]
-    fn run_word<T: NativeTable<H>>(
-        &self,
-        alloc: Global,
-        run: &mut Context<H>,
-        table: &mut T,
-        word: Keyword,
-        value: Dynamic<H>,
-        start: Position,
-        rest: &[Expr],
-        captures: bool,
-        pos: Position,
-    ) -> Result<Dynamic<H>, EvalAltResult<H>>
-        requires { IsTrue (all_resolve_exprs (map tests_of rest.now) (names run.old)) }
-        ensures counts { OnOk result (run.old.global.num_operations ≤ run.new.global.num_operations) }
-        ensures names { OnOk result (names run.new ≡ names run.old) }
-        ensures runs { RunsUnder (under H.name_of self.now T.natives) (Back value)
-            (KeywordArgument (word_of word) pos start rest.now captures)
-            (state_in (T.state table.old) run.old) result (state_in (T.state table.new) run.new) }
-    {
         match word {
             Keyword::IsShared => Ok(is_shared(value)),
             Keyword::IsDefinedVariable => {
@@ -189,7 +190,7 @@ impl<'e, H: Host> Evaluator<'e, H> {
             }
             Keyword::Curry => {
                 let pointer = pointer_of(alloc, &run.global.cells, value, start)?;
-                self.run_curry(alloc, run, table, pointer, rest, pos)
+                self.run_pointer(alloc, run, table, PointerUse::Curry(pointer), rest, pos)
             }
             Keyword::CallPointer => {
                 let pointer = pointer_of(alloc, &run.global.cells, value, start)?;
@@ -197,9 +198,28 @@ impl<'e, H: Host> Evaluator<'e, H> {
                     Ok(Some(function)) => {
                         let (name, curried, _) = parts_of(pointer);
                         drop(name);
-                        self.run_linked(alloc, run, table, function, curried, rest, pos)
+                        let linked = PointerUse::Linked(function, curried);
+                        self.run_pointer(alloc, run, table, linked, rest, pos)
                     }
-                    Ok(None) => self.run_unlinked(alloc, run, table, pointer, rest, captures, pos),
+                    Ok(None) => {
+                        let (name, curried, number) = parts_of(pointer);
+                        match number {
+                            Some(id) => {
+                                drop(name);
+                                let numbered = PointerUse::Number(id, curried);
+                                self.run_pointer(alloc, run, table, numbered, rest, pos)
+                            }
+                            None => {
+                                let (first, rest) = parted(rest);
+                                let name = name.get().as_str();
+                                let alone = natives_alone(name);
+                                self.run_named(
+                                    alloc, run, table, name, None, curried, first, rest, captures,
+                                    alone, pos,
+                                )
+                            }
+                        }
+                    }
                     Err(_) => {
                         drop(pointer);
                         Err(EvalAltResult::ErrorOutOfMemory(pos))
@@ -209,14 +229,48 @@ impl<'e, H: Host> Evaluator<'e, H> {
         }
     }
 
-    /// A pointer that gets more arguments, which it keeps as they are.
-    #[cycle(eval)]
-    fn run_curry<T: NativeTable<H>>(
+    /// What becomes of a pointer whose arguments are there.
+    fn use_pointer<T: NativeTable<H>>(
         &self,
         alloc: Global,
         run: &mut Context<H>,
         table: &mut T,
-        pointer: FnPtr<H>,
+        pointer: PointerUse<H>,
+        values: Items<Dynamic<H>>,
+        pos: Position,
+    ) -> Called<H>
+        ensures counts { run.old.global.num_operations ≤ run.new.global.num_operations }
+        ensures scope { run.new.scope ≡ run.old.scope }
+        ensures runs { GoesOut (under H.name_of self.now T.natives) (purpose_of pointer pos) values true pos
+            (state_in (T.state table.old) run.old) result (state_in (T.state table.new) run.new) }
+    {
+        match pointer {
+            PointerUse::Curry(pointer) => {
+                Called::Ended(with_curried(alloc, pointer, values, pos))
+            }
+            PointerUse::Linked(function, curried) => {
+                let cells = &run.global.cells;
+                call_function(alloc, cells, function, curried, values, pos)
+            }
+            PointerUse::Number(id, curried) => {
+                let limits = self.limits;
+                let global = &mut run.global;
+                Called::Ended(call_number(
+                    limits, alloc, global, table, id, "call", curried, values, pos,
+                ))
+            }
+        }
+    }
+
+    /// A pointer that gets more arguments, or is called as the function that it is linked to or by a native's
+    /// number. They are kept as they are.
+    #[cycle(eval)]
+    fn run_pointer<T: NativeTable<H>>(
+        &self,
+        alloc: Global,
+        run: &mut Context<H>,
+        table: &mut T,
+        pointer: PointerUse<H>,
         args: &[Expr],
         pos: Position,
     ) -> Result<Dynamic<H>, EvalAltResult<H>>
@@ -224,12 +278,15 @@ impl<'e, H: Host> Evaluator<'e, H> {
         ensures counts { OnOk result (run.old.global.num_operations ≤ run.new.global.num_operations) }
         ensures names { OnOk result (names run.new ≡ names run.old) }
         ensures runs { StartsAs (under H.name_of self.now T.natives)
-            (arguments_core (under H.name_of self.now T.natives).setting (ToCurry pointer) [] args.now)
+            (arguments_core (under H.name_of self.now T.natives).setting (purpose_of pointer pos) [] args.now)
             (state_in (T.state table.old) run.old) result (state_in (T.state table.new) run.new) }
     {
         let made = lend_list(alloc, run);
         match self.run_more_args(alloc, run, table, made, args, false) {
-            Ok(values) => with_curried(alloc, pointer, values, pos),
+            Ok(values) => {
+                let called = self.use_pointer(alloc, run, table, pointer, values, pos);
+                self.run_out(alloc, run, table, called, true, pos)
+            }
             Err(error) => {
                 drop(pointer);
                 Err(error)
@@ -237,152 +294,8 @@ impl<'e, H: Host> Evaluator<'e, H> {
         }
     }
 
-    /// A pointer that is linked to no function.
-    #[cycle(eval)]
-    fn run_unlinked<T: NativeTable<H>>(
-        &self,
-        alloc: Global,
-        run: &mut Context<H>,
-        table: &mut T,
-        pointer: FnPtr<H>,
-        args: &[Expr],
-        captures: bool,
-        pos: Position,
-    ) -> Result<Dynamic<H>, EvalAltResult<H>>
-        requires { IsTrue (all_resolve_exprs (map tests_of args.now) (names run.old)) }
-        ensures counts { OnOk result (run.old.global.num_operations ≤ run.new.global.num_operations) }
-        ensures names { OnOk result (names run.new ≡ names run.old) }
-        ensures runs { StartsAs (under H.name_of self.now T.natives)
-            (unlinked_core (under H.name_of self.now T.natives).setting (out-FnPtr H pointer).kind pointer pos
-            args.now captures)
-            (state_in (T.state table.old) run.old) result (state_in (T.state table.new) run.new) }
-    {
-        let (name, curried, number) = parts_of(pointer);
-        match number {
-            Some(id) => self.run_number(alloc, run, table, id, curried, args, pos),
-            None => {
-                let (first, rest) = parted(args);
-                let name = name.get().as_str();
-                let alone = natives_alone(name);
-                self.run_named(
-                    alloc, run, table, name, None, curried, first, rest, captures, alone, pos,
-                )
-            }
-        }
-    }
-
-    /// A function that a pointer is linked to, with the values that the pointer has before its arguments, which
-    /// are kept as they are.
-    #[cycle(eval)]
-    fn run_linked<T: NativeTable<H>>(
-        &self,
-        alloc: Global,
-        run: &mut Context<H>,
-        table: &mut T,
-        function: Function<H>,
-        curried: Items<Dynamic<H>>,
-        args: &[Expr],
-        pos: Position,
-    ) -> Result<Dynamic<H>, EvalAltResult<H>>
-        requires { IsTrue (all_resolve_exprs (map tests_of args.now) (names run.old)) }
-        ensures counts { OnOk result (run.old.global.num_operations ≤ run.new.global.num_operations) }
-        ensures names { OnOk result (names run.new ≡ names run.old) }
-        ensures runs { StartsAs (under H.name_of self.now T.natives)
-            (arguments_core (under H.name_of self.now T.natives).setting
-            (ToCallFunction function pos curried) [] args.now)
-            (state_in (T.state table.old) run.old) result (state_in (T.state table.new) run.new) }
-    {
-        let made = lend_list(alloc, run);
-        match self.run_more_args(alloc, run, table, made, args, false) {
-            Ok(values) => {
-                let cells = &run.global.cells;
-                let called = call_function(alloc, cells, function, curried, values, pos);
-                self.run_out(alloc, run, table, called, true, pos)
-            }
-            Err(error) => {
-                drop(curried);
-                drop(function);
-                Err(error)
-            }
-        }
-    }
-
-    /// A native that is called by its number, with the values that a pointer has before its arguments.
-    #[cycle(eval)]
-    fn run_number<T: NativeTable<H>>(
-        &self,
-        alloc: Global,
-        run: &mut Context<H>,
-        table: &mut T,
-        id: NativeId,
-        curried: Items<Dynamic<H>>,
-        args: &[Expr],
-        pos: Position,
-    ) -> Result<Dynamic<H>, EvalAltResult<H>>
-        requires { IsTrue (all_resolve_exprs (map tests_of args.now) (names run.old)) }
-        ensures counts { OnOk result (run.old.global.num_operations ≤ run.new.global.num_operations) }
-        ensures names { OnOk result (names run.new ≡ names run.old) }
-        ensures runs { StartsAs (under H.name_of self.now T.natives)
-            (arguments_core (under H.name_of self.now T.natives).setting
-            (ToCallNumber id.number (operation_named (codes "call") pos) curried) [] args.now)
-            (state_in (T.state table.old) run.old) result (state_in (T.state table.new) run.new) }
-    {
-        let made = lend_list(alloc, run);
-        match self.run_more_args(alloc, run, table, made, args, false) {
-            Ok(values) => {
-                let limits = self.limits;
-                let global = &mut run.global;
-                call_number(
-                    limits, alloc, global, table, id, "call", curried, values, pos,
-                )
-            }
-            Err(error) => {
-                drop(curried);
-                Err(error)
-            }
-        }
-    }
-
-    /// A unary operator.
-    #[cycle(eval)]
-    fn run_unary<T: NativeTable<H>>(
-        &self,
-        alloc: Global,
-        run: &mut Context<H>,
-        table: &mut T,
-        call: &FnCallExpr,
-        token: Token,
-        operand: &Expr,
-        pos: Position,
-    ) -> Result<Dynamic<H>, EvalAltResult<H>>
-        requires token { call.now.op_token ≡ Some token }
-        requires args { call.now.args ≡ operand.now ∷ [] }
-        requires resolves { IsTrue (resolves_expr operand.now (names run.old)) }
-        requires fast { self.now.fast_operators ≡ true }
-        ensures counts { OnOk result (run.old.global.num_operations ≤ run.new.global.num_operations) }
-        ensures names { OnOk result (names run.new ≡ names run.old) }
-        ensures runs { Runs (under H.name_of self.now T.natives) (OpenExpr (layer.Expr::FnCall call.now pos))
-            (state_in (T.state table.old) run.old) result (state_in (T.state table.new) run.new) }
-    {
-        let value = self.run_arg(alloc, run, table, operand)?;
-        let value = flatten(alloc, &run.global.cells, value, operand.position())?;
-        let offered = self.offered();
-        let called = operate_one(
-            self.limits,
-            alloc,
-            &offered,
-            &mut run.global,
-            table,
-            call.name.get().as_str(),
-            token,
-            value,
-            pos,
-        );
-        self.run_out(alloc, run, table, called, true, pos)
-    }
-
-    /// A binary operator. On operands that stand a built-in is done in place; else they are evaluated, the left
-    /// one first.
+    /// A binary operator. On operands that stand a built-in is done in place; any others are evaluated, the
+    /// left one first.
     #[cycle(eval)]
     fn run_operator<T: NativeTable<H>>(
         &self,

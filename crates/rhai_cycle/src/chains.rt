@@ -40,7 +40,7 @@ fn ready_args<H: Host>(
     requires { IsGiven H ready }
     ensures given { IfOk result (λ args. IsReady (Some ready.entry) (Some args)) }
     ensures refused { IfErr result (λ error. is_out_of_memory error ≡ true) }
-    ensures run { run.new ≡ record run.old { spare = [] } }
+    ensures run { run.new ≡ run.old }
 {
     let mut made = lend_list(alloc, run);
     match ready {

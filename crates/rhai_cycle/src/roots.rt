@@ -130,8 +130,10 @@ impl<'e, H: Host> Evaluator<'e, H> {
         ensures runs { (scope : _) (focus : _) (in_place : _) →
             StartsAs (under H.name_of self.now T.natives)
             (this_root_core pos (chain_at root.now (out-Expr rest.now) args.old new in_place))
-            (state_of (T.state table.old) run.old.global scope (record { this = run.old.this; focus = focus })) result
-            (state_of (T.state table.new) run.new.global scope (record { this = run.new.this; focus = focus })) }
+            (state_of (T.state table.old) run.old.global scope
+            (record { this = run.old.this; focus = focus })) result
+            (state_of (T.state table.new) run.new.global scope
+            (record { this = run.new.this; focus = focus })) }
     {
         match replace(&mut run.this, None) {
             None => {
@@ -170,7 +172,8 @@ impl<'e, H: Host> Evaluator<'e, H> {
         ensures counts { run.old.global.num_operations ≤ run.new.global.num_operations }
         ensures scope { run.new.scope ≡ run.old.scope }
         ensures this { run.new.this ≡ run.old.this }
-        ensures runs { (scope : _) (held : _) (in_place : _) → RunsUnder (under H.name_of self.now T.natives) (Back value)
+        ensures runs { (scope : _) (held : _) (in_place : _) →
+            RunsUnder (under H.name_of self.now T.natives) (Back value)
             (RootValue (chain_at root.now (out-Expr rest.now) args.old None in_place))
             (state_of (T.state table.old) run.old.global scope held)
             result (state_of (T.state table.new) run.new.global scope held) }

@@ -1,6 +1,7 @@
-//! Calls whose arguments are there: by a name, with a variable that is read last or with `this`, of a function
-//! that a pointer is linked to, and by a native's number. Ports what upstream's `func/call.rs` does once it has the arguments. The contracts cite the
-//! machine's specs/language/Arguments.antt and the crate's own specs/.
+//! Calls whose arguments are there: by a name, with a variable that is read last or with `this`, of a
+//! function that a pointer is linked to, and by a native's number. Ports what upstream's `func/call.rs` does
+//! once it has the arguments. The contracts cite the machine's specs/language/Arguments.antt and the crate's
+//! own specs/.
 #![tactic(auto)]
 
 pub mod arguments;
@@ -54,7 +55,8 @@ fn call_curried<H: Host, T: NativeTable<H>>(
     ensures counts { global.old.num_operations ≤ global.new.num_operations }
     ensures runs { (offer : _) (scope : _) (held : _) (on_scope : _) → Offers offer offered.now →
         GoesOut (rules_of limits.now H.name_of offer T.natives)
-        (ToCall (record { name = name.now; token = token; at = pos }) curried (plainly natives_alone on_scope)) args
+        (ToCall (record { name = name.now; token = token; at = pos }) curried
+        (plainly natives_alone on_scope)) args
         (not on_scope) pos (state_of (T.state table.old) global.old scope held)
         result (state_of (T.state table.new) global.new scope held) }
 {
@@ -102,7 +104,8 @@ pub fn call_values<H: Host, T: NativeTable<H>>(
     ensures counts { global.old.num_operations ≤ global.new.num_operations }
     ensures runs { (offer : _) (scope : _) (held : _) (on_scope : _) → Offers offer offered.now →
         GoesOut (rules_of limits.now H.name_of offer T.natives)
-        (ToCall (record { name = name.now; token = token; at = pos }) curried (plainly natives_alone on_scope))
+        (ToCall (record { name = name.now; token = token; at = pos }) curried
+        (plainly natives_alone on_scope))
         args.old (not on_scope) pos (state_of (T.state table.old) global.old scope held)
         result (state_of (T.state table.new) global.new scope held) }
 {

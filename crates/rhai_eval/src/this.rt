@@ -18,7 +18,8 @@ pub(crate) fn take_with<H: Host>(
     scope: &mut Scope<H>,
     this: &mut Dynamic<H>,
 ) -> Context<H>
-    ensures run { result ≡ record { global = global.old; scope = scope.old; this = Some this.old; spare = [] } }
+    ensures run { result
+        ≡ record { global = global.old; scope = scope.old; this = Some this.old; spare = tt } }
     ensures search { global.new.always_search_scope ≡ global.old.always_search_scope }
 {
     let mut run = take(alloc, global, scope);

@@ -313,8 +313,8 @@ fn call_plain<H: Host, T: NativeTable<H>>(
     ensures counts { global.old.num_operations ≤ global.new.num_operations }
     ensures runs { (offer : _) (scope : _) (held : _) (first_at : _) → Offers offer offered.now →
         let rules = rules_of limits.now H.name_of offer T.natives in
-        CallsFrom rules pos (own_core rules.setting (record { name = name.now; at = pos; first_at = first_at })
-        args.old target.old)
+        CallsFrom rules pos (own_core rules.setting
+        (record { name = name.now; at = pos; first_at = first_at }) args.old target.old)
         (state_of (T.state table.old) global.old scope (lending held target.old))
         result (state_of (T.state table.new) global.new scope (lending held target.new)) }
 {

@@ -56,7 +56,8 @@ impl<'e, H: Host> Evaluator<'e, H> {
         ensures counts { run.old.global.num_operations ≤ run.new.global.num_operations }
         ensures scope { run.new.scope ≡ run.old.scope }
         ensures this { run.new.this ≡ run.old.this }
-        ensures runs { (scope : _) (held : _) (rest : _) (all : _) → args_behind (form_seen link.entry.form) all ≡ args.old →
+        ensures runs { (scope : _) (held : _) (rest : _) (all : _) →
+            args_behind (form_seen link.entry.form) all ≡ args.old →
             let rules = under H.name_of self.now T.natives in
             FollowsFrom rules (spot_core rules.setting (option_map out-Expr (option_copied link.entry.behind))
             (new_of new) (link_seen link.entry) index.now (chain_at root.now rest all new in_place)

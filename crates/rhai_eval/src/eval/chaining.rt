@@ -81,11 +81,11 @@ impl<H: Host> Engine<H> {
     /// # Errors
     /// Those of what the links ask for, and of the root: at a variable `ErrorVariableNotFound`, and
     /// `ErrorDataRace` where its cell is held; at `this` `ErrorUnboundThis` where there is none.
-    /// `ErrorTooManyOperations` at each charge that the limit refuses. At an index or a key those of `rhai_places::indexing::get_indexed_mut`; where no native
-    /// has a property or an item `ErrorDotExpr` and `ErrorIndexingType`; at a method those of
-    /// `make_method_call`. Of an assignment besides those of `eval_op_assignment`, with
-    /// `ErrorAssignmentToConstant` for a new key of a constant map, and at the operator
-    /// `ErrorDataTooLarge` for an item, a map or a part above a limit.
+    /// `ErrorTooManyOperations` at each charge that the limit refuses. At an index or a key those of
+    /// `rhai_places::indexing::get_indexed_mut`; where no native has a property or an item `ErrorDotExpr`
+    /// and `ErrorIndexingType`; at a method those of `make_method_call`. Of an assignment besides those of
+    /// `eval_op_assignment`, with `ErrorAssignmentToConstant` for a new key of a constant map, and at the
+    /// operator `ErrorDataTooLarge` for an item, a map or a part above a limit.
     pub fn eval_dot_index_chain<T: NativeTable<H>>(
         &self,
         alloc: Global,

@@ -66,7 +66,8 @@ impl<H: Host> Engine<H> {
     ) -> Result<Dynamic<H>, EvalAltResult<H>>
         requires resolves { IsTrue (resolves_call expr.now pos (names_in scope.old)) }
         requires plain { Plain self.now global.old }
-        ensures ends { EndsAs (under H.name_of self.now T.natives) (OpenExpr (layer.Expr::FnCall expr.now pos))
+        ensures ends { EndsAs (under H.name_of self.now T.natives)
+            (OpenExpr (layer.Expr::FnCall expr.now pos))
             (state_of (T.state table.old) global.old scope.old (holding (was this.entry))) result
             (state_of (T.state table.new) global.new scope.new (holding (left_by this.exit))) }
         ensures kept { Kept (under H.name_of self.now T.natives)

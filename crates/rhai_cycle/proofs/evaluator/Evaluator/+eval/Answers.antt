@@ -104,11 +104,26 @@ run_method-returns-in-Ok-enter_fresh-clause-runs = bodies.run_method-returns-in-
 pub run_method-returns-in-Err-enter_fresh-clause-runs : goal.run_method-returns-in-Err-enter_fresh-clause-runs
 run_method-returns-in-Err-enter_fresh-clause-runs = bodies.run_method-returns-in-Err-enter_fresh-clause-runs
 
-pub run_fn_call_expr-run_unary-requires : goal.run_fn_call_expr-run_unary-requires
-run_fn_call_expr-run_unary-requires = calls.run_fn_call_expr-run_unary-requires
+pub run_fn_call_expr-run_arg-requires : goal.run_fn_call_expr-run_arg-requires
+run_fn_call_expr-run_arg-requires = calls.run_fn_call_expr-run_arg-requires
 
 pub run_fn_call_expr-run_operator-requires : goal.run_fn_call_expr-run_operator-requires
 run_fn_call_expr-run_operator-requires = calls.run_fn_call_expr-run_operator-requires
+
+pub run_fn_call_expr-returns-in_err-value-in-Unary-clause-runs : goal.run_fn_call_expr-returns-in_err-value-in-Unary-clause-runs
+run_fn_call_expr-returns-in_err-value-in-Unary-clause-runs = calls.run_fn_call_expr-returns-in_err-value-in-Unary-clause-runs
+
+pub run_fn_call_expr-returns-in_err-value-in-Unary-2-clause-runs : goal.run_fn_call_expr-returns-in_err-value-in-Unary-2-clause-runs
+run_fn_call_expr-returns-in_err-value-in-Unary-2-clause-runs = calls.run_fn_call_expr-returns-in_err-value-in-Unary-2-clause-runs
+
+pub run_fn_call_expr-returns-in_ok-value-in-Unary-2-clause-runs : goal.run_fn_call_expr-returns-in_ok-value-in-Unary-2-clause-runs
+run_fn_call_expr-returns-in_ok-value-in-Unary-2-clause-runs = calls.run_fn_call_expr-returns-in_ok-value-in-Unary-2-clause-runs
+
+pub run_fn_call_expr-run_call-requires : goal.run_fn_call_expr-run_call-requires
+run_fn_call_expr-run_call-requires = calls.run_fn_call_expr-run_call-requires
+
+pub run_fn_call_expr-returns-in-Function-clause-runs : goal.run_fn_call_expr-returns-in-Function-clause-runs
+run_fn_call_expr-returns-in-Function-clause-runs = calls.run_fn_call_expr-returns-in-Function-clause-runs
 
 pub run_operator-returns-in-Some-clause-runs : goal.run_operator-returns-in-Some-clause-runs
 run_operator-returns-in-Some-clause-runs = calls.run_operator-returns-in-Some-clause-runs
@@ -119,14 +134,11 @@ run_arg-returns-in-Some-clause-runs = calls.run_arg-returns-in-Some-clause-runs
 pub run_arg-returns-in-None-clause-runs : goal.run_arg-returns-in-None-clause-runs
 run_arg-returns-in-None-clause-runs = calls.run_arg-returns-in-None-clause-runs
 
-pub run_unary-returns-in_err-value-clause-runs : goal.run_unary-returns-in_err-value-clause-runs
-run_unary-returns-in_err-value-clause-runs = calls.run_unary-returns-in_err-value-clause-runs
+pub run_operator-run_arg-requires : goal.run_operator-run_arg-requires
+run_operator-run_arg-requires = calls.run_operator-run_arg-requires
 
-pub run_unary-returns-in_err-value-2-clause-runs : goal.run_unary-returns-in_err-value-2-clause-runs
-run_unary-returns-in_err-value-2-clause-runs = calls.run_unary-returns-in_err-value-2-clause-runs
-
-pub run_unary-returns-clause-runs : goal.run_unary-returns-clause-runs
-run_unary-returns-clause-runs = calls.run_unary-returns-clause-runs
+pub run_operator-run_arg-requires-in-None : goal.run_operator-run_arg-requires-in-None
+run_operator-run_arg-requires-in-None = calls.run_operator-run_arg-requires-in-None
 
 pub run_operator-returns-in_err-first-in-None-clause-runs : goal.run_operator-returns-in_err-first-in-None-clause-runs
 run_operator-returns-in_err-first-in-None-clause-runs = calls.run_operator-returns-in_err-first-in-None-clause-runs
@@ -410,17 +422,8 @@ run_condition-returns-in_err-value-in-None-clause-runs = expressions.run_conditi
 pub run_condition-returns-in_ok-value-in-None-clause-runs : goal.run_condition-returns-in_ok-value-in-None-clause-runs
 run_condition-returns-in_ok-value-in-None-clause-runs = expressions.run_condition-returns-in_ok-value-in-None-clause-runs
 
-pub run_fn_call_expr-run_call-requires : goal.run_fn_call_expr-run_call-requires
-run_fn_call_expr-run_call-requires = functions.run_fn_call_expr-run_call-requires
-
-pub run_fn_call_expr-returns-in-Function-clause-runs : goal.run_fn_call_expr-returns-in-Function-clause-runs
-run_fn_call_expr-returns-in-Function-clause-runs = functions.run_fn_call_expr-returns-in-Function-clause-runs
-
 pub run_call-run_named-requires : goal.run_call-run_named-requires
 run_call-run_named-requires = functions.run_call-run_named-requires
-
-pub run_call-returns-in-None-clause-runs : goal.run_call-returns-in-None-clause-runs
-run_call-returns-in-None-clause-runs = functions.run_call-returns-in-None-clause-runs
 
 pub run_call-run_keyword-requires : goal.run_call-run_keyword-requires
 run_call-run_keyword-requires = functions.run_call-run_keyword-requires
@@ -428,155 +431,128 @@ run_call-run_keyword-requires = functions.run_call-run_keyword-requires
 pub run_call-run_named-requires-in-None-keyword_of : goal.run_call-run_named-requires-in-None-keyword_of
 run_call-run_named-requires-in-None-keyword_of = functions.run_call-run_named-requires-in-None-keyword_of
 
+pub run_call-returns-in-None-clause-runs : goal.run_call-returns-in-None-clause-runs
+run_call-returns-in-None-clause-runs = functions.run_call-returns-in-None-clause-runs
+
 pub run_call-returns-in-Some-keyword_of-clause-runs : goal.run_call-returns-in-Some-keyword_of-clause-runs
 run_call-returns-in-Some-keyword_of-clause-runs = functions.run_call-returns-in-Some-keyword_of-clause-runs
 
 pub run_call-returns-in-None-keyword_of-clause-runs : goal.run_call-returns-in-None-keyword_of-clause-runs
 run_call-returns-in-None-keyword_of-clause-runs = functions.run_call-returns-in-None-keyword_of-clause-runs
 
+pub run_keyword-run_pointer-requires : goal.run_keyword-run_pointer-requires
+run_keyword-run_pointer-requires = functions.run_keyword-run_pointer-requires
+
+pub run_keyword-run_pointer-requires-in-Ok-Some : goal.run_keyword-run_pointer-requires-in-Ok-Some
+run_keyword-run_pointer-requires-in-Ok-Some = functions.run_keyword-run_pointer-requires-in-Ok-Some
+
+pub run_keyword-run_pointer-requires-in-Some : goal.run_keyword-run_pointer-requires-in-Some
+run_keyword-run_pointer-requires-in-Some = functions.run_keyword-run_pointer-requires-in-Some
+
+pub run_keyword-run_named-requires : goal.run_keyword-run_named-requires
+run_keyword-run_named-requires = functions.run_keyword-run_named-requires
+
 pub run_keyword-returns-in_err-value-clause-runs : goal.run_keyword-returns-in_err-value-clause-runs
 run_keyword-returns-in_err-value-clause-runs = functions.run_keyword-returns-in_err-value-clause-runs
 
-pub run_keyword-run_word-requires : goal.run_keyword-run_word-requires
-run_keyword-run_word-requires = functions.run_keyword-run_word-requires
+pub run_keyword-returns-in-IsShared-clause-runs : goal.run_keyword-returns-in-IsShared-clause-runs
+run_keyword-returns-in-IsShared-clause-runs = functions.run_keyword-returns-in-IsShared-clause-runs
 
-pub run_keyword-returns-clause-runs : goal.run_keyword-returns-clause-runs
-run_keyword-returns-clause-runs = functions.run_keyword-returns-clause-runs
+pub run_keyword-returns-in_err-text-in-IsDefinedVariable-clause-runs : goal.run_keyword-returns-in_err-text-in-IsDefinedVariable-clause-runs
+run_keyword-returns-in_err-text-in-IsDefinedVariable-clause-runs = functions.run_keyword-returns-in_err-text-in-IsDefinedVariable-clause-runs
 
-pub run_word-returns-in-IsShared-clause-runs : goal.run_word-returns-in-IsShared-clause-runs
-run_word-returns-in-IsShared-clause-runs = functions.run_word-returns-in-IsShared-clause-runs
+pub run_keyword-returns-in_ok-text-in-IsDefinedVariable-clause-runs : goal.run_keyword-returns-in_ok-text-in-IsDefinedVariable-clause-runs
+run_keyword-returns-in_ok-text-in-IsDefinedVariable-clause-runs = functions.run_keyword-returns-in_ok-text-in-IsDefinedVariable-clause-runs
 
-pub run_word-returns-in_err-text-in-IsDefinedVariable-clause-runs : goal.run_word-returns-in_err-text-in-IsDefinedVariable-clause-runs
-run_word-returns-in_err-text-in-IsDefinedVariable-clause-runs = functions.run_word-returns-in_err-text-in-IsDefinedVariable-clause-runs
+pub run_keyword-returns-in_err-text-in-MakePointer-clause-runs : goal.run_keyword-returns-in_err-text-in-MakePointer-clause-runs
+run_keyword-returns-in_err-text-in-MakePointer-clause-runs = functions.run_keyword-returns-in_err-text-in-MakePointer-clause-runs
 
-pub run_word-returns-in_ok-text-in-IsDefinedVariable-clause-runs : goal.run_word-returns-in_ok-text-in-IsDefinedVariable-clause-runs
-run_word-returns-in_ok-text-in-IsDefinedVariable-clause-runs = functions.run_word-returns-in_ok-text-in-IsDefinedVariable-clause-runs
+pub run_keyword-returns-in_ok-text-in-MakePointer-clause-runs : goal.run_keyword-returns-in_ok-text-in-MakePointer-clause-runs
+run_keyword-returns-in_ok-text-in-MakePointer-clause-runs = functions.run_keyword-returns-in_ok-text-in-MakePointer-clause-runs
 
-pub run_word-returns-in_err-text-in-MakePointer-clause-runs : goal.run_word-returns-in_err-text-in-MakePointer-clause-runs
-run_word-returns-in_err-text-in-MakePointer-clause-runs = functions.run_word-returns-in_err-text-in-MakePointer-clause-runs
+pub run_keyword-returns-in_err-pointer-in-Curry-clause-runs : goal.run_keyword-returns-in_err-pointer-in-Curry-clause-runs
+run_keyword-returns-in_err-pointer-in-Curry-clause-runs = functions.run_keyword-returns-in_err-pointer-in-Curry-clause-runs
 
-pub run_word-returns-in_ok-text-in-MakePointer-clause-runs : goal.run_word-returns-in_ok-text-in-MakePointer-clause-runs
-run_word-returns-in_ok-text-in-MakePointer-clause-runs = functions.run_word-returns-in_ok-text-in-MakePointer-clause-runs
+pub run_keyword-returns-in_ok-pointer-in-Curry-clause-runs : goal.run_keyword-returns-in_ok-pointer-in-Curry-clause-runs
+run_keyword-returns-in_ok-pointer-in-Curry-clause-runs = functions.run_keyword-returns-in_ok-pointer-in-Curry-clause-runs
 
-pub run_word-returns-in_err-pointer-in-Curry-clause-runs : goal.run_word-returns-in_err-pointer-in-Curry-clause-runs
-run_word-returns-in_err-pointer-in-Curry-clause-runs = functions.run_word-returns-in_err-pointer-in-Curry-clause-runs
+pub run_keyword-returns-in_err-pointer-in-CallPointer-clause-runs : goal.run_keyword-returns-in_err-pointer-in-CallPointer-clause-runs
+run_keyword-returns-in_err-pointer-in-CallPointer-clause-runs = functions.run_keyword-returns-in_err-pointer-in-CallPointer-clause-runs
 
-pub run_word-returns-in_ok-pointer-in-Curry-clause-runs : goal.run_word-returns-in_ok-pointer-in-Curry-clause-runs
-run_word-returns-in_ok-pointer-in-Curry-clause-runs = functions.run_word-returns-in_ok-pointer-in-Curry-clause-runs
+pub run_keyword-returns-in-Ok-Some-clause-runs : goal.run_keyword-returns-in-Ok-Some-clause-runs
+run_keyword-returns-in-Ok-Some-clause-runs = functions.run_keyword-returns-in-Ok-Some-clause-runs
 
-pub run_word-returns-in_err-pointer-in-CallPointer-clause-runs : goal.run_word-returns-in_err-pointer-in-CallPointer-clause-runs
-run_word-returns-in_err-pointer-in-CallPointer-clause-runs = functions.run_word-returns-in_err-pointer-in-CallPointer-clause-runs
+pub run_keyword-returns-in-Some-clause-runs : goal.run_keyword-returns-in-Some-clause-runs
+run_keyword-returns-in-Some-clause-runs = functions.run_keyword-returns-in-Some-clause-runs
 
-pub run_word-returns-in-Ok-Some-clause-runs : goal.run_word-returns-in-Ok-Some-clause-runs
-run_word-returns-in-Ok-Some-clause-runs = functions.run_word-returns-in-Ok-Some-clause-runs
+pub run_keyword-returns-in-None-clause-runs : goal.run_keyword-returns-in-None-clause-runs
+run_keyword-returns-in-None-clause-runs = functions.run_keyword-returns-in-None-clause-runs
 
-pub run_word-returns-in-Ok-None-clause-runs : goal.run_word-returns-in-Ok-None-clause-runs
-run_word-returns-in-Ok-None-clause-runs = functions.run_word-returns-in-Ok-None-clause-runs
+pub run_keyword-returns-in-Err-clause-runs : goal.run_keyword-returns-in-Err-clause-runs
+run_keyword-returns-in-Err-clause-runs = functions.run_keyword-returns-in-Err-clause-runs
 
-pub run_word-returns-in-Err-clause-runs : goal.run_word-returns-in-Err-clause-runs
-run_word-returns-in-Err-clause-runs = functions.run_word-returns-in-Err-clause-runs
+pub run_pointer-run_more_args-requires : goal.run_pointer-run_more_args-requires
+run_pointer-run_more_args-requires = functions.run_pointer-run_more_args-requires
 
-pub run_curry-run_more_args-requires : goal.run_curry-run_more_args-requires
-run_curry-run_more_args-requires = functions.run_curry-run_more_args-requires
+pub run_pointer-returns-in-Err-clause-runs : goal.run_pointer-returns-in-Err-clause-runs
+run_pointer-returns-in-Err-clause-runs = functions.run_pointer-returns-in-Err-clause-runs
 
-pub run_curry-returns-in-Ok-clause-runs : goal.run_curry-returns-in-Ok-clause-runs
-run_curry-returns-in-Ok-clause-runs = functions.run_curry-returns-in-Ok-clause-runs
+pub run_pointer-returns-in-Ok-clause-runs : goal.run_pointer-returns-in-Ok-clause-runs
+run_pointer-returns-in-Ok-clause-runs = functions.run_pointer-returns-in-Ok-clause-runs
 
-pub run_curry-returns-in-Err-clause-runs : goal.run_curry-returns-in-Err-clause-runs
-run_curry-returns-in-Err-clause-runs = functions.run_curry-returns-in-Err-clause-runs
+pub run_named-run_more_args-requires : goal.run_named-run_more_args-requires
+run_named-run_more_args-requires = functions.run_named-run_more_args-requires
 
-pub run_unlinked-run_named-requires : goal.run_unlinked-run_named-requires
-run_unlinked-run_named-requires = functions.run_unlinked-run_named-requires
+pub run_named-run_more_args-requires-in-Some-first_variable : goal.run_named-run_more_args-requires-in-Some-first_variable
+run_named-run_more_args-requires-in-Some-first_variable = functions.run_named-run_more_args-requires-in-Some-first_variable
 
-pub run_unlinked-returns-clause-runs : goal.run_unlinked-returns-clause-runs
-run_unlinked-returns-clause-runs = functions.run_unlinked-returns-clause-runs
+pub run_named-call_with_variable-called-requires : goal.run_named-call_with_variable-called-requires
+run_named-call_with_variable-called-requires = functions.run_named-call_with_variable-called-requires
 
-pub run_unlinked-returns-in-Some-clause-runs : goal.run_unlinked-returns-in-Some-clause-runs
-run_unlinked-returns-in-Some-clause-runs = functions.run_unlinked-returns-in-Some-clause-runs
+pub run_named-returns-in_err-track_operation-clause-runs : goal.run_named-returns-in_err-track_operation-clause-runs
+run_named-returns-in_err-track_operation-clause-runs = functions.run_named-returns-in_err-track_operation-clause-runs
 
-pub run_linked-run_more_args-requires : goal.run_linked-run_more_args-requires
-run_linked-run_more_args-requires = functions.run_linked-run_more_args-requires
-
-pub run_linked-returns-in-Err-clause-runs : goal.run_linked-returns-in-Err-clause-runs
-run_linked-returns-in-Err-clause-runs = functions.run_linked-returns-in-Err-clause-runs
-
-pub run_linked-returns-in-Ok-clause-runs : goal.run_linked-returns-in-Ok-clause-runs
-run_linked-returns-in-Ok-clause-runs = functions.run_linked-returns-in-Ok-clause-runs
-
-pub run_number-run_more_args-requires : goal.run_number-run_more_args-requires
-run_number-run_more_args-requires = functions.run_number-run_more_args-requires
-
-pub run_number-returns-in-Err-clause-runs : goal.run_number-returns-in-Err-clause-runs
-run_number-returns-in-Err-clause-runs = functions.run_number-returns-in-Err-clause-runs
-
-pub run_number-returns-in-Ok-clause-runs : goal.run_number-returns-in-Ok-clause-runs
-run_number-returns-in-Ok-clause-runs = functions.run_number-returns-in-Ok-clause-runs
-
-pub run_named-run_on_this-requires : goal.run_named-run_on_this-requires
-run_named-run_on_this-requires = functions.run_named-run_on_this-requires
+pub run_named-returns-in_err-values-clause-runs : goal.run_named-returns-in_err-values-clause-runs
+run_named-returns-in_err-values-clause-runs = functions.run_named-returns-in_err-values-clause-runs
 
 pub run_named-returns-in-Some-clause-runs : goal.run_named-returns-in-Some-clause-runs
 run_named-returns-in-Some-clause-runs = functions.run_named-returns-in-Some-clause-runs
 
-pub run_named-run_on_variable-requires : goal.run_named-run_on_variable-requires
-run_named-run_on_variable-requires = functions.run_named-run_on_variable-requires
+pub run_named-returns-in_err-track_operation-in-Some-first_variable-clause-runs : goal.run_named-returns-in_err-track_operation-in-Some-first_variable-clause-runs
+run_named-returns-in_err-track_operation-in-Some-first_variable-clause-runs = functions.run_named-returns-in_err-track_operation-in-Some-first_variable-clause-runs
 
-pub run_named-returns-in-Some-first_variable-clause-runs : goal.run_named-returns-in-Some-first_variable-clause-runs
-run_named-returns-in-Some-first_variable-clause-runs = functions.run_named-returns-in-Some-first_variable-clause-runs
+pub run_named-returns-in_err-values-in-Some-first_variable-clause-runs : goal.run_named-returns-in_err-values-in-Some-first_variable-clause-runs
+run_named-returns-in_err-values-in-Some-first_variable-clause-runs = functions.run_named-returns-in_err-values-in-Some-first_variable-clause-runs
+
+pub run_named-returns-in_ok-values-in-Some-first_variable-clause-runs : goal.run_named-returns-in_ok-values-in-Some-first_variable-clause-runs
+run_named-returns-in_ok-values-in-Some-first_variable-clause-runs = functions.run_named-returns-in_ok-values-in-Some-first_variable-clause-runs
 
 pub run_named-returns-in-None-clause-runs : goal.run_named-returns-in-None-clause-runs
 run_named-returns-in-None-clause-runs = functions.run_named-returns-in-None-clause-runs
 
-pub run_on_variable-run_more_args-requires : goal.run_on_variable-run_more_args-requires
-run_on_variable-run_more_args-requires = functions.run_on_variable-run_more_args-requires
+pub run_on_values-run_arg-requires : goal.run_on_values-run_arg-requires
+run_on_values-run_arg-requires = functions.run_on_values-run_arg-requires
 
-pub run_on_variable-call_on_variable-called-requires : goal.run_on_variable-call_on_variable-called-requires
-run_on_variable-call_on_variable-called-requires = functions.run_on_variable-call_on_variable-called-requires
+pub run_on_values-run_more_args-requires : goal.run_on_values-run_more_args-requires
+run_on_values-run_more_args-requires = functions.run_on_values-run_more_args-requires
 
-pub run_on_variable-returns-in_err-track_operation-clause-runs : goal.run_on_variable-returns-in_err-track_operation-clause-runs
-run_on_variable-returns-in_err-track_operation-clause-runs = functions.run_on_variable-returns-in_err-track_operation-clause-runs
-
-pub run_on_variable-returns-in_err-values-clause-runs : goal.run_on_variable-returns-in_err-values-clause-runs
-run_on_variable-returns-in_err-values-clause-runs = functions.run_on_variable-returns-in_err-values-clause-runs
-
-pub run_on_variable-returns-clause-runs : goal.run_on_variable-returns-clause-runs
-run_on_variable-returns-clause-runs = functions.run_on_variable-returns-clause-runs
-
-pub run_on_this-run_more_args-requires : goal.run_on_this-run_more_args-requires
-run_on_this-run_more_args-requires = functions.run_on_this-run_more_args-requires
-
-pub run_on_this-returns-in_err-track_operation-clause-runs : goal.run_on_this-returns-in_err-track_operation-clause-runs
-run_on_this-returns-in_err-track_operation-clause-runs = functions.run_on_this-returns-in_err-track_operation-clause-runs
-
-pub run_on_this-returns-in_err-values-clause-runs : goal.run_on_this-returns-in_err-values-clause-runs
-run_on_this-returns-in_err-values-clause-runs = functions.run_on_this-returns-in_err-values-clause-runs
-
-pub run_on_this-returns-clause-runs : goal.run_on_this-returns-clause-runs
-run_on_this-returns-clause-runs = functions.run_on_this-returns-clause-runs
-
-pub run_on_values-returns-in-Ok-clause-runs : goal.run_on_values-returns-in-Ok-clause-runs
-run_on_values-returns-in-Ok-clause-runs = functions.run_on_values-returns-in-Ok-clause-runs
+pub run_on_values-returns-in-None-clause-runs : goal.run_on_values-returns-in-None-clause-runs
+run_on_values-returns-in-None-clause-runs = functions.run_on_values-returns-in-None-clause-runs
 
 pub run_on_values-returns-in-Err-clause-runs : goal.run_on_values-returns-in-Err-clause-runs
 run_on_values-returns-in-Err-clause-runs = functions.run_on_values-returns-in-Err-clause-runs
 
-pub run_args-run_next_arg-requires : goal.run_args-run_next_arg-requires
-run_args-run_next_arg-requires = functions.run_args-run_next_arg-requires
+pub run_on_values-returns-in-Err-take_argument-clause-runs : goal.run_on_values-returns-in-Err-take_argument-clause-runs
+run_on_values-returns-in-Err-take_argument-clause-runs = functions.run_on_values-returns-in-Err-take_argument-clause-runs
 
-pub run_args-run_more_args-requires : goal.run_args-run_more_args-requires
-run_args-run_more_args-requires = functions.run_args-run_more_args-requires
+pub run_on_values-returns-in-Err-run_more_args-clause-runs : goal.run_on_values-returns-in-Err-run_more_args-clause-runs
+run_on_values-returns-in-Err-run_more_args-clause-runs = functions.run_on_values-returns-in-Err-run_more_args-clause-runs
 
-pub run_args-returns-in-None-clause-collects : goal.run_args-returns-in-None-clause-collects
-run_args-returns-in-None-clause-collects = functions.run_args-returns-in-None-clause-collects
+pub run_on_values-returns-in-Ok-run_more_args-clause-runs : goal.run_on_values-returns-in-Ok-run_more_args-clause-runs
+run_on_values-returns-in-Ok-run_more_args-clause-runs = functions.run_on_values-returns-in-Ok-run_more_args-clause-runs
 
-pub run_args-returns-in-Ok-clause-collects : goal.run_args-returns-in-Ok-clause-collects
-run_args-returns-in-Ok-clause-collects = functions.run_args-returns-in-Ok-clause-collects
-
-pub run_args-returns-in-Err-clause-collects : goal.run_args-returns-in-Err-clause-collects
-run_args-returns-in-Err-clause-collects = functions.run_args-returns-in-Err-clause-collects
-
-pub run_more_args-run_next_arg-requires : goal.run_more_args-run_next_arg-requires
-run_more_args-run_next_arg-requires = functions.run_more_args-run_next_arg-requires
+pub run_more_args-run_arg-requires : goal.run_more_args-run_arg-requires
+run_more_args-run_arg-requires = functions.run_more_args-run_arg-requires
 
 pub run_more_args-each_arg-init : goal.run_more_args-each_arg-init
 run_more_args-each_arg-init = functions.run_more_args-each_arg-init
@@ -587,20 +563,14 @@ run_more_args-each_arg-preserved = functions.run_more_args-each_arg-preserved
 pub run_more_args-returns-in-Err-clause-collects : goal.run_more_args-returns-in-Err-clause-collects
 run_more_args-returns-in-Err-clause-collects = functions.run_more_args-returns-in-Err-clause-collects
 
+pub run_more_args-returns-in-Err-take_argument-clause-collects : goal.run_more_args-returns-in-Err-take_argument-clause-collects
+run_more_args-returns-in-Err-take_argument-clause-collects = functions.run_more_args-returns-in-Err-take_argument-clause-collects
+
 pub run_more_args-returns-clause-collects : goal.run_more_args-returns-clause-collects
 run_more_args-returns-clause-collects = functions.run_more_args-returns-clause-collects
 
 pub run_more_args-returns-clause-more : goal.run_more_args-returns-clause-more
 run_more_args-returns-clause-more = functions.run_more_args-returns-clause-more
-
-pub run_next_arg-returns-clause-more : goal.run_next_arg-returns-clause-more
-run_next_arg-returns-clause-more = functions.run_next_arg-returns-clause-more
-
-pub run_next_arg-returns-in_err-value-clause-takes : goal.run_next_arg-returns-in_err-value-clause-takes
-run_next_arg-returns-in_err-value-clause-takes = functions.run_next_arg-returns-in_err-value-clause-takes
-
-pub run_next_arg-returns-clause-takes : goal.run_next_arg-returns-clause-takes
-run_next_arg-returns-clause-takes = functions.run_next_arg-returns-clause-takes
 
 pub run_break-returns-in-None-clause-runs : goal.run_break-returns-in-None-clause-runs
 run_break-returns-in-None-clause-runs = leaving.run_break-returns-in-None-clause-runs

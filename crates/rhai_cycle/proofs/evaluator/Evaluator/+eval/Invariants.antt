@@ -52,9 +52,6 @@ decreases-run_stmt_block g l = measured l.self.now l.run.now 0 2
 abbrev pub decreases-run_var : goal.decreases-run_var
 decreases-run_var g l = measured l.self.now l.run.now 0 1
 
-abbrev pub decreases-run_unary : goal.decreases-run_unary
-decreases-run_unary g l = measured l.self.now l.run.now 0 5
-
 abbrev pub decreases-run_operator : goal.decreases-run_operator
 decreases-run_operator g l = measured l.self.now l.run.now 0 6
 
@@ -64,29 +61,17 @@ decreases-run_fn_call_expr g l = measured l.self.now l.run.now 0 14
 abbrev pub decreases-run_keyword : goal.decreases-run_keyword
 decreases-run_keyword g l = measured l.self.now l.run.now 0 10
 
-abbrev pub decreases-run_word : goal.decreases-run_word
-decreases-run_word g l = measured l.self.now l.run.now 0 9
-
-abbrev pub decreases-run_curry : goal.decreases-run_curry
-decreases-run_curry g l = measured l.self.now l.run.now 0 4
+abbrev pub decreases-run_pointer : goal.decreases-run_pointer
+decreases-run_pointer g l = measured l.self.now l.run.now 0 5
 
 abbrev pub decreases-run_named : goal.decreases-run_named
 decreases-run_named g l = measured l.self.now l.run.now 0 6
 
-abbrev pub decreases-run_args : goal.decreases-run_args
-decreases-run_args g l = measured l.self.now l.run.now 0 4
-
 abbrev pub decreases-run_call : goal.decreases-run_call
 decreases-run_call g l = measured l.self.now l.run.now 0 12
 
-abbrev pub decreases-run_number : goal.decreases-run_number
-decreases-run_number g l = measured l.self.now l.run.now 0 4
-
 abbrev pub decreases-run_more_args : goal.decreases-run_more_args
 decreases-run_more_args g l = measured l.self.now l.run.now 0 3
-
-abbrev pub decreases-run_next_arg : goal.decreases-run_next_arg
-decreases-run_next_arg g l = measured l.self.now l.run.now 0 2
 
 abbrev pub decreases-run_condition : goal.decreases-run_condition
 decreases-run_condition g l = measured l.self.now l.run.now 0 2
@@ -151,20 +136,8 @@ decreases-enter_fresh g l = measured l.self.now l.run.now 0 3
 abbrev pub decreases-enter_captured : goal.decreases-enter_captured
 decreases-enter_captured g l = measured l.self.now l.run.now 0 3
 
-abbrev pub decreases-run_on_variable : goal.decreases-run_on_variable
-decreases-run_on_variable g l = measured l.self.now l.run.now 0 5
-
-abbrev pub decreases-run_on_this : goal.decreases-run_on_this
-decreases-run_on_this g l = measured l.self.now l.run.now 0 5
-
 abbrev pub decreases-run_on_values : goal.decreases-run_on_values
 decreases-run_on_values g l = measured l.self.now l.run.now 0 5
-
-abbrev pub decreases-run_linked : goal.decreases-run_linked
-decreases-run_linked g l = measured l.self.now l.run.now 0 5
-
-abbrev pub decreases-run_unlinked : goal.decreases-run_unlinked
-decreases-run_unlinked g l = measured l.self.now l.run.now 0 7
 
 abbrev pub decreases-assign_to_this : goal.decreases-assign_to_this
 decreases-assign_to_this g l = measured l.self.now l.run.now 0 3

@@ -8,18 +8,19 @@ use Rattle.rhai_machine.specs.language.Runs.{Steps}
 use Rattle.rhai_steps.proofs.Pieces.{exits, step_by}
 use Rattle.rhai_cycle.specs.Calls.{StartsAs}
 use Rattle.rhai_cycle.specs.States.{names, offer_of, state_in, under}
-use Rattle.rhai_operands.proofs.Names.{operands_of_call, operands_resolve}
+use Rattle.rhai_operands.proofs.Names.{call_is_plain, operands_of_call, operands_resolve}
 use Rattle.rhai_operands.proofs.InPlace.{opens_binary}
 use Rattle.rhai_cycle.proofs.NameLemmas.{first_resolves}
+use Rattle.rhai_cycle.proofs.CallSteps.{begins_call}
 use Rattle.rhai_cycle.proofs.Chain.{flat_fails, opens_unary, still_none}
 use Rattle.rhai_cycle.proofs.evaluator.Evaluator.+eval.Goals as goal
 
-pub run_fn_call_expr-run_unary-requires : goal.run_fn_call_expr-run_unary-requires
-run_fn_call_expr-run_unary-requires g t c =
+pub run_fn_call_expr-run_arg-requires : goal.run_fn_call_expr-run_arg-requires
+run_fn_call_expr-run_arg-requires g t c =
     let form = rw c.in-Unary.is at c.form_of.ensures in
     let resolved = first_resolves c.args.call.now.args c.in-Unary.operand.now [] (names c.args.run.now) form.2
     (operands_of_call c.args.call.now c.args.pos (names c.args.run.now) c.requires.resolves) in
-    λ κs lives. (omega arith, (lives.0, (lives.1, (form.1, (form.2, (resolved.0, form.0))))))
+    λ κs lives. (omega arith, (lives.0, (lives.1, resolved.0)))
 
 pub run_fn_call_expr-run_operator-requires : goal.run_fn_call_expr-run_operator-requires
 run_fn_call_expr-run_operator-requires g t c =
@@ -27,6 +28,59 @@ run_fn_call_expr-run_operator-requires g t c =
     let resolved = operands_resolve c.args.call.now c.args.pos c.in-Binary.left.now c.in-Binary.right.now (names c.args.run.now) form.2
     c.requires.resolves in
     λ κs lives. (omega arith, (lives.0, (lives.1, (form.1, (form.2, (resolved.0, (resolved.1, form.0)))))))
+
+pub run_fn_call_expr-returns-in_err-value-in-Unary-clause-runs : goal.run_fn_call_expr-returns-in_err-value-in-Unary-clause-runs
+unfolding after Steps
+run_fn_call_expr-returns-in_err-value-in-Unary-clause-runs g t c =
+    let rules = under g.H.Host.name_of c.args.self.now g.T.NativeTable.natives in
+    let form = rw c.in-Unary.is at c.form_of.ensures in
+    exits rules _ _ _ _ _ c.from_residual.ensures (λ k.
+    opens_unary rules c.args.call.now c.in-Unary.token c.in-Unary.operand.now c.args.pos k _ form.0 form.1 form.2
+    ⨾ c.in_err-value-in-Unary.ensures.runs (UnaryOperand _ _ ∷ k) ⨾ next here)
+
+pub run_fn_call_expr-returns-in_err-value-in-Unary-2-clause-runs : goal.run_fn_call_expr-returns-in_err-value-in-Unary-2-clause-runs
+unfolding after Steps
+run_fn_call_expr-returns-in_err-value-in-Unary-2-clause-runs g t c =
+    let rules = under g.H.Host.name_of c.args.self.now g.T.NativeTable.natives in
+    let form = rw c.in-Unary.is at c.form_of.ensures in
+    exits rules _ _ _ _ _ c.from_residual-in_err-value-in-Unary-2.ensures (λ k.
+    opens_unary rules c.args.call.now c.in-Unary.token c.in-Unary.operand.now c.args.pos k _ form.0 form.1 form.2
+    ⨾ c.in_ok-value-in-Unary.ensures.runs (UnaryOperand _ _ ∷ k)
+    ⨾ flat_fails rules _ _ k _ _ (UnaryOperand _ _) refl (rw c.position.ensures at c.in_err-value-in-Unary-2.ensures.exact))
+
+pub run_fn_call_expr-returns-in_ok-value-in-Unary-2-clause-runs : goal.run_fn_call_expr-returns-in_ok-value-in-Unary-2-clause-runs
+unfolding after Steps StartsAs
+run_fn_call_expr-returns-in_ok-value-in-Unary-2-clause-runs g t c k =
+    let rules = under g.H.Host.name_of c.args.self.now g.T.NativeTable.natives in
+    let form = rw c.in-Unary.is at c.form_of.ensures in
+    opens_unary rules c.args.call.now c.in-Unary.token c.in-Unary.operand.now c.args.pos k _ form.0 form.1 form.2
+    ⨾ c.in_ok-value-in-Unary.ensures.runs (UnaryOperand _ _ ∷ k)
+    ⨾ next (rw (← c.position.ensures, ← (c.in_ok-value-in-Unary-2.ensures.exact tt))
+    ((rw (c.as_str.ensures, c.get.ensures) at (c.operate_one-called.ensures.runs (offer_of c.args.self.now) c.run_arg.new.run.scope
+    (holding c.run_arg.new.run.this) c.offered-offered.ensures)) k))
+    ⨾ c.run_out.ensures.runs k
+
+pub run_fn_call_expr-run_call-requires : goal.run_fn_call_expr-run_call-requires
+run_fn_call_expr-run_call-requires g t c =
+    λ κs lives. (
+      omega arith,
+      (
+        lives.0,
+        (
+          lives.1,
+          rw (← c.parted.ensures, c.as_slice.ensures)
+              (operands_of_call c.args.call.now c.args.pos (names c.args.run.now) c.requires.resolves),
+        ),
+      ),
+    )
+
+pub run_fn_call_expr-returns-in-Function-clause-runs : goal.run_fn_call_expr-returns-in-Function-clause-runs
+unfolding Steps StartsAs
+run_fn_call_expr-returns-in-Function-clause-runs g t c k =
+    let rules = under g.H.Host.name_of c.args.self.now g.T.NativeTable.natives in
+    let form = rw c.in-Function.is at c.form_of.ensures in
+    begins_call rules c.args.call.now c.args.pos k _ (call_is_plain c.args.call.now c.args.pos _ c.requires.resolves) form
+    ⨾ (rw (← c.parted.ensures, c.as_slice.ensures, c.as_str-name.ensures, c.get-in-Function.ensures) at c.run_call.ensures.runs) k
 
 pub run_operator-returns-in-Some-clause-runs : goal.run_operator-returns-in-Some-clause-runs
 run_operator-returns-in-Some-clause-runs g t c =
@@ -45,33 +99,16 @@ run_arg-returns-in-None-clause-runs g t c k =
     step_by rules _ _ (Go (core (Eval c.args.arg.now) k (state_in (g.T.NativeTable.state c.args.table.now) c.args.run.now).local))
     (rw none refl) (runs k)
 
-pub run_unary-returns-in_err-value-clause-runs : goal.run_unary-returns-in_err-value-clause-runs
-unfolding after Steps
-run_unary-returns-in_err-value-clause-runs g t c =
-    let rules = under g.H.Host.name_of c.args.self.now g.T.NativeTable.natives in
-    exits rules _ _ _ _ _ c.from_residual.ensures (λ k.
-    opens_unary rules c.args.call.now c.args.token c.args.operand.now c.args.pos k _ c.requires.fast c.requires.token c.requires.args
-    ⨾ c.in_err-value.ensures.runs (UnaryOperand _ _ ∷ k) ⨾ next here)
+pub run_operator-run_arg-requires : goal.run_operator-run_arg-requires
+run_operator-run_arg-requires g t c =
+    λ κs lives. (omega (arith, c.operate_in_place.ensures.counts), (lives.0, (lives.1, c.requires.resolves_left)))
 
-pub run_unary-returns-in_err-value-2-clause-runs : goal.run_unary-returns-in_err-value-2-clause-runs
-unfolding after Steps
-run_unary-returns-in_err-value-2-clause-runs g t c =
-    let rules = under g.H.Host.name_of c.args.self.now g.T.NativeTable.natives in
-    exits rules _ _ _ _ _ c.from_residual-in_err-value-2.ensures (λ k.
-    opens_unary rules c.args.call.now c.args.token c.args.operand.now c.args.pos k _ c.requires.fast c.requires.token c.requires.args
-    ⨾ c.in_ok-value.ensures.runs (UnaryOperand _ _ ∷ k)
-    ⨾ flat_fails rules _ _ k _ _ (UnaryOperand _ _) refl (rw c.position.ensures at c.in_err-value-2.ensures.exact))
-
-pub run_unary-returns-clause-runs : goal.run_unary-returns-clause-runs
-unfolding after Steps StartsAs
-run_unary-returns-clause-runs g t c k =
-    let rules = under g.H.Host.name_of c.args.self.now g.T.NativeTable.natives in
-    opens_unary rules c.args.call.now c.args.token c.args.operand.now c.args.pos k _ c.requires.fast c.requires.token c.requires.args
-    ⨾ c.in_ok-value.ensures.runs (UnaryOperand _ _ ∷ k)
-    ⨾ next (rw (← c.position.ensures, ← (c.in_ok-value-2.ensures.exact tt))
-    ((rw (c.as_str.ensures, c.get.ensures) at (c.operate_one-called.ensures.runs (offer_of c.args.self.now) c.run_arg.new.run.scope
-    (holding c.run_arg.new.run.this) c.offered-offered.ensures)) k))
-    ⨾ c.run_out.ensures.runs k
+pub run_operator-run_arg-requires-in-None : goal.run_operator-run_arg-requires-in-None
+run_operator-run_arg-requires-in-None g t c =
+    λ κs lives. (
+      omega (arith, c.operate_in_place.ensures.counts, c.in_ok-first-in-None.ensures.charges),
+      (lives.0, (lives.1, rw c.in_ok-first-in-None.ensures.names c.requires.resolves_right)),
+    )
 
 pub run_operator-returns-in_err-first-in-None-clause-runs : goal.run_operator-returns-in_err-first-in-None-clause-runs
 unfolding after Steps

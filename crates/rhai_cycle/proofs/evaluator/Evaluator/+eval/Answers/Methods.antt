@@ -1,4 +1,4 @@
-use Rattle.std.proofs.Common.{ap, Some, false, arith}
+use Rattle.std.proofs.Common.{ap, false, arith}
 use Rattle.std.specs.Option.{option_copied, option_map}
 use Rattle.rhai_tree.specs.declared.expr.Expr.{out-Expr}
 use Rattle.rhai_cycle.specs.States.{under}

@@ -1,0 +1,72 @@
+//! Lists for the arguments of calls.
+
+ghost use Rattle.std.specs.Prelude.{◌≡◌, []};
+
+use rhai_items::Items;
+use rhai_values::base::value::Dynamic;
+use std::alloc::Global;
+use std::marker::Model;
+use std::mem::replace;
+
+/// Lists that calls collect their arguments in, with the room that they have, so that most calls take no
+/// memory for one: a call that others are nested in keeps its own meanwhile. They hold nothing between calls,
+/// so contracts see nothing of them.
+#[derive(Drop)]
+pub struct Spare<H> {
+    /// The one that a run has without asking for memory.
+    first: Option<Items<Dynamic<H>>>,
+    more: Vec<Items<Dynamic<H>>>,
+}
+
+impl<H> Model for Spare<H> {
+    ghost Value = { Unit {0} };
+
+    ghost view = { λ spare. tt };
+}
+
+impl<H: Drop> Spare<H> {
+    /// One list. It takes no memory.
+    pub fn new(alloc: Global, first: Items<Dynamic<H>>) -> Spare<H> {
+        Spare {
+            first: Some(first),
+            more: Vec::new(alloc),
+        }
+    }
+
+    /// A list, empty: the one that was kept last, or a new one without room.
+    pub fn lend(&mut self, alloc: Global) -> Items<Dynamic<H>>
+        ensures list { result ≡ [] }
+        ensures same { self.new ≡ self.old }
+    {
+        let mut list = match self.more.pop() {
+            Some(list) => list,
+            None => match replace(&mut self.first, None) {
+                Some(list) => list,
+                None => Items::new(alloc),
+            },
+        };
+        list.truncate(0);
+        list
+    }
+
+    /// Keeps a list with the room that it has, without what it holds. Where there is no memory to keep it, it
+    /// is let go of.
+    pub fn keep(&mut self, list: Items<Dynamic<H>>)
+        ensures { self.new ≡ self.old }
+    {
+        let mut kept = list;
+        kept.truncate(0);
+        if self.first.is_none() {
+            drop(replace(&mut self.first, Some(kept)));
+        } else {
+            drop(self.more.push(kept));
+        }
+    }
+
+    /// One of the lists, if it has any.
+    pub fn into_first(self) -> Option<Items<Dynamic<H>>> {
+        let Spare { first, more } = self;
+        drop(more);
+        first
+    }
+}

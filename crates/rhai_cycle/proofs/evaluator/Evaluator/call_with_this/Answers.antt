@@ -1,0 +1,9 @@
+use Rattle.std.proofs.Common.{None, false}
+use Rattle.rhai_dispatch.specs.Going.{GoesOut}
+use Rattle.rhai_cycle.specs.States.{offer_of}
+use Rattle.rhai_cycle.proofs.evaluator.Evaluator.call_with_this.Goals as goal
+
+pub returns-clause-runs : goal.returns-clause-runs
+unfolding GoesOut
+returns-clause-runs g c k =
+    rw c.keep_list.ensures (c.call_on_this-called.ensures.runs (offer_of c.args.self.now) c.args.run.now.scope None false c.offered-offered.ensures k)
