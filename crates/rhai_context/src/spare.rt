@@ -8,6 +8,9 @@ use std::alloc::Global;
 use std::marker::Model;
 use std::mem::replace;
 
+/// How many lists are kept at most: as many as there are call levels by default.
+const MOST_KEPT: usize = 64;
+
 /// Lists that calls collect their arguments in, with the room that they have, so that most calls take no
 /// memory for one: a call that others are nested in keeps its own meanwhile. They hold nothing between calls,
 /// so contracts see nothing of them.
@@ -49,13 +52,17 @@ impl<H: Drop> Spare<H> {
         list
     }
 
-    /// Keeps a list with the room that it has, without what it holds. Where there is no memory to keep it, it
-    /// is let go of.
+    /// Keeps a list with the room that it has, without what it holds. One without room is let go of, and so
+    /// is any where enough are kept or there is no memory to keep it.
     pub fn keep(&mut self, list: Items<Dynamic<H>>)
         ensures { self.new ≡ self.old }
     {
-        let mut kept = list;
+        let mut kept = list.into_vec();
         kept.truncate(0);
+        if kept.capacity() == 0 || self.more.len() >= MOST_KEPT {
+            return;
+        }
+        let kept = Items::from_vec(kept);
         if self.first.is_none() {
             drop(replace(&mut self.first, Some(kept)));
         } else {
