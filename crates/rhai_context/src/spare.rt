@@ -8,7 +8,7 @@ use std::alloc::Global;
 use std::marker::Model;
 use std::mem::replace;
 
-/// How many lists are kept at most: as many as there are call levels by default.
+/// How many lists are kept at most besides the first: as many as there are call levels by default.
 const MOST_KEPT: usize = 64;
 
 /// Lists that calls collect their arguments in, with the room that they have, so that most calls take no

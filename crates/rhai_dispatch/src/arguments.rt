@@ -26,7 +26,8 @@ pub fn take_argument<H: Host>(
     flattened: bool,
     pos: Position,
 ) -> Result<(), EvalAltResult<H>>
-    ensures kept { OnOk result (HasKept (taken_as flattened (cells_of cells.now) value pos) made.old made.new) }
+    ensures kept { OnOk result
+        (HasKept (taken_as flattened (cells_of cells.now) value pos) made.old made.new) }
     ensures refused { IfErr result (λ e. is_out_of_memory e ≡ false →
         taken_as flattened (cells_of cells.now) value pos ≡ Err e) }
 {

@@ -26,7 +26,8 @@ impl Flags for ASTFlags {
 
     ghost exact = { ⊤ };
 
-    ghost table = { (codes "NEGATED", 1) ∷ (codes "BREAK", 2) ∷ (codes "CONSTANT", 4) ∷ (codes "EXPORTED", 8) ∷ [] };
+    ghost table = { (codes "NEGATED", 1) ∷ (codes "BREAK", 2) ∷ (codes "CONSTANT", 4) ∷
+        (codes "EXPORTED", 8) ∷ [] };
 
     ghost set_of = { λ p. p.0 };
 

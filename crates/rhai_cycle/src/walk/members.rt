@@ -50,7 +50,8 @@ impl<'e, H: Host> Evaluator<'e, H> {
             args_behind (form_seen link.entry.form) all ≡ args.old →
             let rules = under H.name_of self.now T.natives in
             FollowsFrom rules (member_core rules.setting
-            (option_map out-Expr (option_copied link.entry.behind)) (new_of new) (link_seen link.entry) (access_of access.entry)
+            (option_map out-Expr (option_copied link.entry.behind)) (new_of new)
+            (link_seen link.entry) (access_of access.entry)
             (chain_at root.now rest all new in_place))
             (state_of (T.state table.old) run.old.global scope (lending held source.old))
             result (state_of (T.state table.new) run.new.global scope (lending held source.new)) }
