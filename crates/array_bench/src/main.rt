@@ -5,11 +5,9 @@
 
 use rhai_bench::command::WRONG_ARGUMENTS;
 use rhai_bench::rows::data::long_array;
-use rhai_bench::settings::Way;
-use rhai_bench::timing::{first_number, print_speed, write_outcome};
+use rhai_bench::timing::{first_number, time_run};
 use std::io;
 use std::process::ExitCode;
-use std::time::Instant;
 
 /// How many literals the first array has without an argument.
 const USUAL_LENGTH: u32 = 100_000;
@@ -24,15 +22,8 @@ fn main(rt: HostRuntime) -> io::Result<ExitCode> {
     Ok(ExitCode::SUCCESS)
 }
 
-/// Makes an array of so many literals, and prints how that went.
-fn make_array(rt: &HostRuntime, length: u32, what: &str) -> io::Result<()> {
+/// Makes an array of so many literals, and prints how that went. Answers how many operations it charged.
+fn make_array(rt: &HostRuntime, length: u32, what: &str) -> io::Result<u64> {
     let script = long_array(rt.alloc(), length)?;
-    let begun = Instant::now(rt)?;
-    let outcome = script.run(rt.alloc(), Way::USUAL)?;
-    let run = begun.elapsed(rt)?;
-    let count = outcome.num_operations;
-    let wrote = write_outcome(&mut io::writer(rt), &outcome);
-    drop(outcome);
-    wrote?;
-    print_speed(rt, what, count, run)
+    time_run(rt, what, script)
 }

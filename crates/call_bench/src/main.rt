@@ -5,12 +5,9 @@
 
 use rhai_bench::command::WRONG_ARGUMENTS;
 use rhai_bench::rows::loops::{called_in_turn, called_in_turn_with_two};
-use rhai_bench::script::Script;
-use rhai_bench::settings::Way;
-use rhai_bench::timing::{first_number, print_speed, write_outcome};
+use rhai_bench::timing::{first_number, time_run};
 use std::io;
 use std::process::ExitCode;
-use std::time::Instant;
 
 /// How many calls are made without an argument.
 const USUAL_CALLS: u32 = 1_000_000;
@@ -25,16 +22,4 @@ fn main(rt: HostRuntime) -> io::Result<ExitCode> {
     let two = called_in_turn_with_two(rt.alloc(), i64::from(calls))?;
     time_run(&rt, "two arguments", two)?;
     Ok(ExitCode::SUCCESS)
-}
-
-/// Runs a script and prints how it ended.
-fn time_run(rt: &HostRuntime, what: &str, script: Script) -> io::Result<()> {
-    let begun = Instant::now(rt)?;
-    let outcome = script.run(rt.alloc(), Way::USUAL)?;
-    let run = begun.elapsed(rt)?;
-    let count = outcome.num_operations;
-    let wrote = write_outcome(&mut io::writer(rt), &outcome);
-    drop(outcome);
-    wrote?;
-    print_speed(rt, what, count, run)
 }

@@ -5,11 +5,9 @@
 
 use rhai_bench::command::WRONG_ARGUMENTS;
 use rhai_bench::rows::chains::item_increased_in_turn;
-use rhai_bench::settings::Way;
-use rhai_bench::timing::{first_number, print_speed, write_outcome};
+use rhai_bench::timing::{first_number, time_run};
 use std::io;
 use std::process::ExitCode;
-use std::time::Instant;
 
 /// How many turns a loop has without an argument.
 const USUAL_TURNS: u32 = 1_000_000;
@@ -24,15 +22,8 @@ fn main(rt: HostRuntime) -> io::Result<ExitCode> {
     Ok(ExitCode::SUCCESS)
 }
 
-/// Increases the last of so many items, and prints how that went.
-fn increase_item(rt: &HostRuntime, length: u32, turns: u32, what: &str) -> io::Result<()> {
+/// Increases the last of so many items, and prints how that went. Answers how many operations it charged.
+fn increase_item(rt: &HostRuntime, length: u32, turns: u32, what: &str) -> io::Result<u64> {
     let script = item_increased_in_turn(rt.alloc(), length, i64::from(turns))?;
-    let begun = Instant::now(rt)?;
-    let outcome = script.run(rt.alloc(), Way::USUAL)?;
-    let run = begun.elapsed(rt)?;
-    let count = outcome.num_operations;
-    let wrote = write_outcome(&mut io::writer(rt), &outcome);
-    drop(outcome);
-    wrote?;
-    print_speed(rt, what, count, run)
+    time_run(rt, what, script)
 }

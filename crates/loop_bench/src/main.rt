@@ -5,8 +5,7 @@
 
 use rhai_bench::command::WRONG_ARGUMENTS;
 use rhai_bench::rows::loops::counted_down;
-use rhai_bench::settings::Way;
-use rhai_bench::timing::{first_number, print_speed, write_outcome};
+use rhai_bench::timing::{first_number, print_speed, time_run};
 use std::io;
 use std::process::ExitCode;
 use std::time::Instant;
@@ -21,14 +20,7 @@ fn main(rt: HostRuntime) -> io::Result<ExitCode> {
     };
     let start = Instant::now(&rt)?;
     let script = counted_down(rt.alloc(), i64::from(turns))?;
-    let begun = Instant::now(&rt)?;
-    let outcome = script.run(rt.alloc(), Way::USUAL)?;
-    let run = begun.elapsed(&rt)?;
-    let count = outcome.num_operations;
-    let wrote = write_outcome(&mut io::writer(&rt), &outcome);
-    drop(outcome);
-    wrote?;
-    print_speed(&rt, "the run", count, run)?;
+    let count = time_run(&rt, "the run", script)?;
     print_speed(&rt, "the whole", count, start.elapsed(&rt)?)?;
     Ok(ExitCode::SUCCESS)
 }

@@ -6,9 +6,11 @@ ghost use Rattle.std.specs.Duration.{as_nanos};
 
 use crate::outcome::Outcome;
 use crate::print::write_line;
+use crate::script::Script;
+use crate::settings::Way;
 use std::io::Write;
-use std::rt::Env;
-use std::time::Duration;
+use std::rt::{Clock, Env};
+use std::time::{Duration, Instant};
 use std::{env, io};
 
 /// The number of the first argument, the usual one without an argument, None for what is no number.
@@ -19,8 +21,26 @@ pub fn first_number<R: Env + AllocGlobal>(rt: &R, usual: u32) -> io::Result<Opti
     }
 }
 
+/// Runs a script the usual way. Prints how it ended and how many operations it charged, and on standard error
+/// how many of them a second had; answers how many they were.
+pub fn time_run<R: AllocGlobal + Clock + Print + Eprint>(
+    rt: &R,
+    what: &str,
+    script: Script,
+) -> io::Result<u64> {
+    let begun = Instant::now(rt)?;
+    let outcome = script.run(rt.alloc(), Way::USUAL)?;
+    let run = begun.elapsed(rt)?;
+    let count = outcome.num_operations;
+    let wrote = write_outcome(&mut io::writer(rt), &outcome);
+    drop(outcome);
+    wrote?;
+    print_speed(rt, what, count, run)?;
+    Ok(count)
+}
+
 /// Writes how a script ended, and how many operations it charged.
-pub fn write_outcome<W: Write>(out: &mut W, outcome: &Outcome) -> io::Result<()> {
+fn write_outcome<W: Write>(out: &mut W, outcome: &Outcome) -> io::Result<()> {
     write_line(out, &outcome.ending)?;
     writeln!(out, "{} charges", outcome.num_operations)
 }
