@@ -11,6 +11,7 @@ pub mod data;
 pub mod functions;
 pub mod loops;
 mod operators;
+pub mod order;
 mod variables;
 
 /// The scripts of a row in their order, None where no row has the number. A number is written in
@@ -123,6 +124,14 @@ impl Row {
     fn add_without_fast_operators(&mut self, tree: Result<Items<Stmt>, AllocError>) {
         match tree {
             Ok(statements) => self.push(Script::without_fast_operators(self.alloc, statements)),
+            Err(AllocError) => self.has_memory = false,
+        }
+    }
+
+    /// Adds a script whose variables may not hide others.
+    fn add_without_shadowing(&mut self, tree: Result<Items<Stmt>, AllocError>) {
+        match tree {
+            Ok(statements) => self.push(Script::without_shadowing(self.alloc, statements)),
             Err(AllocError) => self.has_memory = false,
         }
     }

@@ -87,6 +87,15 @@ impl Script {
         Script::with_settings(alloc, statements, Settings::without_fast_operators())
     }
 
+    /// A script without functions, whose variables may not hide others.
+    pub fn without_shadowing(alloc: Global, statements: Items<Stmt>) -> Script
+        ensures statements { result.statements ≡ statements }
+        ensures functions { result.functions ≡ [] }
+        ensures settings { result.settings ≡ record usual { allow_shadowing = false } }
+    {
+        Script::with_settings(alloc, statements, Settings::without_shadowing())
+    }
+
     /// A script with functions, under the usual settings.
     pub fn of_parts(parts: TreeParts) -> Script
         ensures statements { result.statements ≡ parts.statements }

@@ -73,6 +73,15 @@ impl Settings {
         settings
     }
 
+    /// The usual settings, but variables may not hide others.
+    pub fn without_shadowing() -> Settings
+        ensures { result ≡ record usual { allow_shadowing = false } }
+    {
+        let mut settings = Settings::USUAL;
+        settings.allow_shadowing = false;
+        settings
+    }
+
     /// An engine with these limits and switches, without modules.
     pub fn engine(&self, alloc: Global) -> Engine<Pair>
         ensures limits { result.limits ≡ self.now.limits }

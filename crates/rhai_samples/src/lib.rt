@@ -7,6 +7,7 @@ pub mod data;
 pub mod functions;
 pub mod loops;
 pub mod operators;
+pub mod order;
 pub mod pairs;
 pub mod refused;
 pub mod variables;

@@ -5,6 +5,7 @@ use rhai_bench::print::{write_ending, write_value};
 use rhai_bench::rows::chains::left_in_place;
 use rhai_bench::rows::functions::in_no_row;
 use rhai_bench::rows::loops::{endless, outside_of_loops};
+use rhai_bench::rows::order::evaluated_in_order;
 use rhai_bench::rows::scripts;
 use rhai_bench::script::Script;
 use rhai_bench::settings::Way;
@@ -21,6 +22,7 @@ fn scripts_of(alloc: Global, list: &str) -> Result<Option<Items<Script>>, AllocE
         "outside" => outside_of_loops(alloc),
         "kept" => left_in_place(alloc),
         "calls" => in_no_row(alloc),
+        "order" => evaluated_in_order(alloc),
         row => return scripts(alloc, row),
     };
     scripts.map(Some)
