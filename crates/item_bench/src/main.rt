@@ -22,8 +22,9 @@ fn main(rt: HostRuntime) -> io::Result<ExitCode> {
     Ok(ExitCode::SUCCESS)
 }
 
-/// Increases the last of so many items, and prints how that went. Answers how many operations it charged.
-fn increase_item(rt: &HostRuntime, length: u32, turns: u32, what: &str) -> io::Result<u64> {
+/// Increases the last of so many items, and prints how that went.
+fn increase_item(rt: &HostRuntime, length: u32, turns: u32, what: &str) -> io::Result<()> {
     let script = item_increased_in_turn(rt.alloc(), length, i64::from(turns))?;
-    time_run(rt, what, script)
+    time_run(rt, what, script)?;
+    Ok(())
 }
