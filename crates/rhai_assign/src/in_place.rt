@@ -4,8 +4,8 @@
 ghost use Rattle.std.specs.Prelude.{◌≡◌, IsTrue, IfSome, Some, None, Ok, is_some, true, false};
 ghost use Rattle.rhai_tree.specs.declared.expr.Expr.{out-Expr};
 ghost use Rattle.rhai_tree.specs.declared.expr.Expr.TheOpen as layer;
-ghost use Rattle.rhai_check.specs.Frame.{tests_of, target_resolves, resolves_expr};
-ghost use Rattle.rhai_check.specs.Names.{is_good};
+ghost use Rattle.rhai_checked.specs.Frame.{tests_of, target_resolves, resolves_expr};
+ghost use Rattle.rhai_checked.specs.Names.{is_good};
 ghost use Rattle.rhai_values.specs.Cells.{cells_of};
 ghost use Rattle.rhai_state.specs.Scope.{entries_of, names_in};
 ghost use Rattle.rhai_machine.specs.language.Frames.{OpenStmt};

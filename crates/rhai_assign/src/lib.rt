@@ -14,7 +14,7 @@ mod update;
 mod write;
 
 ghost use Rattle.std.specs.Prelude.{◌≡◌, ◌≤◌, IsTrue, true};
-ghost use Rattle.rhai_check.specs.Names.{is_good};
+ghost use Rattle.rhai_checked.specs.Names.{is_good};
 ghost use Rattle.rhai_state.specs.Scope.{names_in};
 ghost use Rattle.rhai_machine.specs.language.Setting.{rules_of};
 ghost use Rattle.rhai_machine.specs.language.Frames.{Assign};

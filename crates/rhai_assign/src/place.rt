@@ -2,7 +2,7 @@
 //! written there.
 
 ghost use Rattle.std.specs.Prelude.{◌≡◌, ◌||◌, Some, IsTrue, false, true};
-ghost use Rattle.rhai_check.specs.Names.{is_good};
+ghost use Rattle.rhai_checked.specs.Names.{is_good};
 ghost use Rattle.rhai_values.specs.Cells.{cells_of, value_of_cell};
 ghost use Rattle.rhai_state.specs.Scope.{entries_of, names_in};
 ghost use Rattle.rhai_machine.specs.language.Values.{unit_value as unit};

@@ -3,9 +3,10 @@
 ghost use Rattle.std.specs.Prelude.{◌≡◌};
 ghost use Rattle.rhai_bench.specs.Outcome.{status_of};
 
-use rhai_eval::base::{Dynamic, EvalAltResult, Scope};
+use rhai_eval::base::{EvalAltResult, Scope};
 use rhai_eval::check::CheckFault;
 use rhai_tables::host::Pair;
+use rhai_values::base::value::Dynamic;
 
 /// How a script ended.
 #[derive(Drop)]

@@ -1,5 +1,4 @@
-//! The work of the programs that time a script: the argument that says how long it is, and what they
-//! print.
+//! The timing of a script, and what is printed of it.
 
 ghost use Rattle.std.specs.Prelude.{◌≡◌, ◌*◌, ◌/◌, ◌↔◌, IsNone, IfSome};
 ghost use Rattle.std.specs.Duration.{as_nanos};
@@ -8,26 +7,18 @@ use crate::outcome::Outcome;
 use crate::print::write_line;
 use crate::script::Script;
 use crate::settings::Way;
+use std::io;
 use std::io::Write;
-use std::rt::{Clock, Env};
+use std::rt::Clock;
 use std::time::{Duration, Instant};
-use std::{env, io};
-
-/// The number of the first argument, the usual one without an argument, None for what is no number.
-pub fn first_number<R: Env + AllocGlobal>(rt: &R, usual: u32) -> io::Result<Option<u32>> {
-    match env::args(rt)?.nth(1) {
-        Some(word) => Ok(word.parse::<u32>().ok()),
-        None => Ok(Some(usual)),
-    }
-}
 
 /// Runs a script the usual way. Prints how it ended and how many operations it charged, and on standard error
-/// how many of them a second had; answers how many they were.
+/// how many of them a second had.
 pub fn time_run<R: AllocGlobal + Clock + Print + Eprint>(
     rt: &R,
     what: &str,
     script: Script,
-) -> io::Result<u64> {
+) -> io::Result<()> {
     let begun = Instant::now(rt)?;
     let outcome = script.run(rt.alloc(), Way::USUAL)?;
     let run = begun.elapsed(rt)?;
@@ -35,8 +26,7 @@ pub fn time_run<R: AllocGlobal + Clock + Print + Eprint>(
     let wrote = write_outcome(&mut io::writer(rt), &outcome);
     drop(outcome);
     wrote?;
-    print_speed(rt, what, count, run)?;
-    Ok(count)
+    print_speed(rt, what, count, run)
 }
 
 /// Writes how a script ended, and how many operations it charged.
@@ -46,7 +36,7 @@ fn write_outcome<W: Write>(out: &mut W, outcome: &Outcome) -> io::Result<()> {
 }
 
 /// Prints on standard error how many charges a second had, and nothing where no time has passed.
-pub fn print_speed<R: Eprint>(rt: &R, what: &str, count: u64, elapsed: Duration) -> io::Result<()> {
+fn print_speed<R: Eprint>(rt: &R, what: &str, count: u64, elapsed: Duration) -> io::Result<()> {
     match per_second(count, elapsed) {
         Some(speed) => eprintln!(rt; "{what}: {speed} charges a second"),
         None => Ok(()),

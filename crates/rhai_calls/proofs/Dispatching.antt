@@ -15,10 +15,10 @@ use Rattle.rhai_machine.specs.language.Setting.{Setting, Rules}
 use Rattle.rhai_machine.specs.language.State.{State, Local}
 use Rattle.rhai_machine.specs.language.Values.{bool_value, through}
 use Rattle.rhai_machine.specs.language.Frames.{Operation, Dispatch, Call, Frame, Core, core, ended, marked, Ask, Back, Fail}
-use Rattle.rhai_machine.specs.language.Calls.{asks_function, call_of, called_core, called_function, dispatch_core, enter_core, found_core}
+use Rattle.rhai_machine.specs.language.Calls.{asks_function, call_of, called_core, called_function, dispatch_core, found_core}
 use Rattle.rhai_machine.specs.language.Calls.{knows_asked, knows_function, named_core, names_function, plainly, races}
-use Rattle.rhai_machine.specs.language.Language.{want}
 use Rattle.rhai_machine.specs.language.Runs.{at, with_core, Goes, Steps}
+use Rattle.rhai_steps.proofs.Operating.{dispatch_wants}
 use Rattle.rhai_steps.proofs.Pieces.{faulted, told}
 use Rattle.rhai_calls.specs.declared.dispatch.Called.TheVariants.{Enters}
 use Rattle.rhai_calls.specs.declared.dispatch.Called.TheVariants as called
@@ -134,33 +134,12 @@ module _ {H : Type 0} where
     dispatch_is is =
         ap (λ (b : Bool). if b then race else named_core s how call.args call k l) is ∙ named_is s how call.args call k l
 
-    wants_entered : (of_method : Bool) (f : Function H) (at : Position) →
-        want at (enter_core of_method f how call k l) ≡ core (Fail (error.ErrorOutOfMemory at)) k l
-    wants_entered true f at = refl
-    wants_entered false f at = refl
-
-    wants_found : (found : Option (Function H)) (at : Position) →
-        want at (found_core s found how call k l) ≡ core (Fail (error.ErrorOutOfMemory at)) k l
-    wants_found (Some f) at = wants_entered how.of_method f at
-    wants_found None at = refl
-
-    wants_meant : (o : Option (Result (Dynamic H) (EvalAltResult H))) (at : Position) →
-        want at (leads_to k l o (called_core s how call k l)) ≡ core (Fail (error.ErrorOutOfMemory at)) k l
-    wants_meant None at = wants_found (called_function s how call l) at
-    wants_meant (Some r) at = refl
-
-    wants_dispatched : (b : Bool) (at : Position) →
-        want at (if b then race else named_core s how call.args call k l) ≡ core (Fail (error.ErrorOutOfMemory at)) k l
-    wants_dispatched true at = refl
-    wants_dispatched false at = ap (want at) (named_is s how call.args call k l)
-        ∙ wants_meant (meant s.offer l.around call.operation s.host_type call.args) at
-
 module _ {S H : Type 0} (rules : Rules S H) (how : Dispatch) (call : Call H) (s : State S H) where
   -- memory runs out before a call is dispatched
   pub calls_want : (at : Position) → Calls rules how call s (called.Ended (Err (error.ErrorOutOfMemory at))) s
   unfolding Calls
   calls_want at k =
-      wanting {at = at} (rw (wants_dispatched rules.setting how call k s.local (races s.local.around.cells call.args) at) here)
+      wanting {at = at} (rw (dispatch_wants rules.setting how call k s.local at) here)
 
   -- an argument's cell is held
   dispatch_held : races s.local.around.cells call.args ≡ true → (e : EvalAltResult H) →
@@ -201,7 +180,7 @@ module _ {S H : Type 0} (rules : Rules S H) (seeks : Seeks) (on_scope : Bool) (c
       × (e ≡ error.ErrorDataRace call.operation.name call.operation.at)) → Dispatches rules (how_of seeks on_scope) call s (Ended (Err e)) s
   unfolding Dispatches
   resolved_fails (error.ErrorOutOfMemory at) h k = wanting {at = at}
-      (rw (wants_dispatched rules.setting (how_of seeks on_scope) call k s.local (races s.local.around.cells call.args) at) here)
+      (rw (dispatch_wants rules.setting (how_of seeks on_scope) call k s.local at) here)
   resolved_fails e h k = dispatch_held rules (how_of seeks on_scope) call s (h refl).0 e (λ m. (h refl).1) k
 
   -- one whose name means no function

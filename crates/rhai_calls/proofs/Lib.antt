@@ -1,5 +1,4 @@
 pub mod Dispatching
 pub mod Lent
 pub mod NativeCalls
-pub mod Operating
 pub mod Taking

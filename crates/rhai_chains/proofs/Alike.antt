@@ -6,7 +6,7 @@ use Rattle.rhai_machine.specs.language.Setting.{Rules}
 use Rattle.rhai_machine.specs.language.State.{Local, State}
 use Rattle.rhai_machine.specs.language.Frames.{Frame, Core, marked}
 use Rattle.rhai_machine.specs.language.Runs.{at, with_core, Goes}
-use Rattle.rhai_methods.specs.Methods.{RunsFrom}
+use Rattle.rhai_steps.specs.Marked.{RunsFrom}
 use Rattle.rhai_chains.specs.Chains.{FollowsFrom, Does, Wants}
 
 module _ {S H : Type 0} (rules : Rules S H) (start other : List (Frame H) → Local H → Core H) (old new : State S H)

@@ -35,7 +35,7 @@ use Rattle.rhai_assign.specs.Follows as assign
 use Rattle.rhai_assign.specs.Follows.{Follows}
 use Rattle.rhai_assign.specs.Updates.{finished}
 use Rattle.rhai_calls.specs.Marks.{with_mark}
-use Rattle.rhai_methods.specs.Methods.{RunsFrom}
+use Rattle.rhai_steps.specs.Marked.{RunsFrom}
 use Rattle.rhai_chains.specs.Assigned as unless
 use Rattle.rhai_chains.specs.Assigned.{item_assigned, measured_as, property_assigned, FollowsUnless, GoesIn, WentIn, Stays}
 use Rattle.rhai_chains.specs.Chains as from

@@ -16,7 +16,7 @@ use Rattle.rhai_machine.specs.language.Members.{lacks_indexer, lacks_property, n
 use Rattle.rhai_machine.specs.language.Runs.{at, Goes, Steps}
 use Rattle.rhai_steps.proofs.Pieces.{step_by}
 use Rattle.rhai_calls.specs.Marks.{MarkedRuns}
-use Rattle.rhai_methods.specs.Methods.{RunsFrom}
+use Rattle.rhai_steps.specs.Marked.{RunsFrom}
 use Rattle.rhai_chains.specs.Members.{tried, tried_by}
 
 -- the value that was answered

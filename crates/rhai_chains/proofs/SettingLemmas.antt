@@ -23,7 +23,7 @@ use Rattle.rhai_machine.specs.language.Unwinding.{got_none, operated_core}
 use Rattle.rhai_steps.proofs.Pieces.{step_by}
 use Rattle.rhai_assign.specs.Follows as assign
 use Rattle.rhai_assign.specs.Follows.{Follows}
-use Rattle.rhai_methods.specs.Methods.{RunsFrom}
+use Rattle.rhai_steps.specs.Marked.{RunsFrom}
 use Rattle.rhai_chains.specs.Assigned.{none_got, set_last, value_got, value_operated}
 use Rattle.rhai_chains.proofs.AssignLemmas.{working}
 

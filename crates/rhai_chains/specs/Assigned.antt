@@ -21,7 +21,7 @@ use Rattle.rhai_machine.specs.language.Chains.{after_set, assign_focus}
 use Rattle.rhai_machine.specs.language.Members.{focused_on, set_core}
 use Rattle.rhai_assign.specs.Updates.{finished}
 use Rattle.rhai_calls.specs.Marks.{with_mark}
-use Rattle.rhai_methods.specs.Methods.{RunsFrom}
+use Rattle.rhai_steps.specs.Marked.{RunsFrom}
 
 module _ {H : Type 0} where
   -- a spot that is there, and is no key that is missing

@@ -11,7 +11,7 @@ use Rattle.rhai_state.specs.declared.error.EvalAltResult.TheVariants as error
 use Rattle.rhai_machine.specs.language.State.{Local, State}
 use Rattle.rhai_machine.specs.language.Links.{Link, LinkForm, AtIndex, AtProperty, AtMethod, asked_by, link_of}
 use Rattle.rhai_machine.specs.language.Frames.{Chain, NewValue, Frame, Core, core, Walk}
-use Rattle.rhai_methods.specs.Methods.{RunsFrom}
+use Rattle.rhai_steps.specs.Marked.{RunsFrom}
 use Rattle.rhai_chains.specs.declared.chain.NewValue.{NewValue as CodeValue}
 use Rattle.rhai_chains.specs.declared.chain.Switches.{Switches}
 use Rattle.rhai_chains.specs.declared.links.Link.{Link as CodeLink}

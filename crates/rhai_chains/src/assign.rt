@@ -23,7 +23,7 @@ ghost use Rattle.rhai_machine.specs.language.Unwinding.{looked_at};
 ghost use Rattle.rhai_machine.specs.language.Values.{unit_value as unit};
 ghost use Rattle.rhai_steps.specs.States.{state_of};
 ghost use Rattle.rhai_calls.specs.Marks.{with_mark};
-ghost use Rattle.rhai_methods.specs.Methods.{lending, RunsFrom};
+ghost use Rattle.rhai_steps.specs.Marked.{lending, RunsFrom};
 ghost use Rattle.rhai_chains.specs.Assigned.{item_assigned, measured_as, none_got, property_assigned};
 ghost use Rattle.rhai_chains.specs.Assigned.{set_last, value_got, value_operated};
 ghost use Rattle.rhai_chains.specs.Assigned.{FollowsUnless, GoesIn, IsKept};

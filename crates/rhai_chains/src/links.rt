@@ -3,7 +3,7 @@
 ghost use Rattle.std.specs.Prelude.{◌≡◌, Some, None, if◌then◌else◌};
 ghost use Rattle.std.specs.Option.{option_copied, option_map};
 ghost use Rattle.rhai_tree.specs.declared.expr.Expr.{out-Expr};
-ghost use Rattle.rhai_check.specs.Forms.{is_unqualified};
+ghost use Rattle.rhai_checked.specs.Forms.{is_unqualified};
 ghost use Rattle.rhai_machine.specs.language.Links.{AtMethod, breaks as breaks_in, dot_form, first_in};
 ghost use Rattle.rhai_machine.specs.language.Links.{dot_link as dot_link_in, index_link as index_link_in};
 ghost use Rattle.rhai_machine.specs.language.Links.{link_of as link_in, link_with as link_with_in};

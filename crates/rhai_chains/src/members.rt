@@ -14,7 +14,7 @@ ghost use Rattle.rhai_machine.specs.language.Members.{lacks_property as lacks_pr
 ghost use Rattle.rhai_machine.specs.language.Setting.{rules_of};
 ghost use Rattle.rhai_steps.specs.States.{state_of};
 ghost use Rattle.rhai_calls.specs.Marks.{MarkedRuns};
-ghost use Rattle.rhai_methods.specs.Methods.{lending, RunsFrom};
+ghost use Rattle.rhai_steps.specs.Marked.{lending, RunsFrom};
 ghost use Rattle.rhai_chains.specs.Members.{access_of, tried};
 
 use rhai_calls::native::{Passing, marked, pass_native};

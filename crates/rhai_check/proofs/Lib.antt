@@ -1,5 +1,5 @@
 pub mod Chains
-pub mod Links
+pub mod Counted
 pub mod MapKeys
 pub mod Offsets
 pub mod Outcome

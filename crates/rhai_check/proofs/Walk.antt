@@ -1,6 +1,6 @@
 -- What the folds give at a form, from one level of it.
 use Rattle.std.proofs.Common.{◌≡◌, ap, sym, ◌∙◌, subst, List, Bool}
-use Rattle.rhai_check.specs.declared.check.CheckFault.{CheckFault}
+use Rattle.rhai_checked.specs.declared.fault.CheckFault.{CheckFault}
 use Rattle.rhai_tree.specs.declared.expr.ConditionalExpr.{ConditionalExpr}
 use Rattle.rhai_tree.specs.declared.expr.Expr.{Expr, out-Expr}
 use Rattle.rhai_tree.specs.declared.expr.Expr.TheOpen as layer
@@ -9,17 +9,17 @@ use Rattle.rhai_tree.specs.declared.expr.FnCallExpr.{FnCallExpr}
 use Rattle.rhai_tree.specs.declared.expr.MapEntry.{MapEntry}
 use Rattle.rhai_tree.specs.declared.expr.StmtBlock.{StmtBlock}
 use Rattle.rhai_tree.specs.declared.expr.Stmt.{Stmt, out-Stmt}
-use Rattle.rhai_check.specs.Context.{Context}
+use Rattle.rhai_checked.specs.Context.{Context}
 use Rattle.rhai_check.specs.Declares as declares
-use Rattle.rhai_check.specs.Declares.{any_of, declares_expr, declares_call, declares_block, declares_stmt}
-use Rattle.rhai_check.specs.Reading as walk
-use Rattle.rhai_check.specs.Reading.{faulty, sound}
-use Rattle.rhai_check.specs.Frame.{tests_of, resolves_stmt}
+use Rattle.rhai_checked.specs.Forms.{any_of}
+use Rattle.rhai_check.specs.Declares.{declares_expr, declares_call, declares_block, declares_stmt}
+use Rattle.rhai_checked.specs.Reading as walk
+use Rattle.rhai_checked.specs.Reading.{faulty}
 use Rattle.rhai_tree.specs.Layers.{ExprLayer, StmtLayer}
 use Rattle.rhai_check.specs.Refusals.{Refuses}
-use Rattle.rhai_check.specs.WellFormed.{seen_expr, seen_call, seen_block, seen_entry, seen_stmt}
+use Rattle.rhai_checked.specs.WellFormed.{seen_expr, seen_call, seen_block, seen_entry, seen_stmt}
 
--- what is seen of forms for their faults, and for whether they may run
+-- what is seen of forms for their faults
 abbrev pub Seen : Type 0
 Seen = walk.Seen faulty
 
@@ -31,12 +31,6 @@ SeenEntry = walk.SeenEntry faulty
 
 abbrev pub SeenStmt : Type 0
 SeenStmt = walk.SeenStmt faulty
-
-abbrev pub Tests : Type 0
-Tests = walk.Seen sound
-
-abbrev pub Verdict : Type 0
-Verdict = walk.SeenStmt sound
 
 -- the faults of the parts of one level
 abbrev pub expr_faults : ExprLayer → layer.Expr-F Seen SeenStmt (Unit {0}) SeenCall SeenEntry Seen
@@ -55,17 +49,6 @@ expr_declares = map-Expr Expr Stmt ConditionalExpr FnCallExpr MapEntry StmtBlock
 abbrev pub stmt_declares : StmtLayer → layer.Stmt-F Bool Bool (Unit {0}) Bool (Unit {0}) Bool
 stmt_declares = map-Stmt Expr Stmt ConditionalExpr FnCallExpr MapEntry StmtBlock Bool Bool (Unit {0}) Bool (Unit {0}) Bool
     declares_expr declares_stmt (λ conditional. tt) declares_call (λ entry. tt) declares_block
-
--- whether the parts of one level may run
-abbrev pub expr_tests : ExprLayer → layer.Expr-F Tests Verdict (Unit {0}) (walk.SeenCall sound) (walk.SeenEntry sound) Tests
-expr_tests = map-Expr Expr Stmt ConditionalExpr FnCallExpr MapEntry StmtBlock Tests Verdict (Unit {0}) (walk.SeenCall sound)
-    (walk.SeenEntry sound) Tests tests_of resolves_stmt (λ conditional. tt) (walk.seen_call sound) (walk.seen_entry sound)
-    (walk.seen_block sound)
-
-abbrev pub stmt_tests : StmtLayer → layer.Stmt-F Tests Verdict (Unit {0}) (walk.SeenCall sound) (walk.SeenEntry sound) Tests
-stmt_tests = map-Stmt Expr Stmt ConditionalExpr FnCallExpr MapEntry StmtBlock Tests Verdict (Unit {0}) (walk.SeenCall sound)
-    (walk.SeenEntry sound) Tests tests_of resolves_stmt (λ conditional. tt) (walk.seen_call sound) (walk.seen_entry sound)
-    (walk.seen_block sound)
 
 pub seen-expr : (e : Expr) (l : ExprLayer) → out-Expr e ≡ l → seen_expr e ≡ walk.expr_step faulty (expr_faults l)
 seen-expr e l is = fold_out-Expr Seen SeenStmt (Unit {0}) SeenCall SeenEntry Seen
@@ -88,18 +71,6 @@ declares-stmt : (s : Stmt) (l : StmtLayer) → out-Stmt s ≡ l → declares_stm
 declares-stmt s l is = fold_out-Stmt Bool Bool (Unit {0}) Bool (Unit {0}) Bool
     declares.expr_step declares.stmt_step (λ conditional. tt) (λ call. any_of call.args) (λ entry. tt) (λ block. any_of block.statements) s
     ∙ ap (λ (k : StmtLayer). declares.stmt_step (stmt_declares k)) is
-
-pub resolves-expr : (e : Expr) (l : ExprLayer) → out-Expr e ≡ l → tests_of e ≡ walk.expr_step sound (expr_tests l)
-resolves-expr e l is = fold_out-Expr Tests Verdict (Unit {0}) (walk.SeenCall sound) (walk.SeenEntry sound) Tests
-    (walk.expr_step sound) (walk.stmt_step sound) (λ conditional. tt) (walk.call_step sound) (walk.entry_step sound)
-    (walk.block_step sound) e
-    ∙ ap (λ (k : ExprLayer). walk.expr_step sound (expr_tests k)) is
-
-pub resolves-stmt : (s : Stmt) (l : StmtLayer) → out-Stmt s ≡ l → resolves_stmt s ≡ walk.stmt_step sound (stmt_tests l)
-resolves-stmt s l is = fold_out-Stmt Tests Verdict (Unit {0}) (walk.SeenCall sound) (walk.SeenEntry sound) Tests
-    (walk.expr_step sound) (walk.stmt_step sound) (λ conditional. tt) (walk.call_step sound) (walk.entry_step sound)
-    (walk.block_step sound) s
-    ∙ ap (λ (k : StmtLayer). walk.stmt_step sound (stmt_tests k)) is
 
 -- what refuses one level refuses the form
 pub refuses_expr_at : (e : Expr) (l : ExprLayer) (c : Context) (fault : CheckFault) → out-Expr e ≡ l

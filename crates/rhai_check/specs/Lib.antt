@@ -1,12 +1,4 @@
-pub mod Context
+pub mod Around
 pub mod Declares
-pub mod Faults
-pub mod Forms
-pub mod Frame
-pub mod Keys
-pub mod Links
-pub mod Names
-pub mod Reading
 pub mod Refusals
 pub mod Types
-pub mod WellFormed

@@ -3,8 +3,7 @@
 ghost use Rattle.std.specs.Prelude.{◌≡◌, ◌≢◌, IsTrue, IfOk, IfErr, OnOk};
 ghost use Rattle.std.specs.List.{Contains};
 ghost use Rattle.rhai_check.specs.Declares.{needs_memory};
-ghost use Rattle.rhai_check.specs.Faults.{place_of};
-ghost use Rattle.rhai_check.specs.WellFormed.{Stands, faults_in_function, IsFormedFunction, IsFormedTree};
+ghost use Rattle.rhai_checked.specs.WellFormed.{Stands, faults_in_function, IsFormedFunction, IsFormedTree};
 
 mod chain;
 mod expr;
@@ -17,72 +16,12 @@ mod stmt;
 use crate::check::function::{check_def, check_functions};
 use crate::check::place::Place;
 use crate::check::stmt::check_statements;
-use crate::checked::{CheckedFn, CheckedTree};
+use rhai_checked::checked::{CheckedFn, CheckedTree};
+pub use rhai_checked::fault::CheckFault;
 use rhai_items::Items;
 use rhai_tree::expr::Stmt;
 use rhai_tree::function::ScriptFuncDef;
-use rhai_tree::position::Position;
 use std::alloc::Global;
-use thiserror::Error;
-
-/// Why the checker refused a tree, and where.
-#[derive(Clone, Copy, Debug, PartialEq, Eq, Error)]
-pub enum CheckFault {
-    #[error("BadOffset")]
-    BadOffset(Position),
-    #[error("BadImportOffset")]
-    BadImportOffset(Position),
-    #[error("BadChain")]
-    BadChain(Position),
-    #[error("BadAssignment")]
-    BadAssignment(Position),
-    #[error("BadSwitch")]
-    BadSwitch(Position),
-    #[error("BadMapKey")]
-    BadMapKey(Position),
-    #[error("BadCatch")]
-    BadCatch(Position),
-    #[error("LoopControlOutside")]
-    LoopControlOutside(Position),
-    #[error("ExportNotGlobal")]
-    ExportNotGlobal(Position),
-    #[error("EvalCall")]
-    EvalCall(Position),
-    #[error("NotAnExpression")]
-    NotAnExpression(Position),
-    #[error("QualifiedMethod")]
-    QualifiedMethod(Position),
-    /// There was no memory to check with.
-    #[error("NoMemory")]
-    NoMemory,
-    /// A form that is not there yet.
-    #[error("NotYet")]
-    NotYet(Position),
-}
-
-impl CheckFault {
-    /// Where the fault stands; nowhere for want of memory.
-    pub fn position(&self) -> Position
-        ensures { result ≡ place_of self.now }
-    {
-        match self {
-            CheckFault::BadOffset(position) => *position,
-            CheckFault::BadImportOffset(position) => *position,
-            CheckFault::BadChain(position) => *position,
-            CheckFault::BadAssignment(position) => *position,
-            CheckFault::BadSwitch(position) => *position,
-            CheckFault::BadMapKey(position) => *position,
-            CheckFault::BadCatch(position) => *position,
-            CheckFault::LoopControlOutside(position) => *position,
-            CheckFault::ExportNotGlobal(position) => *position,
-            CheckFault::EvalCall(position) => *position,
-            CheckFault::NotAnExpression(position) => *position,
-            CheckFault::QualifiedMethod(position) => *position,
-            CheckFault::NoMemory => Position::NONE,
-            CheckFault::NotYet(position) => *position,
-        }
-    }
-}
 
 /// Passes a tree with the functions that stand beside it, where it is well formed. Otherwise it
 /// answers one of the faults that stand in it. Where the tree declares a variable, makes a map, has a

@@ -2,4 +2,3 @@
 #![tactic(auto)]
 
 pub mod check;
-pub mod checked;

@@ -34,7 +34,7 @@ use Rattle.rhai_steps.proofs.FunctionNames.{copied_itself}
 use Rattle.rhai_steps.proofs.Pieces.{faulted, step_by}
 use Rattle.rhai_assign.proofs.Places.{revalued_twice}
 use Rattle.rhai_calls.specs.Marks.{without_mark}
-use Rattle.rhai_methods.specs.Methods.{lending, RunsFrom}
+use Rattle.rhai_steps.specs.Marked.{lending, RunsFrom}
 use Rattle.rhai_chains.specs.Chains.{WalkRuns}
 use Rattle.rhai_cycle.specs.Calls.{RunsUnder, StartsAs}
 

@@ -4,8 +4,8 @@
 ghost use Rattle.std.specs.Prelude.{◌≡◌, ◌≤◌, ◌+◌, [], IfOk, IsTrue, OnOk, false, length, map, not};
 ghost use Rattle.std.specs.Prelude.{true};
 ghost use Rattle.std.specs.Option.{option_copied};
-ghost use Rattle.rhai_check.specs.Frame.{all_resolve_exprs, tests_of};
-ghost use Rattle.rhai_check.specs.Names.{is_good};
+ghost use Rattle.rhai_checked.specs.Frame.{all_resolve_exprs, tests_of};
+ghost use Rattle.rhai_checked.specs.Names.{is_good};
 ghost use Rattle.rhai_state.specs.Scope.{entries_of};
 ghost use Rattle.rhai_machine.specs.language.Arguments.{arguments_core, is_captured};
 ghost use Rattle.rhai_machine.specs.language.Calls.{plainly};

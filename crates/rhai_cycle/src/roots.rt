@@ -4,7 +4,7 @@
 
 ghost use Rattle.std.specs.Prelude.{◌≡◌, ◌≤◌, IsTrue, Some, None, true, false, is_some, length};
 ghost use Rattle.rhai_tree.specs.declared.expr.Expr.{out-Expr};
-ghost use Rattle.rhai_check.specs.Names.{is_good};
+ghost use Rattle.rhai_checked.specs.Names.{is_good};
 ghost use Rattle.rhai_machine.specs.language.Chains.{this_root_core};
 ghost use Rattle.rhai_machine.specs.language.Frames.{Back, ReadRoot, RootValue};
 ghost use Rattle.rhai_machine.specs.language.Runs.{Runs};

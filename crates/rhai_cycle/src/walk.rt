@@ -5,7 +5,7 @@
 ghost use Rattle.std.specs.Prelude.{◌≡◌, ◌≤◌, length, is_some};
 ghost use Rattle.rhai_tree.specs.declared.expr.Expr.{out-Expr};
 ghost use Rattle.rhai_steps.specs.States.{state_of};
-ghost use Rattle.rhai_methods.specs.Methods.{lending};
+ghost use Rattle.rhai_steps.specs.Marked.{lending};
 ghost use Rattle.rhai_chains.specs.Chains.{chain_at, HasSwitches, Walks, WalkRuns};
 ghost use Rattle.rhai_cycle.specs.States.{offer_of, under};
 

@@ -2,7 +2,7 @@
 //! `eval/expr.rs`.
 
 ghost use Rattle.std.specs.Prelude.{◌≡◌, List, [], ◌∷◌, ◌++◌, IfErr, IfOk, OnOk, Ok, Err, false, map};
-ghost use Rattle.rhai_check.specs.Keys.{key_of};
+ghost use Rattle.rhai_checked.specs.Keys.{key_of};
 ghost use Rattle.rhai_values.specs.Cells.{cells_of};
 ghost use Rattle.rhai_values.specs.declared.base.value.Dynamic.{Dynamic};
 ghost use Rattle.rhai_state.specs.Errors.{is_out_of_memory};

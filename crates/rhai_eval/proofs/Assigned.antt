@@ -29,7 +29,7 @@ use Rattle.rhai_laws.proofs.KeptLaws.{kept_from}
 use Rattle.rhai_steps.proofs.Pieces.{step_by}
 use Rattle.rhai_assign.specs.Follows as assign
 use Rattle.rhai_assign.specs.Follows.{Follows}
-use Rattle.rhai_methods.specs.Methods.{RunsFrom}
+use Rattle.rhai_steps.specs.Marked.{RunsFrom}
 use Rattle.rhai_methods.specs.Targets.{ComesBack}
 use Rattle.rhai_chains.specs.Chains as from
 use Rattle.rhai_chains.specs.Chains.{FollowsFrom}

@@ -22,7 +22,8 @@ use Rattle.rhai_calls.specs.declared.dispatch.Dispatched.TheVariants as dispatch
 use Rattle.rhai_calls.specs.Dispatch.{Dispatches}
 use Rattle.rhai_calls.specs.Lending.{passed_call}
 use Rattle.rhai_calls.specs.Marks.{with_mark, MarkedRuns}
-use Rattle.rhai_methods.specs.Methods.{IsEntered, RunsFrom}
+use Rattle.rhai_steps.specs.Marked.{RunsFrom}
+use Rattle.rhai_methods.specs.Methods.{IsEntered}
 use Rattle.rhai_methods.specs.declared.calls.MethodCall.{MethodCall}
 use Rattle.rhai_methods.specs.declared.calls.MethodCall.TheVariants as method
 use Rattle.rhai_eval.specs.declared.func.dispatch.Outcome.{Outcome}

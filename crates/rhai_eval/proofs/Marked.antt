@@ -21,7 +21,7 @@ use Rattle.rhai_laws.proofs.WantLaws.{runs_up_to_memory, wants}
 use Rattle.rhai_steps.specs.States.{state_of}
 use Rattle.rhai_calls.specs.Lending.{back_in, passed_call}
 use Rattle.rhai_calls.specs.Marks.{MarkedRuns}
-use Rattle.rhai_methods.specs.Methods.{RunsFrom}
+use Rattle.rhai_steps.specs.Marked.{RunsFrom}
 use Rattle.rhai_eval.specs.Ends.{EndsMarked}
 use Rattle.rhai_eval.specs.Places.{on_place, with_place}
 

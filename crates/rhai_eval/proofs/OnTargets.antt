@@ -17,7 +17,7 @@ use Rattle.rhai_laws.specs.Kept.{Kept}
 use Rattle.rhai_laws.proofs.Keeping.{Asked, Keeps, calm, quiet, through}
 use Rattle.rhai_laws.proofs.KeptLaws.{kept_from}
 use Rattle.rhai_laws.proofs.KeptMethods.{method_keeps}
-use Rattle.rhai_methods.specs.Methods.{RunsFrom}
+use Rattle.rhai_steps.specs.Marked.{RunsFrom}
 use Rattle.rhai_methods.specs.Targets.{ComesBack, on_target, waiting}
 use Rattle.rhai_methods.proofs.TargetLemmas.{answer_comes}
 use Rattle.rhai_eval.specs.Ends.{EndsMarked}

@@ -4,11 +4,6 @@
 //! cite specs/Functions.antt.
 #![tactic(auto)]
 
-#[cfg(test)]
-mod tests;
-
-// What the crates above call.
-
 pub mod entering;
 pub mod environ;
 pub mod function;

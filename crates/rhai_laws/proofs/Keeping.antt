@@ -6,7 +6,7 @@ use Rattle.std.proofs.Common.{append_assoc}
 use Rattle.std.specs.Option.{option_flatten, unwrap_or}
 use Rattle.std.specs.Prelude.{◌≡◌, ◌≤◌, ◌+◌, ℕ, zero, suc, Bool, true, false, not, ◌&&◌, List, [], ◌∷◌, ◌++◌, map, take, drop, length}
 use Rattle.std.specs.Prelude.{Option, Some, None, Result, Ok, Err, is_some, slice_get, slice_set}
-use Rattle.rhai_check.specs.Names.{Name, Begins}
+use Rattle.rhai_checked.specs.Names.{Name, Begins}
 use Rattle.rhai_tree.specs.declared.expr.Stmt.{Stmt}
 use Rattle.rhai_items.specs.Lookup.{with_entry}
 use Rattle.rhai_values.specs.declared.base.value.Dynamic.{Dynamic}

@@ -1,6 +1,6 @@
 -- What every run of the language keeps, whatever its end, want of memory included.
 use Rattle.std.specs.Prelude.{◌≡◌, ◌≤◌, ⊤, ℕ, Bool, true, false, not, ◌&&◌, List, [], map, Option, Some, None, is_some}
-use Rattle.rhai_check.specs.Names.{Name}
+use Rattle.rhai_checked.specs.Names.{Name}
 use Rattle.rhai_values.specs.declared.base.value.Dynamic.{Dynamic}
 use Rattle.rhai_values.specs.Cells.{value_of_cell}
 use Rattle.rhai_state.specs.Scope.{name_of}

@@ -12,14 +12,3 @@ mod AssignmentFalls
 mod ChainFalls
 mod Falls
 pub mod LanguageLaws
-pub mod SampleRuns
-mod LoopRuns
-mod AssignmentRuns
-mod DataRuns
-mod CallRuns
-mod MethodRuns
-mod FunctionRuns
-mod ChainRuns
-mod ItemRuns
-mod MemberRuns
-mod PartRuns

@@ -1,4 +1,3 @@
 pub mod Types
 pub mod language
 pub mod machine
-pub mod samples

@@ -3,4 +3,3 @@
 
 pub mod language;
 pub mod laws;
-pub mod samples;

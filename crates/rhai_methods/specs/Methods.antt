@@ -1,24 +1,19 @@
 -- A method that is called on a value, and the parts of its call.
-use Rattle.std.specs.Prelude.{◌≡◌, Bool, true, List, Some, Result, Err}
+use Rattle.std.specs.Prelude.{◌≡◌, true, List, Err}
 use Rattle.rhai_tree.specs.declared.position.Position.{Position}
 use Rattle.rhai_values.specs.declared.base.value.Dynamic.{Dynamic}
-use Rattle.rhai_state.specs.declared.error.EvalAltResult.{EvalAltResult}
 use Rattle.rhai_state.specs.Errors.{is_out_of_memory}
 use Rattle.rhai_machine.specs.language.Setting.{Rules}
-use Rattle.rhai_machine.specs.language.State.{Held, Local, State}
+use Rattle.rhai_machine.specs.language.State.{Local, State}
 use Rattle.rhai_machine.specs.language.Activations.{NoObject}
 use Rattle.rhai_machine.specs.language.Frames.{EnterFunction, EnterOnFocus, Frame, Core, core, marked}
 use Rattle.rhai_machine.specs.language.Calls.{entry_of}
 use Rattle.rhai_machine.specs.language.Methods.{Method, method_core}
-use Rattle.rhai_machine.specs.language.Runs.{at, with_core, Goes}
+use Rattle.rhai_machine.specs.language.Runs.{with_core, Goes}
 use Rattle.rhai_methods.specs.declared.calls.MethodCall.{MethodCall}
 use Rattle.rhai_methods.specs.declared.calls.MethodCall.TheVariants.{Ended, OnTarget, Alone}
 
 module _ {H : Type 0} where
-  -- what is in hand while a method works on a value
-  abbrev pub lending : Held H → Dynamic H → Held H
-  lending held focus = record held { focus = Some focus }
-
   -- what came of a method's call: its answer comes back with its mark, or a function of a script is entered, on the focus or by itself
   abbrev pub came_from : Position → MethodCall H → List (Frame H) → Local H → Core H
   came_from at (Ended r) k l = core (marked r) k l
@@ -29,12 +24,6 @@ module _ {H : Type 0} where
   abbrev pub IsEntered : MethodCall H → MethodCall H → Type 0
   IsEntered (Ended (Err e)) wanted = is_out_of_memory e ≡ true
   IsEntered call wanted = call ≡ wanted
-
-  -- from where a part begins that gives a value with its mark, over any stack, to how it ended
-  unfoldable pub RunsFrom : {S : Type 0} → Rules S H → (List (Frame H) → Local H → Core H) → State S H →
-      Result (Dynamic H × Bool) (EvalAltResult H) → State S H → Type 0
-  RunsFrom {S} rules start old result new = (k : List (Frame H)) →
-      Goes rules (with_core (start k old.local) old) (at (marked result) k new)
 
   -- from where a part of a method's call begins, over any stack, to what came of it
   unfoldable pub CallsFrom : {S : Type 0} → Rules S H → Position → (List (Frame H) → Local H → Core H) → State S H → MethodCall H →

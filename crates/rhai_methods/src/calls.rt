@@ -9,7 +9,8 @@ ghost use Rattle.rhai_steps.specs.States.{state_of};
 ghost use Rattle.rhai_calls.specs.Dispatch.{Offers};
 ghost use Rattle.rhai_calls.specs.Marks.{with_mark};
 ghost use Rattle.rhai_methods.specs.Calls.{alone_by, named_alone, named_on, number_alone, on_by};
-ghost use Rattle.rhai_methods.specs.Methods.{lending, IsEntered, CallsFrom};
+ghost use Rattle.rhai_steps.specs.Marked.{lending};
+ghost use Rattle.rhai_methods.specs.Methods.{IsEntered, CallsFrom};
 ghost use Rattle.rhai_methods.specs.declared.calls.MethodCall.TheVariants.{Alone, Ended, OnTarget};
 
 use crate::copies::{taken_behind, taken_out};

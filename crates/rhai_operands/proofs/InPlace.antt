@@ -9,7 +9,7 @@ use Rattle.rhai_tree.specs.declared.expr.Expr.{Expr, out-Expr}
 use Rattle.rhai_tree.specs.declared.expr.Expr.TheOpen as layer
 use Rattle.rhai_tree.specs.declared.expr.FnCallExpr.{FnCallExpr}
 use Rattle.rhai_tree.specs.Positions.{position_of}
-use Rattle.rhai_check.specs.Frame.{resolves_expr}
+use Rattle.rhai_checked.specs.Frame.{resolves_expr}
 use Rattle.rhai_values.specs.declared.base.value.Dynamic.{Dynamic}
 use Rattle.rhai_values.specs.declared.base.value.Union.{Union}
 use Rattle.rhai_values.specs.declared.base.value.Union.TheVariants as value
@@ -41,7 +41,7 @@ use Rattle.rhai_machine.specs.language.Frames.{Back, Fail}
 use Rattle.rhai_machine.specs.language.Runs.{at, with_core, Goes}
 use Rattle.rhai_steps.specs.States.{state_of}
 use Rattle.rhai_steps.proofs.Pieces.{step_by}
-use Rattle.rhai_calls.proofs.Operating.{built}
+use Rattle.rhai_steps.proofs.Operating.{built}
 use Rattle.rhai_operators.specs.Direct.{integer_in, truth_given, truth_in}
 use Rattle.rhai_operands.specs.Standing.{compared, compared_known, integer_of, standing, truth_answered, two_in, unless_handle}
 use Rattle.rhai_operands.proofs.Standing.{argument_goes, argument_refused, standing_plain}

@@ -1,7 +1,6 @@
 -- A pointer to a library function by its name is its own copy.
 use Rattle.std.proofs.Common.{◌≡◌, ℕ, List, [], ap, ◌∙◌, map}
 use Rattle.rhai_values.specs.declared.base.value.AccessMode.TheVariants.{ReadWrite}
-use Rattle.rhai_values.specs.declared.base.value.Dynamic.{Dynamic}
 use Rattle.rhai_values.specs.declared.base.value.FnPtr.{FnPtr, out-roll-FnPtr, roll-FnPtr}
 use Rattle.rhai_values.specs.declared.base.value.FnPtrKind.TheVariants as kind
 use Rattle.rhai_values.specs.declared.base.value.Union.{Union}

@@ -31,7 +31,7 @@ use Rattle.rhai_machine.specs.language.Language.{machine, move}
 use Rattle.rhai_machine.specs.language.Runs.{at, with_core, Goes}
 use Rattle.rhai_steps.specs.States.{state_of}
 use Rattle.rhai_steps.proofs.Pieces.{charged, faulted, refused, step_by}
-use Rattle.rhai_methods.specs.Methods.{lending, RunsFrom}
+use Rattle.rhai_steps.specs.Marked.{lending, RunsFrom}
 use Rattle.rhai_chains.specs.Chains.{FollowsFrom, Does, Wants, WalkRuns}
 use Rattle.rhai_walk.specs.Walking.{entered_core, inside_by, inside_core, Calls, Comes, GoesOn, IsCharged, IsFree, IsMember, IsWay}
 use Rattle.rhai_walk.specs.Walking.{IsLocated, StopsThere, WayBy}

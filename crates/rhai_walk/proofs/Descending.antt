@@ -31,7 +31,7 @@ use Rattle.rhai_machine.specs.language.Members.{focused_on}
 use Rattle.rhai_machine.specs.language.Chains.{after_method, behind_link, descend, indexed_core, method_of, part_core, part_form, spot_core}
 use Rattle.rhai_machine.specs.language.Chains.{way_back}
 use Rattle.rhai_machine.specs.language.Runs.{at, with_core, Goes}
-use Rattle.rhai_methods.specs.Methods.{RunsFrom}
+use Rattle.rhai_steps.specs.Marked.{RunsFrom}
 use Rattle.rhai_chains.specs.Chains.{FollowsFrom, Does, Wants, WalkRuns}
 use Rattle.rhai_walk.specs.Walking.{IsLocated, IsNoMethod, IsSpotBelow}
 use Rattle.rhai_chains.specs.Spots.{FindsSpot}

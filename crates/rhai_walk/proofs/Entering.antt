@@ -19,7 +19,7 @@ use Rattle.rhai_machine.specs.language.Links.{Link}
 use Rattle.rhai_machine.specs.language.Frames.{Chain, Frame, Core, core, marked, on_value, StepDown}
 use Rattle.rhai_machine.specs.language.Handles.{entered, entered_by}
 use Rattle.rhai_machine.specs.language.Runs.{at, with_core, Goes}
-use Rattle.rhai_methods.specs.Methods.{RunsFrom}
+use Rattle.rhai_steps.specs.Marked.{RunsFrom}
 use Rattle.rhai_chains.specs.Chains.{FollowsFrom, Does, Wants}
 use Rattle.rhai_walk.specs.Walking.{entered_core, Enters, inside_core, Leaves}
 use Rattle.rhai_chains.proofs.Alike.{follows_alike}

@@ -17,7 +17,7 @@ use Rattle.rhai_machine.specs.language.Frames.{Chain, NewValue, Property, Item, 
 use Rattle.rhai_machine.specs.language.Located.{args_behind, is_indexed, is_map}
 use Rattle.rhai_machine.specs.language.Members.{get_core}
 use Rattle.rhai_machine.specs.language.Chains.{indexed_core, is_property, kept_access, member_core, spot_core}
-use Rattle.rhai_methods.specs.Methods.{RunsFrom}
+use Rattle.rhai_steps.specs.Marked.{RunsFrom}
 use Rattle.rhai_chains.specs.Chains.{FollowsFrom, Does, Wants}
 use Rattle.rhai_walk.specs.Walking.{inside_by, inside_core}
 use Rattle.rhai_chains.proofs.Alike.{follows_alike}

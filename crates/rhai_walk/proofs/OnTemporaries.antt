@@ -23,7 +23,7 @@ use Rattle.rhai_machine.specs.language.Members.{focused_on, get_core, set_core}
 use Rattle.rhai_machine.specs.language.Methods.{Method, method_core}
 use Rattle.rhai_machine.specs.language.Chains.{after_method, method_of}
 use Rattle.rhai_machine.specs.language.Runs.{at, with_core, Goes}
-use Rattle.rhai_methods.specs.Methods.{RunsFrom}
+use Rattle.rhai_steps.specs.Marked.{RunsFrom}
 use Rattle.rhai_chains.specs.Chains.{FollowsFrom, Does, Wants, WalkRuns}
 use Rattle.rhai_walk.specs.Walking.{behind_value}
 use Rattle.rhai_chains.proofs.Alike.{begins_alike}

@@ -26,7 +26,7 @@ use Rattle.rhai_machine.specs.language.Located.{index_by, is_indexed, is_map, is
 use Rattle.rhai_machine.specs.language.Members.{focus_of, get_core}
 use Rattle.rhai_machine.specs.language.Chains.{after_method, entered, indexed_core, kept_access, member_core, method_of}
 use Rattle.rhai_machine.specs.language.Runs.{at, with_core, Goes}
-use Rattle.rhai_methods.specs.Methods.{RunsFrom}
+use Rattle.rhai_steps.specs.Marked.{RunsFrom}
 use Rattle.rhai_chains.specs.Chains.{form_seen, link_seen, BehindWalks, FollowsFrom, WalkRuns}
 use Rattle.rhai_chains.specs.Members.{access_of}
 use Rattle.rhai_chains.specs.Spots.{way_through}

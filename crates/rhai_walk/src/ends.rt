@@ -4,7 +4,7 @@ ghost use Rattle.std.specs.Prelude.{◌≤◌, None};
 ghost use Rattle.rhai_machine.specs.language.Chains.{member_core, spot_core};
 ghost use Rattle.rhai_machine.specs.language.Setting.{rules_of};
 ghost use Rattle.rhai_steps.specs.States.{state_of};
-ghost use Rattle.rhai_methods.specs.Methods.{lending, RunsFrom};
+ghost use Rattle.rhai_steps.specs.Marked.{lending, RunsFrom};
 ghost use Rattle.rhai_chains.specs.Chains.{chain_at, FollowsFrom, HasSwitches, link_seen};
 ghost use Rattle.rhai_chains.specs.Chains.{new_of};
 ghost use Rattle.rhai_chains.specs.Members.{access_of};

@@ -8,7 +8,7 @@ ghost use Rattle.rhai_machine.specs.language.Frames.{core, marked, MemberSet, Te
 ghost use Rattle.rhai_machine.specs.language.Members.{focused_on, set_core};
 ghost use Rattle.rhai_machine.specs.language.Setting.{rules_of};
 ghost use Rattle.rhai_steps.specs.States.{state_of};
-ghost use Rattle.rhai_methods.specs.Methods.{lending, RunsFrom};
+ghost use Rattle.rhai_steps.specs.Marked.{lending, RunsFrom};
 ghost use Rattle.rhai_chains.specs.Chains.{form_seen, link_seen};
 ghost use Rattle.rhai_chains.specs.Members.{access_of};
 ghost use Rattle.rhai_walk.specs.Walking.{GetsKept};

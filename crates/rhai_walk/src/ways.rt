@@ -12,7 +12,7 @@ ghost use Rattle.rhai_machine.specs.language.Located.{is_unit as is_unit_in};
 ghost use Rattle.rhai_machine.specs.language.Setting.{rules_of};
 ghost use Rattle.rhai_machine.specs.language.Values.{through, used};
 ghost use Rattle.rhai_steps.specs.States.{state_of};
-ghost use Rattle.rhai_methods.specs.Methods.{lending};
+ghost use Rattle.rhai_steps.specs.Marked.{lending};
 ghost use Rattle.rhai_chains.specs.Chains.{form_seen, link_seen};
 ghost use Rattle.rhai_walk.specs.Walking.{Begins, Enters, FindsDown, FitsLink, IsDescent};
 ghost use Rattle.rhai_walk.specs.Walking.{IsFree, IsMethodIn, IsSpotBelow, IsWay, Leaves};

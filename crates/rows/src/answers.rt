@@ -4,6 +4,7 @@ use crate::functions::write_call;
 use crate::program::{write_refusals, write_run};
 use crate::scripts::{write_number, write_ways};
 use crate::searches::write_search;
+use crate::signatures::write_told;
 use crate::values::write_sample;
 use std::alloc::Global;
 use std::io;
@@ -21,6 +22,8 @@ use std::io::Write;
 /// - `finds NAME OFFSET`, `searches NAME OFFSET`: where a variable stands in a scope, if its offset
 ///   tells, and its value; the second has variables searched for
 /// - `calls NAME`: what a host's own call of a function answers, and what it leaves
+/// - `tells metadata`, `tells signature`, `tells surroundings`: what is told of a function without its
+///   body, and what it finds around it
 pub fn answer(alloc: Global, call: &str) -> io::Result<Vec<u8>> {
     let mut out = Vec::new(alloc);
     write_answer(alloc, call, &mut out)?;
@@ -37,6 +40,7 @@ fn write_answer(alloc: Global, call: &str, out: &mut Vec<u8>) -> io::Result<()> 
         "finds" => write_search(alloc, rest, false, out),
         "searches" => write_search(alloc, rest, true, out),
         "calls" => write_call(alloc, rest, out),
+        "tells" => write_told(alloc, rest, out),
         "above" => {
             let (form, rest) = rest.split_once(' ').unwrap_or((rest, ""));
             write_ways(alloc, 300, form, rest, out)

@@ -6,18 +6,20 @@ use rhai_bench::outcome::Ending;
 use rhai_bench::print::{write_ending, write_value};
 use rhai_bench::script::add_library;
 use rhai_build::functions::TreeParts;
-use rhai_eval::base::{AccessMode, Dynamic, EvalAltResult, Items, Position, Scope, Shared, Union};
+use rhai_eval::base::{AccessMode, EvalAltResult, Items, Position, Scope, Shared, Union};
 use rhai_eval::check::{CheckedFn, check_tree};
 use rhai_eval::engine::Engine;
 use rhai_eval::script::FnKey;
-use rhai_eval::state::{Caches, GlobalRuntimeState};
 use rhai_eval::target::{Part, Target};
 use rhai_samples::functions::{
     empty_function, method_that_changes_an_item, parameter_assigned, variable_declared,
     variable_of_the_caller_increased,
 };
+use rhai_state::caches::Caches;
+use rhai_state::state::GlobalRuntimeState;
 use rhai_tables::host::Pair;
 use rhai_tables::tables::NoNatives;
+use rhai_values::base::value::Dynamic;
 use std::alloc::{AllocError, Global};
 use std::io;
 use std::io::Write;

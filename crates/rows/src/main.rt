@@ -7,6 +7,7 @@ mod functions;
 mod program;
 mod scripts;
 mod searches;
+mod signatures;
 mod values;
 
 use crate::answers::answer;

@@ -1,16 +1,16 @@
 //! The checker's walk along chains.
 
 ghost use Rattle.std.specs.Prelude.{◌≡◌, ◌≤◌, ◌+◌, ◌++◌, [], IsTrue, IfErr, OnOk, List, length};
-ghost use Rattle.rhai_check.specs.Context.{around};
+ghost use Rattle.rhai_check.specs.Around.{around};
 ghost use Rattle.rhai_check.specs.Declares.{declares_expr, declares_call};
-ghost use Rattle.rhai_check.specs.Forms.{ends_chain};
-ghost use Rattle.rhai_check.specs.Frame.{tests_of, resolves_method, dot_resolves, name_resolves};
-ghost use Rattle.rhai_check.specs.Frame.{bracket_resolves, tested_root, tested_end};
-ghost use Rattle.rhai_check.specs.Links.{links_in, most_links};
-ghost use Rattle.rhai_check.specs.Names.{Name};
+ghost use Rattle.rhai_checked.specs.Forms.{ends_chain};
+ghost use Rattle.rhai_checked.specs.Frame.{tests_of, resolves_method, dot_resolves, name_resolves};
+ghost use Rattle.rhai_checked.specs.Frame.{bracket_resolves, tested_root, tested_end};
+ghost use Rattle.rhai_checked.specs.Links.{links_in, most_links};
+ghost use Rattle.rhai_checked.specs.Names.{Name};
 ghost use Rattle.rhai_check.specs.Refusals.{Refuses};
-ghost use Rattle.rhai_check.specs.WellFormed.{seen_expr, seen_call, dot_faults, name_faults};
-ghost use Rattle.rhai_check.specs.WellFormed.{seen_root, seen_end};
+ghost use Rattle.rhai_checked.specs.WellFormed.{seen_expr, seen_call, dot_faults, name_faults};
+ghost use Rattle.rhai_checked.specs.WellFormed.{seen_root, seen_end};
 
 use crate::check::CheckFault;
 use crate::check::expr::{check_expr, check_exprs, is_unqualified};

@@ -1,16 +1,17 @@
 //! The checker's walk over expressions.
 
 ghost use Rattle.std.specs.Prelude.{◌≡◌, ◌++◌, [], IsTrue, IfErr, OnOk, map, length, List, option_map, true};
-ghost use Rattle.rhai_check.specs.Context.{around};
-ghost use Rattle.rhai_check.specs.Declares.{any_of, in_option, declares_expr, declares_call};
-ghost use Rattle.rhai_check.specs.Forms.{is_eval_call, is_unqualified};
-ghost use Rattle.rhai_check.specs.Frame.{tests_of, resolves_expr, resolves_call, target_resolves};
-ghost use Rattle.rhai_check.specs.Frame.{option_resolves, all_resolve_exprs, entries_resolve, map_resolves};
-ghost use Rattle.rhai_check.specs.Frame.{tests_of_entry};
-ghost use Rattle.rhai_check.specs.Names.{Name, is_good};
+ghost use Rattle.rhai_check.specs.Around.{around};
+ghost use Rattle.rhai_checked.specs.Forms.{any_of};
+ghost use Rattle.rhai_check.specs.Declares.{in_option, declares_expr, declares_call};
+ghost use Rattle.rhai_checked.specs.Forms.{is_eval_call, is_unqualified};
+ghost use Rattle.rhai_checked.specs.Frame.{tests_of, resolves_expr, resolves_call, target_resolves};
+ghost use Rattle.rhai_checked.specs.Frame.{option_resolves, all_resolve_exprs, entries_resolve, map_resolves};
+ghost use Rattle.rhai_checked.specs.Frame.{tests_of_entry};
+ghost use Rattle.rhai_checked.specs.Names.{Name, is_good};
 ghost use Rattle.rhai_check.specs.Refusals.{Refuses};
-ghost use Rattle.rhai_check.specs.WellFormed.{seen_expr, seen_call, target_faults, faults_in_option};
-ghost use Rattle.rhai_check.specs.WellFormed.{faults_in_all, faults_in_entries, faults_in_map, seen_entry};
+ghost use Rattle.rhai_checked.specs.WellFormed.{seen_expr, seen_call, target_faults, faults_in_option};
+ghost use Rattle.rhai_checked.specs.WellFormed.{faults_in_all, faults_in_entries, faults_in_map, seen_entry};
 
 use crate::check::CheckFault;
 use crate::check::chain::{

@@ -2,16 +2,16 @@
 
 ghost use Rattle.std.specs.Prelude.{◌≡◌, ◌++◌, [], ◌∷◌, true, IfErr, OnOk, IfOk};
 ghost use Rattle.rhai_check.specs.Declares.{has_functions};
-ghost use Rattle.rhai_check.specs.Frame.{ResolvesFunction};
+ghost use Rattle.rhai_checked.specs.Frame.{ResolvesFunction};
 ghost use Rattle.rhai_check.specs.Refusals.{Refuses};
-ghost use Rattle.rhai_check.specs.WellFormed.{faults_in_function, faults_in_functions, IsFormedFunction};
-ghost use Rattle.rhai_check.specs.WellFormed.{AreFormed};
+ghost use Rattle.rhai_checked.specs.WellFormed.{faults_in_function, faults_in_functions, IsFormedFunction};
+ghost use Rattle.rhai_checked.specs.WellFormed.{AreFormed};
 
 use crate::check::CheckFault;
 use crate::check::names::declare;
 use crate::check::place::Place;
 use crate::check::stmt::check_block;
-use crate::checked::CheckedFn;
+use rhai_checked::checked::CheckedFn;
 use rhai_items::{Items, Shared};
 use rhai_tree::function::{ScriptFuncDef, ScriptFuncPayload};
 use std::alloc::Global;

@@ -1,7 +1,7 @@
 //! The keys of maps.
 
 ghost use Rattle.std.specs.Prelude.{◌≡◌, IfOk, map};
-ghost use Rattle.rhai_check.specs.Keys.{are_keys, key_of};
+ghost use Rattle.rhai_checked.specs.Keys.{are_keys, key_of};
 
 use rhai_items::Table;
 use rhai_tree::expr::MapEntry;

@@ -2,7 +2,7 @@
 
 ghost use Rattle.std.specs.Prelude.{◌≡◌, ◌++◌, ◌∷◌, [], IfErr, OnOk};
 ghost use Rattle.std.specs.Int.NonZero.{non_zero_usize_get};
-ghost use Rattle.rhai_check.specs.Names.{offset_of, is_good};
+ghost use Rattle.rhai_checked.specs.Names.{offset_of, is_good};
 
 use crate::check::CheckFault;
 use rhai_items::{Items, Shared, Text};

@@ -5,7 +5,7 @@ ghost use Rattle.rhai_values.specs.Cells.{cells_of};
 ghost use Rattle.rhai_machine.specs.language.Frames.{Item};
 ghost use Rattle.rhai_cycle.specs.States.{under};
 ghost use Rattle.rhai_steps.specs.States.{state_of};
-ghost use Rattle.rhai_methods.specs.Methods.{lending};
+ghost use Rattle.rhai_steps.specs.Marked.{lending};
 ghost use Rattle.rhai_chains.specs.Chains.{chain_at, FollowsFrom, form_seen};
 ghost use Rattle.rhai_chains.specs.Chains.{link_seen};
 ghost use Rattle.rhai_chains.specs.Members.{access_of};

@@ -7,7 +7,7 @@ ghost use Rattle.rhai_machine.specs.language.Frames.{core, marked};
 ghost use Rattle.rhai_machine.specs.language.Links.{first_position as first_position_in};
 ghost use Rattle.rhai_cycle.specs.States.{under};
 ghost use Rattle.rhai_steps.specs.States.{state_of};
-ghost use Rattle.rhai_methods.specs.Methods.{RunsFrom};
+ghost use Rattle.rhai_steps.specs.Marked.{RunsFrom};
 ghost use Rattle.rhai_chains.specs.Chains.{BehindWalks, chain_at, form_seen};
 ghost use Rattle.rhai_walk.specs.Walking.{behind_value};
 

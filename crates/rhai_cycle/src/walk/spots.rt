@@ -10,7 +10,7 @@ ghost use Rattle.rhai_machine.specs.language.Links.{link_of as link_in};
 ghost use Rattle.rhai_machine.specs.language.Located.{args_behind};
 ghost use Rattle.rhai_cycle.specs.States.{under};
 ghost use Rattle.rhai_steps.specs.States.{state_of};
-ghost use Rattle.rhai_methods.specs.Methods.{lending};
+ghost use Rattle.rhai_steps.specs.Marked.{lending};
 ghost use Rattle.rhai_chains.specs.Chains.{BehindWalks, chain_at, FollowsFrom, form_seen};
 ghost use Rattle.rhai_chains.specs.Chains.{link_seen, new_of, Walks};
 

@@ -10,7 +10,7 @@ ghost use Rattle.rhai_machine.specs.language.Runs.{Runs};
 ghost use Rattle.rhai_machine.specs.language.Setting.{rules_of};
 ghost use Rattle.rhai_steps.specs.States.{state_of};
 ghost use Rattle.rhai_calls.specs.Marks.{MarkedRuns};
-ghost use Rattle.rhai_methods.specs.Methods.{lending};
+ghost use Rattle.rhai_steps.specs.Marked.{lending};
 ghost use Rattle.rhai_index.specs.Indexes.{Indexes};
 ghost use Rattle.rhai_laws.specs.Kept.{Kept};
 ghost use Rattle.rhai_eval.specs.Ends.{EndsFrom, EndsMarked};

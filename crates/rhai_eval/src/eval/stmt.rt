@@ -2,8 +2,8 @@
 //! speak of the machine's runs and of specs/Assigned.antt.
 
 ghost use Rattle.std.specs.Prelude.{◌≡◌, ◌≤◌, OnOk, IsTrue, Some, length, map};
-ghost use Rattle.rhai_check.specs.Frame.{resolves_stmt, all_resolve};
-ghost use Rattle.rhai_check.specs.Names.{Begins};
+ghost use Rattle.rhai_checked.specs.Frame.{resolves_stmt, all_resolve};
+ghost use Rattle.rhai_checked.specs.Names.{Begins};
 ghost use Rattle.rhai_values.specs.Cells.{IsNoHandle};
 ghost use Rattle.rhai_state.specs.Native.{left_by, was};
 ghost use Rattle.rhai_state.specs.Scope.{names_in};
@@ -12,7 +12,7 @@ ghost use Rattle.rhai_machine.specs.language.Frames.{Exec, Enter};
 ghost use Rattle.rhai_machine.specs.language.Setting.{rules_of};
 ghost use Rattle.rhai_steps.specs.States.{holding, state_of};
 ghost use Rattle.rhai_laws.specs.Kept.{Kept};
-ghost use Rattle.rhai_methods.specs.Methods.{lending};
+ghost use Rattle.rhai_steps.specs.Marked.{lending};
 ghost use Rattle.rhai_methods.specs.Targets.{ComesBack, StaysAlike, stands};
 ghost use Rattle.rhai_chains.specs.Chains.{FollowsFrom};
 ghost use Rattle.rhai_eval.specs.Assigned.{assigned, target_assigned, value_assigned, without_value};

@@ -4,7 +4,7 @@
 ghost use Rattle.std.specs.Prelude.{◌≡◌, ◌<◌, ◌≤◌, ◌+◌, ◌++◌, IsTrue, OnOk, drop, false, is_some, length, take};
 ghost use Rattle.std.specs.Prelude.{true};
 ghost use Rattle.std.specs.Option.{option_copied};
-ghost use Rattle.rhai_check.specs.Names.{Begins};
+ghost use Rattle.rhai_checked.specs.Names.{Begins};
 ghost use Rattle.rhai_functions.specs.Functions.{found_in};
 ghost use Rattle.rhai_functions.specs.Keys.{key_seen};
 ghost use Rattle.rhai_machine.specs.language.Activations.{OwnThis};
@@ -22,7 +22,7 @@ ghost use Rattle.rhai_eval.specs.States.{under};
 
 use crate::engine::Engine;
 use crate::this::{give_back_with, take_with};
-use rhai_check::checked::CheckedFn;
+use rhai_checked::checked::CheckedFn;
 use rhai_context::{Context, give_back, take};
 use rhai_functions::key::FnKey;
 use rhai_functions::lookup::find_function;

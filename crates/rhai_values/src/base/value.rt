@@ -4,7 +4,7 @@ ghost use Rattle.std.specs.Prelude.{◌≡◌, List, [], ℕ, IfOk};
 ghost use Rattle.rhai_values.specs.Copy.{plain};
 ghost use Rattle.rhai_values.specs.Modules.{empty_module};
 
-use rhai_check::checked::CheckedFn;
+use rhai_checked::checked::CheckedFn;
 use rhai_items::{Boxed, Items, Shared, Table, Text};
 use rhai_tree::literal::NativeId;
 use std::alloc::{AllocError, Global};

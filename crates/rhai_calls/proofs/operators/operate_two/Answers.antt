@@ -1,7 +1,7 @@
 use Rattle.std.proofs.Common.{◌∷◌, []}
 use Rattle.rhai_machine.specs.language.Setting.{rules_of}
 use Rattle.rhai_calls.specs.Called.{Calls}
-use Rattle.rhai_calls.proofs.Operating.{built}
+use Rattle.rhai_steps.proofs.Operating.{built}
 use Rattle.rhai_calls.proofs.operators.operate_two.Goals as goal
 
 pub returns-in-Some-clause-runs : goal.returns-in-Some-clause-runs

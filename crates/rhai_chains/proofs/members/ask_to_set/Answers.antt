@@ -3,7 +3,7 @@ use Rattle.rhai_machine.specs.language.Frames.{FromFocus}
 use Rattle.rhai_machine.specs.language.Members.{set_item}
 use Rattle.rhai_machine.specs.language.Setting.{Rules, rules_of}
 use Rattle.rhai_steps.specs.States.{state_of}
-use Rattle.rhai_methods.specs.Methods.{lending}
+use Rattle.rhai_steps.specs.Marked.{lending}
 use Rattle.rhai_chains.proofs.MemberLemmas.{wants_asking}
 use Rattle.rhai_chains.proofs.members.ask_to_set.Goals as goal
 

@@ -4,12 +4,12 @@ use Rattle.rhai_tree.specs.declared.expr.Expr.TheVariants.{outs-Variable, outs-O
 use Rattle.rhai_tree.specs.declared.expr.Expr.TheVariants.{outs-BoolConstant, outs-IntegerConstant, outs-CharConstant}
 use Rattle.rhai_tree.specs.declared.expr.Expr.TheVariants.{outs-StringConstant, outs-Unit, outs-ThisPtr}
 use Rattle.rhai_tree.specs.declared.expr.Stmt.TheVariants.{outs-If, outs-Noop, outs-While, outs-Assignment}
-use Rattle.rhai_check.specs.Context.{around}
-use Rattle.rhai_check.specs.Frame.{tests_of, resolves_expr, dot_resolves, name_resolves, bracket_resolves}
-use Rattle.rhai_check.specs.Forms.{ends_chain}
-use Rattle.rhai_check.specs.Reading.{faulty, sound}
-use Rattle.rhai_check.specs.WellFormed.{seen_expr, dot_faults}
-use Rattle.rhai_check.specs.Names.{is_good}
+use Rattle.rhai_check.specs.Around.{around}
+use Rattle.rhai_checked.specs.Frame.{tests_of, resolves_expr, dot_resolves, name_resolves, bracket_resolves}
+use Rattle.rhai_checked.specs.Forms.{ends_chain}
+use Rattle.rhai_checked.specs.Reading.{faulty, sound}
+use Rattle.rhai_checked.specs.WellFormed.{seen_expr, dot_faults}
+use Rattle.rhai_checked.specs.Names.{is_good}
 use Rattle.std.proofs.lemmas.Grind.{common_steps}
 use Rattle.std.proofs.lemmas.List.{append-nil}
 use Rattle.rhai_check.proofs.Chains.{bracket_same, bracket_last, bracket_apart, bracket_runs, named_alone, named_apart, and_true}
@@ -20,8 +20,9 @@ use Rattle.rhai_check.proofs.Outcome.{given_ok, err_then, runs_at, exact_expr_at
 use Rattle.rhai_check.proofs.Outcome.{target_refused, exported_refused, var_passes, var_runs, control_passes, control_refused, loop_passes}
 use Rattle.rhai_check.proofs.Refused.{refused, refuses_expr, refuses_stmt, refuses_first, refuses_later}
 use Rattle.rhai_check.proofs.Refused.{refuses_front, refuses_behind, refuses_memory}
-use Rattle.rhai_check.proofs.Links.{counted_runs}
-use Rattle.rhai_check.proofs.Walk.{refuses_expr_at, refuses_stmt_at, resolves-expr, resolves-stmt, declares-expr}
+use Rattle.rhai_check.proofs.Counted.{counted_runs}
+use Rattle.rhai_check.proofs.Walk.{refuses_expr_at, refuses_stmt_at, declares-expr}
+use Rattle.rhai_checked.proofs.Walk.{resolves-expr, resolves-stmt}
 use Rattle.rhai_check.proofs.MapKeys.{map_passes, map_runs, map_refused, keys_refused}
 use Rattle.rhai_check.proofs.check.+check.Goals as goal
 

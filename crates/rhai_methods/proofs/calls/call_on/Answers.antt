@@ -2,7 +2,7 @@ use Rattle.std.proofs.Common.{◌++◌}
 use Rattle.rhai_machine.specs.language.Setting.{Rules, rules_of}
 use Rattle.rhai_steps.specs.States.{local_of, state_of}
 use Rattle.rhai_methods.specs.Calls.{on_by}
-use Rattle.rhai_methods.specs.Methods.{lending}
+use Rattle.rhai_steps.specs.Marked.{lending}
 use Rattle.rhai_methods.proofs.Going.{wants_from}
 use Rattle.rhai_methods.proofs.Levels.{on_by_level}
 use Rattle.rhai_methods.proofs.calls.call_on.Goals as goal

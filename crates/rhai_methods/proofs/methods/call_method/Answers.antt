@@ -2,7 +2,7 @@ use Rattle.std.proofs.Common.{false, Ok}
 use Rattle.rhai_machine.specs.language.Setting.{Rules, rules_of}
 use Rattle.rhai_machine.specs.language.Methods.{Method, CallWord, CurryWord, SharedWord, PlainWord}
 use Rattle.rhai_steps.specs.States.{state_of}
-use Rattle.rhai_methods.specs.Methods.{lending}
+use Rattle.rhai_steps.specs.Marked.{lending}
 use Rattle.rhai_methods.specs.declared.calls.MethodCall.TheVariants.{Ended}
 use Rattle.rhai_methods.proofs.Meanings.{by_word, curry_goes, shared_goes}
 use Rattle.rhai_methods.proofs.methods.call_method.Goals as goal

@@ -4,7 +4,7 @@ use Rattle.std.specs.Option.{option_copied}
 use Rattle.rhai_machine.specs.language.Setting.{Rules, rules_of}
 use Rattle.rhai_machine.specs.language.State.{State}
 use Rattle.rhai_steps.specs.States.{local_of, state_of}
-use Rattle.rhai_methods.specs.Methods.{lending}
+use Rattle.rhai_steps.specs.Marked.{lending}
 use Rattle.rhai_methods.specs.Parts.{name_called, on_with}
 use Rattle.rhai_methods.proofs.Going.{wants_from}
 use Rattle.rhai_methods.proofs.Levels.{on_with_level}

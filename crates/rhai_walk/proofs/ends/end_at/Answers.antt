@@ -3,7 +3,7 @@ use Rattle.rhai_values.specs.Cells.{cells_of}
 use Rattle.rhai_places.specs.Found.{found}
 use Rattle.rhai_machine.specs.language.Setting.{Rules, rules_of}
 use Rattle.rhai_steps.specs.States.{state_of}
-use Rattle.rhai_methods.specs.Methods.{lending}
+use Rattle.rhai_steps.specs.Marked.{lending}
 use Rattle.rhai_chains.specs.Chains.{chain_at, link_seen}
 use Rattle.rhai_chains.specs.Spots.{way_through}
 use Rattle.rhai_walk.proofs.Descending.{taken_none, taken_there}

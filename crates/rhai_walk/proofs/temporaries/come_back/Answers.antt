@@ -2,7 +2,7 @@ use Rattle.std.proofs.Common.{ap}
 use Rattle.std.specs.Option.{option_map}
 use Rattle.rhai_machine.specs.language.Setting.{Rules, rules_of}
 use Rattle.rhai_steps.specs.States.{state_of}
-use Rattle.rhai_methods.specs.Methods.{lending}
+use Rattle.rhai_steps.specs.Marked.{lending}
 use Rattle.rhai_chains.specs.Members.{access_of}
 use Rattle.rhai_walk.proofs.OnTemporaries.{comes_failed, comes_unmarked, no_way_back, set_there}
 use Rattle.rhai_walk.proofs.temporaries.come_back.Goals as goal

@@ -1,7 +1,7 @@
 use Rattle.rhai_machine.specs.language.Members.{get_core}
 use Rattle.rhai_machine.specs.language.Setting.{Rules, rules_of}
 use Rattle.rhai_steps.specs.States.{state_of}
-use Rattle.rhai_methods.specs.Methods.{lending}
+use Rattle.rhai_steps.specs.Marked.{lending}
 use Rattle.rhai_chains.specs.Members.{access_of}
 use Rattle.rhai_walk.proofs.Inside.{wants_alone}
 use Rattle.rhai_walk.proofs.temporaries.get_kept.Goals as goal

@@ -1,6 +1,6 @@
 use Rattle.rhai_machine.specs.language.Setting.{Rules, rules_of}
 use Rattle.rhai_steps.specs.States.{state_of}
-use Rattle.rhai_methods.specs.Methods.{lending}
+use Rattle.rhai_steps.specs.Marked.{lending}
 use Rattle.rhai_chains.specs.Members.{access_of}
 use Rattle.rhai_walk.proofs.OnTemporaries.{set_ends, set_fails}
 use Rattle.rhai_walk.proofs.temporaries.set_back.Goals as goal

@@ -5,7 +5,7 @@ use Rattle.rhai_machine.specs.language.Frames.{Operation, FromFocus}
 use Rattle.rhai_machine.specs.language.Setting.{Offer, Rules}
 use Rattle.rhai_machine.specs.language.State.{State}
 use Rattle.rhai_calls.specs.Dispatch.{Offers}
-use Rattle.rhai_methods.specs.Methods.{lending}
+use Rattle.rhai_steps.specs.Marked.{lending}
 use Rattle.rhai_steps.specs.States.{state_of}
 use Rattle.rhai_eval.specs.Entering.{ComesTo}
 use Rattle.rhai_eval.specs.Places.{by_name, on_place}

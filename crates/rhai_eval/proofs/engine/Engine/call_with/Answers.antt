@@ -2,7 +2,7 @@ use Rattle.std.proofs.Common.{Some, false, not, true}
 use Rattle.rhai_machine.specs.language.Calls.{dispatch_core}
 use Rattle.rhai_machine.specs.language.Frames.{Operation}
 use Rattle.rhai_machine.specs.language.Setting.{Rules}
-use Rattle.rhai_methods.specs.Methods.{lending}
+use Rattle.rhai_steps.specs.Marked.{lending}
 use Rattle.rhai_steps.specs.States.{state_of}
 use Rattle.rhai_eval.specs.Places.{by_name, by_value, on_place}
 use Rattle.rhai_eval.specs.States.{under}

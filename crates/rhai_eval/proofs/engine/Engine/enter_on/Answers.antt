@@ -1,7 +1,7 @@
 use Rattle.std.proofs.Common.{ap}
 use Rattle.rhai_machine.specs.language.Frames.{EnterOnFocus}
 use Rattle.rhai_calls.specs.Marks.{MarkedRuns}
-use Rattle.rhai_methods.specs.Methods.{lending}
+use Rattle.rhai_steps.specs.Marked.{lending}
 use Rattle.rhai_steps.specs.States.{state_of}
 use Rattle.rhai_context.specs.declared.Context.{Context}
 use Rattle.rhai_cycle.specs.States.{under as under_what_is_read}

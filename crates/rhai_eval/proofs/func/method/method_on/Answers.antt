@@ -1,7 +1,7 @@
 use Rattle.rhai_machine.specs.language.Methods.{Method}
 use Rattle.rhai_machine.specs.language.Setting.{Rules}
 use Rattle.rhai_steps.specs.States.{state_of}
-use Rattle.rhai_methods.specs.Methods.{lending}
+use Rattle.rhai_steps.specs.Marked.{lending}
 use Rattle.rhai_cycle.specs.States.{under}
 use Rattle.rhai_eval.proofs.OnTargets.{part_runs}
 use Rattle.rhai_eval.proofs.func.method.method_on.Goals as goal

@@ -14,7 +14,8 @@ use Rattle.rhai_steps.proofs.Pieces.{passed}
 use Rattle.rhai_bodies.specs.Closing.{taken_back}
 use Rattle.rhai_context.specs.declared.Context.{Context}
 use Rattle.rhai_laws.proofs.KeptLaws.{counted, kept, names_stay}
-use Rattle.rhai_methods.specs.Methods.{lending, CallsFrom, RunsFrom}
+use Rattle.rhai_steps.specs.Marked.{lending, RunsFrom}
+use Rattle.rhai_methods.specs.Methods.{CallsFrom}
 use Rattle.rhai_cycle.specs.Bodies.{entered}
 use Rattle.rhai_cycle.specs.Calls.{StartsAs}
 use Rattle.rhai_cycle.specs.States.{offer_of, under}

@@ -2,7 +2,7 @@ use Rattle.std.proofs.Common.{Err, sym, ap, ◌∙◌, arith, length, is_some}
 use Rattle.rhai_values.specs.Cells.{cells_of}
 use Rattle.rhai_cycle.specs.States.{under}
 use Rattle.rhai_steps.specs.States.{state_of}
-use Rattle.rhai_methods.specs.Methods.{lending}
+use Rattle.rhai_steps.specs.Marked.{lending}
 use Rattle.rhai_chains.specs.Chains.{chain_at, form_seen, link_seen}
 use Rattle.rhai_walk.proofs.Entering.{enters}
 use Rattle.rhai_walk.proofs.Inside.{entry_there, given_is, item_by_natives, item_inside}

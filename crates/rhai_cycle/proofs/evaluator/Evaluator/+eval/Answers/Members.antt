@@ -4,11 +4,11 @@ use Rattle.std.specs.Option.{option_copied, option_map}
 use Rattle.rhai_machine.specs.language.Chains.{is_property, kept_access}
 use Rattle.rhai_cycle.specs.States.{offer_of, under}
 use Rattle.rhai_steps.specs.States.{state_of}
-use Rattle.rhai_methods.specs.Methods.{lending}
+use Rattle.rhai_steps.specs.Marked.{lending}
 use Rattle.rhai_chains.specs.Chains.{chain_at, link_seen, new_of, Does}
 use Rattle.rhai_chains.specs.Members.{access_of}
 use Rattle.rhai_walk.proofs.Inside.{member_ends, member_goes}
-use Rattle.rhai_check.specs.Links.{left_by}
+use Rattle.rhai_checked.specs.Links.{left_by}
 use Rattle.rhai_walk.proofs.OnTemporaries.{got_fails, got_goes, goes_back}
 use Rattle.rhai_cycle.proofs.evaluator.Evaluator.+eval.Goals as goal
 

@@ -6,7 +6,7 @@ use Rattle.rhai_steps.specs.States.{state_of}
 use Rattle.rhai_values.specs.Cells.{cells_of}
 use Rattle.rhai_chains.specs.Chains.{chain_at}
 use Rattle.rhai_dispatch.proofs.Lending.{lent_names}
-use Rattle.rhai_methods.specs.Methods.{lending}
+use Rattle.rhai_steps.specs.Marked.{lending}
 use Rattle.rhai_cycle.specs.Calls.{StartsAs}
 use Rattle.rhai_cycle.specs.States.{under}
 use Rattle.rhai_cycle.proofs.RootLemmas.{begins, function_begins, function_missing, lent_begins, root_begins, root_held, this_begins}

@@ -11,13 +11,13 @@ use Rattle.rhai_machine.specs.language.Members.{focused_on}
 use Rattle.rhai_cycle.specs.States.{offer_of, under}
 use Rattle.rhai_machine.specs.language.Values.{unit_value}
 use Rattle.rhai_steps.specs.States.{state_of}
-use Rattle.rhai_methods.specs.Methods.{lending}
+use Rattle.rhai_steps.specs.Marked.{lending}
 use Rattle.rhai_chains.specs.Chains.{chain_at, form_seen, link_seen, new_of, Wants}
 use Rattle.rhai_chains.specs.Spots.{way_through}
 use Rattle.rhai_walk.proofs.Inside.{spot_by}
 use Rattle.rhai_walk.proofs.Descending.{found_missing, found_none, found_part, found_place, goes_down, part_goes, part_method}
 use Rattle.rhai_chains.proofs.LinkLemmas.{fewer_behind}
-use Rattle.rhai_check.specs.Links.{left_by}
+use Rattle.rhai_checked.specs.Links.{left_by}
 use Rattle.rhai_walk.proofs.OnTemporaries.{called_on_part, goes_back, method_goes, on_temporary, wants_back, working}
 use Rattle.rhai_walk.proofs.PartCalls.{part_called}
 use Rattle.rhai_walk.proofs.Walked.{link_walks, method_behind, method_there, method_walks}

@@ -4,7 +4,7 @@ use Rattle.rhai_tree.specs.declared.expr.Expr.{out-Expr}
 use Rattle.rhai_machine.specs.language.Chains.{method_of}
 use Rattle.rhai_cycle.specs.States.{offer_of, under}
 use Rattle.rhai_steps.specs.States.{state_of}
-use Rattle.rhai_methods.specs.Methods.{lending}
+use Rattle.rhai_steps.specs.Marked.{lending}
 use Rattle.rhai_chains.specs.Chains.{chain_at, form_seen, link_seen}
 use Rattle.rhai_walk.proofs.Beginning.{calls_on, comes_on}
 use Rattle.rhai_chains.proofs.LinkLemmas.{fewer_behind, has_link}

@@ -1,0 +1,44 @@
+//! Times scripts: `bench WORK [NUMBER]`, where the number says how long the work is. Prints how each
+//! script ended and how many operations it charged, and on standard error how many of them a second had.
+//!
+//! - `loop`: a loop of so many decrements
+//! - `array`: an array of so many literals, and one of twice as many
+//! - `natives`: so many calls of natives of one argument, and of two, in loops that count down
+//! - `item`: so many additions to the last item of an array of a thousand items, and of a hundred thousand
+//! - `fib`: a function that calls itself twice, with that number
+#![tactic(auto)]
+
+mod work;
+
+use crate::work::Work;
+use rhai_bench::command::WRONG_ARGUMENTS;
+use std::process::ExitCode;
+use std::rt::Env;
+use std::{env, io};
+
+fn main(rt: HostRuntime) -> io::Result<ExitCode> {
+    match asked(&rt)? {
+        Some((work, number)) => {
+            work.run(&rt, number)?;
+            Ok(ExitCode::SUCCESS)
+        }
+        None => {
+            eprintln!(&rt; "usage: bench loop|array|natives|item|fib [NUMBER]")?;
+            Ok(ExitCode::from(WRONG_ARGUMENTS))
+        }
+    }
+}
+
+/// The work of the arguments and how long it is; None where they say none.
+fn asked<R: Env + AllocGlobal>(rt: &R) -> io::Result<Option<(Work, u32)>> {
+    let Some(word) = env::args(rt)?.nth(1) else {
+        return Ok(None);
+    };
+    let Some(work) = Work::named(word.as_str()) else {
+        return Ok(None);
+    };
+    match env::args(rt)?.nth(2) {
+        Some(number) => Ok(number.parse::<u32>().ok().map(|number| (work, number))),
+        None => Ok(Some((work, work.usual()))),
+    }
+}

@@ -1,0 +1,10 @@
+pub mod Context
+pub mod Faults
+pub mod Forms
+pub mod Frame
+pub mod Keys
+pub mod Links
+pub mod Names
+pub mod Reading
+pub mod Types
+pub mod WellFormed

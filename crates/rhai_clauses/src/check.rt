@@ -1,0 +1,42 @@
+//! The checker.
+
+ghost use Rattle.std.specs.Prelude.{◌≡◌, ◌≢◌, IsTrue, IfOk, IfErr, OnOk};
+ghost use Rattle.std.specs.List.{Contains};
+ghost use Rattle.rhai_check.specs.Declares.{needs_memory};
+ghost use Rattle.rhai_checked.specs.WellFormed.{Stands, faults_in_function, IsFormedFunction, IsFormedTree};
+
+use rhai_checked::checked::{CheckedFn, CheckedTree};
+use rhai_checked::fault::CheckFault;
+use rhai_items::Items;
+use rhai_tree::expr::Stmt;
+use rhai_tree::function::ScriptFuncDef;
+use std::alloc::Global;
+
+/// `rhai_check::check::check_tree`.
+pub fn check_tree(
+    alloc: Global,
+    statements: Items<Stmt>,
+    functions: Items<ScriptFuncDef>,
+) -> Result<CheckedTree, CheckFault>
+    ensures passed { IfOk result (λ tree. tree ≡ (statements, functions)) }
+    ensures formed { OnOk result (IsFormedTree statements functions) }
+    ensures refused { IfErr result (λ fault. fault ≢ CheckFault.NoMemory →
+        Stands fault statements functions) }
+    ensures unformed { IfErr result (λ fault. fault ≢ CheckFault.NoMemory →
+        ¬ IsFormedTree statements functions) }
+    ensures memory { IfErr result (λ fault. fault ≡ CheckFault.NoMemory →
+        IsTrue (needs_memory statements functions)) }
+{
+    rhai_check::check::check_tree(alloc, statements, functions)
+}
+
+/// `rhai_check::check::check_function`.
+pub fn check_function(alloc: Global, def: ScriptFuncDef) -> Result<CheckedFn, CheckFault>
+    ensures passed { IfOk result (λ function. function ≡ def) }
+    ensures formed { OnOk result (IsFormedFunction def) }
+    ensures refused { IfErr result (λ fault. fault ≢ CheckFault.NoMemory →
+        Contains (faults_in_function def) fault) }
+    ensures unformed { IfErr result (λ fault. fault ≢ CheckFault.NoMemory → ¬ IsFormedFunction def) }
+{
+    rhai_check::check::check_function(alloc, def)
+}

@@ -1,0 +1,24 @@
+//! The parameters of a function.
+
+ghost use Rattle.std.specs.Prelude.{◌≡◌, ◌++◌, OnErr, OnOk, length, map, take};
+ghost use Rattle.rhai_functions.specs.Entering.{parameters, unit};
+ghost use Rattle.rhai_state.specs.Scope.{entries_of};
+
+use rhai_items::{Shared, Text};
+use rhai_state::scope::Scope;
+use rhai_values::base::value::{Dynamic, Host};
+use std::alloc::AllocError;
+
+/// `rhai_functions::entering::push_parameters`.
+pub fn push_parameters<H: Host>(
+    scope: &mut Scope<H>,
+    params: &[Shared<Text>],
+    args: &mut [Dynamic<H>],
+) -> Result<(), AllocError>
+    ensures ok { OnOk result (entries_of scope.new ≡ entries_of scope.old ++ parameters params.now args.old) }
+    ensures left { OnOk result (length params.now ≡ length args.old → args.new ≡ map (λ _. unit) args.old) }
+    ensures err { OnErr result (take (length (entries_of scope.old)) (entries_of scope.new)
+        ≡ entries_of scope.old) }
+{
+    rhai_functions::entering::push_parameters(scope, params, args)
+}

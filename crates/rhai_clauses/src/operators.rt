@@ -1,0 +1,31 @@
+//! The built-in operators.
+
+ghost use Rattle.rhai_operators.specs.Answers.{IsAnswer, binary_of, unary_of};
+
+use rhai_state::error::EvalAltResult;
+use rhai_tree::token::Token;
+use rhai_values::base::value::{Dynamic, Host};
+use std::alloc::Global;
+
+/// `rhai_operators::builtin_unary`.
+pub fn builtin_unary<H: Host>(
+    alloc: Global,
+    op: Token,
+    x: &Dynamic<H>,
+) -> Option<Result<Dynamic<H>, EvalAltResult<H>>>
+    ensures { IsAnswer result (unary_of op x.now) }
+{
+    rhai_operators::builtin_unary(alloc, op, x)
+}
+
+/// `rhai_operators::builtin_binary`.
+pub fn builtin_binary<H: Host>(
+    alloc: Global,
+    op: Token,
+    x: &Dynamic<H>,
+    y: &Dynamic<H>,
+) -> Option<Result<Dynamic<H>, EvalAltResult<H>>>
+    ensures { IsAnswer result (binary_of op x.now y.now) }
+{
+    rhai_operators::builtin_binary(alloc, op, x, y)
+}

@@ -1,0 +1,125 @@
+//! Calls of natives and of indexers.
+
+ghost use Rattle.rhai_eval.specs.Ends.{EndsFrom, EndsMarked};
+ghost use Rattle.rhai_eval.specs.Indexing.{access, item_by};
+ghost use Rattle.rhai_eval.specs.Places.{on_place, with_place};
+ghost use Rattle.rhai_eval.specs.States.{under};
+ghost use Rattle.rhai_index.specs.Indexes.{Indexes};
+ghost use Rattle.rhai_laws.specs.Kept.{Kept};
+ghost use Rattle.rhai_machine.specs.language.Frames.{Ask, core};
+ghost use Rattle.rhai_machine.specs.language.Members.{get_core};
+ghost use Rattle.rhai_steps.specs.States.{state_of};
+ghost use Rattle.rhai_values.specs.Cells.{IsNoHandle};
+ghost use Rattle.std.specs.Option.{option_copied};
+ghost use Rattle.std.specs.Prelude.{Some, true, ◌<◌, ◌≡◌};
+
+use rhai_eval::engine::Engine;
+use rhai_places::target::Target;
+use rhai_state::caches::Caches;
+use rhai_state::error::EvalAltResult;
+use rhai_state::state::GlobalRuntimeState;
+use rhai_state::table::NativeTable;
+use rhai_tree::position::Position;
+use rhai_tree::token::Token;
+use rhai_values::base::value::{Dynamic, Host};
+use std::alloc::Global;
+
+/// `Engine::exec_native_fn_call` on a first argument.
+pub fn exec_native_fn_call<H: Host, T: NativeTable<H>>(
+    engine: &Engine<H>,
+    alloc: Global,
+    global: &mut GlobalRuntimeState<H>,
+    caches: &mut Caches<H>,
+    table: &mut T,
+    name: &str,
+    op_token: Option<&Token>,
+    first: &mut Dynamic<H>,
+    rest: &mut [Dynamic<H>],
+    is_ref_mut: bool,
+    position: Position,
+) -> Result<(Dynamic<H>, bool), EvalAltResult<H>>
+    ensures ends { (scope : _) (this : _) → EndsMarked (under H.name_of engine.now T.natives)
+        (λ k l. core (Ask (on_place
+        (record { name = name.now; token = option_copied op_token.entry; at = position })
+        is_ref_mut (Some first.old) rest.old)) k l)
+        (state_of (T.state table.old) global.old scope (with_place this (Some first.old))) result
+        (state_of (T.state table.new) global.new scope (with_place this (Some first.new))) }
+    ensures kept { (scope : _) (this : _) → Kept (under H.name_of engine.now T.natives)
+        (state_of (T.state table.old) global.old scope (with_place this (Some first.old)))
+        (state_of (T.state table.new) global.new scope (with_place this (Some first.new))) }
+    ensures rest { rest.new ≡ rest.old }
+    ensures caches { caches.new ≡ caches.old }
+    ensures search { global.new.always_search_scope ≡ global.old.always_search_scope }
+{
+    engine.exec_native_fn_call(
+        alloc,
+        global,
+        caches,
+        table,
+        name,
+        op_token,
+        Some(first),
+        rest,
+        is_ref_mut,
+        position,
+    )
+}
+
+/// `Engine::call_indexer_get`.
+pub fn call_indexer_get<H: Host, T: NativeTable<H>>(
+    engine: &Engine<H>,
+    alloc: Global,
+    global: &mut GlobalRuntimeState<H>,
+    caches: &mut Caches<H>,
+    table: &mut T,
+    object: &mut Dynamic<H>,
+    index: &mut Dynamic<H>,
+    pos: Position,
+) -> Result<Dynamic<H>, EvalAltResult<H>>
+    ensures ends { (scope : _) (this : _) → EndsFrom (under H.name_of engine.now T.natives)
+        (get_core (item_by index.old pos true))
+        (state_of (T.state table.old) global.old scope (with_place this (Some object.old))) result
+        (state_of (T.state table.new) global.new scope (with_place this (Some object.new))) }
+    ensures kept { (scope : _) (this : _) → Kept (under H.name_of engine.now T.natives)
+        (state_of (T.state table.old) global.old scope (with_place this (Some object.old)))
+        (state_of (T.state table.new) global.new scope (with_place this (Some object.new))) }
+    ensures index { index.new ≡ index.old }
+    ensures caches { caches.new ≡ caches.old }
+    ensures search { global.new.always_search_scope ≡ global.old.always_search_scope }
+{
+    engine.call_indexer_get(alloc, global, caches, table, object, index, pos)
+}
+
+/// `Engine::get_indexed_mut`.
+pub fn get_indexed_mut<'t, H: Host, T: NativeTable<H>>(
+    engine: &Engine<H>,
+    alloc: Global,
+    global: &mut GlobalRuntimeState<H>,
+    caches: &mut Caches<H>,
+    table: &mut T,
+    target: &'t mut Dynamic<H>,
+    idx: &mut Dynamic<H>,
+    idx_pos: Position,
+    op_pos: Position,
+    add_if_not_found: bool,
+    use_indexers: bool,
+) -> Result<Target<'t, H>, EvalAltResult<H>>
+    requires { IsNoHandle target.old.value }
+    ensures indexes { Indexes engine.now.limits H.name_of T.natives T.state
+        (access engine.now idx_pos op_pos add_if_not_found) use_indexers
+        global.old table.old target.old idx.old global.new table.new idx.new result }
+    ensures caches { caches.new ≡ caches.old }
+{
+    engine.get_indexed_mut(
+        alloc,
+        global,
+        caches,
+        table,
+        target,
+        idx,
+        idx_pos,
+        op_pos,
+        add_if_not_found,
+        use_indexers,
+    )
+}

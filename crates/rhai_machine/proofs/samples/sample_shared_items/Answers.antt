@@ -1,5 +1,0 @@
-use Rattle.rhai_machine.proofs.ItemRuns.{shared_items}
-use Rattle.rhai_machine.proofs.samples.sample_shared_items.Goals as goal
-
-pub returns : goal.returns
-returns g c = λ table host. shared_items table host

@@ -1,5 +1,0 @@
-use Rattle.rhai_machine.proofs.LoopRuns.{ways_out}
-use Rattle.rhai_machine.proofs.samples.sample_ways_out.Goals as goal
-
-pub returns : goal.returns
-returns g c = λ table host. ways_out table host

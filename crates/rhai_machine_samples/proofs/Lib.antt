@@ -1,0 +1,11 @@
+mod SampleRuns
+mod AssignmentRuns
+mod CallRuns
+mod ChainRuns
+mod DataRuns
+mod FunctionRuns
+mod ItemRuns
+mod LoopRuns
+mod MemberRuns
+mod MethodRuns
+mod PartRuns

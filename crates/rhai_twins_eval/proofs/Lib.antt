@@ -1,0 +1,4 @@
+mod Halts
+mod Once
+mod Starts
+mod Targets

@@ -1,0 +1,12 @@
+use Rattle.std.proofs.Common.{Some, refl, ap}
+use Rattle.rhai_steps.specs.States.{holding}
+use Rattle.rhai_eval.specs.States.{under}
+use Rattle.rhai_twins_eval.proofs.Once.{argument_once}
+use Rattle.rhai_twins_eval.proofs.Starts.{same_start}
+use Rattle.rhai_twins_eval.proofs.parts.get_arg_value.Goals as goal
+
+pub returns-clause-run : goal.returns-clause-run
+returns-clause-run g c = let one = c.get_arg_value in let other = c.get_arg_value-2 in
+    argument_once (under g.H.Host.name_of c.args.engine.now g.T.NativeTable.natives) _ _ _ _ _ _ _ one.result other.result refl
+    (same_start c.requires.table c.requires.global c.requires.scope (ap (λ x. holding (Some x)) c.requires.this))
+    one.ensures.ends other.ensures.ends one.ensures.position other.ensures.position

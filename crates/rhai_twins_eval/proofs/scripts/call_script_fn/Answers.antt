@@ -1,0 +1,20 @@
+use Rattle.std.proofs.Common.{Some, false, ap, ◌∙◌}
+use Rattle.std.specs.Option.{option_copied}
+use Rattle.rhai_machine.specs.language.Activations.{OwnThis}
+use Rattle.rhai_machine.specs.language.Frames.{EnterFunction, core}
+use Rattle.rhai_cycle.specs.Bodies.{entered}
+use Rattle.rhai_steps.specs.States.{holding}
+use Rattle.rhai_eval.specs.States.{under}
+use Rattle.rhai_twins_eval.proofs.Once.{call_once}
+use Rattle.rhai_twins_eval.proofs.Starts.{same_start}
+use Rattle.rhai_twins_eval.proofs.scripts.call_script_fn.Goals as goal
+
+pub returns-clause-run : goal.returns-clause-run
+returns-clause-run g c = let one = c.call_script_fn in let other = c.call_script_fn-2 in let a = c.args in
+    call_once (under g.H.Host.name_of c.args.engine.now g.T.NativeTable.natives) _ _ _ _ _ _ one.result other.result
+    (ap (λ x. λ k l. core (EnterFunction (entered a.def.now (option_copied a.env) OwnThis false a.rewind_scope x a.global.now.level a.pos))
+    k l) c.requires.args
+    ∙ ap (λ x. λ k l. core (EnterFunction (entered a.def.now (option_copied a.env) OwnThis false a.rewind_scope a.also_args.now x.level
+    a.pos)) k l) c.requires.global)
+    (same_start c.requires.table c.requires.global c.requires.scope (ap (λ x. holding (Some x)) c.requires.this))
+    one.ensures.ends other.ensures.ends

@@ -1,0 +1,158 @@
+//! Whole scripts and functions of scripts.
+
+ghost use Rattle.std.specs.Prelude.{◌≡◌, None, Some};
+ghost use Rattle.rhai_twins_eval.specs.Same.{SameEnd};
+ghost use Rattle.rhai_steps.specs.States.{holding, state_of};
+ghost use Rattle.rhai_eval.specs.Plain.{Plain};
+ghost use Rattle.rhai_twins_eval.specs.Same.{Same};
+
+use rhai_checked::checked::{CheckedFn, CheckedTree};
+use rhai_eval::engine::Engine;
+use rhai_functions::key::FnKey;
+use rhai_state::caches::Caches;
+use rhai_state::error::EvalAltResult;
+use rhai_state::scope::Scope;
+use rhai_state::state::GlobalRuntimeState;
+use rhai_state::table::NativeTable;
+use rhai_tree::position::Position;
+use rhai_values::base::value::{Dynamic, EncapsulatedEnviron, Host};
+use std::alloc::Global;
+
+/// Of `Engine::eval_global_statements`.
+pub fn eval_global_statements<H: Host, T: NativeTable<H>>(
+    engine: &Engine<H>,
+    alloc: Global,
+    global: &mut GlobalRuntimeState<H>,
+    also_global: &mut GlobalRuntimeState<H>,
+    caches: &mut Caches<H>,
+    also_caches: &mut Caches<H>,
+    table: &mut T,
+    also_table: &mut T,
+    scope: &mut Scope<H>,
+    also_scope: &mut Scope<H>,
+    tree: &CheckedTree,
+    map_exit_to_return_value: bool,
+) -> (
+    Result<Dynamic<H>, EvalAltResult<H>>,
+    Result<Dynamic<H>, EvalAltResult<H>>,
+)
+    requires global { global.old ≡ also_global.old }
+    requires caches { caches.old ≡ also_caches.old }
+    requires table { T.state table.old ≡ T.state also_table.old }
+    requires scope { scope.old ≡ also_scope.old }
+    requires plain { Plain engine.now global.old }
+    ensures run { Same result.0 result.1
+        (state_of (T.state table.new) global.new scope.new (holding None))
+        (state_of (T.state also_table.new) also_global.new also_scope.new (holding None)) }
+    ensures caches { caches.new ≡ also_caches.new }
+    ensures search { global.new.always_search_scope ≡ also_global.new.always_search_scope }
+    ensures global { SameEnd result.0 result.1 global.new also_global.new }
+    ensures scope { SameEnd result.0 result.1 scope.new also_scope.new }
+    ensures table { SameEnd result.0 result.1 (T.state table.new) (T.state also_table.new) }
+{
+    (
+        engine.eval_global_statements(
+            alloc,
+            global,
+            caches,
+            table,
+            scope,
+            tree,
+            map_exit_to_return_value,
+        ),
+        engine.eval_global_statements(
+            alloc,
+            also_global,
+            also_caches,
+            also_table,
+            also_scope,
+            tree,
+            map_exit_to_return_value,
+        ),
+    )
+}
+
+/// Of `Engine::call_script_fn` on a `this`: what is left of the arguments is open.
+pub fn call_script_fn<H: Host, T: NativeTable<H>>(
+    engine: &Engine<H>,
+    alloc: Global,
+    global: &mut GlobalRuntimeState<H>,
+    also_global: &mut GlobalRuntimeState<H>,
+    caches: &mut Caches<H>,
+    also_caches: &mut Caches<H>,
+    table: &mut T,
+    also_table: &mut T,
+    scope: &mut Scope<H>,
+    also_scope: &mut Scope<H>,
+    this: &mut Dynamic<H>,
+    also_this: &mut Dynamic<H>,
+    env: Option<&EncapsulatedEnviron<H>>,
+    def: &CheckedFn,
+    args: &mut [Dynamic<H>],
+    also_args: &mut [Dynamic<H>],
+    rewind_scope: bool,
+    pos: Position,
+) -> (
+    Result<Dynamic<H>, EvalAltResult<H>>,
+    Result<Dynamic<H>, EvalAltResult<H>>,
+)
+    requires global { global.old ≡ also_global.old }
+    requires caches { caches.old ≡ also_caches.old }
+    requires table { T.state table.old ≡ T.state also_table.old }
+    requires scope { scope.old ≡ also_scope.old }
+    requires this { this.old ≡ also_this.old }
+    requires args { args.old ≡ also_args.old }
+    requires plain { Plain engine.now global.old }
+    ensures run { Same result.0 result.1
+        (state_of (T.state table.new) global.new scope.new (holding (Some this.new)))
+        (state_of (T.state also_table.new) also_global.new also_scope.new (holding (Some also_this.new))) }
+    ensures caches { caches.new ≡ also_caches.new }
+    ensures search { global.new.always_search_scope ≡ also_global.new.always_search_scope }
+{
+    (
+        engine.call_script_fn(
+            alloc,
+            global,
+            caches,
+            table,
+            scope,
+            Some(this),
+            env,
+            def,
+            args,
+            rewind_scope,
+            pos,
+        ),
+        engine.call_script_fn(
+            alloc,
+            also_global,
+            also_caches,
+            also_table,
+            also_scope,
+            Some(also_this),
+            env,
+            def,
+            also_args,
+            rewind_scope,
+            pos,
+        ),
+    )
+}
+
+/// Of `Engine::has_script_fn`.
+pub fn has_script_fn<H: Host>(
+    engine: &Engine<H>,
+    state: &GlobalRuntimeState<H>,
+    caches: &mut Caches<H>,
+    also_caches: &mut Caches<H>,
+    key: FnKey<'_>,
+) -> (bool, bool)
+    requires { caches.old ≡ also_caches.old }
+    ensures result { result.0 ≡ result.1 }
+    ensures caches { caches.new ≡ also_caches.new }
+{
+    (
+        engine.has_script_fn(state, caches, key),
+        engine.has_script_fn(state, also_caches, key),
+    )
+}

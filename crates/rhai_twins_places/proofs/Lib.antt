@@ -1,0 +1,3 @@
+pub mod Found
+mod PutBack
+mod Responses

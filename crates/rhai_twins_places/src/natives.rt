@@ -1,0 +1,208 @@
+//! What the lists of natives are made of.
+
+ghost use Rattle.std.specs.Prelude.{◌≡◌, is_ok, map, option_map};
+ghost use Rattle.rhai_natives.specs.Arguments as given;
+ghost use Rattle.rhai_natives.specs.Listed.{entry_of};
+ghost use Rattle.rhai_twins_places.specs.Responses.{BothAnswer, BothRespond};
+
+use rhai_natives::{Arguments, Datum, Integers, Listed, ListedNatives, Natives, Response};
+use rhai_values::base::value::{Dynamic, Host, Union};
+use std::alloc::{AllocError, Global};
+
+/// Of `Arguments::new`.
+pub fn arguments<'a, H>(
+    first: Option<&'a Dynamic<H>>,
+    rest: &'a [Dynamic<H>],
+) -> (Arguments<'a, H>, Arguments<'a, H>)
+    ensures { given.values_of result.0 ≡ given.values_of result.1 }
+{
+    (Arguments::new(first, rest), Arguments::new(first, rest))
+}
+
+/// Of `Arguments::none`.
+pub fn none<'a, H>(one: &Arguments<'a, H>, other: &Arguments<'a, H>) -> (Option<()>, Option<()>)
+    requires { given.values_of one.now ≡ given.values_of other.now }
+    ensures { result.0 ≡ result.1 }
+{
+    (one.none(), other.none())
+}
+
+/// Of `Arguments::int`.
+pub fn int<'a, H>(one: &Arguments<'a, H>, other: &Arguments<'a, H>) -> (Option<i64>, Option<i64>)
+    requires { given.values_of one.now ≡ given.values_of other.now }
+    ensures { result.0 ≡ result.1 }
+{
+    (one.int(), other.int())
+}
+
+/// Of `Arguments::ints`.
+pub fn ints<'a, H>(
+    one: &Arguments<'a, H>,
+    other: &Arguments<'a, H>,
+) -> (Option<(i64, i64)>, Option<(i64, i64)>)
+    requires { given.values_of one.now ≡ given.values_of other.now }
+    ensures { result.0 ≡ result.1 }
+{
+    (one.ints(), other.ints())
+}
+
+/// Of `Arguments::host`.
+pub fn host<'a, H>(
+    one: &Arguments<'a, H>,
+    other: &Arguments<'a, H>,
+) -> (Option<&'a H>, Option<&'a H>)
+    requires { given.values_of one.now ≡ given.values_of other.now }
+    ensures { option_map (λ found. found.now) result.0 ≡ option_map (λ found. found.now) result.1 }
+{
+    (one.host(), other.host())
+}
+
+/// Of `Arguments::hosts`.
+pub fn hosts<'a, H>(
+    one: &Arguments<'a, H>,
+    other: &Arguments<'a, H>,
+) -> (Option<(&'a H, &'a H)>, Option<(&'a H, &'a H)>)
+    requires { given.values_of one.now ≡ given.values_of other.now }
+    ensures first { option_map (λ found. found.0.now) result.0 ≡ option_map
+        (λ found. found.0.now) result.1 }
+    ensures second { option_map (λ found. found.1.now) result.0 ≡ option_map
+        (λ found. found.1.now) result.1 }
+{
+    (one.hosts(), other.hosts())
+}
+
+/// Of `Arguments::host_and_int`.
+pub fn host_and_int<'a, H>(
+    one: &Arguments<'a, H>,
+    other: &Arguments<'a, H>,
+) -> (Option<(&'a H, i64)>, Option<(&'a H, i64)>)
+    requires { given.values_of one.now ≡ given.values_of other.now }
+    ensures host { option_map (λ found. found.0.now) result.0 ≡ option_map (λ found. found.0.now) result.1 }
+    ensures number { option_map (λ found. found.1) result.0 ≡ option_map (λ found. found.1) result.1 }
+{
+    (one.host_and_int(), other.host_and_int())
+}
+
+/// Of `Arguments::host_and_ints`.
+pub fn host_and_ints<'a, H>(
+    one: &Arguments<'a, H>,
+    other: &Arguments<'a, H>,
+) -> (Option<(&'a H, i64, i64)>, Option<(&'a H, i64, i64)>)
+    requires { given.values_of one.now ≡ given.values_of other.now }
+    ensures host { option_map (λ found. found.0.now) result.0 ≡ option_map (λ found. found.0.now) result.1 }
+    ensures first { option_map (λ found. found.1) result.0 ≡ option_map (λ found. found.1) result.1 }
+    ensures second { option_map (λ found. found.2) result.0 ≡ option_map (λ found. found.2) result.1 }
+{
+    (one.host_and_ints(), other.host_and_ints())
+}
+
+/// Of `Arguments::host_and_array`.
+pub fn host_and_array<'a, H>(
+    one: &Arguments<'a, H>,
+    other: &Arguments<'a, H>,
+) -> (
+    Option<(&'a H, &'a [Dynamic<H>])>,
+    Option<(&'a H, &'a [Dynamic<H>])>,
+)
+    requires { given.values_of one.now ≡ given.values_of other.now }
+    ensures host { option_map (λ found. found.0.now) result.0 ≡ option_map (λ found. found.0.now) result.1 }
+    ensures items { option_map (λ found. found.1.now) result.0 ≡ option_map
+        (λ found. found.1.now) result.1 }
+{
+    (one.host_and_array(), other.host_and_array())
+}
+
+/// Of `Natives::new`.
+pub fn natives<N>(alloc: Global, natives: N, also_natives: N) -> (Natives<N>, Natives<N>)
+    requires { natives ≡ also_natives }
+    ensures { result.0.natives ≡ result.1.natives }
+{
+    (
+        Natives::new(alloc, natives),
+        Natives::new(alloc, also_natives),
+    )
+}
+
+/// Of `Integers::new`.
+pub fn integers<H: Drop>(
+    alloc: Global,
+    numbers: &[i64],
+) -> (
+    Result<Integers<H>, AllocError>,
+    Result<Integers<H>, AllocError>,
+)
+    ensures { is_ok result.0 ≡ is_ok result.1 → result.0 ≡ result.1 }
+{
+    (Integers::new(alloc, numbers), Integers::new(alloc, numbers))
+}
+
+/// Of `Datum::into_union`.
+pub fn union<H>(one: Datum<H>, other: Datum<H>) -> (Union<H>, Union<H>)
+    requires { one ≡ other }
+    ensures { result.0 ≡ result.1 }
+{
+    (one.into_union(), other.into_union())
+}
+
+/// Of `Response::changing`.
+pub fn changing<H>(first: Datum<H>, also_first: Datum<H>) -> (Response<H>, Response<H>)
+    requires { first ≡ also_first }
+    ensures { result.0 ≡ result.1 }
+{
+    (Response::changing(first), Response::changing(also_first))
+}
+
+/// Of `Response::text`.
+pub fn text<H>(alloc: Global, text: &str) -> (Response<H>, Response<H>)
+    ensures { BothAnswer result.0 result.1 → result.0 ≡ result.1 }
+{
+    (Response::text(alloc, text), Response::text(alloc, text))
+}
+
+/// Of `Response::arithmetic`.
+pub fn arithmetic<H>(alloc: Global, text: &str) -> (Response<H>, Response<H>)
+    ensures { BothAnswer result.0 result.1 → result.0 ≡ result.1 }
+{
+    (
+        Response::arithmetic(alloc, text),
+        Response::arithmetic(alloc, text),
+    )
+}
+
+/// Of `Response::integers`.
+pub fn response_of_integers<H: Drop>(alloc: Global, numbers: &[i64]) -> (Response<H>, Response<H>)
+    ensures { BothAnswer result.0 result.1 → result.0 ≡ result.1 }
+{
+    (
+        Response::integers(alloc, numbers),
+        Response::integers(alloc, numbers),
+    )
+}
+
+/// Of `ListedNatives::listed`.
+pub fn listed<'a, H: Host, N: ListedNatives<H>>(
+    one: &'a N,
+    other: &'a N,
+) -> (&'a [Listed<N::Native>], &'a [Listed<N::Native>])
+    ensures { map entry_of result.0.now ≡ map entry_of result.1.now }
+{
+    (one.listed(), other.listed())
+}
+
+/// Of `ListedNatives::call`.
+pub fn called<H: Host, N: ListedNatives<H>>(
+    one: &mut N,
+    other: &mut N,
+    alloc: Global,
+    native: N::Native,
+    arguments: &Arguments<'_, H>,
+) -> (Option<Response<H>>, Option<Response<H>>)
+    requires { N.state one.old ≡ N.state other.old }
+    ensures response { BothRespond result.0 result.1 → result.0 ≡ result.1 }
+    ensures left { BothRespond result.0 result.1 → N.state one.new ≡ N.state other.new }
+{
+    (
+        one.call(alloc, native, arguments),
+        other.call(alloc, native, arguments),
+    )
+}

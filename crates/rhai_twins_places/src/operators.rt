@@ -1,0 +1,81 @@
+//! The built-in operators.
+
+ghost use Rattle.std.specs.Prelude.{◌≡◌};
+ghost use Rattle.rhai_twins_places.specs.Ends.{may_want};
+
+use rhai_operators::direct::{assign_integers, compare_integers};
+use rhai_operators::{builtin_binary, builtin_op_assign, builtin_unary};
+use rhai_state::error::EvalAltResult;
+use rhai_tree::token::Token;
+use rhai_values::base::value::{Dynamic, Host};
+use std::alloc::Global;
+
+/// Of `builtin_unary`.
+pub fn unary<H: Host>(
+    alloc: Global,
+    op: Token,
+    x: &Dynamic<H>,
+) -> (
+    Option<Result<Dynamic<H>, EvalAltResult<H>>>,
+    Option<Result<Dynamic<H>, EvalAltResult<H>>>,
+)
+    ensures { may_want result.0 ≡ may_want result.1 → result.0 ≡ result.1 }
+{
+    (builtin_unary(alloc, op, x), builtin_unary(alloc, op, x))
+}
+
+/// Of `builtin_binary`.
+pub fn binary<H: Host>(
+    alloc: Global,
+    op: Token,
+    x: &Dynamic<H>,
+    y: &Dynamic<H>,
+) -> (
+    Option<Result<Dynamic<H>, EvalAltResult<H>>>,
+    Option<Result<Dynamic<H>, EvalAltResult<H>>>,
+)
+    ensures { may_want result.0 ≡ may_want result.1 → result.0 ≡ result.1 }
+{
+    (
+        builtin_binary(alloc, op, x, y),
+        builtin_binary(alloc, op, x, y),
+    )
+}
+
+/// Of `builtin_op_assign`.
+pub fn op_assign<H: Host>(
+    alloc: Global,
+    op: Token,
+    x: &Dynamic<H>,
+    y: &Dynamic<H>,
+) -> (
+    Option<Result<Dynamic<H>, EvalAltResult<H>>>,
+    Option<Result<Dynamic<H>, EvalAltResult<H>>>,
+)
+    ensures { may_want result.0 ≡ may_want result.1 → result.0 ≡ result.1 }
+{
+    (
+        builtin_op_assign(alloc, op, x, y),
+        builtin_op_assign(alloc, op, x, y),
+    )
+}
+
+/// Of `direct::compare_integers`.
+pub fn compared<H: Host>(op: Token, x: i64, y: i64) -> (Option<bool>, Option<bool>)
+    ensures { result.0 ≡ result.1 }
+{
+    (
+        compare_integers::<H>(op, x, y),
+        compare_integers::<H>(op, x, y),
+    )
+}
+
+/// Of `direct::assign_integers`.
+pub fn assigned<H: Host>(op: Token, x: i64, y: i64) -> (Option<i64>, Option<i64>)
+    ensures { result.0 ≡ result.1 }
+{
+    (
+        assign_integers::<H>(op, x, y),
+        assign_integers::<H>(op, x, y),
+    )
+}

@@ -1,0 +1,113 @@
+//! Targets.
+
+ghost use Rattle.std.specs.Prelude.{◌≡◌};
+ghost use Rattle.rhai_places.specs.Targets.{IsFit};
+ghost use Rattle.rhai_twins_places.specs.Ends.{wants, Same, SameTarget, EndsOnce};
+
+use rhai_places::indexing::get_indexed_mut;
+use rhai_places::spot::Access;
+use rhai_places::target::Target;
+use rhai_state::error::EvalAltResult;
+use rhai_tree::position::Position;
+use rhai_values::base::value::{Dynamic, Host};
+use rhai_values::cells::CellStore;
+use std::alloc::Global;
+use std::marker::PhantomData;
+
+/// Of `Target::as_ref`.
+pub fn as_ref<'a, 't, H>(
+    one: &'a Target<'t, H>,
+    other: &'a Target<'t, H>,
+) -> (&'a Dynamic<H>, &'a Dynamic<H>)
+    requires { one.now ≡ other.now }
+    ensures { result.0.now ≡ result.1.now }
+{
+    (one.as_ref(), other.as_ref())
+}
+
+/// Of `Target::is_ref`.
+pub fn is_ref<'t, H>(one: &Target<'t, H>, other: &Target<'t, H>) -> (bool, bool)
+    requires { one.now ≡ other.now }
+    ensures { result.0 ≡ result.1 }
+{
+    (one.is_ref(), other.is_ref())
+}
+
+/// Of `Target::is_temp_value`.
+pub fn is_temp_value<'t, H>(one: &Target<'t, H>, other: &Target<'t, H>) -> (bool, bool)
+    requires { one.now ≡ other.now }
+    ensures { result.0 ≡ result.1 }
+{
+    (one.is_temp_value(), other.is_temp_value())
+}
+
+/// Of `Target::is_shared`.
+pub fn is_shared<'t, H>(one: &Target<'t, H>, other: &Target<'t, H>) -> (bool, bool)
+    requires { one.now ≡ other.now }
+    ensures { result.0 ≡ result.1 }
+{
+    (one.is_shared(), other.is_shared())
+}
+
+/// Of `Target::take_or_clone`.
+pub fn take_or_clone<'t, H: Host>(
+    alloc: Global,
+    one: Target<'t, H>,
+    other: Target<'t, H>,
+) -> (
+    Result<Dynamic<H>, EvalAltResult<H>>,
+    Result<Dynamic<H>, EvalAltResult<H>>,
+)
+    requires place { one.at.now ≡ other.at.now }
+    requires part { one.part ≡ other.part }
+    ensures { Same result.0 result.1 }
+{
+    (one.take_or_clone(alloc), other.take_or_clone(alloc))
+}
+
+/// Of `Target::propagate_changed_value` on a part that its place has.
+pub fn put_back<'t, 's, H: Host>(
+    alloc: Global,
+    one: &mut Target<'t, H>,
+    other: &mut Target<'s, H>,
+    position: Position,
+) -> (Result<(), EvalAltResult<H>>, Result<(), EvalAltResult<H>>)
+    requires place { one.old.at.now ≡ other.old.at.now }
+    requires part { one.old.part ≡ other.old.part }
+    requires fit { IsFit one.old.part one.old.at.now }
+    ensures answer { Same result.0 result.1 }
+    ensures part { one.new.part ≡ other.new.part }
+    ensures place { wants result.0 ≡ wants result.1 → one.new.at.now ≡ other.new.at.now }
+{
+    (
+        one.propagate_changed_value(alloc, position),
+        other.propagate_changed_value(alloc, position),
+    )
+}
+
+/// Of `indexing::get_indexed_mut`: what its target shows and of which part it is, or its error.
+pub fn indexed<'t, 's, H: Host>(
+    one: &'t mut Dynamic<H>,
+    other: &'s mut Dynamic<H>,
+    alloc: Global,
+    cells: &CellStore<H>,
+    index: &Dynamic<H>,
+    how: Access,
+) -> (
+    Result<Target<'t, H>, EvalAltResult<H>>,
+    Result<Target<'s, H>, EvalAltResult<H>>,
+)
+    requires { one.old ≡ other.old }
+    ensures { SameTarget result.0 result.1 }
+{
+    (
+        get_indexed_mut(one, alloc, cells, index, how),
+        get_indexed_mut(other, alloc, cells, index, how),
+    )
+}
+
+/// Of the clause `writes_back` of `indexing::get_indexed_mut`: what stands at the place when the borrow
+/// ends settles what the object is then.
+pub fn indexed_end<H: Host>(of: PhantomData<H>)
+    ensures { EndsOnce H }
+{}

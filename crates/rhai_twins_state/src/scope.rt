@@ -1,0 +1,200 @@
+//! Scopes.
+
+ghost use Rattle.std.specs.Prelude.{◌≡◌, ◌<◌, is_ok, length, string_bytes};
+ghost use Rattle.std.specs.Option.{option_map};
+ghost use Rattle.rhai_state.specs.Scope.{entries_of, shown, Fits};
+
+use rhai_items::{Shared, Text};
+use rhai_state::scope::{Scope, ScopeEntry};
+use rhai_values::base::value::{AccessMode, Dynamic};
+use std::alloc::{AllocError, Global};
+use std::num::NonZeroUsize;
+
+/// Of `Scope::new`.
+pub fn new<H>(alloc: Global) -> (Scope<H>, Scope<H>)
+    ensures { entries_of result.0 ≡ entries_of result.1 }
+{
+    (Scope::new(alloc), Scope::new(alloc))
+}
+
+/// Of `Scope::len`.
+pub fn len<H>(one: &Scope<H>, other: &Scope<H>) -> (usize, usize)
+    requires { entries_of one.now ≡ entries_of other.now }
+    ensures { result.0 ≡ result.1 }
+{
+    (one.len(), other.len())
+}
+
+/// Of `Scope::is_empty`.
+pub fn is_empty<H>(one: &Scope<H>, other: &Scope<H>) -> (bool, bool)
+    requires { entries_of one.now ≡ entries_of other.now }
+    ensures { result.0 ≡ result.1 }
+{
+    (one.is_empty(), other.is_empty())
+}
+
+/// Of `Scope::entries`.
+pub fn entries<'a, H>(
+    one: &'a Scope<H>,
+    other: &'a Scope<H>,
+) -> (&'a [ScopeEntry<H>], &'a [ScopeEntry<H>])
+    requires { entries_of one.now ≡ entries_of other.now }
+    ensures { result.0.now ≡ result.1.now }
+{
+    (one.entries(), other.entries())
+}
+
+/// Of `Scope::contains`.
+pub fn contains<H>(one: &Scope<H>, other: &Scope<H>, name: &str) -> (bool, bool)
+    requires { entries_of one.now ≡ entries_of other.now }
+    ensures { result.0 ≡ result.1 }
+{
+    (one.contains(name), other.contains(name))
+}
+
+/// Of `Scope::search`.
+pub fn search<H>(one: &Scope<H>, other: &Scope<H>, name: &str) -> (Option<usize>, Option<usize>)
+    requires { entries_of one.now ≡ entries_of other.now }
+    ensures { result.0 ≡ result.1 }
+{
+    (one.search(name), other.search(name))
+}
+
+/// Of `Scope::place_of`.
+pub fn place_of<H>(
+    one: &Scope<H>,
+    other: &Scope<H>,
+    offset: Option<NonZeroUsize>,
+    name: &str,
+) -> (Option<usize>, Option<usize>)
+    requires same { entries_of one.now ≡ entries_of other.now }
+    requires fits { Fits offset (length (entries_of one.now)) }
+    ensures { result.0 ≡ result.1 }
+{
+    (one.place_of(offset, name), other.place_of(offset, name))
+}
+
+/// Of `Scope::get`.
+pub fn get<'a, H>(
+    one: &'a Scope<H>,
+    other: &'a Scope<H>,
+    index: usize,
+) -> (
+    Option<(&'a str, &'a Dynamic<H>, &'a [Shared<Text>])>,
+    Option<(&'a str, &'a Dynamic<H>, &'a [Shared<Text>])>,
+)
+    requires { entries_of one.now ≡ entries_of other.now }
+    ensures { option_map shown result.0 ≡ option_map shown result.1 }
+{
+    (one.get(index), other.get(index))
+}
+
+/// Of `Scope::value_at`.
+pub fn value_at<'a, H>(
+    one: &'a Scope<H>,
+    other: &'a Scope<H>,
+    index: usize,
+) -> (&'a Dynamic<H>, &'a Dynamic<H>)
+    requires same { entries_of one.now ≡ entries_of other.now }
+    requires within { index < length (entries_of one.now) }
+    ensures { result.0.now ≡ result.1.now }
+{
+    (one.value_at(index), other.value_at(index))
+}
+
+/// Of `Scope::value_at_mut`, whatever is written.
+pub fn value_at_mut<H: Drop>(
+    one: &mut Scope<H>,
+    other: &mut Scope<H>,
+    index: usize,
+    value: Dynamic<H>,
+    also_value: Dynamic<H>,
+)
+    requires same { entries_of one.old ≡ entries_of other.old }
+    requires value { value ≡ also_value }
+    requires within { index < length (entries_of one.old) }
+    ensures { entries_of one.new ≡ entries_of other.new }
+{
+    *one.value_at_mut(index) = value;
+    *other.value_at_mut(index) = also_value;
+}
+
+/// Of `Scope::replace_value`.
+pub fn replace_value<H>(
+    one: &mut Scope<H>,
+    other: &mut Scope<H>,
+    index: usize,
+    value: Dynamic<H>,
+    also_value: Dynamic<H>,
+) -> (Dynamic<H>, Dynamic<H>)
+    requires same { entries_of one.old ≡ entries_of other.old }
+    requires value { value ≡ also_value }
+    requires within { index < length (entries_of one.old) }
+    ensures result { result.0 ≡ result.1 }
+    ensures left { entries_of one.new ≡ entries_of other.new }
+{
+    (
+        one.replace_value(index, value),
+        other.replace_value(index, also_value),
+    )
+}
+
+/// Of `Scope::push_entry`.
+pub fn push_entry<H: Drop>(
+    one: &mut Scope<H>,
+    other: &mut Scope<H>,
+    name: String,
+    also_name: String,
+    mode: AccessMode,
+    value: Dynamic<H>,
+    also_value: Dynamic<H>,
+) -> (Result<(), AllocError>, Result<(), AllocError>)
+    requires same { entries_of one.old ≡ entries_of other.old }
+    requires name { string_bytes name ≡ string_bytes also_name }
+    requires value { value ≡ also_value }
+    ensures { is_ok result.0 ≡ is_ok result.1 → entries_of one.new ≡ entries_of other.new }
+{
+    (
+        one.push_entry(name, mode, value),
+        other.push_entry(also_name, mode, also_value),
+    )
+}
+
+/// Of `Scope::push_shared`.
+pub fn push_shared<H: Drop>(
+    one: &mut Scope<H>,
+    other: &mut Scope<H>,
+    name: Shared<Text>,
+    also_name: Shared<Text>,
+    mode: AccessMode,
+    value: Dynamic<H>,
+    also_value: Dynamic<H>,
+) -> (Result<(), AllocError>, Result<(), AllocError>)
+    requires same { entries_of one.old ≡ entries_of other.old }
+    requires name { name ≡ also_name }
+    requires value { value ≡ also_value }
+    ensures { is_ok result.0 ≡ is_ok result.1 → entries_of one.new ≡ entries_of other.new }
+{
+    (
+        one.push_shared(name, mode, value),
+        other.push_shared(also_name, mode, also_value),
+    )
+}
+
+/// Of `Scope::rewind`.
+pub fn rewind<H: Drop>(one: &mut Scope<H>, other: &mut Scope<H>, len: usize)
+    requires { entries_of one.old ≡ entries_of other.old }
+    ensures { entries_of one.new ≡ entries_of other.new }
+{
+    one.rewind(len);
+    other.rewind(len);
+}
+
+/// Of `Scope::remove_range`.
+pub fn remove_range<H: Drop>(one: &mut Scope<H>, other: &mut Scope<H>, start: usize, len: usize)
+    requires { entries_of one.old ≡ entries_of other.old }
+    ensures { entries_of one.new ≡ entries_of other.new }
+{
+    one.remove_range(start, len);
+    other.remove_range(start, len);
+}

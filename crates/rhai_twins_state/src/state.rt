@@ -1,0 +1,110 @@
+//! The state of a run.
+
+ghost use Rattle.std.specs.Prelude.{◌≡◌, is_ok, string_bytes};
+
+use rhai_items::{Items, Shared};
+use rhai_state::room::Room;
+use rhai_state::state::GlobalRuntimeState;
+use rhai_values::base::value::{Dynamic, Module};
+use std::alloc::{AllocError, Global};
+use std::num::NonZeroUsize;
+
+/// Of `GlobalRuntimeState::new`.
+pub fn new<H: Drop>(
+    alloc: Global,
+) -> (
+    Result<GlobalRuntimeState<H>, AllocError>,
+    Result<GlobalRuntimeState<H>, AllocError>,
+)
+    ensures { is_ok result.0 ≡ is_ok result.1 → result.0 ≡ result.1 }
+{
+    (
+        GlobalRuntimeState::new(alloc),
+        GlobalRuntimeState::new(alloc),
+    )
+}
+
+/// Of `GlobalRuntimeState::push_import`.
+pub fn push_import<H: Drop>(
+    one: &mut GlobalRuntimeState<H>,
+    other: &mut GlobalRuntimeState<H>,
+    name: String,
+    also_name: String,
+    of: Shared<Module<H>>,
+    also_of: Shared<Module<H>>,
+) -> (Result<(), AllocError>, Result<(), AllocError>)
+    requires same { one.old ≡ other.old }
+    requires name { string_bytes name ≡ string_bytes also_name }
+    requires of { of ≡ also_of }
+    ensures { is_ok result.0 ≡ is_ok result.1 → one.new ≡ other.new }
+{
+    (
+        one.push_import(name, of),
+        other.push_import(also_name, also_of),
+    )
+}
+
+/// Of `GlobalRuntimeState::truncate_imports`.
+pub fn truncate_imports<H: Drop>(
+    one: &mut GlobalRuntimeState<H>,
+    other: &mut GlobalRuntimeState<H>,
+    len: usize,
+)
+    requires { one.old ≡ other.old }
+    ensures { one.new ≡ other.new }
+{
+    one.truncate_imports(len);
+    other.truncate_imports(len);
+}
+
+/// Of `GlobalRuntimeState::find_import`.
+pub fn find_import<H>(
+    one: &GlobalRuntimeState<H>,
+    other: &GlobalRuntimeState<H>,
+    name: &str,
+) -> (Option<usize>, Option<usize>)
+    requires { one.now ≡ other.now }
+    ensures { result.0 ≡ result.1 }
+{
+    (one.find_import(name), other.find_import(name))
+}
+
+/// Of `GlobalRuntimeState::offset_in_use`.
+pub fn offset_in_use<H>(
+    one: &GlobalRuntimeState<H>,
+    other: &GlobalRuntimeState<H>,
+    offset: Option<NonZeroUsize>,
+) -> (Option<NonZeroUsize>, Option<NonZeroUsize>)
+    requires { one.now ≡ other.now }
+    ensures { result.0 ≡ result.1 }
+{
+    (one.offset_in_use(offset), other.offset_in_use(offset))
+}
+
+/// Of `Room::lend`.
+pub fn lend<H: Drop>(
+    one: &mut Room<H>,
+    other: &mut Room<H>,
+    alloc: Global,
+) -> (Items<Dynamic<H>>, Items<Dynamic<H>>)
+    requires { one.old ≡ other.old }
+    ensures result { result.0 ≡ result.1 }
+    ensures left { one.new ≡ other.new }
+{
+    (one.lend(alloc), other.lend(alloc))
+}
+
+/// Of `Room::keep`.
+pub fn keep<H: Drop>(
+    one: &mut Room<H>,
+    other: &mut Room<H>,
+    list: Items<Dynamic<H>>,
+    also_list: Items<Dynamic<H>>,
+)
+    requires same { one.old ≡ other.old }
+    requires list { list ≡ also_list }
+    ensures { one.new ≡ other.new }
+{
+    one.keep(list);
+    other.keep(also_list);
+}

@@ -1,0 +1,103 @@
+//! The store of cells.
+
+ghost use Rattle.std.specs.Prelude.{◌≡◌, ◌<◌, is_ok, length};
+ghost use Rattle.std.specs.Option.{option_copied};
+ghost use Rattle.rhai_values.specs.Cells.{cells_of, IsHeld, IsNoHandle};
+
+use rhai_values::base::value::{CellId, Dynamic};
+use rhai_values::cells::CellStore;
+use std::alloc::{AllocError, Global};
+
+/// Of `CellStore::new`.
+pub fn new<H>(alloc: Global) -> (CellStore<H>, CellStore<H>)
+    ensures { cells_of result.0 ≡ cells_of result.1 }
+{
+    (CellStore::new(alloc), CellStore::new(alloc))
+}
+
+/// Of `CellStore::len`.
+pub fn len<H>(one: &CellStore<H>, other: &CellStore<H>) -> (usize, usize)
+    requires { cells_of one.now ≡ cells_of other.now }
+    ensures { result.0 ≡ result.1 }
+{
+    (one.len(), other.len())
+}
+
+/// Of `CellStore::get`.
+pub fn get<'a, H>(
+    one: &'a CellStore<H>,
+    other: &'a CellStore<H>,
+    id: CellId,
+) -> (Option<&'a Dynamic<H>>, Option<&'a Dynamic<H>>)
+    requires { cells_of one.now ≡ cells_of other.now }
+    ensures { option_copied result.0 ≡ option_copied result.1 }
+{
+    (one.get(id), other.get(id))
+}
+
+/// Of `CellStore::add`.
+pub fn add<H>(
+    one: &mut CellStore<H>,
+    other: &mut CellStore<H>,
+    value: Dynamic<H>,
+    also_value: Dynamic<H>,
+) -> (
+    Result<CellId, (Dynamic<H>, AllocError)>,
+    Result<CellId, (Dynamic<H>, AllocError)>,
+)
+    requires same { cells_of one.old ≡ cells_of other.old }
+    requires value { value ≡ also_value }
+    requires no_handle { IsNoHandle value.value }
+    ensures result { is_ok result.0 ≡ is_ok result.1 → result.0 ≡ result.1 }
+    ensures left { is_ok result.0 ≡ is_ok result.1 → cells_of one.new ≡ cells_of other.new }
+{
+    (one.add(value), other.add(also_value))
+}
+
+/// Of `CellStore::take`.
+pub fn take<H>(
+    one: &mut CellStore<H>,
+    other: &mut CellStore<H>,
+    id: CellId,
+) -> (Option<Dynamic<H>>, Option<Dynamic<H>>)
+    requires { cells_of one.old ≡ cells_of other.old }
+    ensures result { result.0 ≡ result.1 }
+    ensures left { cells_of one.new ≡ cells_of other.new }
+{
+    (one.take(id), other.take(id))
+}
+
+/// Of `CellStore::set`.
+pub fn set<H: Drop>(
+    one: &mut CellStore<H>,
+    other: &mut CellStore<H>,
+    id: CellId,
+    value: Dynamic<H>,
+    also_value: Dynamic<H>,
+)
+    requires same { cells_of one.old ≡ cells_of other.old }
+    requires value { value ≡ also_value }
+    requires known { id.number < length (cells_of one.old) }
+    ensures { cells_of one.new ≡ cells_of other.new }
+{
+    one.set(id, value);
+    other.set(id, also_value);
+}
+
+/// Of `CellStore::put`.
+pub fn put<H: Drop>(
+    one: &mut CellStore<H>,
+    other: &mut CellStore<H>,
+    id: CellId,
+    value: Dynamic<H>,
+    also_value: Dynamic<H>,
+)
+    requires same { cells_of one.old ≡ cells_of other.old }
+    requires value { value ≡ also_value }
+    requires held { IsHeld (cells_of one.old) id.number }
+    requires no_handle { IsNoHandle value.value }
+    ensures { cells_of one.new ≡ cells_of other.new }
+{
+    one.put(id, value);
+    other.put(id, also_value);
+}
