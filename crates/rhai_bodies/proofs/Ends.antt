@@ -7,7 +7,8 @@ use Rattle.rhai_values.specs.declared.base.value.EncapsulatedEnviron.{Encapsulat
 use Rattle.rhai_values.specs.declared.base.value.Module.{Module, out-Module}
 use Rattle.rhai_state.specs.declared.error.EvalAltResult.{EvalAltResult}
 use Rattle.rhai_state.specs.declared.error.EvalAltResult.TheVariants as error
-use Rattle.rhai_state.specs.Errors.{at_position, is_system}
+use Rattle.rhai_state.specs.declared.error.WayOut.TheVariants as way
+use Rattle.rhai_state.specs.Errors.{at_position, is_system, way_out_of}
 use Rattle.rhai_machine.specs.language.Activations.{CallExit}
 use Rattle.rhai_machine.specs.language.Bodies.{last_name, left_by_error, library_name, returned}
 use Rattle.rhai_bodies.specs.Closing.{is_wrapped}
@@ -33,24 +34,24 @@ module _ {H : Type 0} where
   last_library f e environ lib m last name is e_is lib_is there m_is name_is =
       rw (is, ← e_is, ← lib_is, ← name_is, m_is) (sym (last_of lib last None (sym there)))
 
-  -- an error that is no `return` and no exit
-  pub other_error : (exit : CallExit H) (e : EvalAltResult H) → ((v : Dynamic H) (at : Position) → e ≡ error.Return v at → ⊥) →
-      ((v : Dynamic H) (at : Position) → e ≡ error.Exit v at → ⊥) → returned exit e ≡ Err (left_by_error (is_system e) exit e)
-  other_error exit (error.Return v at) no_return no_exit = absurd (no_return v at refl)
-  other_error exit (error.Exit v at) no_return no_exit = absurd (no_exit v at refl)
-  other_error exit e no_return no_exit = refl
+  -- an error that is no way out
+  pub other_error : (exit : CallExit H) (from e : EvalAltResult H) → way.Error e ≡ way_out_of from →
+      returned exit from ≡ Err (left_by_error (is_system e) exit e)
+  other_error exit (error.Return v at) e is = cc
+  other_error exit (error.Exit v at) e is = cc
+  other_error exit (error.LoopBreak v is_break at) e is = cc
+  other_error exit from e is = let same : from ≡ e = cc in ap (λ (x : EvalAltResult H). Err (left_by_error (is_system x) exit x)) same
 
-  wrapped_unless_system : (e : EvalAltResult H) → ((v : Dynamic H) (at : Position) → e ≡ error.Return v at → ⊥) →
-      ((v : Dynamic H) (at : Position) → e ≡ error.Exit v at → ⊥) → is_wrapped e ≡ not (is_system e)
-  wrapped_unless_system (error.Return v at) no_return no_exit = absurd (no_return v at refl)
-  wrapped_unless_system (error.Exit v at) no_return no_exit = absurd (no_exit v at refl)
-  wrapped_unless_system e no_return no_exit = refl
+  wrapped_unless_system : (from e : EvalAltResult H) → way.Error e ≡ way_out_of from → is_wrapped from ≡ not (is_system e)
+  wrapped_unless_system (error.Return v at) e is = cc
+  wrapped_unless_system (error.Exit v at) e is = cc
+  wrapped_unless_system (error.LoopBreak v is_break at) e is = cc
+  wrapped_unless_system from e is = let same : from ≡ e = cc in ap (λ (x : EvalAltResult H). not (is_system x)) same
 
   -- and that is not wrapped, so that it only moves
-  pub moved_error : (exit : CallExit H) (e moved : EvalAltResult H) (pos : Position) →
-      ((v : Dynamic H) (at : Position) → e ≡ error.Return v at → ⊥) → ((v : Dynamic H) (at : Position) → e ≡ error.Exit v at → ⊥) →
-      (is_system e ≡ true → moved ≡ at_position pos e) → exit.at ≡ pos → is_wrapped e ≡ false → Err moved ≡ returned exit e
-  moved_error exit e moved pos no_return no_exit moves at bare =
-      let system = denied (is_system e) (sym (wrapped_unless_system e no_return no_exit) ∙ bare) in
+  pub moved_error : (exit : CallExit H) (from e moved : EvalAltResult H) (pos : Position) → way.Error e ≡ way_out_of from →
+      (is_system e ≡ true → moved ≡ at_position pos e) → exit.at ≡ pos → is_wrapped from ≡ false → Err moved ≡ returned exit from
+  moved_error exit from e moved pos is moves at bare =
+      let system = denied (is_system e) (sym (wrapped_unless_system from e is) ∙ bare) in
       let left : left_by_error (is_system e) exit e ≡ at_position pos e = rw (system, at) refl in
-      ap Err (moves system ∙ sym left) ∙ sym (other_error exit e no_return no_exit)
+      ap Err (moves system ∙ sym left) ∙ sym (other_error exit from e is)

@@ -13,7 +13,7 @@ ghost use Rattle.rhai_bodies.specs.Closing.{is_wrapped, outcome_of, source_under
 
 use crate::opening::{CallExit, take_back};
 use rhai_items::{Boxed, Shared, Text};
-use rhai_state::error::{EvalAltResult, FunctionCallError};
+use rhai_state::error::{EvalAltResult, FunctionCallError, WayOut};
 use rhai_state::state::GlobalRuntimeState;
 use rhai_tree::function::ScriptFuncDef;
 use rhai_tree::position::Position;
@@ -116,10 +116,14 @@ fn returned<H: Host>(
         result ≡ returned_by exit error }
     ensures wanting { IfErr result (λ e. is_out_of_memory e ≡ true → e ≡ variant.ErrorOutOfMemory pos) }
 {
-    match error {
-        EvalAltResult::Return(value, _) => Ok(value.into_inner()),
-        EvalAltResult::Exit(value, _) => Err(EvalAltResult::Exit(value, pos)),
-        error => Err(left_by_error(alloc, global, def, environ, error, pos)),
+    match error.way_out() {
+        WayOut::Return(value, _) => Ok(value.into_inner()),
+        WayOut::Exit(value, _) => Err(EvalAltResult::Exit(value, pos)),
+        WayOut::LoopBreak(value, is_break, at) => {
+            let error = EvalAltResult::LoopBreak(value, is_break, at);
+            Err(left_by_error(alloc, global, def, environ, error, pos))
+        }
+        WayOut::Error(error) => Err(left_by_error(alloc, global, def, environ, error, pos)),
     }
 }
 

@@ -3,6 +3,8 @@ use Rattle.std.specs.Prelude.{ℕ, Bool, true, false, not, ◌||◌, List, ◌++
 use Rattle.rhai_tree.specs.declared.position.Position.{Position}
 use Rattle.rhai_state.specs.declared.error.EvalAltResult.{EvalAltResult, ErrorInFunctionCall'}
 use Rattle.rhai_state.specs.declared.error.EvalAltResult.TheVariants as error
+use Rattle.rhai_state.specs.declared.error.WayOut.{WayOut}
+use Rattle.rhai_state.specs.declared.error.WayOut.TheVariants as way
 
 -- the text of an object and an index that do not go together
 abbrev pub indexing_text : (object index : List ℕ) → List ℕ
@@ -126,6 +128,20 @@ module _ {H : Type 0} where
   is_pseudo (error.Return value at) = true
   is_pseudo (error.LoopBreak value is_break at) = true
   is_pseudo _ = false
+
+  -- how a run leaves its place
+  abbrev pub way_out_of : EvalAltResult H → WayOut H
+  way_out_of (error.Return value at) = way.Return value at
+  way_out_of (error.Exit value at) = way.Exit value at
+  way_out_of (error.LoopBreak value is_break at) = way.LoopBreak value is_break at
+  way_out_of e = way.Error e
+
+  -- the error of a way out
+  abbrev pub error_of : WayOut H → EvalAltResult H
+  error_of (way.Return value at) = error.Return value at
+  error_of (way.Exit value at) = error.Exit value at
+  error_of (way.LoopBreak value is_break at) = error.LoopBreak value is_break at
+  error_of (way.Error e) = e
 
   -- a script may catch all but those
   abbrev pub is_catchable : EvalAltResult H → Bool

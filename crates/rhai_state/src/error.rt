@@ -1,8 +1,8 @@
 //! Why a run stopped.
 
 ghost use Rattle.std.specs.Prelude.{◌≡◌};
-ghost use Rattle.rhai_state.specs.Errors.{at_position, error_name, is_catchable, is_pseudo, is_system};
-ghost use Rattle.rhai_state.specs.Errors.{position_of};
+ghost use Rattle.rhai_state.specs.Errors.{at_position, error_name, error_of, is_catchable, is_pseudo, is_system};
+ghost use Rattle.rhai_state.specs.Errors.{position_of, way_out_of};
 
 use rhai_items::{Boxed, Shared, Text};
 use rhai_tree::position::Position;
@@ -13,7 +13,6 @@ use rhai_values::base::value::Dynamic;
 /// Texts, values and errors inside stand behind one pointer, so that an answer stays small; the
 /// limit errors, `ErrorUnboundThis` and `ErrorOutOfMemory` need no memory to be made.
 #[cycle(error)]
-#[derive(Drop)]
 pub enum EvalAltResult<H> {
     ErrorVariableExists(Shared<Text>, Position),
     ErrorVariableNotFound(Shared<Text>, Position),
@@ -46,7 +45,69 @@ pub enum EvalAltResult<H> {
     LoopBreak(Boxed<Dynamic<H>>, bool, Position),
 }
 
+// Written by hand, so that the crates above call this where an error goes out of scope, and need not go
+// through its variants there.
+impl<H: Drop> Drop for EvalAltResult<H> {
+    #[cycle(error)]
+    fn drop(self) {
+        match self {
+            EvalAltResult::ErrorInFunctionCall(call, _) => drop(call),
+            EvalAltResult::ErrorMismatchDataType(types, _) => drop(types),
+            EvalAltResult::ErrorArrayBounds(bounds, _)
+            | EvalAltResult::ErrorStringBounds(bounds, _)
+            | EvalAltResult::ErrorBitFieldBounds(bounds, _) => drop(bounds),
+            EvalAltResult::ErrorVariableExists(text, _)
+            | EvalAltResult::ErrorVariableNotFound(text, _)
+            | EvalAltResult::ErrorModuleNotFound(text, _)
+            | EvalAltResult::ErrorFunctionNotFound(text, _)
+            | EvalAltResult::ErrorIndexingType(text, _)
+            | EvalAltResult::ErrorPropertyNotFound(text, _)
+            | EvalAltResult::ErrorDataRace(text, _)
+            | EvalAltResult::ErrorAssignmentToConstant(text, _)
+            | EvalAltResult::ErrorDotExpr(text, _)
+            | EvalAltResult::ErrorArithmetic(text, _)
+            | EvalAltResult::ErrorNonPureMethodCallOnConstant(text, _)
+            | EvalAltResult::ErrorDataTooLarge(text, _) => drop(text),
+            EvalAltResult::ErrorRuntime(value, _)
+            | EvalAltResult::Exit(value, _)
+            | EvalAltResult::Return(value, _)
+            | EvalAltResult::LoopBreak(value, _, _) => drop(value),
+            EvalAltResult::ErrorUnboundThis(_)
+            | EvalAltResult::ErrorFor(_)
+            | EvalAltResult::ErrorTooManyOperations(_)
+            | EvalAltResult::ErrorTooManyVariables(_)
+            | EvalAltResult::ErrorTooManyModules(_)
+            | EvalAltResult::ErrorStackOverflow(_)
+            | EvalAltResult::ErrorOutOfMemory(_) => {}
+        }
+    }
+}
+
+/// An error by how a run leaves its place: by a `return`, an exit, a `break` or `continue`, each with its
+/// value, or by any other error.
+#[derive(Drop)]
+pub enum WayOut<H> {
+    Return(Boxed<Dynamic<H>>, Position),
+    Exit(Boxed<Dynamic<H>>, Position),
+    /// As `EvalAltResult::LoopBreak` has it.
+    LoopBreak(Boxed<Dynamic<H>>, bool, Position),
+    Error(EvalAltResult<H>),
+}
+
 impl<H> EvalAltResult<H> {
+    /// How the run leaves its place, with what the error holds. It takes no memory.
+    pub fn way_out(self) -> WayOut<H>
+        ensures leaves { result ≡ way_out_of self }
+        ensures whole { self ≡ error_of result }
+    {
+        match self {
+            EvalAltResult::Return(value, at) => WayOut::Return(value, at),
+            EvalAltResult::Exit(value, at) => WayOut::Exit(value, at),
+            EvalAltResult::LoopBreak(value, is_break, at) => WayOut::LoopBreak(value, is_break, at),
+            error => WayOut::Error(error),
+        }
+    }
+
     /// Where the error stands. Ports upstream's `EvalAltResult::position`.
     pub fn position(&self) -> Position
         ensures { result ≡ position_of self.now }
@@ -193,11 +254,23 @@ impl<H> EvalAltResult<H> {
 
 /// An error that came out of a script function.
 #[cycle(error)]
-#[derive(Drop)]
 pub struct FunctionCallError<H> {
     pub name: Shared<Text>,
     pub source: Shared<Text>,
     pub error: EvalAltResult<H>,
+}
+
+// Written by hand for the same reason.
+impl<H: Drop> Drop for FunctionCallError<H> {
+    #[cycle(error)]
+    fn drop(self) {
+        let FunctionCallError {
+            name: _,
+            source: _,
+            error,
+        } = self;
+        drop(error);
+    }
 }
 
 /// The type that was wanted, and the one that was found.

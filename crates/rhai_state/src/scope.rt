@@ -15,11 +15,22 @@ use std::mem::replace;
 use std::num::NonZeroUsize;
 
 /// A variable: its name, its value, and the names under which it is exported.
-#[derive(Drop)]
 pub struct ScopeEntry<H> {
     pub name: Shared<Text>,
     pub value: Dynamic<H>,
     pub aliases: Items<Shared<Text>>,
+}
+
+// Written by hand, so that the crates above call this where an entry goes out of scope.
+impl<H: Drop> Drop for ScopeEntry<H> {
+    fn drop(self) {
+        let ScopeEntry {
+            name: _,
+            value,
+            aliases: _,
+        } = self;
+        drop(value);
+    }
 }
 
 /// The variables, the newest last. A name means the last entry that has it. Ports upstream's

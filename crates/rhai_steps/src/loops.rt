@@ -1,7 +1,7 @@
 //! What a loop makes of its body's outcome, and whether it goes on. Ports these parts of the loops
 //! of upstream's `eval/stmt.rs`.
 
-ghost use Rattle.std.specs.Prelude.{◌≡◌, if◌then◌else◌};
+ghost use Rattle.std.specs.Prelude.{◌≡◌, if◌then◌else◌, Err};
 ghost use Rattle.rhai_tree.specs.declared.expr.Expr.{out-Expr};
 ghost use Rattle.rhai_machine.specs.language.Loops.{is_endless as without_end};
 ghost use Rattle.rhai_machine.specs.language.Statements.{has_option};
@@ -9,7 +9,7 @@ ghost use Rattle.rhai_steps.specs.Loops.{after_body, after_test, turn_in};
 
 use crate::values::{let_go, unit_value};
 use bitflags::Flags;
-use rhai_state::error::EvalAltResult;
+use rhai_state::error::{EvalAltResult, WayOut};
 use rhai_tree::expr::{Expr, Stmt, StmtBlock};
 use rhai_tree::flags::ASTFlags;
 use rhai_values::base::value::{Dynamic, Host};
@@ -26,6 +26,7 @@ pub enum BodyEnd<H> {
 }
 
 /// What a loop makes of its body's outcome.
+#[inline(always)]
 pub fn body_end<H: Host>(
     outcome: Result<Dynamic<H>, EvalAltResult<H>>,
 ) -> Result<BodyEnd<H>, EvalAltResult<H>>
@@ -36,7 +37,17 @@ pub fn body_end<H: Host>(
             let_go(value);
             Ok(BodyEnd::Done)
         }
-        Err(EvalAltResult::LoopBreak(value, is_break, _)) => {
+        Err(error) => turn_left(error),
+    }
+}
+
+/// What a loop makes of an error that comes out of its body.
+#[inline(never)]
+fn turn_left<H: Host>(error: EvalAltResult<H>) -> Result<BodyEnd<H>, EvalAltResult<H>>
+    ensures { result ≡ turn_in (Err error) }
+{
+    match error.way_out() {
+        WayOut::LoopBreak(value, is_break, _) => {
             let value = value.into_inner();
             if is_break {
                 Ok(BodyEnd::Break(value))
@@ -45,7 +56,9 @@ pub fn body_end<H: Host>(
                 Ok(BodyEnd::Continue)
             }
         }
-        Err(error) => Err(error),
+        WayOut::Return(value, at) => Err(EvalAltResult::Return(value, at)),
+        WayOut::Exit(value, at) => Err(EvalAltResult::Exit(value, at)),
+        WayOut::Error(error) => Err(error),
     }
 }
 

@@ -3,7 +3,7 @@
 ghost use Rattle.std.specs.Prelude.{◌≡◌, Ok, IfOk, IfErr};
 ghost use Rattle.rhai_machine.specs.language.Unwinding.{topped};
 
-use rhai_state::error::EvalAltResult;
+use rhai_state::error::{EvalAltResult, WayOut};
 use rhai_values::base::value::{Dynamic, Host};
 
 /// What a script's end makes of an error: a `return` gives its value, and so does an exit where
@@ -14,16 +14,19 @@ fn top_error<H: Host>(
 ) -> Result<Dynamic<H>, EvalAltResult<H>>
     ensures { result ≡ topped map_exit_to_return_value error }
 {
-    match error {
-        EvalAltResult::Return(value, _) => Ok(value.into_inner()),
-        EvalAltResult::Exit(value, pos) => {
+    match error.way_out() {
+        WayOut::Return(value, _) => Ok(value.into_inner()),
+        WayOut::Exit(value, at) => {
             if map_exit_to_return_value {
                 Ok(value.into_inner())
             } else {
-                Err(EvalAltResult::Exit(value, pos))
+                Err(EvalAltResult::Exit(value, at))
             }
         }
-        error => Err(error),
+        WayOut::LoopBreak(value, is_break, at) => Err(EvalAltResult::LoopBreak(
+            value, is_break, at,
+        )),
+        WayOut::Error(error) => Err(error),
     }
 }
 

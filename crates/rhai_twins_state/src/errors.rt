@@ -2,8 +2,16 @@
 
 ghost use Rattle.std.specs.Prelude.{◌≡◌};
 
-use rhai_state::error::EvalAltResult;
+use rhai_state::error::{EvalAltResult, WayOut};
 use rhai_tree::position::Position;
+
+/// Of `EvalAltResult::way_out`.
+pub fn way_out<H>(one: EvalAltResult<H>, other: EvalAltResult<H>) -> (WayOut<H>, WayOut<H>)
+    requires { one ≡ other }
+    ensures { result.0 ≡ result.1 }
+{
+    (one.way_out(), other.way_out())
+}
 
 /// Of `EvalAltResult::position`.
 pub fn position<H>(one: &EvalAltResult<H>, other: &EvalAltResult<H>) -> (Position, Position)
