@@ -1,22 +1,22 @@
-//! A host of its own: amounts of money, three natives over them, and a script that is run under a limit.
+//! A host of its own: amounts of money, three natives over them, and a script that is run under two limits.
 #![tactic(auto)]
 
 mod money;
 
 use crate::money::{Money, MoneyNatives};
-use rhai_build::Builder;
-use rhai_build::statements::assign;
-use rhai_eval::base::{AccessMode, Dynamic, Items, Scope, Stmt, Token, Union};
-use rhai_eval::check::{CheckedTree, check_tree};
-use rhai_eval::engine::Engine;
-use rhai_eval::state::{Caches, GlobalRuntimeState};
-use rhai_natives::Natives;
+use rhai::{
+    AccessMode, Builder, Caches, CheckedTree, Dynamic, Engine, GlobalRuntimeState, Items, Natives,
+    Scope, Stmt, Token, Union, assign, check_tree,
+};
 use std::alloc::{AllocError, Global};
 use std::io;
 
 fn main(rt: HostRuntime) -> io::Result<()> {
     match check_tree(rt.alloc(), script(rt.alloc())?, Items::new(rt.alloc())) {
-        Ok(tree) => run(&rt, &tree),
+        Ok(tree) => {
+            run(&rt, &tree, 100)?;
+            run(&rt, &tree, 10)
+        }
         Err(fault) => println!(rt; "refused: {fault}"),
     }
 }
@@ -35,10 +35,10 @@ fn script(alloc: Global) -> Result<Items<Stmt>, AllocError> {
 }
 
 /// Runs a script above a price, under a limit of operations, and prints what it came to.
-fn run(rt: &HostRuntime, tree: &CheckedTree) -> io::Result<()> {
+fn run(rt: &HostRuntime, tree: &CheckedTree, limit: u64) -> io::Result<()> {
     let alloc = rt.alloc();
     let mut engine = Engine::new(alloc);
-    engine.limits.max_operations = 100;
+    engine.max_operations = limit;
     let mut global = GlobalRuntimeState::new(alloc)?;
     let mut scope = Scope::new(alloc);
     let price = Dynamic::new(Union::Host(Money(250)));
@@ -57,7 +57,7 @@ fn run(rt: &HostRuntime, tree: &CheckedTree) -> io::Result<()> {
     match outcome.as_ref().map(|value| &value.value) {
         Ok(Union::Host(Money(cents))) => println!(rt; "{cents} cents")?,
         Ok(value) => println!(rt; "{value:?}")?,
-        Err(error) => println!(rt; "{error:?}")?,
+        Err(error) => println!(rt; "{error}")?,
     }
     println!(rt; "{} operations", global.num_operations)
 }

@@ -1,7 +1,6 @@
 //! Amounts of money, and the natives over them.
 
-use rhai_eval::base::Host;
-use rhai_natives::{Arguments, Datum, Listed, ListedNatives, Response};
+use rhai::{Arguments, Datum, Host, Listed, ListedNatives, Response};
 use std::alloc::{AllocError, Global};
 
 /// An amount of money in cents.

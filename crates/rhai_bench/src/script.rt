@@ -10,12 +10,13 @@ ghost use Rattle.rhai_bench.specs.Settings.{under_array_size, under_call_levels,
 
 use crate::outcome::{Ending, Outcome};
 use crate::settings::{Settings, Way};
+use rhai::library_of;
 use rhai_build::functions::TreeParts;
 use rhai_eval::base::{Items, Scope, Shared, Stmt};
-use rhai_eval::check::{CheckedFn, check_tree};
+use rhai_eval::check::{CheckedTree, check_tree};
 use rhai_eval::engine::Engine;
 use rhai_eval::script::ScriptFuncDef;
-use rhai_eval::state::{GlobalRuntimeState, Module, ModuleFn};
+use rhai_eval::state::GlobalRuntimeState;
 use rhai_tables::host::Pair;
 use rhai_tables::tables::counting::Counting;
 use std::alloc::{AllocError, Global};
@@ -32,21 +33,14 @@ pub struct Script {
 pub fn add_library(
     alloc: Global,
     global: &mut GlobalRuntimeState<Pair>,
-    functions: &[Shared<CheckedFn>],
+    tree: &CheckedTree,
 ) -> Result<(), AllocError>
     ensures { global.new ≡ record global.old { lib = global.new.lib } }
 {
-    if functions.is_empty() {
+    if tree.functions().is_empty() {
         return Ok(());
     }
-    let mut library = Module::new(alloc);
-    'functions: for function in functions {
-        library.functions.push(ModuleFn {
-            def: function.share()?,
-            environ: None,
-            is_global: false,
-        })?;
-    }
+    let library = library_of(alloc, tree)?;
     global.lib.push(Shared::new(alloc, library)?)
 }
 
@@ -180,7 +174,7 @@ impl Script {
         let ending = match check_tree(alloc, self.statements, self.functions) {
             Err(fault) => Ending::Refused(fault),
             Ok(tree) => {
-                add_library(alloc, &mut global, tree.functions())?;
+                add_library(alloc, &mut global, &tree)?;
                 let engine: Engine<Pair> = self.settings.engine(alloc);
                 let exits = self.settings.map_exit_to_return_value;
                 match engine.eval_global_statements(

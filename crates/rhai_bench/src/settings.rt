@@ -2,6 +2,7 @@
 
 ghost use Rattle.std.specs.Prelude.{◌≡◌, [], false};
 ghost use Rattle.rhai_state.specs.Caches.{depth_of, is_on};
+ghost use Rattle.rhai_eval.specs.States.{limits_of};
 ghost use Rattle.rhai_bench.specs.Settings.{under_array_size, under_call_levels, under_operations, usual};
 
 use rhai_eval::engine::Engine;
@@ -84,7 +85,7 @@ impl Settings {
 
     /// An engine with these limits and switches, without modules.
     pub fn engine(&self, alloc: Global) -> Engine<Pair>
-        ensures limits { result.limits ≡ self.now.limits }
+        ensures limits { limits_of result ≡ self.now.limits }
         ensures fast_operators { result.fast_operators ≡ self.now.fast_operators }
         ensures shadowing { result.allow_shadowing ≡ self.now.allow_shadowing }
         ensures map_property { result.fail_on_invalid_map_property ≡ self.now.fail_on_invalid_map_property }
@@ -92,7 +93,13 @@ impl Settings {
         ensures global_sub_modules { result.global_sub_modules ≡ ([], []) }
     {
         let mut engine = Engine::new(alloc);
-        engine.limits = self.limits;
+        engine.max_operations = self.limits.max_operations;
+        engine.max_variables = self.limits.max_variables;
+        engine.max_modules = self.limits.max_modules;
+        engine.max_call_levels = self.limits.max_call_levels;
+        engine.max_array_size = self.limits.max_array_size;
+        engine.max_map_size = self.limits.max_map_size;
+        engine.max_string_size = self.limits.max_string_size;
         engine.fast_operators = self.fast_operators;
         engine.allow_shadowing = self.allow_shadowing;
         engine.fail_on_invalid_map_property = self.fail_on_invalid_map_property;

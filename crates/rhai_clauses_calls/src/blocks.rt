@@ -43,8 +43,8 @@ pub fn eval_stmt_block<H: Host, T: NativeTable<H>>(
         (state_of (T.state table.new) global.new scope.new (holding (Some this.new))) }
     ensures begins { Begins (names_in scope.old) (names_in scope.new) }
     ensures restores { IsTrue restore_orig_state → names_in scope.new ≡ names_in scope.old }
-    ensures variables { length (names_in scope.old) ≤ engine.now.limits.max_variables →
-        length (names_in scope.new) ≤ engine.now.limits.max_variables }
+    ensures variables { length (names_in scope.old) ≤ engine.now.max_variables →
+        length (names_in scope.new) ≤ engine.now.max_variables }
 {
     let outcome = engine.eval_stmt_block(
         alloc,

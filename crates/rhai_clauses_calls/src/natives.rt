@@ -2,7 +2,7 @@
 
 ghost use Rattle.rhai_eval.specs.Indexing.{access};
 ghost use Rattle.rhai_eval.specs.Places.{with_place};
-ghost use Rattle.rhai_eval.specs.States.{under};
+ghost use Rattle.rhai_eval.specs.States.{limits_of, under};
 ghost use Rattle.rhai_index.specs.Indexes.{Indexes};
 ghost use Rattle.rhai_laws.specs.Kept.{Kept};
 ghost use Rattle.rhai_steps.specs.States.{state_of};
@@ -89,7 +89,7 @@ pub fn get_indexed_mut<'t, H: Host, T: NativeTable<H>>(
     use_indexers: bool,
 ) -> Result<Target<'t, H>, EvalAltResult<H>>
     requires { IsNoHandle target.old.value }
-    ensures indexes { Indexes engine.now.limits H.name_of T.natives T.state
+    ensures indexes { Indexes (limits_of engine.now) H.name_of T.natives T.state
         (access engine.now idx_pos op_pos add_if_not_found) use_indexers
         global.old table.old target.old idx.old global.new table.new idx.new result }
     ensures caches { caches.new ≡ caches.old }

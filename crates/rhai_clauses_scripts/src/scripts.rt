@@ -38,8 +38,8 @@ pub fn eval_global_statements<H: Host, T: NativeTable<H>>(
         (state_of (T.state table.old) global.old scope.old (holding None))
         (state_of (T.state table.new) global.new scope.new (holding None)) }
     ensures begins { Begins (names_in scope.old) (names_in scope.new) }
-    ensures variables { length (names_in scope.old) ≤ engine.now.limits.max_variables →
-        length (names_in scope.new) ≤ engine.now.limits.max_variables }
+    ensures variables { length (names_in scope.old) ≤ engine.now.max_variables →
+        length (names_in scope.new) ≤ engine.now.max_variables }
 {
     let outcome = engine.eval_global_statements(
         alloc,
@@ -79,8 +79,8 @@ pub fn call_script_fn<H: Host, T: NativeTable<H>>(
     ensures scope_level { global.new.scope_level ≡ global.old.scope_level }
     ensures begins { Begins (names_in scope.old) (names_in scope.new) }
     ensures restores { IsTrue rewind_scope → names_in scope.new ≡ names_in scope.old }
-    ensures variables { length (names_in scope.old) ≤ engine.now.limits.max_variables →
-        length (names_in scope.new) ≤ engine.now.limits.max_variables }
+    ensures variables { length (names_in scope.old) ≤ engine.now.max_variables →
+        length (names_in scope.new) ≤ engine.now.max_variables }
 {
     let outcome = engine.call_script_fn(
         alloc,

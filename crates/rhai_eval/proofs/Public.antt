@@ -20,13 +20,13 @@ use Rattle.rhai_cycle.specs.States.{offer_of as offered, state_in, under as unde
 use Rattle.rhai_cycle.proofs.Chain.{still_none}
 use Rattle.rhai_eval.specs.declared.engine.Engine.{Engine}
 use Rattle.rhai_eval.specs.Ends.{AgreesAbove, EndsAs}
-use Rattle.rhai_eval.specs.States.{offer_of, under}
+use Rattle.rhai_eval.specs.States.{limits_of, offer_of, under}
 
 -- what a run reads of an engine has the engine's rules
 pub same_rules : {S H : Type 0} (host : H → List ℕ) (natives : Natives S H) (engine : Engine H) (read : Evaluator H) →
-    read.limits.now ≡ engine.limits → offered read ≡ offer_of engine → under_what_is_read host read natives ≡ under host engine natives
+    read.limits.now ≡ limits_of engine → offered read ≡ offer_of engine → under_what_is_read host read natives ≡ under host engine natives
 same_rules host natives engine read limits offer = ap (λ (l : Limits). rules_of l host (offered read) natives) limits
-    ∙ ap (λ (o : Offer _). rules_of engine.limits host o natives) offer
+    ∙ ap (λ (o : Offer _). rules_of (limits_of engine) host o natives) offer
 
 -- of so many places nothing is told
 abbrev pub five : {X : Type 0} → X → Unit {0} × (Unit {0} × (Unit {0} × (Unit {0} × (Unit {0} × X))))

@@ -18,6 +18,18 @@ unlimited = record {
 }
 
 module _ {H : Type 0} where
+  -- what a run reads of an engine's limits
+  abbrev pub limits_of : Engine H → Limits
+  limits_of engine = record {
+    max_operations = engine.max_operations;
+    max_variables = engine.max_variables;
+    max_modules = engine.max_modules;
+    max_call_levels = engine.max_call_levels;
+    max_array_size = engine.max_array_size;
+    max_map_size = engine.max_map_size;
+    max_string_size = engine.max_string_size;
+  }
+
   abbrev pub offer_of : Engine H → Offer H
   offer_of engine = record {
     fast_operators = engine.fast_operators;
@@ -30,4 +42,4 @@ module _ {H : Type 0} where
 
   -- under a host's type names, an engine and a table
   abbrev pub under : {S : Type 0} → (H → List ℕ) → Engine H → Natives S H → Rules S H
-  under host engine natives = rules_of engine.limits host (offer_of engine) natives
+  under host engine natives = rules_of (limits_of engine) host (offer_of engine) natives

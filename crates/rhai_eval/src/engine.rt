@@ -4,7 +4,7 @@ ghost use Rattle.std.specs.Prelude.{◌≡◌, ◌<◌, ◌≤◌, ◌+◌, ◌-
 ghost use Rattle.rhai_state.specs.declared.error.EvalAltResult.TheVariants as error;
 ghost use Rattle.rhai_state.specs.Limits.{limit_of};
 ghost use Rattle.rhai_cycle.specs.States.{offer_of as offered};
-ghost use Rattle.rhai_eval.specs.States.{offer_of, unlimited};
+ghost use Rattle.rhai_eval.specs.States.{limits_of, offer_of, unlimited};
 
 use rhai_cycle::evaluator::Evaluator;
 use rhai_items::{Items, Shared, Table};
@@ -20,7 +20,20 @@ use std::alloc::Global;
 /// far as its tree evaluator reads it.
 #[derive(Drop)]
 pub struct Engine<H> {
-    pub limits: Limits,
+    /// The most operations of a run; zero for no limit.
+    pub max_operations: u64,
+    /// The most variables of a scope; zero allows none.
+    pub max_variables: usize,
+    /// The most modules that a run loads; zero allows none.
+    pub max_modules: usize,
+    /// How deep calls of functions may go; zero allows none.
+    pub max_call_levels: usize,
+    /// The most items of an array, those of nested ones counted; zero for no limit.
+    pub max_array_size: usize,
+    /// The most entries of a map, those of nested ones counted; zero for no limit.
+    pub max_map_size: usize,
+    /// The most bytes of a text, those of nested values counted; zero for no limit.
+    pub max_string_size: usize,
     pub fast_operators: bool,
     pub allow_shadowing: bool,
     pub fail_on_invalid_map_property: bool,
@@ -36,7 +49,7 @@ impl<H: Host> Engine<H> {
     /// An engine without limits on operations and data, with fast operators and shadowing, and
     /// without modules.
     pub fn new(alloc: Global) -> Engine<H>
-        ensures limits { result.limits ≡ unlimited }
+        ensures limits { limits_of result ≡ unlimited }
         ensures fast_operators { result.fast_operators ≡ true }
         ensures allow_shadowing { result.allow_shadowing ≡ true }
         ensures fail_on_invalid_map_property { result.fail_on_invalid_map_property ≡ false }
@@ -45,15 +58,13 @@ impl<H: Host> Engine<H> {
         ensures modules { result.modules.modules ≡ ([], []) }
     {
         Engine {
-            limits: Limits {
-                max_operations: 0,
-                max_variables: usize::MAX,
-                max_modules: usize::MAX,
-                max_call_levels: 64,
-                max_array_size: 0,
-                max_map_size: 0,
-                max_string_size: 0,
-            },
+            max_operations: 0,
+            max_variables: usize::MAX,
+            max_modules: usize::MAX,
+            max_call_levels: 64,
+            max_array_size: 0,
+            max_map_size: 0,
+            max_string_size: 0,
             fast_operators: true,
             allow_shadowing: true,
             fail_on_invalid_map_property: false,
@@ -65,13 +76,29 @@ impl<H: Host> Engine<H> {
         }
     }
 
-    /// What a run reads of the engine.
-    pub(crate) fn evaluator(&self) -> Evaluator<'_, H>
-        ensures limits { result.limits.now ≡ self.now.limits }
+    /// What a run reads of the limits. It takes no memory.
+    pub(crate) fn limits(&self) -> Limits
+        ensures { result ≡ limits_of self.now }
+    {
+        Limits {
+            max_operations: self.max_operations,
+            max_variables: self.max_variables,
+            max_modules: self.max_modules,
+            max_call_levels: self.max_call_levels,
+            max_array_size: self.max_array_size,
+            max_map_size: self.max_map_size,
+            max_string_size: self.max_string_size,
+        }
+    }
+
+    /// What a run reads of the engine, with the engine's own limits.
+    pub(crate) fn evaluator<'e>(&'e self, limits: &'e Limits) -> Evaluator<'e, H>
+        requires { limits.now ≡ limits_of self.now }
+        ensures limits { result.limits.now ≡ limits_of self.now }
         ensures offer { offered result ≡ offer_of self.now }
     {
         Evaluator {
-            limits: &self.limits,
+            limits,
             fast_operators: self.fast_operators,
             allow_shadowing: self.allow_shadowing,
             fail_on_invalid_map_property: self.fail_on_invalid_map_property,
@@ -88,14 +115,14 @@ impl<H: Host> Engine<H> {
         global: &mut GlobalRuntimeState<H>,
         pos: Position,
     ) -> Result<(), EvalAltResult<H>>
-        ensures room { OnOk result (global.old.num_operations < limit_of self.now.limits.max_operations) }
+        ensures room { OnOk result (global.old.num_operations < limit_of self.now.max_operations) }
         ensures charged { OnOk result (global.new ≡ record global.old
             { num_operations = global.old.num_operations + 1 }) }
-        ensures full { IfErr result (λ _. limit_of self.now.limits.max_operations
+        ensures full { IfErr result (λ _. limit_of self.now.max_operations
             ≤ global.old.num_operations) }
         ensures refused { IfErr result (λ e. e ≡ error.ErrorTooManyOperations pos) }
         ensures same { IfErr result (λ _. global.new ≡ global.old) }
     {
-        charges::track_operation(&self.limits, global, pos)
+        charges::track_operation(&self.limits(), global, pos)
     }
 }

@@ -1,5 +1,5 @@
 //! The tree evaluator, proved to end exactly as a step machine with an explicit stack, cut at the
-//! limit of operations. What it stands on is shown here too, so that a host names one crate.
+//! limit of operations. What it stands on is shown here too.
 #![tactic(auto)]
 
 pub mod engine;

@@ -4,6 +4,7 @@
 
 pub mod caches;
 mod debug;
+mod display;
 pub mod error;
 pub mod limits;
 pub mod room;

@@ -1,5 +1,6 @@
 -- Places in a script's text.
-use Rattle.std.specs.Prelude.{ℕ, ◌==◌, if◌then◌else◌, Option, Some, None}
+use Rattle.std.specs.Prelude.{ℕ, ◌==◌, ◌++◌, if◌then◌else◌, List, Option, Some, None, codes}
+use Rattle.std.specs.Fmt.{decimal}
 use Rattle.rhai_tree.specs.declared.position.Position.{Position}
 
 -- the place at a line and a position in it
@@ -13,3 +14,8 @@ none = record { line = 0; pos = 0 }
 -- a line or a position, where there is one
 abbrev pub number_of : ℕ → Option ℕ
 number_of n = if n == 0 then None else Some n
+
+-- a place in words
+abbrev pub place_text : Position → List ℕ
+place_text p =
+    if p.line == 0 then codes "none" else (codes "line " ++ decimal p.line ++ codes ", position " ++ decimal p.pos)

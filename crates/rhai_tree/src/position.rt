@@ -1,7 +1,10 @@
 //! Where something stands in a script's text.
 
-ghost use Rattle.std.specs.Prelude.{◌≡◌, ◌≢◌, ◌==◌, IsTrue, ◌↔◌};
-ghost use Rattle.rhai_tree.specs.Position.{at, none, number_of};
+ghost use Rattle.std.specs.Prelude.{◌≡◌, ◌≢◌, ◌==◌, IsTrue, ◌↔◌, Some};
+ghost use Rattle.rhai_tree.specs.Position.{at, none, number_of, place_text};
+
+use std::fmt;
+use std::fmt::{Display, Formatter, Write};
 
 /// A place in a script's text: a line and a position in it, both counted from 1, or no place.
 /// Ports upstream's `Position`.
@@ -50,5 +53,19 @@ impl Position {
         ensures { result ≡ number_of self.pos }
     {
         if self.pos == 0 { None } else { Some(self.pos) }
+    }
+}
+
+/// `line 1, position 3`, or `none`. In the manner of upstream's `Display` of `Position`.
+impl Display for Position {
+    ghost output = { λ p. Some (place_text p) };
+
+    fn fmt<W: Write>(&self, f: &mut Formatter<W>) -> fmt::Result {
+        if self.line == 0 {
+            f.write_str("none")
+        } else {
+            let Position { line, pos } = *self;
+            write!(f, "line {line}, position {pos}")
+        }
     }
 }

@@ -2,6 +2,7 @@
 
 mod copy;
 mod debug;
+mod display;
 mod environ;
 pub mod hashable;
 pub mod literal;

@@ -7,7 +7,7 @@ use rhai_bench::print::{write_ending, write_value};
 use rhai_bench::script::add_library;
 use rhai_build::functions::TreeParts;
 use rhai_eval::base::{AccessMode, EvalAltResult, Items, Position, Scope, Shared, Union};
-use rhai_eval::check::{CheckedFn, check_tree};
+use rhai_eval::check::{CheckedFn, CheckedTree, check_tree};
 use rhai_eval::engine::Engine;
 use rhai_eval::script::FnKey;
 use rhai_eval::target::{Part, Target};
@@ -198,7 +198,7 @@ pub fn write_call(alloc: Global, name: &str, out: &mut Vec<u8>) -> io::Result<()
     } = parts_for(alloc, name)?;
     match check_tree(alloc, statements, functions) {
         Ok(tree) => match tree.functions() {
-            [function] => write_called(alloc, name, function, out),
+            [function] => write_called(alloc, name, &tree, function, out),
             _ => write!(out, "no function"),
         },
         Err(_) => write!(out, "no tree"),
@@ -219,12 +219,13 @@ fn parts_for(alloc: Global, name: &str) -> Result<TreeParts, AllocError> {
 fn write_called(
     alloc: Global,
     name: &str,
+    tree: &CheckedTree,
     function: &Shared<CheckedFn>,
     out: &mut Vec<u8>,
 ) -> io::Result<()> {
     let count = usize::from(matches!(name, "a method" | "on a target"));
     let mut caller = Caller::new(alloc, count)?;
-    add_library(alloc, &mut caller.global, &[function.share()?])?;
+    add_library(alloc, &mut caller.global, tree)?;
     let answer = answer_of(alloc, &mut caller, name, function.get())?;
     caller.write_left(answer, out)
 }

@@ -3,6 +3,7 @@
 #![tactic(auto)]
 
 mod answers;
+mod errors;
 mod functions;
 mod program;
 mod scripts;

@@ -120,7 +120,8 @@ impl<H: Host> Engine<H> {
             unreachable!()
         };
         let new = new_value(new_val);
-        let evaluator = self.evaluator();
+        let limits = self.limits();
+        let evaluator = self.evaluator(&limits);
         match this {
             Some(place) => {
                 let mut run = take_with(alloc, global, scope, place);

@@ -115,7 +115,8 @@ impl<H: Host> Engine<H> {
         ensures caches { _caches.new ≡ _caches.old }
         ensures search { global.new.always_search_scope ≡ global.old.always_search_scope }
     {
-        let evaluator = self.evaluator();
+        let limits = self.limits();
+        let evaluator = self.evaluator(&limits);
         match this {
             Some(place) => {
                 let mut run = take_with(alloc, global, scope, place);

@@ -16,7 +16,7 @@ ghost use Rattle.rhai_laws.specs.Kept.{Kept};
 ghost use Rattle.rhai_eval.specs.Ends.{EndsFrom, EndsMarked};
 ghost use Rattle.rhai_eval.specs.Indexing.{access, item_by};
 ghost use Rattle.rhai_eval.specs.Places.{with_place};
-ghost use Rattle.rhai_eval.specs.States.{under};
+ghost use Rattle.rhai_eval.specs.States.{limits_of, under};
 
 use crate::engine::Engine;
 use rhai_calls::native::{Passing, call_native, pass_native};
@@ -209,7 +209,7 @@ impl<H: Host> Engine<H> {
         use_indexers: bool,
     ) -> Result<Target<'t, H>, EvalAltResult<H>>
         requires { IsNoHandle target.old.value }
-        ensures indexes { Indexes self.now.limits H.name_of T.natives T.state
+        ensures indexes { Indexes (limits_of self.now) H.name_of T.natives T.state
             (access self.now idx_pos op_pos add_if_not_found) use_indexers
             global.old table.old target.old idx.old global.new table.new idx.new result }
         ensures caches { _caches.new ≡ _caches.old }
@@ -223,7 +223,7 @@ impl<H: Host> Engine<H> {
         indexing::get_indexed_mut(
             target,
             alloc,
-            &self.limits,
+            &self.limits(),
             global,
             table,
             idx,
@@ -264,7 +264,7 @@ impl<H: Host> Engine<H> {
         ensures caches { _caches.new ≡ _caches.old }
         ensures search { global.new.always_search_scope ≡ global.old.always_search_scope }
     {
-        let limits = &self.limits;
+        let limits = &self.limits();
         let search = global.always_search_scope;
         let result = ask_get(limits, alloc, global, table, object, index, pos);
         global.always_search_scope = search;
@@ -304,7 +304,7 @@ impl<H: Host> Engine<H> {
         ensures caches { _caches.new ≡ _caches.old }
         ensures search { global.new.always_search_scope ≡ global.old.always_search_scope }
     {
-        let limits = &self.limits;
+        let limits = &self.limits();
         let search = global.always_search_scope;
         let result = ask_set(
             limits, alloc, global, table, object, index, new_val, is_ref_mut, pos,

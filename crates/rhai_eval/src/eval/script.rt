@@ -62,13 +62,14 @@ impl<H: Host> Engine<H> {
             (state_of (T.state table.old) global.old scope.old (holding None))
             (state_of (T.state table.new) global.new scope.new (holding None)) }
         ensures begins { Begins (names_in scope.old) (names_in scope.new) }
-        ensures variables { length (names_in scope.old) ≤ self.now.limits.max_variables →
-            length (names_in scope.new) ≤ self.now.limits.max_variables }
+        ensures variables { length (names_in scope.old) ≤ self.now.max_variables →
+            length (names_in scope.new) ≤ self.now.max_variables }
         ensures caches { _caches.new ≡ _caches.old }
         ensures search { global.new.always_search_scope ≡ global.old.always_search_scope }
     {
         let mut run = take(alloc, global, scope);
-        let evaluator = self.evaluator();
+        let limits = self.limits();
+        let evaluator = self.evaluator(&limits);
         let outcome = evaluator.run_stmt_block(alloc, &mut run, table, tree.statements(), false);
         give_back(run, global, scope);
         top(outcome, map_exit_to_return_value)

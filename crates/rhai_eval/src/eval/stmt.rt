@@ -180,7 +180,7 @@ impl<H: Host> Engine<H> {
         ensures caches { _caches.new ≡ _caches.old }
         ensures search { global.new.always_search_scope ≡ global.old.always_search_scope }
     {
-        let limits = &self.limits;
+        let limits = &self.limits();
         let fast = self.fast_operators;
         let op = *op_info;
         let search = global.always_search_scope;
@@ -218,12 +218,13 @@ impl<H: Host> Engine<H> {
             (state_of (T.state table.new) global.new scope.new (holding (left_by this.exit))) }
         ensures begins { Begins (names_in scope.old) (names_in scope.new) }
         ensures names { OnOk result (names_in scope.new ≡ (resolves_stmt stmt.now (names_in scope.old)).1) }
-        ensures variables { length (names_in scope.old) ≤ self.now.limits.max_variables →
-            length (names_in scope.new) ≤ self.now.limits.max_variables }
+        ensures variables { length (names_in scope.old) ≤ self.now.max_variables →
+            length (names_in scope.new) ≤ self.now.max_variables }
         ensures caches { _caches.new ≡ _caches.old }
         ensures search { global.new.always_search_scope ≡ global.old.always_search_scope }
     {
-        let evaluator = self.evaluator();
+        let limits = self.limits();
+        let evaluator = self.evaluator(&limits);
         match this {
             Some(place) => {
                 let mut run = take_with(alloc, global, scope, place);
@@ -268,12 +269,13 @@ impl<H: Host> Engine<H> {
             (state_of (T.state table.new) global.new scope.new (holding (left_by this.exit))) }
         ensures begins { Begins (names_in scope.old) (names_in scope.new) }
         ensures restores { IsTrue restore_orig_state → names_in scope.new ≡ names_in scope.old }
-        ensures variables { length (names_in scope.old) ≤ self.now.limits.max_variables →
-            length (names_in scope.new) ≤ self.now.limits.max_variables }
+        ensures variables { length (names_in scope.old) ≤ self.now.max_variables →
+            length (names_in scope.new) ≤ self.now.max_variables }
         ensures caches { _caches.new ≡ _caches.old }
         ensures search { global.new.always_search_scope ≡ global.old.always_search_scope }
     {
-        let evaluator = self.evaluator();
+        let limits = self.limits();
+        let evaluator = self.evaluator(&limits);
         match this {
             Some(place) => {
                 let mut run = take_with(alloc, global, scope, place);

@@ -77,7 +77,8 @@ impl<H: Host> Engine<H> {
         ensures caches { _caches.new ≡ _caches.old }
         ensures search { global.new.always_search_scope ≡ global.old.always_search_scope }
     {
-        let evaluator = self.evaluator();
+        let limits = self.limits();
+        let evaluator = self.evaluator(&limits);
         match this {
             Some(place) => {
                 let mut run = take_with(alloc, global, scope, place);
@@ -123,7 +124,8 @@ impl<H: Host> Engine<H> {
         ensures caches { _caches.new ≡ _caches.old }
         ensures search { global.new.always_search_scope ≡ global.old.always_search_scope }
     {
-        let evaluator = self.evaluator();
+        let limits = self.limits();
+        let evaluator = self.evaluator(&limits);
         match this {
             Some(place) => {
                 let mut run = take_with(alloc, global, scope, place);
@@ -179,7 +181,8 @@ impl<H: Host> Engine<H> {
     {
         let token = op_token.copied();
         let captures = capture_parent_scope;
-        let evaluator = self.evaluator();
+        let limits = self.limits();
+        let evaluator = self.evaluator(&limits);
         match this {
             Some(place) => {
                 let mut run = take_with(alloc, global, scope, place);

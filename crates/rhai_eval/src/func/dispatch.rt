@@ -161,9 +161,9 @@ impl<H: Host> Engine<H> {
             (state_of (T.state table.new) global.new scope held) }
         ensures search { global.new.always_search_scope ≡ global.old.always_search_scope }
     {
-        let limits = &self.limits;
+        let limits = &self.limits();
         let search = global.always_search_scope;
-        let offered = self.evaluator().offered();
+        let offered = self.evaluator(limits).offered();
         let seeks = Seeks {
             of_method: is_method_call,
             natives_alone: false,
@@ -259,9 +259,9 @@ impl<H: Host> Engine<H> {
             (state_of (T.state table.new) global.new scope held) }
         ensures search { global.new.always_search_scope ≡ global.old.always_search_scope }
     {
-        let limits = &self.limits;
+        let limits = &self.limits();
         let search = global.always_search_scope;
-        let offered = self.evaluator().offered();
+        let offered = self.evaluator(limits).offered();
         let mut none = Items::new(alloc);
         let args = none.as_mut_slice();
         let dispatched = pass_all(
@@ -296,7 +296,8 @@ impl<H: Host> Engine<H> {
     {
         let mut scope = Scope::new(alloc);
         let mut run = take(alloc, global, &mut scope);
-        let evaluator = self.evaluator();
+        let limits = self.limits();
+        let evaluator = self.evaluator(&limits);
         let result = evaluator.enter_on_focus(alloc, &mut run, table, function, place, args, pos);
         give_back(run, global, &mut scope);
         drop(scope);
@@ -323,7 +324,8 @@ impl<H: Host> Engine<H> {
             Outcome::Ended(result) => result,
             Outcome::Enters(function, args) => {
                 let mut run = take(alloc, global, scope);
-                let evaluator = self.evaluator();
+                let limits = self.limits();
+                let evaluator = self.evaluator(&limits);
                 let result = evaluator.enter_captured(alloc, &mut run, table, function, args, pos);
                 give_back(run, global, scope);
                 marked(result, false)
@@ -351,7 +353,8 @@ impl<H: Host> Engine<H> {
             Outcome::Enters(function, args) => {
                 let mut scope = Scope::new(alloc);
                 let mut run = take(alloc, global, &mut scope);
-                let evaluator = self.evaluator();
+                let limits = self.limits();
+                let evaluator = self.evaluator(&limits);
                 let result = evaluator.enter_fresh(alloc, &mut run, table, function, args, pos);
                 give_back(run, global, &mut scope);
                 drop(scope);

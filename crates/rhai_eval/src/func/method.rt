@@ -119,7 +119,8 @@ impl<H: Host> Engine<H> {
     {
         let mut scope = Scope::new(alloc);
         let mut run = take(alloc, global, &mut scope);
-        let evaluator = self.evaluator();
+        let limits = self.limits();
+        let evaluator = self.evaluator(&limits);
         let first = Some(first_arg_pos);
         let result = method_on(
             &evaluator, alloc, &mut run, table, fn_name, target, call_args, first, pos,

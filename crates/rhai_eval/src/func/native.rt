@@ -62,7 +62,7 @@ impl<H: Host> Engine<H> {
         ensures caches { _caches.new ≡ _caches.old }
         ensures search { global.new.always_search_scope ≡ global.old.always_search_scope }
     {
-        let limits = &self.limits;
+        let limits = &self.limits();
         let token = op_token.copied();
         let search = global.always_search_scope;
         match first {

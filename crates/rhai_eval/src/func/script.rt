@@ -70,7 +70,8 @@ impl<H: Host> Engine<H> {
         let before = run.scope.len();
         let parameters = def.def().params.len();
         let level = run.global.level;
-        let evaluator = self.evaluator();
+        let limits = self.limits();
+        let evaluator = self.evaluator(&limits);
         let result = evaluator.run_body(
             alloc,
             run,
@@ -138,8 +139,8 @@ impl<H: Host> Engine<H> {
         ensures this { is_some (left_by this.exit) ≡ is_some (was this.entry) }
         ensures begins { Begins (names_in scope.old) (names_in scope.new) }
         ensures restores { IsTrue rewind_scope → names_in scope.new ≡ names_in scope.old }
-        ensures variables { length (names_in scope.old) ≤ self.now.limits.max_variables →
-            length (names_in scope.new) ≤ self.now.limits.max_variables }
+        ensures variables { length (names_in scope.old) ≤ self.now.max_variables →
+            length (names_in scope.new) ≤ self.now.max_variables }
         ensures caches { _caches.new ≡ _caches.old }
         ensures search { global.new.always_search_scope ≡ global.old.always_search_scope }
     {

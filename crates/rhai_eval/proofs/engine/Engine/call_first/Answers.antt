@@ -24,8 +24,8 @@ returns-in-Ended-clause-lent g c scope held on_scope lent =
     (state_of (g.T.NativeTable.state c.pass_call-dispatched.new.table) c.pass_call-dispatched.new.global scope
     (lending held c.pass_call-dispatched.new.first))
     c.is_guarded.ensures c.in-Ended.result c.in-Ended.is lent
-    (c.pass_call-dispatched.ensures.runs (offer_of c.args.self.now) scope (lending held c.args.first.now) (Some FromFocus) on_scope offers
-    refl)
+    (rw c.limits.ensures at (c.pass_call-dispatched.ensures.runs (offer_of c.args.self.now) scope (lending held c.args.first.now)
+    (Some FromFocus) on_scope offers refl))
 
 pub returns-in-Ended-clause-by_value : goal.returns-in-Ended-clause-by_value
 returns-in-Ended-clause-by_value g c scope held on_scope none =
@@ -36,7 +36,7 @@ returns-in-Ended-clause-by_value g c scope held on_scope none =
     c.pass_call-dispatched.result (state_of (g.T.NativeTable.state c.args.table.now) c.args.global.now scope held)
     (state_of (g.T.NativeTable.state c.pass_call-dispatched.new.table) c.pass_call-dispatched.new.global scope held)
     c.is_guarded.ensures c.in-Ended.result c.in-Ended.is none
-    (c.pass_call-dispatched.ensures.runs (offer_of c.args.self.now) scope held None on_scope offers tt)
+    (rw c.limits.ensures at (c.pass_call-dispatched.ensures.runs (offer_of c.args.self.now) scope held None on_scope offers tt))
 
 pub returns-in-Found-clause-lent : goal.returns-in-Found-clause-lent
 returns-in-Found-clause-lent g c scope held on_scope lent =
@@ -54,8 +54,8 @@ returns-in-Found-clause-lent g c scope held on_scope lent =
     (lending held c.pass_call-dispatched.new.first))
     c.is_guarded.ensures c.in-Found.function c.to_enter.result c.in-Found.is lent c.to_enter.ensures.method
     (λ none. rw c.in-Found.ensures.same at (c.to_enter.ensures.by_itself none))
-    (c.pass_call-dispatched.ensures.runs (offer_of c.args.self.now) scope (lending held c.args.first.now) (Some FromFocus) on_scope offers
-    refl))
+    (rw c.limits.ensures at (c.pass_call-dispatched.ensures.runs (offer_of c.args.self.now) scope (lending held c.args.first.now)
+    (Some FromFocus) on_scope offers refl)))
 
 pub returns-in-Found-clause-by_value : goal.returns-in-Found-clause-by_value
 returns-in-Found-clause-by_value g c scope held on_scope none =
@@ -67,4 +67,4 @@ returns-in-Found-clause-by_value g c scope held on_scope none =
     (state_of (g.T.NativeTable.state c.pass_call-dispatched.new.table) c.pass_call-dispatched.new.global scope held)
     c.is_guarded.ensures c.in-Found.function c.to_enter.result c.in-Found.is none
     (λ alone. rw c.in-Found.ensures.same at (c.to_enter.ensures.by_itself alone))
-    (c.pass_call-dispatched.ensures.runs (offer_of c.args.self.now) scope held None on_scope offers tt)
+    (rw c.limits.ensures at (c.pass_call-dispatched.ensures.runs (offer_of c.args.self.now) scope held None on_scope offers tt))

@@ -15,7 +15,7 @@ returns-clause-ends g c scope this =
     let new : State _ _ = state_of (g.T.NativeTable.state c.ask_get-result.new.table) c.ask_get-result.new.global scope
     (with_place this (Some c.ask_get-result.new.object)) in
     got_ends rules c.args.index.now c.args.pos old new c.ask_get-result.result
-    (c.ask_get-result.ensures.runs (offer_of c.args.self.now) scope (with_place this None))
+    (rw c.limits.ensures at (c.ask_get-result.ensures.runs (offer_of c.args.self.now) scope (with_place this None)))
 
 pub returns-clause-kept : goal.returns-clause-kept
 returns-clause-kept g c scope this =
@@ -25,4 +25,4 @@ returns-clause-kept g c scope this =
     let new : State _ _ = state_of (g.T.NativeTable.state c.ask_get-result.new.table) c.ask_get-result.new.global scope
     (with_place this (Some c.ask_get-result.new.object)) in
     got_kept rules c.args.index.now c.args.pos old new c.ask_get-result.result
-    (c.ask_get-result.ensures.runs (offer_of c.args.self.now) scope (with_place this None))
+    (rw c.limits.ensures at (c.ask_get-result.ensures.runs (offer_of c.args.self.now) scope (with_place this None)))

@@ -15,7 +15,7 @@ returns-clause-ends g c scope this =
     let new : State _ _ = state_of (g.T.NativeTable.state c.ask_set-result.new.table) c.ask_set-result.new.global scope
     (with_place this (Some c.ask_set-result.new.object)) in
     set_ends rules c.args.index.now c.args.pos old new c.args.is_ref_mut c.args.new_val.now c.ask_set-result.result
-    (c.ask_set-result.ensures.runs (offer_of c.args.self.now) scope (with_place this None))
+    (rw c.limits.ensures at (c.ask_set-result.ensures.runs (offer_of c.args.self.now) scope (with_place this None)))
 
 pub returns-clause-kept : goal.returns-clause-kept
 returns-clause-kept g c scope this =
@@ -25,4 +25,4 @@ returns-clause-kept g c scope this =
     let new : State _ _ = state_of (g.T.NativeTable.state c.ask_set-result.new.table) c.ask_set-result.new.global scope
     (with_place this (Some c.ask_set-result.new.object)) in
     set_kept rules c.args.index.now c.args.pos old new c.args.is_ref_mut c.args.new_val.now c.ask_set-result.result
-    (c.ask_set-result.ensures.runs (offer_of c.args.self.now) scope (with_place this None))
+    (rw c.limits.ensures at (c.ask_set-result.ensures.runs (offer_of c.args.self.now) scope (with_place this None)))

@@ -15,7 +15,7 @@ returns-in-Ended-clause-runs g c scope held on_scope =
     none_ended rules operation on_scope c.pass_all-dispatched.result
     (state_of (g.T.NativeTable.state c.args.table.now) c.args.global.now scope held)
     (state_of (g.T.NativeTable.state c.pass_all-dispatched.new.table) c.pass_all-dispatched.new.global scope held) c.in-Ended.result
-    c.in-Ended.is (rw (c.as_mut_slice-args.ensures.value ∙ c.new-none.ensures) at
+    c.in-Ended.is (rw (c.as_mut_slice-args.ensures.value ∙ c.new-none.ensures, c.limits.ensures) at
     (c.pass_all-dispatched.ensures.runs (offer_of c.args.self.now) scope held on_scope offers))
 
 pub returns-in-Found-clause-runs : goal.returns-in-Found-clause-runs
@@ -29,5 +29,5 @@ returns-in-Found-clause-runs g c scope held on_scope =
     (take (length c.new-none.result)
     (c.pass_all-dispatched.new.args ++ drop (length c.pass_all-dispatched.new.args) c.new-none.result)) c.in-Found.is
     (none_left c.new-none.result c.pass_all-dispatched.new.args c.new-none.ensures)
-    (rw (c.as_mut_slice-args.ensures.value ∙ c.new-none.ensures) at
+    (rw (c.as_mut_slice-args.ensures.value ∙ c.new-none.ensures, c.limits.ensures) at
     (c.pass_all-dispatched.ensures.runs (offer_of c.args.self.now) scope held on_scope offers))

@@ -20,7 +20,8 @@ returns-clause-ends g c scope this =
     (with_place this (Some (stands c.assign_target-result.new.target.part c.assign_target-result.new.target.at.now))) in
     assigned_ends rules
     (target_assigned rules.setting c.args.root.now new_value c.args.target.now.part c.args.target.now.at.now) old new
-    c.assign_target-result.result (c.assign_target-result.ensures.follows (offer_of c.args.self.now) scope (with_place this None) refl)
+    c.assign_target-result.result (rw c.limits.ensures at
+    (c.assign_target-result.ensures.follows (offer_of c.args.self.now) scope (with_place this None) refl))
 
 pub returns-clause-kept : goal.returns-clause-kept
 returns-clause-kept g c scope this =
@@ -31,4 +32,5 @@ returns-clause-kept g c scope this =
     let new : State _ _ = state_of (g.T.NativeTable.state c.assign_target-result.new.table) c.assign_target-result.new.global scope
     (with_place this (Some (stands c.assign_target-result.new.target.part c.assign_target-result.new.target.at.now))) in
     assigned_kept rules c.args.root.now new_value c.args.target.now.part c.args.target.now.at.now old new
-    c.assign_target-result.result (c.assign_target-result.ensures.follows (offer_of c.args.self.now) scope (with_place this None) refl)
+    c.assign_target-result.result (rw c.limits.ensures at
+    (c.assign_target-result.ensures.follows (offer_of c.args.self.now) scope (with_place this None) refl))

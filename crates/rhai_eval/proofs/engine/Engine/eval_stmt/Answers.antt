@@ -23,7 +23,7 @@ left_on g c place =
     let answer = r g.row.H g.row.T g.H.laws g.T.laws g.H.Host-dict g.H.Destruct-dict g.T.NativeTable-dict in
     let types = xs g.row.H g.row.T g.H.laws g.T.laws g.H.Host-dict g.H.Destruct-dict g.T.NativeTable-dict in
     let given : Args (ended_of 9 kinds answer).signature c.lifetimes = (c.args.self, (c.args.alloc, (c.args.global, (c.args._caches, (c.args.table, (c.args.scope, (place, (c.args.stmt, (c.args.rewind_scope, tt))))))))) in
-    left_by (at_exit (ended_of 9 kinds answer) c.lifetimes given (lasts_p c.lifetimes 4 kinds types given (c.args.self, (tt, (c.args.global, (c.args._caches, (c.args.table, (c.args.scope, (Some (record c.in-Some.place { now = c.give_back_with.new.this }), (c.args.stmt, five (five (five (five (five (five (tt, tt)))))))))))))))).1.1.1.1.1.1.0
+    left_by (at_exit (ended_of 9 kinds answer) c.lifetimes given (lasts_p c.lifetimes 4 kinds types given (c.args.self, (tt, (c.args.global, (c.args._caches, (c.args.table, (c.args.scope, (Some (record c.in-Some.place { now = c.give_back_with.new.this }), (c.args.stmt, five (five (five (five (five (five (tt, (tt, (tt, (tt, tt))))))))))))))))))).1.1.1.1.1.1.0
 
 this_on : (g : Over) (c : goal.After-give_back_with g) → left_on g c c.args.this ≡ Some c.give_back_with.new.this
 this_on g c = subst (λ place. left_on g c place ≡ Some c.give_back_with.new.this) (sym c.in-Some.is) refl
@@ -69,7 +69,7 @@ left_free g c place =
     let answer = r g.row.H g.row.T g.H.laws g.T.laws g.H.Host-dict g.H.Destruct-dict g.T.NativeTable-dict in
     let types = xs g.row.H g.row.T g.H.laws g.T.laws g.H.Host-dict g.H.Destruct-dict g.T.NativeTable-dict in
     let given : Args (ended_of 9 kinds answer).signature c.lifetimes = (c.args.self, (c.args.alloc, (c.args.global, (c.args._caches, (c.args.table, (c.args.scope, (place, (c.args.stmt, (c.args.rewind_scope, tt))))))))) in
-    left_by (at_exit (ended_of 9 kinds answer) c.lifetimes given (lasts_p c.lifetimes 4 kinds types given (c.args.self, (tt, (c.args.global, (c.args._caches, (c.args.table, (c.args.scope, (place, (c.args.stmt, five (five (five (five (five (five (tt, tt)))))))))))))))).1.1.1.1.1.1.0
+    left_by (at_exit (ended_of 9 kinds answer) c.lifetimes given (lasts_p c.lifetimes 4 kinds types given (c.args.self, (tt, (c.args.global, (c.args._caches, (c.args.table, (c.args.scope, (place, (c.args.stmt, five (five (five (five (five (five (tt, (tt, (tt, (tt, tt))))))))))))))))))).1.1.1.1.1.1.0
 
 this_free : (g : Over) (c : goal.After-give_back g) → left_free g c c.args.this ≡ None
 this_free g c = subst (λ place. left_free g c place ≡ None) (sym c.in-None.is) refl

@@ -24,7 +24,7 @@ after g c place =
     let answer = r g.row.H g.row.T g.H.laws g.T.laws g.H.Host-dict g.H.Destruct-dict g.T.NativeTable-dict in
     let types = xs g.row.H g.row.T g.H.laws g.T.laws g.H.Host-dict g.H.Destruct-dict g.T.NativeTable-dict in
     let given : Args (ended_of 10 kinds answer).signature c.lifetimes = (c.args.self, (c.args.alloc, (c.args.global, (c.args._caches, (c.args.table, (c.args.name, (c.args.op_token, (place, (c.args.rest, (c.args.is_ref_mut, (c.args.position, tt))))))))))) in
-    left_by (at_exit (ended_of 10 kinds answer) c.lifetimes given (lasts_p c.lifetimes 4 kinds types given (c.args.self, (tt, (c.args.global, (c.args._caches, (c.args.table, (c.args.name, (c.args.op_token, (Some (record c.in-Some.first { now = c.pass_native-result.new.first }), (c.args.rest, (tt, (tt, (tt, (tt, (tt, (tt, (tt, (tt, (tt, (tt, (tt, (tt, (tt, (tt, (tt, (tt, (tt, (tt, tt))))))))))))))))))))))))))))).1.1.1.1.1.1.1.0
+    left_by (at_exit (ended_of 10 kinds answer) c.lifetimes given (lasts_p c.lifetimes 4 kinds types given (c.args.self, (tt, (c.args.global, (c.args._caches, (c.args.table, (c.args.name, (c.args.op_token, (Some (record c.in-Some.first { now = c.pass_native-result.new.first }), (c.args.rest, (tt, (tt, (tt, (tt, (tt, (tt, (tt, (tt, (tt, (tt, (tt, (tt, (tt, (tt, (tt, (tt, (tt, (tt, (tt, (tt, tt))))))))))))))))))))))))))))))).1.1.1.1.1.1.1.0
 
 first_is : (g : Over) (c : goal.After-global-1 g) → after g c c.args.first ≡ Some c.pass_native-result.new.first
 first_is g c = subst (λ place. after g c place ≡ Some c.pass_native-result.new.first) (sym c.in-Some.is) refl
@@ -41,7 +41,7 @@ returns-in-Some-clause-ends g c scope this =
     (native_in_place rules operation c.args.is_ref_mut c.args.rest.now (g.T.NativeTable.state c.args.table.now)
     (g.T.NativeTable.state c.pass_native-result.new.table) c.args.global.now c.pass_native-result.new.global scope this
     c.pass_native-result.result (was c.args.first) (after g c c.args.first) c.in-Some.first.now c.pass_native-result.new.first (ap was c.in-Some.is) (first_is g c)
-    (rw c.copied-token.ensures at
+    (rw (c.copied-token.ensures, c.limits.ensures) at
     (c.pass_native-result.ensures.runs (offer_of c.args.self.now) scope (with_place this (Some c.in-Some.first.now)) (Some FromFocus) refl)))
 
 pub returns-in-Some-clause-kept : goal.returns-in-Some-clause-kept
@@ -56,7 +56,7 @@ returns-in-Some-clause-kept g c scope this =
     (native_in_place rules operation c.args.is_ref_mut c.args.rest.now (g.T.NativeTable.state c.args.table.now)
     (g.T.NativeTable.state c.pass_native-result.new.table) c.args.global.now c.pass_native-result.new.global scope this
     c.pass_native-result.result (was c.args.first) (after g c c.args.first) c.in-Some.first.now c.pass_native-result.new.first (ap was c.in-Some.is) (first_is g c)
-    (rw c.copied-token.ensures at
+    (rw (c.copied-token.ensures, c.limits.ensures) at
     (c.pass_native-result.ensures.runs (offer_of c.args.self.now) scope (with_place this (Some c.in-Some.first.now)) (Some FromFocus) refl)))
 
 -- what stands in the place of the first argument as its loan ends, were this the place
@@ -66,7 +66,7 @@ after_none g c place =
     let answer = r g.row.H g.row.T g.H.laws g.T.laws g.H.Host-dict g.H.Destruct-dict g.T.NativeTable-dict in
     let types = xs g.row.H g.row.T g.H.laws g.T.laws g.H.Host-dict g.H.Destruct-dict g.T.NativeTable-dict in
     let given : Args (ended_of 10 kinds answer).signature c.lifetimes = (c.args.self, (c.args.alloc, (c.args.global, (c.args._caches, (c.args.table, (c.args.name, (c.args.op_token, (place, (c.args.rest, (c.args.is_ref_mut, (c.args.position, tt))))))))))) in
-    left_by (at_exit (ended_of 10 kinds answer) c.lifetimes given (lasts_p c.lifetimes 4 kinds types given (c.args.self, (tt, (c.args.global, (c.args._caches, (c.args.table, (c.args.name, (c.args.op_token, (place, (c.args.rest, (tt, (tt, (tt, (tt, (tt, (tt, (tt, (tt, (tt, (tt, (tt, (tt, (tt, (tt, (tt, (tt, (tt, (tt, tt))))))))))))))))))))))))))))).1.1.1.1.1.1.1.0
+    left_by (at_exit (ended_of 10 kinds answer) c.lifetimes given (lasts_p c.lifetimes 4 kinds types given (c.args.self, (tt, (c.args.global, (c.args._caches, (c.args.table, (c.args.name, (c.args.op_token, (place, (c.args.rest, (tt, (tt, (tt, (tt, (tt, (tt, (tt, (tt, (tt, (tt, (tt, (tt, (tt, (tt, (tt, (tt, (tt, (tt, (tt, (tt, tt))))))))))))))))))))))))))))))).1.1.1.1.1.1.1.0
 
 none_is : (g : Over) (c : goal.After-global-in-None-1 g) → after_none g c c.args.first ≡ None
 none_is g c = subst (λ place. after_none g c place ≡ None) (sym c.in-None.is) refl
@@ -83,7 +83,7 @@ returns-in-None-clause-ends g c scope this =
     (native_alone rules operation c.args.is_ref_mut c.args.rest.now (g.T.NativeTable.state c.args.table.now)
     (g.T.NativeTable.state c.pass_native_alone-result.new.table) c.args.global.now c.pass_native_alone-result.new.global scope this
     c.pass_native_alone-result.result (was c.args.first) (after_none g c c.args.first) (ap was c.in-None.is) (none_is g c)
-    (rw c.copied-token.ensures at (c.pass_native_alone-result.ensures.runs (offer_of c.args.self.now) scope (with_place this None))))
+    (rw (c.copied-token.ensures, c.limits.ensures) at (c.pass_native_alone-result.ensures.runs (offer_of c.args.self.now) scope (with_place this None))))
 
 pub returns-in-None-clause-kept : goal.returns-in-None-clause-kept
 returns-in-None-clause-kept g c scope this =
@@ -97,4 +97,4 @@ returns-in-None-clause-kept g c scope this =
     (native_alone rules operation c.args.is_ref_mut c.args.rest.now (g.T.NativeTable.state c.args.table.now)
     (g.T.NativeTable.state c.pass_native_alone-result.new.table) c.args.global.now c.pass_native_alone-result.new.global scope this
     c.pass_native_alone-result.result (was c.args.first) (after_none g c c.args.first) (ap was c.in-None.is) (none_is g c)
-    (rw c.copied-token.ensures at (c.pass_native_alone-result.ensures.runs (offer_of c.args.self.now) scope (with_place this None))))
+    (rw (c.copied-token.ensures, c.limits.ensures) at (c.pass_native_alone-result.ensures.runs (offer_of c.args.self.now) scope (with_place this None))))

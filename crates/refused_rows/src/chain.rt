@@ -1,28 +1,16 @@
-//! Runs `a[0][1] = 5` over an array of two arrays, and prints what the script gave and what the array has
-//! become. Nothing on the way to the item is copied and no list of indices grows, so the run itself takes no
-//! memory: with any request of the program refused, it ends either before the script runs, or as with all of
-//! them granted.
-#![tactic(auto)]
+//! `a[0][1] = 5` over an array of two arrays: a chain copies nothing that it goes through, so it asks for no
+//! memory, and wherever its run is reached it is done.
 
 use rhai_build::Builder;
 use rhai_build::expressions::int;
 use rhai_build::statements::assign;
 use rhai_eval::base::{AccessMode, Boxed, Dynamic, Items, Scope, Stmt, Union};
-use rhai_eval::check::{CheckedTree, check_tree};
+use rhai_eval::check::check_tree;
 use rhai_eval::engine::Engine;
 use rhai_eval::state::{Caches, GlobalRuntimeState};
 use rhai_tables::host::Pair;
 use rhai_tables::tables::NoNatives;
 use std::alloc::{AllocError, Global};
-use std::io;
-use std::process::ExitCode;
-
-fn main(rt: HostRuntime) -> io::Result<ExitCode> {
-    match check_tree(rt.alloc(), script(rt.alloc())?, Items::new(rt.alloc())) {
-        Ok(tree) => run(&rt, &tree),
-        Err(_) => Ok(ExitCode::FAILURE),
-    }
-}
 
 /// `a[0][1] = 5`
 fn script(alloc: Global) -> Result<Items<Stmt>, AllocError> {
@@ -61,24 +49,50 @@ fn variables(alloc: Global) -> Result<Scope<Pair>, AllocError> {
     Ok(scope)
 }
 
-/// Runs the script, and prints what it gave and what the array has become.
-fn run(rt: &HostRuntime, tree: &CheckedTree) -> io::Result<ExitCode> {
-    let alloc = rt.alloc();
-    let engine = Engine::new(alloc);
-    let mut global = GlobalRuntimeState::new(alloc)?;
-    let mut scope = variables(alloc)?;
-    let outcome = engine.eval_global_statements(
+/// Whether the script gives `()` and leaves `[[1, 5], [3, 4]]`. None where its run is not reached.
+pub fn is_assigned(alloc: Global) -> Option<bool> {
+    let statements = script(alloc).ok()?;
+    let tree = check_tree(alloc, statements, Items::new(alloc)).ok()?;
+    let mut global = GlobalRuntimeState::new(alloc).ok()?;
+    let mut scope = variables(alloc).ok()?;
+    let outcome = Engine::new(alloc).eval_global_statements(
         alloc,
         &mut global,
         &mut Caches::new(alloc),
         &mut NoNatives,
         &mut scope,
-        tree,
+        &tree,
         false,
     );
-    println!(rt; "{outcome:?}")?;
-    if let Some((_, value, _)) = scope.get(0) {
-        println!(rt; "{value:?}")?;
+    let is_unit = matches!(outcome.as_ref().map(|value| &value.value), Ok(Union::Unit));
+    drop(outcome);
+    let (_, value, _) = scope.get(0)?;
+    Some(is_unit && is_changed(value))
+}
+
+/// Whether a value is `[[1, 5], [3, 4]]`.
+fn is_changed(value: &Dynamic<Pair>) -> bool {
+    match items_of(value) {
+        Some([first, second]) => is_pair(first, 1, 5) && is_pair(second, 3, 4),
+        _ => false,
     }
-    Ok(ExitCode::SUCCESS)
+}
+
+fn items_of(value: &Dynamic<Pair>) -> Option<&[Dynamic<Pair>]> {
+    match &value.value {
+        Union::Array(items) => Some(items.get().as_slice()),
+        _ => None,
+    }
+}
+
+/// Whether a value is an array of these two integers.
+fn is_pair(value: &Dynamic<Pair>, first: i64, second: i64) -> bool {
+    match items_of(value) {
+        Some([one, other]) => is_integer(one, first) && is_integer(other, second),
+        _ => false,
+    }
+}
+
+fn is_integer(value: &Dynamic<Pair>, number: i64) -> bool {
+    matches!(&value.value, Union::Int(n) if *n == number)
 }

@@ -1,0 +1,33 @@
+//! The smallest host: `40 + 2`, checked, and run under two limits.
+#![tactic(auto)]
+
+use rhai::{
+    Builder, Caches, Engine, GlobalRuntimeState, Items, Natives, NoHost, NoNatives, Scope, Stmt,
+    Token, check_tree, int,
+};
+
+fn main(rt: HostRuntime) -> anyhow::Result<()> {
+    let alloc = rt.alloc();
+    let mut builder = Builder::new(alloc);
+    let sum = builder.operator(Token::Plus, "+", 4, [int(40, 1), int(2, 6)]);
+    let statements = builder.finish([Stmt::Expr(sum)])?;
+    let tree = check_tree(alloc, statements, Items::new(alloc))?;
+    let mut engine: Engine<NoHost> = Engine::new(alloc);
+    for limit in [3, 100] {
+        engine.max_operations = limit;
+        let outcome = engine.eval_global_statements(
+            alloc,
+            &mut GlobalRuntimeState::new(alloc)?,
+            &mut Caches::new(alloc),
+            &mut Natives::new(alloc, NoNatives),
+            &mut Scope::new(alloc),
+            &tree,
+            false,
+        );
+        match outcome {
+            Ok(value) => println!(&rt; "{value}")?,
+            Err(error) => println!(&rt; "{error}")?,
+        }
+    }
+    Ok(())
+}

@@ -1,0 +1,188 @@
+//! Runs each script of the worked rows in each way, first with all memory granted, and then with the first, the
+//! second, the third .. request for memory refused, alone and with all after it, until none is left to refuse,
+//! and sees to what holds after each run. Prints what does not, and how many runs there were. Refusing wants
+//! something outside of the program; without it each script runs once in each way.
+#![tactic(auto)]
+
+mod chain;
+mod part;
+mod refuser;
+
+use crate::part::{LISTS, Part, Report, scripts_of};
+use crate::refuser::Refusal;
+use rhai_bench::settings::Way;
+use std::alloc::Global;
+use std::io;
+use std::io::Write;
+use std::process::ExitCode;
+
+/// How many parts, runs, refusals and faults there were.
+#[derive(Clone, Copy, Default)]
+struct Tally {
+    parts: u64,
+    runs: u64,
+    refused: u64,
+    /// Runs that were not reached, since what they need could not be made.
+    not_made: u64,
+    /// Runs that came to want of memory.
+    wanting: u64,
+    /// Runs that came to what they come to with all memory granted.
+    unharmed: u64,
+    wrong: u64,
+}
+
+fn main(rt: HostRuntime) -> io::Result<ExitCode> {
+    let alloc = rt.alloc();
+    let mut out = io::writer(&rt);
+    let mut tally = Tally::default();
+    for list in 1..=LISTS {
+        run_list(alloc, list, &mut tally, &mut out)?;
+    }
+    for refusal in Refusal::BOTH {
+        run_chain(alloc, refusal, &mut tally, &mut out)?;
+    }
+    tally.write(&mut out)?;
+    Ok(ExitCode::from(u8::from(tally.wrong > 0)))
+}
+
+impl Tally {
+    fn write<W: Write>(&self, out: &mut W) -> io::Result<()> {
+        writeln!(
+            out,
+            "{} parts, {} runs, {} requests refused",
+            self.parts, self.runs, self.refused
+        )?;
+        writeln!(
+            out,
+            "{} not reached, {} out of memory, {} unharmed, {} wrong",
+            self.not_made, self.wanting, self.unharmed, self.wrong
+        )
+    }
+}
+
+/// The scripts of a list, each in each way, their requests refused in turn.
+fn run_list<W: Write>(alloc: Global, list: u32, tally: &mut Tally, out: &mut W) -> io::Result<()> {
+    let count = match scripts_of(alloc, list)? {
+        Some(scripts) => scripts.len(),
+        None => 0,
+    };
+    for place in 0..count {
+        tally.parts = tally.parts.saturating_add(1);
+        for way in Way::ALL {
+            let part = Part { list, place, way };
+            for refusal in Refusal::BOTH {
+                run_part(alloc, part, refusal, tally, out)?;
+            }
+        }
+    }
+    Ok(())
+}
+
+fn run_part<W: Write>(
+    alloc: Global,
+    part: Part,
+    refusal: Refusal,
+    tally: &mut Tally,
+    out: &mut W,
+) -> io::Result<()> {
+    let Some(own) = part.run(alloc)? else {
+        return Ok(());
+    };
+    tally.runs = tally.runs.saturating_add(1);
+    for number in 1..=refuser::GREATEST {
+        if !refuser::begin(alloc, refusal, number) {
+            break;
+        }
+        let report = part.run(alloc)?;
+        let was_refused = refuser::end(alloc);
+        tally.runs = tally.runs.saturating_add(1);
+        let wrong = judge(&own, report.as_ref(), was_refused, tally);
+        drop(report);
+        let wrong = wrong.or_else(|| leaked(alloc));
+        if let Some(what) = wrong {
+            tally.wrong = tally.wrong.saturating_add(1);
+            let Part { list, place, way } = part;
+            writeln!(
+                &mut *out,
+                "{list} part {place} {way:?} {refusal:?} {number}: {what}"
+            )?;
+        }
+        if !was_refused {
+            break;
+        }
+        tally.refused = tally.refused.saturating_add(1);
+    }
+    Ok(())
+}
+
+fn leaked(alloc: Global) -> Option<&'static str> {
+    if refuser::is_all_given_back(alloc) {
+        None
+    } else {
+        Some("memory was kept")
+    }
+}
+
+/// What is wrong with a run, beside the one with all memory granted.
+fn judge(
+    own: &Report,
+    report: Option<&Report>,
+    was_refused: bool,
+    tally: &mut Tally,
+) -> Option<&'static str> {
+    let Some(report) = report else {
+        tally.not_made = tally.not_made.saturating_add(1);
+        return unless(was_refused, "not reached, though nothing was refused");
+    };
+    if report.wrong.is_some() {
+        report.wrong
+    } else if !own.names.as_slice().starts_with(report.names.as_slice()) {
+        Some("other variables are left")
+    } else if report.wants_memory {
+        tally.wanting = tally.wanting.saturating_add(1);
+        unless(was_refused, "out of memory, though nothing was refused")
+    } else {
+        tally.unharmed = tally.unharmed.saturating_add(1);
+        unless(is_same(own, report), "another outcome")
+    }
+}
+
+fn unless(holds: bool, what: &'static str) -> Option<&'static str> {
+    if holds { None } else { Some(what) }
+}
+
+fn is_same(own: &Report, report: &Report) -> bool {
+    report.line.as_slice() == own.line.as_slice()
+        && report.num_operations == own.num_operations
+        && report.counter == own.counter
+        && report.names.as_slice() == own.names.as_slice()
+}
+
+/// The assignment through a chain, its requests refused in turn: wherever it is reached it is done.
+fn run_chain<W: Write>(
+    alloc: Global,
+    refusal: Refusal,
+    tally: &mut Tally,
+    out: &mut W,
+) -> io::Result<()> {
+    for number in 1..=refuser::GREATEST {
+        let is_heard = refuser::begin(alloc, refusal, number);
+        let assigned = chain::is_assigned(alloc);
+        let was_refused = refuser::end(alloc);
+        tally.runs = tally.runs.saturating_add(1);
+        let (count, is_right) = match assigned {
+            Some(is_done) => (&mut tally.unharmed, is_done),
+            None => (&mut tally.not_made, was_refused),
+        };
+        *count = count.saturating_add(1);
+        if !is_right {
+            tally.wrong = tally.wrong.saturating_add(1);
+            writeln!(&mut *out, "a[0][1] = 5 {refusal:?} {number}: {assigned:?}")?;
+        }
+        if !is_heard || !was_refused {
+            break;
+        }
+        tally.refused = tally.refused.saturating_add(1);
+    }
+    Ok(())
+}

@@ -1,0 +1,256 @@
+//! A script of a list, made, checked and run in a way, and what holds after its run.
+
+use crate::refuser;
+use rhai_bench::outcome::Ending;
+use rhai_bench::print::write_ending;
+use rhai_bench::rows::chains::left_in_place;
+use rhai_bench::rows::functions::{fibonacci_number, in_no_row};
+use rhai_bench::rows::order::evaluated_in_order;
+use rhai_bench::rows::scripts;
+use rhai_bench::script::{Script, add_library};
+use rhai_bench::settings::{Settings, Way};
+use rhai_build::Builder;
+use rhai_build::expressions::int;
+use rhai_eval::base::{CellId, Dynamic, EvalAltResult, Items, Scope, Stmt, Union};
+use rhai_eval::cells::CellStore;
+use rhai_eval::check::{CheckFault, CheckedTree, check_tree};
+use rhai_eval::engine::Engine;
+use rhai_eval::state::{Caches, GlobalRuntimeState};
+use rhai_eval::table::NativeTable;
+use rhai_natives::Natives;
+use rhai_samples::operators::sum;
+use rhai_tables::host::Pair;
+use rhai_tables::tables::counting::Counting;
+use std::alloc::{AllocError, Global};
+use std::io;
+use std::io::Write;
+
+/// The lists of scripts that are run: the rows up to 46, and from 47 on those that no row has.
+pub const LISTS: u32 = 50;
+
+/// A script by its list and its place there, and a way to run it.
+#[derive(Clone, Copy, Debug)]
+pub struct Part {
+    pub list: u32,
+    pub place: usize,
+    pub way: Way,
+}
+
+/// What a run came to.
+#[derive(Drop)]
+pub struct Report {
+    /// The line of its ending.
+    pub line: Vec<u8>,
+    pub num_operations: u64,
+    /// What the natives have counted.
+    pub counter: i64,
+    /// The names of the variables that it left, one a line.
+    pub names: Vec<u8>,
+    pub wants_memory: bool,
+    /// What should hold after a run, and does not.
+    pub wrong: Option<&'static str>,
+}
+
+/// The scripts of a list, None where there is none. The function of row 3 calls itself less often than the bench's.
+pub fn scripts_of(alloc: Global, list: u32) -> Result<Option<Items<Script>>, AllocError> {
+    let made = match list {
+        3 => only(alloc, fibonacci_number(alloc, 6)),
+        47 => in_no_row(alloc),
+        48 => evaluated_in_order(alloc),
+        49 => left_in_place(alloc),
+        50 => only(alloc, variable_of_a_block(alloc)),
+        _ => {
+            let row = format!(in alloc; "{list}")?;
+            return scripts(alloc, row.as_str());
+        }
+    };
+    made.map(Some)
+}
+
+fn only(alloc: Global, script: Result<Script, AllocError>) -> Result<Items<Script>, AllocError> {
+    let mut list = Items::new(alloc);
+    list.push(script?)?;
+    Ok(list)
+}
+
+/// `{ let x = 1; let y = [x, 2]; }`, which asks for memory where its block has a variable.
+fn variable_of_a_block(alloc: Global) -> Result<Script, AllocError> {
+    let mut tree = Builder::new(alloc);
+    let first = tree.let_stmt("x", 7, int(1, 11), 3);
+    let x = tree.variable("x", 1, 23);
+    let array = tree.array(22, [x, int(2, 26)]);
+    let second = tree.let_stmt("y", 18, array, 14);
+    let block = Stmt::Block(tree.block([first, second], 1, 30));
+    Ok(Script::new(alloc, tree.finish([block])?))
+}
+
+impl Part {
+    /// Makes the script and runs it. None where the script or the state of its run could not be made.
+    pub fn run(self, alloc: Global) -> io::Result<Option<Report>> {
+        let (Some(script), Ok(global)) = (self.script(alloc), GlobalRuntimeState::new(alloc)) else {
+            return Ok(None);
+        };
+        let mut run = Run {
+            global,
+            caches: self.way.caches(alloc),
+            table: Counting::table(alloc),
+            scope: Scope::new(alloc),
+        };
+        run.global.always_search_scope = self.way.always_search_scope;
+        run.report(alloc, script)
+    }
+
+    fn script(self, alloc: Global) -> Option<Script> {
+        let scripts = scripts_of(alloc, self.list).ok()??;
+        scripts.into_vec().into_iter().nth(self.place)
+    }
+}
+
+/// What a host keeps between runs.
+#[derive(Drop)]
+struct Run {
+    global: GlobalRuntimeState<Pair>,
+    caches: Caches<Pair>,
+    table: Natives<Counting>,
+    scope: Scope<Pair>,
+}
+
+impl Run {
+    /// Checks and runs a script, sees to what holds then, and runs another over what is left. None where the
+    /// library of its functions could not be made.
+    fn report(mut self, alloc: Global, script: Script) -> io::Result<Option<Report>> {
+        let settings = script.settings;
+        let (ending, is_restored) = match check_tree(alloc, script.statements, script.functions) {
+            Err(fault) => (Ending::Refused(fault), true),
+            Ok(tree) => {
+                if add_library(alloc, &mut self.global, &tree).is_err() {
+                    return Ok(None);
+                }
+                self.run_tree(alloc, settings, &tree)
+            }
+        };
+        // What is asked for from here on is granted.
+        refuser::end(alloc);
+        let mut line = Vec::new(alloc);
+        write_ending(&mut line, &ending)?;
+        let wants_memory = is_want_of_memory(&ending);
+        drop(ending);
+        let num_operations = self.global.num_operations;
+        let counter = self.table.natives.counter;
+        let names = names_of(alloc, &self.scope)?;
+        let wrong = if is_restored {
+            self.fault(alloc, settings)
+        } else {
+            Some("libraries, imports or levels are not what they were")
+        };
+        Ok(Some(Report {
+            line,
+            num_operations,
+            counter,
+            names,
+            wants_memory,
+            wrong,
+        }))
+    }
+
+    /// How a tree ends, and whether what a run takes back is as it was.
+    fn run_tree(
+        &mut self,
+        alloc: Global,
+        settings: Settings,
+        tree: &CheckedTree,
+    ) -> (Ending, bool) {
+        let before = Levels::of(&self.global);
+        let engine: Engine<Pair> = settings.engine(alloc);
+        let outcome = engine.eval_global_statements(
+            alloc,
+            &mut self.global,
+            &mut self.caches,
+            &mut self.table,
+            &mut self.scope,
+            tree,
+            settings.map_exit_to_return_value,
+        );
+        let is_restored = before == Levels::of(&self.global);
+        match outcome {
+            Ok(value) => (Ending::Value(value), is_restored),
+            Err(error) => (Ending::Error(error), is_restored),
+        }
+    }
+
+    /// What does not hold after a run.
+    fn fault(&mut self, alloc: Global, settings: Settings) -> Option<&'static str> {
+        let limit = settings.limits.max_operations;
+        if limit > 0 && self.global.num_operations > limit {
+            Some("the count is past its limit")
+        } else if self.scope.len() > settings.limits.max_variables {
+            Some("there are more variables than may be")
+        } else if is_any_held(&self.global.cells) {
+            Some("a cell is held")
+        } else if self.sum(alloc) != Some(42) {
+            Some("40 + 2 is not 42 any more")
+        } else {
+            None
+        }
+    }
+
+    /// What `40 + 2` comes to over what the run left.
+    fn sum(&mut self, alloc: Global) -> Option<i64> {
+        let tree = check_tree(alloc, sum(alloc).ok()?, Items::new(alloc)).ok()?;
+        self.global.num_operations = 0;
+        match self.run_tree(alloc, Settings::USUAL, &tree).0 {
+            Ending::Value(value) => integer_in(&value),
+            _ => None,
+        }
+    }
+}
+
+/// The names of a scope's variables, one a line.
+fn names_of(alloc: Global, scope: &Scope<Pair>) -> io::Result<Vec<u8>> {
+    let mut names = Vec::new(alloc);
+    for entry in scope.entries() {
+        writeln!(&mut names, "{}", entry.name.get().as_str())?;
+    }
+    Ok(names)
+}
+
+/// What a run takes back on every way out.
+#[derive(Clone, Copy, Debug, PartialEq, Eq)]
+struct Levels {
+    libraries: usize,
+    imports: usize,
+    level: usize,
+    scope_level: usize,
+    constants: usize,
+}
+
+impl Levels {
+    fn of(global: &GlobalRuntimeState<Pair>) -> Levels {
+        Levels {
+            libraries: global.lib.len(),
+            imports: global.imports.len(),
+            level: global.level,
+            scope_level: global.scope_level,
+            constants: global.constants,
+        }
+    }
+}
+
+fn is_want_of_memory(ending: &Ending) -> bool {
+    match ending {
+        Ending::Value(_) => false,
+        Ending::Error(error) => matches!(error, EvalAltResult::ErrorOutOfMemory(_)),
+        Ending::Refused(fault) => matches!(fault, CheckFault::NoMemory),
+    }
+}
+
+fn is_any_held(cells: &CellStore<Pair>) -> bool {
+    (0..cells.len()).any(|number| cells.get(CellId { number }).is_none())
+}
+
+fn integer_in(value: &Dynamic<Pair>) -> Option<i64> {
+    match &value.value {
+        Union::Int(number) => Some(*number),
+        _ => None,
+    }
+}

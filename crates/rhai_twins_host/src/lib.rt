@@ -1,0 +1,40 @@
+//! The contracts of the calls that the crate for hosts has of its own, each determined. Nothing here is run: a
+//! function calls what its law is of twice, from equal starts, and its contract says that both calls
+//! end equally, want of memory aside.
+#![tactic(auto)]
+
+ghost use Rattle.std.specs.Prelude.{◌≡◌, is_ok};
+ghost use Rattle.std.specs.Option.{option_map};
+
+use rhai::{CheckedFn, CheckedTree, Module, Shared};
+use std::alloc::{AllocError, Global};
+
+/// Of `library_of`.
+pub fn library_of<H: Drop>(
+    alloc: Global,
+    one: &CheckedTree,
+    other: &CheckedTree,
+) -> (Result<Module<H>, AllocError>, Result<Module<H>, AllocError>)
+    requires { one.now ≡ other.now }
+    ensures { is_ok result.0 ≡ is_ok result.1 → result.0 ≡ result.1 }
+{
+    (rhai::library_of(alloc, one), rhai::library_of(alloc, other))
+}
+
+/// Of `function_of`.
+pub fn function_of<'t>(
+    one: &'t CheckedTree,
+    other: &'t CheckedTree,
+    name: &str,
+    also_name: &str,
+    count: usize,
+) -> (Option<&'t Shared<CheckedFn>>, Option<&'t Shared<CheckedFn>>)
+    requires trees { one.now ≡ other.now }
+    requires names { name.now ≡ also_name.now }
+    ensures { option_map (λ function. function.now) result.0 ≡ option_map (λ function. function.now) result.1 }
+{
+    (
+        rhai::function_of(one, name, count),
+        rhai::function_of(other, also_name, count),
+    )
+}
