@@ -1,11 +1,12 @@
-//! Values of a host that has none of its own.
+//! A value of a host that has none of its own.
 
 use rhai_eval::base::Host;
 use std::alloc::{AllocError, Global};
 
-/// The values of a host that has none: there is no such value.
+/// What a host names that has no values of its own: one that scripts never see, unless the host hands it
+/// in.
 #[derive(Clone, Copy, Debug, PartialEq, Eq)]
-pub enum NoHost {}
+pub struct NoHost;
 
 impl Host for NoHost {
     ghost use Rattle.std.specs.Prelude.{codes};
@@ -13,10 +14,10 @@ impl Host for NoHost {
     ghost name_of = { λ value. codes "NoHost" };
 
     fn try_clone(&self, _alloc: Global) -> Result<NoHost, AllocError> {
-        match *self {}
+        Ok(NoHost)
     }
 
     fn type_name(&self) -> &str {
-        match *self {}
+        "NoHost"
     }
 }

@@ -4,9 +4,9 @@ use rhai_eval::base::Host;
 use rhai_natives::{Arguments, Listed, ListedNatives, Response};
 use std::alloc::Global;
 
-/// A native of the empty list: there is none.
+/// What stands for a native of the empty list, which has none.
 #[derive(Clone, Copy, Debug, PartialEq, Eq)]
-pub enum NoNative {}
+pub struct NoNative;
 
 /// The list without natives, for any host: `Natives::new(alloc, NoNatives)` is a table of it.
 #[derive(Clone, Copy, Debug, PartialEq, Eq)]
@@ -32,9 +32,9 @@ impl<H: Host> ListedNatives<H> for NoNatives {
     fn call(
         &mut self,
         _alloc: Global,
-        native: NoNative,
+        _native: NoNative,
         _arguments: &Arguments<'_, H>,
     ) -> Option<Response<H>> {
-        match native {}
+        None
     }
 }
