@@ -12,8 +12,8 @@ fn main(rt: HostRuntime) -> anyhow::Result<()> {
     let sum = builder.operator(Token::Plus, "+", 4, [int(40, 1), int(2, 6)]);
     let statements = builder.finish([Stmt::Expr(sum)])?;
     let tree = check_tree(alloc, statements, Items::new(alloc))?;
-    let mut engine: Engine<NoHost> = Engine::new(alloc);
     for limit in [3, 100] {
+        let mut engine: Engine<NoHost> = Engine::new(alloc);
         engine.max_operations = limit;
         let outcome = engine.eval_global_statements(
             alloc,
