@@ -158,6 +158,20 @@ fn is_same(own: &Report, report: &Report) -> bool {
         && report.names.as_slice() == own.names.as_slice()
 }
 
+/// Whether the assignment is done, or was not reached since a request was refused.
+fn is_right(assigned: Option<bool>, was_refused: bool, tally: &mut Tally) -> bool {
+    match assigned {
+        Some(is_done) => {
+            tally.unharmed = tally.unharmed.saturating_add(1);
+            is_done
+        }
+        None => {
+            tally.not_made = tally.not_made.saturating_add(1);
+            was_refused
+        }
+    }
+}
+
 /// The assignment through a chain, its requests refused in turn: wherever it is reached it is done.
 fn run_chain<W: Write>(
     alloc: Global,
@@ -170,12 +184,7 @@ fn run_chain<W: Write>(
         let assigned = chain::is_assigned(alloc);
         let was_refused = refuser::end(alloc);
         tally.runs = tally.runs.saturating_add(1);
-        let (count, is_right) = match assigned {
-            Some(is_done) => (&mut tally.unharmed, is_done),
-            None => (&mut tally.not_made, was_refused),
-        };
-        *count = count.saturating_add(1);
-        if !is_right {
+        if !is_right(assigned, was_refused, tally) {
             tally.wrong = tally.wrong.saturating_add(1);
             writeln!(&mut *out, "a[0][1] = 5 {refusal:?} {number}: {assigned:?}")?;
         }
