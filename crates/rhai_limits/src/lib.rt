@@ -1,4 +1,5 @@
-//! What becomes of the errors of limits. It stands beside the machine, of which it is a law; nothing here is run.
+//! What becomes of the errors of limits. It stands beside the machine, of which it is a law; nothing here
+//! is run.
 #![tactic(auto)]
 
 ghost use Rattle.rhai_machine.specs.language.Setting.{Setting, over};

@@ -1,6 +1,6 @@
-//! The contracts of the calls that the crate for hosts has of its own, each determined. Nothing here is run: a
-//! function calls what its law is of twice, from equal starts, and its contract says that both calls
-//! end equally, want of memory aside.
+//! The contracts of the calls that the crate for hosts has of its own, each determined. Nothing here is
+//! run: a function calls what its law is of twice, from equal starts, and its contract says that both
+//! calls end equally, want of memory aside.
 #![tactic(auto)]
 
 ghost use Rattle.std.specs.Prelude.{◌≡◌, is_ok};
@@ -31,7 +31,7 @@ pub fn function_of<'t>(
 ) -> (Option<&'t Shared<CheckedFn>>, Option<&'t Shared<CheckedFn>>)
     requires trees { one.now ≡ other.now }
     requires names { name.now ≡ also_name.now }
-    ensures { option_map (λ function. function.now) result.0 ≡ option_map (λ function. function.now) result.1 }
+    ensures { option_map (λ found. found.now) result.0 ≡ option_map (λ found. found.now) result.1 }
 {
     (
         rhai::function_of(one, name, count),
