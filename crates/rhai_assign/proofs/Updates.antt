@@ -102,7 +102,7 @@ module _ {S H : Type 0} (rules : Rules S H) where
       (answer : Option (Reply H)) (outcome result : Result (Dynamic H) (EvalAltResult H)) →
       Asked rules (update_of update AsValue place v operand) start answer w (placed place w s) →
       IfSome answer (λ reply. Answers outcome (replied rules.setting.limits rules.setting.host_type reply (Some w) (operand ∷ [])
-      (operation_at (native_of AsValue update.token) update.token update.at) (put place w s.local).around.cells)) →
+      (operation_at (native_of AsValue update.token) update.token update.at) false (put place w s.local).around.cells)) →
       (HasMemory outcome → is_some answer ≡ true) → IfOk outcome (λ x. later ≡ x) →
       IfOk outcome (λ x. Answers result (finished (sized rules.setting.limits x update.target_at))) →
       IfErr outcome (λ e. result ≡ Err e) → IfErr outcome (λ _. later ≡ w) →

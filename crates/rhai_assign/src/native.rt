@@ -1,6 +1,6 @@
 //! The natives of an update: their names, the call on the target, and what an answer comes to.
 
-ghost use Rattle.std.specs.Prelude.{◌≡◌, ◌∷◌, [], Some, true, is_some, IfSome, IfOk, IfErr};
+ghost use Rattle.std.specs.Prelude.{◌≡◌, ◌∷◌, [], Some, true, is_some, IfSome, IfOk, IfErr, false};
 ghost use Rattle.rhai_values.specs.Cells.{IsNoHandle, cells_of};
 ghost use Rattle.rhai_state.specs.Native.{Named, Obeys, reply_of, request};
 ghost use Rattle.rhai_machine.specs.language.Setting.{rules_of};
@@ -151,7 +151,7 @@ pub(crate) fn outcome_of<H: Host>(
     ensures target { target.new ≡ target.old }
     ensures told { IfSome (reply_of answer) (λ reply. Answers result
         (replied_at limits.now H.name_of reply (Some target.old) rest.now
-        (record { name = name.now; token = Some update.token; at = update.at })
+        (record { name = name.now; token = Some update.token; at = update.at }) false
         (cells_seen update.cell target.old (cells_of cells.old)))) }
     ensures memory { HasMemory result → is_some (reply_of answer) ≡ true }
 {
@@ -159,13 +159,13 @@ pub(crate) fn outcome_of<H: Host>(
     let token = Some(update.token);
     let Some(id) = update.cell else {
         return replied(
-            alloc, limits, cells, answer, name, token, target, rest, update.at,
+            alloc, limits, cells, answer, name, false, token, target, rest, update.at,
         );
     };
     cells.set(id, replace(target, unit_value()));
     let back = cells.get(id).unwrap();
     let outcome = replied(
-        alloc, limits, cells, answer, name, token, back, rest, update.at,
+        alloc, limits, cells, answer, name, false, token, back, rest, update.at,
     );
     let_go(replace(target, cells.take(id).unwrap()));
     outcome

@@ -16,7 +16,7 @@ use Rattle.rhai_machine.specs.language.State.{State, Local}
 use Rattle.rhai_machine.specs.language.Values.{bool_value, through}
 use Rattle.rhai_machine.specs.language.Frames.{Operation, Dispatch, Call, Frame, Core, core, ended, marked, Ask, Back, Fail}
 use Rattle.rhai_machine.specs.language.Calls.{asks_function, call_of, called_core, called_function, dispatch_core, found_core}
-use Rattle.rhai_machine.specs.language.Calls.{knows_asked, knows_function, named_core, names_function, plainly, races}
+use Rattle.rhai_machine.specs.language.Calls.{knows_asked, knows_function, named_core, names_function, plainly, call_races}
 use Rattle.rhai_machine.specs.language.Runs.{at, with_core, Goes, Steps}
 use Rattle.rhai_steps.proofs.Operating.{dispatch_wants}
 use Rattle.rhai_steps.proofs.Pieces.{faulted, told}
@@ -125,10 +125,10 @@ module _ {H : Type 0} where
     abbrev race : Core H
     race = core (Fail (error.ErrorDataRace call.operation.name call.operation.at)) k l
 
-    dispatch_races : races l.around.cells call.args ≡ true → dispatch_core s how call k l ≡ race
+    dispatch_races : call_races how.of_method l.around.cells call.args ≡ true → dispatch_core s how call k l ≡ race
     dispatch_races is = ap (λ (b : Bool). if b then race else named_core s how call.args call k l) is
 
-    dispatch_is : races l.around.cells call.args ≡ false →
+    dispatch_is : call_races how.of_method l.around.cells call.args ≡ false →
         dispatch_core s how call k l
         ≡ leads_to k l (meant s.offer l.around call.operation s.host_type call.args) (called_core s how call k l)
     dispatch_is is =
@@ -142,7 +142,7 @@ module _ {S H : Type 0} (rules : Rules S H) (how : Dispatch) (call : Call H) (s 
       wanting {at = at} (rw (dispatch_wants rules.setting how call k s.local at) here)
 
   -- an argument's cell is held
-  dispatch_held : races s.local.around.cells call.args ≡ true → (e : EvalAltResult H) →
+  dispatch_held : call_races how.of_method s.local.around.cells call.args ≡ true → (e : EvalAltResult H) →
       (is_out_of_memory e ≡ false → e ≡ error.ErrorDataRace call.operation.name call.operation.at) →
       Dispatches rules how call s (Ended (Err e)) s
   unfolding Dispatches
@@ -160,7 +160,7 @@ module _ {S H : Type 0} (rules : Rules S H) (how : Dispatch) (call : Call H) (s 
   means_one (Some x) r means c k = told rules r x means k s
 
   -- the name means no function
-  dispatch_means : races s.local.around.cells call.args ≡ false → (r : Result (Dynamic H) (EvalAltResult H)) →
+  dispatch_means : call_races how.of_method s.local.around.cells call.args ≡ false → (r : Result (Dynamic H) (EvalAltResult H)) →
       (q : Result (Dynamic H × Bool) (EvalAltResult H)) → q ≡ with_mark false r →
       Means (Some r) (meant rules.setting.offer s.local.around call.operation rules.setting.host_type call.args) →
       Dispatches rules how call s (Ended q) s
@@ -176,7 +176,7 @@ module _ {S H : Type 0} (rules : Rules S H) (seeks : Seeks) (on_scope : Bool) (c
   wanted = script_function rules.setting.offer s.local.around rules.setting.host_type seeks call.operation.name call.args
 
   -- a call that fails, or that has no memory
-  pub resolved_fails : (e : EvalAltResult H) → (is_out_of_memory e ≡ false → (races s.local.around.cells call.args ≡ true)
+  pub resolved_fails : (e : EvalAltResult H) → (is_out_of_memory e ≡ false → (call_races seeks.of_method s.local.around.cells call.args ≡ true)
       × (e ≡ error.ErrorDataRace call.operation.name call.operation.at)) → Dispatches rules (how_of seeks on_scope) call s (Ended (Err e)) s
   unfolding Dispatches
   resolved_fails (error.ErrorOutOfMemory at) h k = wanting {at = at}
@@ -185,7 +185,7 @@ module _ {S H : Type 0} (rules : Rules S H) (seeks : Seeks) (on_scope : Bool) (c
 
   -- one whose name means no function
   pub resolved_means : (r : Result (Dynamic H) (EvalAltResult H)) (q : Result (Dynamic H × Bool) (EvalAltResult H)) →
-      q ≡ with_mark false r → (races s.local.around.cells call.args ≡ false) × Means (Some r) meaning →
+      q ≡ with_mark false r → (call_races seeks.of_method s.local.around.cells call.args ≡ false) × Means (Some r) meaning →
       Dispatches rules (how_of seeks on_scope) call s (Ended q) s
   resolved_means r q is h = dispatch_means rules (how_of seeks on_scope) call s h.0 r q is h.1
 
@@ -194,7 +194,7 @@ module _ {S H : Type 0} (rules : Rules S H) (seeks : Seeks) (on_scope : Bool) (c
   means_none (Some x) means = absurd means
 
   -- one that is a function's leads to where that is found, or is not
-  looked_for : (found : Option (Function H)) → races s.local.around.cells call.args ≡ false → Means None meaning → found ≡ wanted →
+  looked_for : (found : Option (Function H)) → call_races seeks.of_method s.local.around.cells call.args ≡ false → Means None meaning → found ≡ wanted →
       (k : List (Frame H)) → dispatch_core rules.setting (how_of seeks on_scope) call k s.local
       ≡ found_core rules.setting found (how_of seeks on_scope) call k s.local
   looked_for found free means is k =
@@ -204,12 +204,12 @@ module _ {S H : Type 0} (rules : Rules S H) (seeks : Seeks) (on_scope : Bool) (c
       (sym (is ∙ function_is rules.setting seeks on_scope call s.local))
 
   pub resolved_found : (f : Function H) →
-      (races s.local.around.cells call.args ≡ false) × Means None meaning × (Some f ≡ wanted) →
+      (call_races seeks.of_method s.local.around.cells call.args ≡ false) × Means None meaning × (Some f ≡ wanted) →
       Dispatches rules (how_of seeks on_scope) call s (Found f) s
   unfolding Dispatches
   resolved_found f h k = rw (looked_for (Some f) h.0 h.1 h.2 k) here
 
-  pub resolved_asks : (races s.local.around.cells call.args ≡ false) × Means None meaning × (None ≡ wanted) →
+  pub resolved_asks : (call_races seeks.of_method s.local.around.cells call.args ≡ false) × Means None meaning × (None ≡ wanted) →
       (r : Result (Dynamic H × Bool) (EvalAltResult H)) (new : State S H) → MarkedRuns rules (Ask call) s r new →
       Dispatches rules (how_of seeks on_scope) call s (Ended r) new
   unfolding Dispatches Steps

@@ -1,10 +1,11 @@
 -- A first argument that is lent, and what it is lent from.
 use Rattle.std.proofs.Common.{◌≡◌, ℕ, zero, suc, ◌<◌, Bool, true, false, not, List, [], ◌∷◌, length, slice_get, slice_set, Option, Some, None}
-use Rattle.std.proofs.Common.{Ok, Err, refl, sym, ap, ◌∙◌}
+use Rattle.std.proofs.Common.{Ok, Err, arith, is_some, refl, subst, sym, ap, ◌∙◌}
 use Rattle.std.proofs.lemmas.List.{set-set}
 use Rattle.std.proofs.lemmas.Option.{slice_get_within}
 use Rattle.std.proofs.Math.Seq.{lt-length-set}
 use Rattle.std.specs.Option.{option_flatten, option_map}
+use Rattle.rhai_tree.specs.declared.literal.NativeId.{NativeId}
 use Rattle.rhai_values.specs.declared.base.value.CellId.{CellId}
 use Rattle.rhai_values.specs.declared.base.value.Dynamic.{Dynamic}
 use Rattle.rhai_values.specs.declared.base.value.Union.{Union}
@@ -20,7 +21,7 @@ use Rattle.rhai_machine.specs.language.Places.{Place, InEntry, InCell, InThis, I
 use Rattle.rhai_machine.specs.language.Frames.{Operation, Lender, FromEntry, FromThis, FromFocus}
 use Rattle.rhai_machine.specs.language.Calls.{first_in, in_cell, lendable, place_of, put_left, while_from}
 use Rattle.rhai_calls.specs.Lending.{back_in, Stands}
-use Rattle.rhai_calls.specs.Natives.{cell_in, lends_from, StandsAt}
+use Rattle.rhai_calls.specs.Natives.{cell_in, lends_from, number_in, StandsAt}
 
 -- ---- what is written over itself stays
 
@@ -29,6 +30,11 @@ set_same [] i x is = cc
 set_same (z ∷ xs) zero x is = let same : x ≡ z = cc in ap (λ y. y ∷ xs) same
 set_same (z ∷ xs) (suc i) x is = ap (λ ys. z ∷ ys) (set_same xs i x is)
 
+get_set : {A : Type 0} (xs : List A) (i : ℕ) (y : A) → i < length xs → slice_get (slice_set xs i y) i ≡ Some y
+get_set [] i y within = absurd (omega (arith, within))
+get_set (z ∷ xs) zero y within = refl
+get_set (z ∷ xs) (suc i) y within = get_set xs i y (omega (arith, within))
+
 not_false : (b : Bool) → not b ≡ false → b ≡ true
 not_false true is = refl
 not_false false is = cc
@@ -36,6 +42,11 @@ not_false false is = cc
 not_true : (b : Bool) → not b ≡ true → b ≡ false
 not_true true is = cc
 not_true false is = refl
+
+-- a call is by a number where one is given
+pub number_same : (id : Option NativeId) → is_some id ≡ is_some (number_in id)
+number_same None = refl
+number_same (Some id) = refl
 
 module _ {H : Type 0} where
   entries_same : (entries : List (ScopeEntry H)) (i : ℕ) (there : Option (ScopeEntry H)) (v : Dynamic H) → slice_get entries i ≡ there →
@@ -75,6 +86,14 @@ module _ {H : Type 0} where
   while_lender (Some (FromEntry i)) cells = refl
   while_lender (Some FromThis) cells = refl
   while_lender (Some FromFocus) cells = refl
+
+  -- which leaves the cells as they are
+  pub back_lender : (lender : Option Lender) (v : Dynamic H) (l : Local H) →
+      l.around.cells ≡ (put_left (option_map place_of lender) (Some v) l).around.cells
+  back_lender None v l = refl
+  back_lender (Some (FromEntry i)) v l = refl
+  back_lender (Some FromThis) v l = refl
+  back_lender (Some FromFocus) v l = refl
 
   pub back_is : {S : Type 0} (lender : Option Lender) (v : Dynamic H) (s : State S H) →
       record s { local = put_left (option_map place_of lender) (Some v) s.local } ≡ back_in lender v s
@@ -164,6 +183,14 @@ module _ {H : Type 0} where
 
   pub in_held : (cells : Cells H) (n : ℕ) (v : Dynamic H) → value_of_cell cells n ≡ Some v → n < length (with_held cells n)
   in_held cells n v is = lt-length-set cells n None (known cells n (slice_get cells n) v refl is)
+
+  -- what is given back to a held cell stands there
+  pub comes_back : (before meanwhile : Cells H) (n : ℕ) (v w : Dynamic H) → n < length (with_held before n) →
+      meanwhile ≡ with_held before n → Some w ≡ value_of_cell (with_value meanwhile n v) n → w ≡ v
+  comes_back before meanwhile n v w there is comes =
+      let within : n < length meanwhile = subst (λ (cells : Cells H). n < length cells) (sym is) there in
+      let found : Some w ≡ Some v = comes ∙ ap option_flatten (get_set meanwhile n (Some v) within) in
+      cc
 
   pub cells_back : (cells : Cells H) (n : ℕ) (v : Dynamic H) → with_value (with_held cells n) n v ≡ with_value cells n v
   cells_back cells n v = set-set cells n None (Some v)

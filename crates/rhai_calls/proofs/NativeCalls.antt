@@ -33,9 +33,10 @@ use Rattle.rhai_steps.specs.States.{local_of, state_of}
 use Rattle.rhai_steps.proofs.Pieces.{step_by, charged, faulted, or_wants, passed, refused}
 use Rattle.rhai_calls.specs.Lending.{back_in, Stands}
 use Rattle.rhai_calls.specs.Marks.{gives, with_mark, without_mark, MarkedRuns}
-use Rattle.rhai_calls.specs.Natives.{is_barred_from, is_pure_on, lends_from, native_call, native_key, CallsOn, CallsInCell}
+use Rattle.rhai_calls.specs.Natives.{is_barred_from, is_pure_on, lends_from, native_call, native_key, number_in, Bars, CallsOn, CallsInCell}
+use Rattle.rhai_calls.specs.Natives.{Gives as GivesOn}
 use Rattle.rhai_calls.proofs.Lent.{back_is, back_same, cells_back, first_cell, first_held, first_plain, own_named, put_same, stands_at}
-use Rattle.rhai_calls.proofs.Lent.{while_lender}
+use Rattle.rhai_calls.proofs.Lent.{back_lender, number_same, while_lender}
 
 -- ---- marks
 
@@ -61,6 +62,13 @@ module _ {H : Type 0} where
       IfOk (with_mark changed r) (λ answer. marks ≡ false → answer.1 ≡ false)
   plain_mark marks changed (Ok v) h = h
   plain_mark marks changed (Err e) h = tt
+
+  -- an answer that is marked so
+  pub unmarked_by : (marks pure given changed : Bool) (q : Result (Dynamic H) (EvalAltResult H))
+      (result : Result (Dynamic H × Bool) (EvalAltResult H)) → changed ≡ ((marks && not pure) && given) → result ≡ with_mark changed q →
+      IfOk result (λ answer. marks ≡ false → answer.1 ≡ false)
+  unmarked_by marks pure given changed q result does is = rw is (plain_mark marks changed q
+      (λ (no : marks ≡ false). does ∙ is_unmarked marks pure given no))
 
   module _ (marks pure changes given changed : Bool) (q : Result (Dynamic H) (EvalAltResult H))
       (result : Result (Dynamic H × Bool) (EvalAltResult H)) (may : changes ≡ (marks && not pure)) (does : changed ≡ (changes && given))
@@ -164,12 +172,17 @@ module _ {S H : Type 0} (rules : Rules S H) where
       abbrev lending : Cells H
       lending = while_from from cells
 
+      -- and once the value is back
+      abbrev later : Option (Dynamic H) → Cells H
+      later left = (put_left from left now.local).around.cells
+
       -- the state that the native leaves
       abbrev left_in : Option (Dynamic H) → S → State S H
       left_in left t = record now { table = t; local = put_left from left now.local }
 
       abbrev Wanted : Option (Dynamic H) → Reply H → Result (Dynamic H) (EvalAltResult H) → Type 0
-      Wanted left r result = Answers result (replied rules.setting.limits rules.setting.host_type r left rest operation lending)
+      Wanted left r result = Answers result (replied rules.setting.limits rules.setting.host_type r left rest operation
+          (is_some (number_in id)) (later left))
 
       fires : (m : Bool) (r : Reply H) (left : Option (Dynamic H)) (t : S) (result : Result (Dynamic H) (EvalAltResult H)) →
           rules.natives.gives now.table (request lending (native_key operation.name id) (Some v) rest operation.at) ≡ effect r left t →
@@ -185,7 +198,8 @@ module _ {S H : Type 0} (rules : Rules S H) where
       fires_starved m left t pos =
           starved {call = request lending (native_key operation.name id) (Some v) rest operation.at}
           {f = λ reply given. core (answered m reply
-          (replied rules.setting.limits rules.setting.host_type reply given rest operation lending)) k (put_left from given now.local)}
+          (replied rules.setting.limits rules.setting.host_type reply given rest operation (is_some (number_in id)) (later given))) k
+          (put_left from given now.local)}
           {at = pos}
           (ap (λ f. fire_first rules.setting (made m) rest f k now.local) is) (error.ErrorOutOfMemory pos) left t here
 
@@ -206,7 +220,7 @@ module _ {S H : Type 0} (rules : Rules S H) where
 
   -- ---- a native on a value that is lent
 
-  module _ (cells : Cells H) (operation : Operation) (id : Option NativeId) (guarded marks : Bool) (lent : Dynamic H)
+  module _ (cells later : Cells H) (operation : Operation) (id : Option NativeId) (guarded marks : Bool) (lent : Dynamic H)
       (rest : List (Dynamic H)) (t : S) (plain : is_handle lent.value ≡ false) where
     -- the native changes nothing, and is barred from the value
     abbrev pure_on : Bool
@@ -227,47 +241,52 @@ module _ {S H : Type 0} (rules : Rules S H) where
     asked : (there : Cells H) (b : Bool) → barred ≡ b → (guarded && is_barred (pure_there there) lent) ≡ b
     asked there b is = ap (λ (p : Bool). guarded && is_barred p lent) (same_purity there) ∙ is
 
-    pub calls_barred : barred ≡ true → (e : EvalAltResult H) →
-        (is_out_of_memory e ≡ false → e ≡ error.ErrorNonPureMethodCallOnConstant operation.name operation.at) →
-        CallsOn rules cells operation id guarded marks lent lent rest t t (Err e)
+    pub calls_barred : (e : EvalAltResult H) (left : Dynamic H) (t' : S) (result : Result (Dynamic H × Bool) (EvalAltResult H)) →
+        Bars rules.natives rules.setting.host_type (native_key operation.name id) guarded lent rest t t' left e operation.name
+        operation.at → result ≡ Err e → CallsOn rules cells later operation id guarded marks lent left rest t t' result
     unfolding CallsOn Steps
-    calls_barred is e bars lender from x count l stands meanwhile first k =
-        rw (put_same from lent l stands)
+    calls_barred e left t' result (is, same, kept, bars) fails lender from x count l stands meanwhile back first k =
+        rw (fails, same, kept, put_same from lent l stands)
         (questions operation id lender guarded marks x rest k (record { table = t; count = count; local = l }) from lent first true
         (asked l.around.cells true is)
         ⨾ faulted rules e (error.ErrorNonPureMethodCallOnConstant operation.name operation.at) bars k
         (record { table = t; count = count; local = l }))
 
-    pub calls_on : barred ≡ false → (answer : Option (Reply H)) (left : Dynamic H) (t' : S) (q : Result (Dynamic H) (EvalAltResult H))
-        (result : Result (Dynamic H × Bool) (EvalAltResult H)) →
-        Obeys (rules.natives.gives t (request cells (native_key operation.name id) (Some lent) rest operation.at)) answer (Some left) t' →
-        IfSome answer (λ r. Answers q (replied rules.setting.limits rules.setting.host_type r (Some left) rest operation cells)) →
-        (HasMemory q → is_some answer ≡ true) → result ≡ with_mark ((marks && not pure_on) && gives answer) q →
-        CallsOn rules cells operation id guarded marks lent left rest t t' result
+    pub calls_on : (answer : Option (Reply H)) (left : Dynamic H) (t' : S) (changed by_number : Bool)
+        (q : Result (Dynamic H) (EvalAltResult H)) (result : Result (Dynamic H × Bool) (EvalAltResult H)) →
+        GivesOn rules.natives rules.setting.host_type cells (native_key operation.name id) guarded marks lent rest operation.at t t' answer
+        left changed → by_number ≡ is_some id →
+        IfSome answer (λ r. Answers q (replied rules.setting.limits rules.setting.host_type r (Some left) rest operation by_number later)) →
+        (HasMemory q → is_some answer ≡ true) → result ≡ with_mark changed q →
+        CallsOn rules cells later operation id guarded marks lent left rest t t' result
     unfolding CallsOn Steps
-    calls_on is answer left t' q result obeys answers memory marks_it lender from x count l stands meanwhile first k =
-        rw (marks_it)
+    calls_on answer left t' changed by_number q result (is, obeys, does) numbered answers memory marks_it lender from x count l stands
+        meanwhile back first k =
+        rw (marks_it, does)
         (questions operation id lender guarded marks x rest k (record { table = t; count = count; local = l }) from lent first false
         (asked l.around.cells false is)
         ⨾ let_through operation id lender guarded marks x rest k (record { table = t; count = count; local = l }) from lent first pure_on
         (same_purity l.around.cells)
         ⨾ fires_told operation id lender guarded marks x rest k (record { table = t; count = count; local = l }) from lent first
-        (marks && not pure_on) answer (Some left) t' q (rw meanwhile at obeys) (rw meanwhile at answers) memory)
+        (marks && not pure_on) answer (Some left) t' q (rw meanwhile at obeys)
+        (rw (numbered ∙ number_same id, back) at answers) memory)
 
   -- it is lent from a cell
   pub calls_in_cell : (operation : Operation) (id : Option NativeId) (guarded marks : Bool) (cell : CellId) (rest : List (Dynamic H))
       (before mid later : Cells H) (lent left : Dynamic H) (t t' : S) (result : Result (Dynamic H × Bool) (EvalAltResult H)) →
       value_of_cell before cell.number ≡ Some lent → is_handle lent.value ≡ false → mid ≡ with_held before cell.number →
-      later ≡ with_value mid cell.number left → CallsOn rules mid operation id guarded marks lent left rest t t' result →
+      later ≡ with_value mid cell.number left → CallsOn rules mid later operation id guarded marks lent left rest t t' result →
       CallsInCell rules operation id guarded marks cell rest before later t t' result
   unfolding CallsInCell CallsOn
   calls_in_cell operation id guarded marks cell rest before mid later lent left t t' result there plain taken given calls lender x count l is
       same =
-      rw (given ∙ ap (λ (cells : Cells H). with_value cells cell.number left) taken ∙ cells_back before cell.number left
-      ∙ ap (λ (cells : Cells H). with_value cells cell.number left) same)
+      let back : later ≡ with_value l.around.cells cell.number left = given
+      ∙ ap (λ (cells : Cells H). with_value cells cell.number left) taken ∙ cells_back before cell.number left
+      ∙ ap (λ (cells : Cells H). with_value cells cell.number left) same in
+      rw back
       (calls lender (Some (InCell cell.number)) x count l
       (ap (λ (cells : Cells H). value_of_cell cells cell.number) (sym same) ∙ there)
-      (taken ∙ ap (λ (cells : Cells H). with_held cells cell.number) same)
+      (taken ∙ ap (λ (cells : Cells H). with_held cells cell.number) same) back
       (first_cell l.around.cells operation lender x.value x lent cell is
       (ap (λ (cells : Cells H). value_of_cell cells cell.number) (sym same) ∙ there) plain))
 
@@ -278,7 +297,7 @@ module _ {S H : Type 0} (rules : Rules S H) where
       (stands : Stands lender x (local_of global scope held)) (result : Result (Dynamic H × Bool) (EvalAltResult H)) where
     -- that is no handle
     pub first_by_itself : (left : Dynamic H) → is_handle x.value ≡ false →
-        CallsOn rules (cells_of global.cells) operation id guarded marks x left rest t t' result →
+        CallsOn rules (cells_of global.cells) (cells_of global.cells) operation id guarded marks x left rest t t' result →
         MarkedRuns rules (Question (native_call operation id lender guarded marks (x ∷ rest))) (state_of t global scope held) result
         (back_in lender left (state_of t' global scope held))
     unfolding CallsOn
@@ -286,6 +305,7 @@ module _ {S H : Type 0} (rules : Rules S H) where
         rw (← back_is lender left (state_of t' global scope held))
         (calls lender (option_map place_of lender) x global.num_operations (local_of global scope held)
         (stands_at lender x (local_of global scope held) stands) (while_lender lender (cells_of global.cells))
+        (back_lender lender left (local_of global scope held))
         (first_plain (cells_of global.cells) operation lender x.value x plain))
 
     -- that is a handle
@@ -334,8 +354,8 @@ module _ {S H : Type 0} (rules : Rules S H) where
 
     lone_fires : (m : Bool) (answer : Option (Reply H)) (t : S) (q : Result (Dynamic H) (EvalAltResult H)) →
         Obeys (rules.natives.gives now.table lone_request) answer None t →
-        IfSome answer (λ r. Answers q (replied rules.setting.limits rules.setting.host_type r None [] operation now.local.around.cells)) →
-        (HasMemory q → is_some answer ≡ true) →
+        IfSome answer (λ r. Answers q (replied rules.setting.limits rules.setting.host_type r None [] operation (is_some (number_in id))
+        now.local.around.cells)) → (HasMemory q → is_some answer ≡ true) →
         Goes rules (at (Fire (lone m)) k now) (at (marked (with_mark (m && gives answer) q)) k (record now { table = t }))
     unfolding after
     lone_fires m (Some r) t q obeys answers memory =
@@ -345,11 +365,11 @@ module _ {S H : Type 0} (rules : Rules S H) where
         starved {at = pos} refl (error.ErrorOutOfMemory pos) None t here
     lone_fires m None t (Err e) obeys answers memory = absurd (false≢true (memory refl))
 
-    pub fires_alone : (marks : Bool) (answer : Option (Reply H)) (t : S) (q : Result (Dynamic H) (EvalAltResult H))
+    pub fires_alone : (marks by_number : Bool) (answer : Option (Reply H)) (t : S) (q : Result (Dynamic H) (EvalAltResult H))
         (result : Result (Dynamic H × Bool) (EvalAltResult H)) →
         Obeys (rules.natives.gives now.table lone_request) answer None t →
-        IfSome answer (λ r. Answers q (replied rules.setting.limits rules.setting.host_type r None [] operation now.local.around.cells)) →
-        (HasMemory q → is_some answer ≡ true) → result ≡ with_mark ((marks && not lone_pure) && gives answer) q →
+        by_number ≡ is_some id → IfSome answer (λ r. Answers q (replied rules.setting.limits rules.setting.host_type r None [] operation
+        by_number now.local.around.cells)) → (HasMemory q → is_some answer ≡ true) → result ≡ with_mark ((marks && not lone_pure) && gives answer) q →
         Goes rules (at (Question (lone marks)) k now) (at (marked result) k (record now { table = t }))
-    fires_alone marks answer t q result obeys answers memory is =
-        rw is (lone_asked marks ⨾ lone_fires (marks && not lone_pure) answer t q obeys answers memory)
+    fires_alone marks by_number answer t q result obeys numbered answers memory is =
+        rw is (lone_asked marks ⨾ lone_fires (marks && not lone_pure) answer t q obeys (rw (numbered ∙ number_same id) at answers) memory)

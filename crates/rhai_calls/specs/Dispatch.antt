@@ -18,7 +18,7 @@ use Rattle.rhai_machine.specs.language.State.{Local, State, Surroundings, Answer
 use Rattle.rhai_machine.specs.language.Values.{Cells, bool_value, through}
 use Rattle.rhai_machine.specs.language.Functions.{found_function, key_by}
 use Rattle.rhai_machine.specs.language.Frames.{Operation, Dispatch, Call, Frame, Core, core, marked}
-use Rattle.rhai_machine.specs.language.Calls.{dispatch_core, enter_core, first_type, races, signature, types_of}
+use Rattle.rhai_machine.specs.language.Calls.{call_races, dispatch_core, enter_core, first_type, signature, types_of}
 use Rattle.rhai_machine.specs.language.Runs.{with_core, Goes}
 use Rattle.rhai_calls.specs.declared.dispatch.Dispatched.{Dispatched}
 use Rattle.rhai_calls.specs.declared.dispatch.Dispatched.TheVariants.{Ended, Found}
@@ -122,7 +122,7 @@ module _ {H : Type 0} where
   Resolves raced meaning found operation OfNative = (raced ≡ false) × Means None meaning × (None ≡ found)
 
   abbrev pub ResolvesCall : Offer H → Surroundings H → (H → List ℕ) → Seeks → Operation → List (Dynamic H) → Resolved H → Type 0
-  ResolvesCall offer around host seeks operation args resolved = Resolves (races around.cells args) (meant offer around operation host args)
+  ResolvesCall offer around host seeks operation args resolved = Resolves (call_races seeks.of_method around.cells args) (meant offer around operation host args)
       (script_function offer around host seeks operation.name args) operation resolved
 
   -- ---- what a call comes to

@@ -1,7 +1,8 @@
 -- A native by its name or by its number, and its call once its first argument is lent to it.
-use Rattle.std.specs.Prelude.{◌≡◌, ⊤, ℕ, ◌+◌, Bool, false, not, ◌&&◌, List, ◌∷◌, length, Option, Some, None, Result, Ok}
+use Rattle.std.specs.Prelude.{◌≡◌, ⊤, ℕ, ◌+◌, Bool, true, false, not, ◌&&◌, List, ◌∷◌, length, Option, Some, None, Result, Ok}
 use Rattle.std.specs.Option.{option_map}
 use Rattle.rhai_tree.specs.declared.literal.NativeId.{NativeId}
+use Rattle.rhai_tree.specs.declared.position.Position.{Position}
 use Rattle.rhai_values.specs.declared.base.value.CellId.{CellId}
 use Rattle.rhai_values.specs.declared.base.value.Dynamic.{Dynamic}
 use Rattle.rhai_values.specs.declared.base.value.Union.{Union}
@@ -9,7 +10,9 @@ use Rattle.rhai_values.specs.declared.base.value.Union.TheVariants as value
 use Rattle.rhai_values.specs.Cells.{value_of_cell}
 use Rattle.rhai_state.specs.declared.error.EvalAltResult.{EvalAltResult}
 use Rattle.rhai_values.specs.TypeNames.{own_type_name}
-use Rattle.rhai_state.specs.Native.{Key, Natives, purity_of}
+use Rattle.rhai_state.specs.declared.error.EvalAltResult.TheVariants as error
+use Rattle.rhai_state.specs.Errors.{is_out_of_memory}
+use Rattle.rhai_state.specs.Native.{Key, Natives, Obeys, Reply, purity_of, request}
 use Rattle.rhai_machine.specs.language.Setting.{Rules}
 use Rattle.rhai_machine.specs.language.State.{Local}
 use Rattle.rhai_machine.specs.language.Values.{Cells, is_handle}
@@ -18,7 +21,7 @@ use Rattle.rhai_machine.specs.language.Places.{Place, InEntry, InCell, InThis, I
 use Rattle.rhai_machine.specs.language.Frames.{Operation, Lender, Call, Question}
 use Rattle.rhai_machine.specs.language.Calls.{first_of, key_by, put_left, while_from}
 use Rattle.rhai_calls.specs.Lending.{passed_call}
-use Rattle.rhai_calls.specs.Marks.{MarkedRuns}
+use Rattle.rhai_calls.specs.Marks.{gives, MarkedRuns}
 
 -- the number of a native that is called by it
 abbrev pub number_in : Option NativeId → Option ℕ
@@ -36,6 +39,21 @@ module _ {S H : Type 0} (natives : Natives S H) (host : H → List ℕ) (t : S) 
   -- a native is barred from a first argument that is guarded: that is a constant, and the native is not pure
   abbrev pub is_barred_from : (guarded : Bool) → Bool
   is_barred_from guarded = guarded && is_barred is_pure_on first
+
+module _ {S H : Type 0} (natives : Natives S H) (host : H → List ℕ) where
+  -- a native is barred from a first argument, and nothing is done
+  abbrev pub Bars : Key → (guarded : Bool) → (first : Dynamic H) → (rest : List (Dynamic H)) → (t t' : S) → (left : Dynamic H) →
+      EvalAltResult H → (name : List ℕ) → (at : Position) → Type 0
+  Bars key guarded first rest t t' left e name at = (is_barred_from natives host t key first rest guarded ≡ true) × (t' ≡ t)
+      × (left ≡ first) × (is_out_of_memory e ≡ false → e ≡ error.ErrorNonPureMethodCallOnConstant name at)
+
+  -- or else it is asked with these cells, and answers, where it had the memory; its answer is marked where it may have changed the first
+  -- argument and this is to be told
+  abbrev pub Gives : (cells : Cells H) → Key → (guarded marks : Bool) → (first : Dynamic H) → (rest : List (Dynamic H)) → (at : Position) →
+      (t t' : S) → Option (Reply H) → (left : Dynamic H) → (changed : Bool) → Type 0
+  Gives cells key guarded marks first rest at t t' answer left changed = (is_barred_from natives host t key first rest guarded ≡ false)
+      × Obeys (natives.gives t (request cells key (Some first) rest at)) answer (Some left) t'
+      × (changed ≡ ((marks && not (is_pure_on natives host t key first rest)) && gives answer))
 
 module _ {H : Type 0} where
   -- the cell that a value is a handle of
@@ -61,12 +79,12 @@ module _ {H : Type 0} where
   StandsAt (Some InFocus) v l = l.focus ≡ Some v
 
   -- a native is called with a value for its first argument, which is lent from a place and goes back there: with these cells
-  -- meanwhile, and these states of the table before and after
-  unfoldable pub CallsOn : {S : Type 0} → Rules S H → (cells : Cells H) → Operation → Option NativeId → (guarded marks : Bool) →
+  -- meanwhile and then, and these states of the table before and after
+  unfoldable pub CallsOn : {S : Type 0} → Rules S H → (cells later : Cells H) → Operation → Option NativeId → (guarded marks : Bool) →
       (lent left : Dynamic H) → (rest : List (Dynamic H)) → (t t' : S) → Result (Dynamic H × Bool) (EvalAltResult H) → Type 0
-  CallsOn {S} rules cells operation id guarded marks lent left rest t t' result =
+  CallsOn {S} rules cells later operation id guarded marks lent left rest t t' result =
       (lender : Option Lender) (from : Option Place) (x : Dynamic H) (count : ℕ) (l : Local H) →
-      StandsAt from lent l → cells ≡ while_from from l.around.cells →
+      StandsAt from lent l → cells ≡ while_from from l.around.cells → later ≡ (put_left from (Some left) l).around.cells →
       first_of l.around.cells (native_call operation id lender guarded marks (x ∷ rest)) x ≡ Ok (record { from = from; value = lent }) →
       MarkedRuns rules (Question (native_call operation id lender guarded marks (x ∷ rest)))
       (record { table = t; count = count; local = l }) result

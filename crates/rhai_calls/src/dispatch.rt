@@ -8,7 +8,8 @@ ghost use Rattle.rhai_values.specs.Copy.{plain};
 ghost use Rattle.rhai_values.specs.TypeNames.{type_name_of};
 ghost use Rattle.rhai_values.specs.declared.base.value.Union.TheVariants as kind;
 ghost use Rattle.rhai_machine.specs.language.Calls.{call_of, is_held as held_in, plainly};
-ghost use Rattle.rhai_machine.specs.language.Calls.{races as races_in};
+ghost use Rattle.rhai_machine.specs.language.Calls.{call_races as call_races_in, is_same_cell as same_cell};
+ghost use Rattle.rhai_machine.specs.language.Calls.{leads_there as leads_there_in, races as races_in};
 ghost use Rattle.rhai_machine.specs.language.Frames.{Ask};
 ghost use Rattle.rhai_machine.specs.language.Setting.{rules_of};
 ghost use Rattle.rhai_machine.specs.language.State.{Answers};
@@ -102,11 +103,43 @@ pub fn races<H: Host>(cells: &CellStore<H>, values: &[Dynamic<H>]) -> bool
     false
 }
 
-/// The same of a call's first argument and the others.
-fn call_races<H: Host>(cells: &CellStore<H>, first: &Dynamic<H>, rest: &[Dynamic<H>]) -> bool
-    ensures { result ≡ races_in (cells_of cells.now) (first.now ∷ rest.now) }
+/// Whether two values are handles of the same cell.
+fn is_same_cell<H: Host>(one: &Dynamic<H>, other: &Dynamic<H>) -> bool
+    ensures { result ≡ same_cell one.now.value other.now.value }
 {
-    is_held(cells, first) || races(cells, rest)
+    match (&one.value, &other.value) {
+        (Union::Cell(id), Union::Cell(cell)) => id.number == cell.number,
+        _ => false,
+    }
+}
+
+/// Whether a value is a handle of the cell that the first one is a handle of.
+fn leads_there<H: Host>(first: &Dynamic<H>, values: &[Dynamic<H>]) -> bool
+    ensures { result ≡ leads_there_in first.now.value values.now }
+{
+    'values: for value in values {
+        if is_same_cell(first, value) {
+            return true;
+        }
+    }
+    false
+}
+
+/// The same of a call's first argument and the others: the object of a method is entered, so that no other may
+/// lead to its cell.
+pub fn call_races<H: Host>(
+    cells: &CellStore<H>,
+    of_method: bool,
+    first: &Dynamic<H>,
+    rest: &[Dynamic<H>],
+) -> bool
+    ensures { result ≡ call_races_in of_method (cells_of cells.now) (first.now ∷ rest.now) }
+{
+    let is_anothers = is_held(cells, first) || races(cells, rest);
+    if of_method {
+        return is_anothers || leads_there(first, rest);
+    }
+    is_anothers
 }
 
 /// A text, through a handle.
@@ -339,7 +372,7 @@ fn resolve<H: Host>(
         ResolvesCall offer (surroundings_of global.now) H.name_of seeks
         (record { name = name.now; token = token; at = pos }) (first.now ∷ rest.now) result }
 {
-    if call_races(&global.cells, first, rest) {
+    if call_races(&global.cells, seeks.of_method, first, rest) {
         return Resolved::Failed(data_race_by(alloc, name, pos));
     }
     if let Some(result) = meaning(alloc, offered, global, name, token, first, rest, pos) {

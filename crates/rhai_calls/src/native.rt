@@ -1,7 +1,7 @@
 //! Calls of natives, by their names and by their numbers. Ports upstream's `exec_native_fn_call`. The
 //! contracts cite the machine's runs, specs/Lending.antt, specs/Marks.antt and specs/Natives.antt.
 
-ghost use Rattle.std.specs.Prelude.{◌≡◌, ◌≤◌, ◌+◌, ◌&&◌, ◌∷◌, [], None, Some, IfOk, length, not, true, false};
+ghost use Rattle.std.specs.Prelude.{◌≡◌, ◌≤◌, ◌+◌, ◌&&◌, ◌∷◌, [], None, Some, IfErr, IfOk, not, true, false};
 ghost use Rattle.rhai_values.specs.Cells.{cells_of, value_of_cell, IsNoHandle};
 ghost use Rattle.rhai_state.specs.Native.{Obeys, purity_of, reply_of, request};
 ghost use Rattle.rhai_machine.specs.language.Calls.{call_of};
@@ -11,7 +11,8 @@ ghost use Rattle.rhai_machine.specs.language.Setting.{rules_of};
 ghost use Rattle.rhai_steps.specs.States.{local_of, state_of};
 ghost use Rattle.rhai_calls.specs.Lending.{back_in, lent_call, passed_call, Stands};
 ghost use Rattle.rhai_calls.specs.Marks.{gives, with_mark, without_mark, MarkedRuns};
-ghost use Rattle.rhai_calls.specs.Natives.{CallsInCell, CallsOn, cell_in, is_barred_from, is_pure_on};
+ghost use Rattle.rhai_calls.specs.Natives.{Bars, CallsInCell, CallsOn, cell_in, Gives, is_barred_from};
+ghost use Rattle.rhai_calls.specs.Natives.{is_pure_on};
 ghost use Rattle.rhai_calls.specs.Natives.{lends_from, native_call, native_key};
 
 use rhai_items::Items;
@@ -178,6 +179,38 @@ fn answer_alone<'a, H: Host, T: NativeTable<H>>(
     }
 }
 
+/// What a native answers on a value that is no handle, and whether it may have changed that where this is to
+/// be told.
+///
+/// # Errors
+/// `ErrorNonPureMethodCallOnConstant` at the call where the native is barred from the value.
+fn ask_native<H: Host, T: NativeTable<H>>(
+    alloc: Global,
+    cells: &CellStore<H>,
+    table: &mut T,
+    name: &str,
+    id: Option<NativeId>,
+    first: &mut Dynamic<H>,
+    rest: &[Dynamic<H>],
+    passing: Passing,
+    pos: Position,
+) -> Result<(Answer<H>, bool), EvalAltResult<H>>
+    requires { IsNoHandle first.old.value }
+    ensures barred { IfErr result (λ e. Bars T.natives H.name_of (native_key name.now id) passing.guarded
+        first.old rest.now (T.state table.old) (T.state table.new) first.new e name.now pos) }
+    ensures asked { IfOk result (λ answer. Gives T.natives H.name_of (cells_of cells.now)
+        (native_key name.now id) passing.guarded passing.marks first.old rest.now pos
+        (T.state table.old) (T.state table.new) (reply_of answer.0) first.new answer.1) }
+{
+    if is_barred(&*table, name, id, first, rest, passing.guarded) {
+        return Err(non_pure(alloc, name, pos));
+    }
+    let changes = may_change(&*table, name, id, first, rest, passing.marks);
+    let answer = answer_of(table, cells, name, id, first, rest, pos);
+    let changed = has_changed(changes, &answer);
+    Ok((answer, changed))
+}
+
 /// Calls a native on a value that is no handle, unless the native is barred from it.
 fn call_value<H: Host, T: NativeTable<H>>(
     limits: &Limits,
@@ -194,19 +227,21 @@ fn call_value<H: Host, T: NativeTable<H>>(
 ) -> Result<(Dynamic<H>, bool), EvalAltResult<H>>
     requires { IsNoHandle first.old.value }
     ensures runs { (offer : _) → CallsOn (rules_of limits.now H.name_of offer T.natives)
-        (cells_of cells.now) (record { name = name.now; token = token; at = pos }) id
+        (cells_of cells.now) (cells_of cells.now) (record { name = name.now; token = token; at = pos }) id
         passing.guarded passing.marks first.old first.new rest.now
         (T.state table.old) (T.state table.new) result }
     ensures unmarked { IfOk result (λ answer. passing.marks ≡ false → answer.1 ≡ false) }
 {
-    if is_barred(&*table, name, id, first, rest, passing.guarded) {
-        return Err(non_pure(alloc, name, pos));
+    match ask_native(alloc, cells, table, name, id, first, rest, passing, pos) {
+        Err(error) => Err(error),
+        Ok((answer, changed)) => {
+            let by_number = id.is_some();
+            let result = replied(
+                alloc, limits, cells, answer, name, by_number, token, first, rest, pos,
+            );
+            marked(result, changed)
+        }
     }
-    let changes = may_change(&*table, name, id, first, rest, passing.marks);
-    let answer = answer_of(table, cells, name, id, &mut *first, rest, pos);
-    let changed = has_changed(changes, &answer);
-    let result = replied(alloc, limits, cells, answer, name, token, first, rest, pos);
-    marked(result, changed)
 }
 
 /// The cell that a value is a handle of.
@@ -229,7 +264,8 @@ fn lends<H: Host>(cells: &CellStore<H>, id: CellId) -> bool
     }
 }
 
-/// Calls a native on the value of a cell, which is held so long.
+/// Calls a native on the value of a cell, which is held so long. What becomes of its answer is told once the
+/// value is back.
 fn call_in_cell<H: Host, T: NativeTable<H>>(
     limits: &Limits,
     alloc: Global,
@@ -253,11 +289,21 @@ fn call_in_cell<H: Host, T: NativeTable<H>>(
     match cells.take(cell) {
         Some(lent) => {
             let mut lent = lent;
-            let result = call_value(
-                limits, alloc, &*cells, table, name, id, token, &mut lent, rest, passing, pos,
+            let asked = ask_native(
+                alloc, &*cells, table, name, id, &mut lent, rest, passing, pos,
             );
             cells.set(cell, lent);
-            result
+            match asked {
+                Err(error) => Err(error),
+                Ok((answer, changed)) => {
+                    let by_number = id.is_some();
+                    let left = cells.get(cell).unwrap();
+                    let result = replied(
+                        alloc, limits, &*cells, answer, name, by_number, token, left, rest, pos,
+                    );
+                    marked(result, changed)
+                }
+            }
         }
         None => unreachable!(),
     }
@@ -334,7 +380,8 @@ fn call_alone<H: Host, T: NativeTable<H>>(
     let changes = lone_changes(&*table, name, id, marks);
     let answer = answer_alone(alloc, table, cells, name, id, pos);
     let changed = has_changed(changes, &answer);
-    let result = replied_alone(alloc, limits, answer, name, token, pos);
+    let by_number = id.is_some();
+    let result = replied_alone(alloc, limits, answer, name, by_number, token, pos);
     marked(result, changed)
 }
 

@@ -418,17 +418,18 @@ module _ {S H : Type 0} (rules : Rules S H) (f : Function H) where
       (global : GlobalRuntimeState H) (this : Option (Dynamic H)) → global ≡ run.global → this ≡ run.this →
       Runs rules (EnterFunction (entry_of f object true args at (local_of old scope held))) (state_of t old scope held) result
       (state_of left global scope (held_again object held this))
-  fresh_ends object args at old scope held def environ level mid t left run result def_is environ_is level_is mid_is runs global this
+  fresh_ends of args at old scope held def environ level mid t left run result def_is environ_is level_is mid_is runs global this
       global_is this_is = rw (global_is, this_is) (rw (def_is, environ_is, level_is, mid_is) at runs)
 
   -- and one on its caller's, which takes its own away
-  pub captured_ends : (args : List (Dynamic H)) (at : Position) (old : GlobalRuntimeState H) (scope : Scope H) (held : Held H)
-      (def : ScriptFuncDef) (environ : Option (EncapsulatedEnviron H)) (level : ℕ) (t left : S) (run : Context H)
+  pub captured_ends : (object : Object) (args : List (Dynamic H)) (at : Position) (old : GlobalRuntimeState H) (scope : Scope H)
+      (held : Held H) (def : ScriptFuncDef) (environ : Option (EncapsulatedEnviron H)) (level : ℕ) (t left : S) (run : Context H)
       (result : Result (Dynamic H) (EvalAltResult H)) → def ≡ f.def → environ ≡ f.environ → level ≡ deeper old.level →
-      Runs rules (EnterFunction (entered def environ NoObject false true args level at)) (state_of t old scope held) result
-      (behind_call (entered def environ NoObject false true args level at) (local_of old scope held) (state_in left run)) →
+      Runs rules (EnterFunction (entered def environ object false true args level at)) (state_of t old scope held) result
+      (behind_call (entered def environ object false true args level at) (local_of old scope held) (state_in left run)) →
       (after : Scope H) (n : ℕ) → n ≡ length (entries_of scope) → entries_of after ≡ take n (entries_of run.scope) →
-      Runs rules (EnterFunction (entry_of f NoObject false args at (local_of old scope held))) (state_of t old scope held) result
-      (state_of left run.global after held)
-  captured_ends args at old scope held def environ level t left run result def_is environ_is level_is runs after n n_is after_is =
-      rw (after_is, n_is) (rw (def_is, environ_is, level_is) at runs)
+      (this : Option (Dynamic H)) → this ≡ run.this →
+      Runs rules (EnterFunction (entry_of f object false args at (local_of old scope held))) (state_of t old scope held) result
+      (state_of left run.global after (held_again object held this))
+  captured_ends of args at old scope held def environ level t left run result def_is environ_is level_is runs after n n_is after_is
+      this this_is = rw (after_is, n_is, this_is) (rw (def_is, environ_is, level_is) at runs)

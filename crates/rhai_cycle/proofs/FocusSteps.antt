@@ -1,5 +1,5 @@
 -- A function of a script on the value that a chain works on.
-use Rattle.std.proofs.Common.{◌≡◌, true, false, not, List, [], ◌∷◌, Option, Some, None, Result, Ok, Err, is_some, refl, sym, ap, ◌∙◌}
+use Rattle.std.proofs.Common.{◌≡◌, Bool, true, false, not, List, [], ◌∷◌, Option, Some, None, Result, Ok, Err, is_some, refl, sym, ap, ◌∙◌}
 use Rattle.rhai_tree.specs.declared.position.Position.{Position}
 use Rattle.rhai_values.specs.declared.base.value.CellId.{CellId}
 use Rattle.rhai_values.specs.declared.base.value.Dynamic.{Dynamic}
@@ -38,23 +38,23 @@ module _ {H : Type 0} where
   used_none at None is = refl
   used_none at (Some v) is = cc
 
-  through_held : (cells : Cells H) (u : Union H) (v : Dynamic H) (at : Position) → is_held cells u ≡ true →
+  pub through_held : (cells : Cells H) (u : Union H) (v : Dynamic H) (at : Position) → is_held cells u ≡ true →
       through_union cells u v at ≡ Err (error.ErrorDataRace [] at)
   through_held cells (value.Cell id) v at is = used_none at (value_of_cell cells id.number) is
   through_held cells _ v at is = cc
 
-module _ {S H : Type 0} (rules : Rules S H) (f : Function H) (args : List (Dynamic H)) (pos : Position) where
+module _ {S H : Type 0} (rules : Rules S H) (f : Function H) (is_fresh : Bool) (args : List (Dynamic H)) (pos : Position) where
   abbrev inside : List (Frame H) → Local H → Core H
-  inside k l = inside_core f args pos k l
+  inside k l = inside_core f is_fresh args pos k l
 
   -- its cell is held
   pub focus_held : (e : EvalAltResult H) (v : Dynamic H) (s : State S H) → s.local.focus ≡ Some v →
       is_held s.local.around.cells v.value ≡ true → (is_out_of_memory e ≡ false → e ≡ error.ErrorDataRace [] pos) →
-      Runs rules (EnterOnFocus f args pos) s (Err e) s
+      Runs rules (EnterOnFocus f is_fresh args pos) s (Err e) s
   unfolding Steps
   focus_held e v s stands is told k =
       step_by rules _ _ (Go (core (Fail (error.ErrorDataRace [] pos)) k s.local))
-      (ap Go (ap (λ (o : Option (Dynamic H)). focus_core f args pos k (record s.local { focus = o })) stands
+      (ap Go (ap (λ (o : Option (Dynamic H)). focus_core f is_fresh args pos k (record s.local { focus = o })) stands
       ∙ ap (λ (r : Result (Dynamic H) (EvalAltResult H)). on_value r (λ inner. entered inner inside k (record s.local { focus = Some v })) k
       (record s.local { focus = Some v })) (through_held s.local.around.cells v.value v pos is)
       ∙ ap (λ (o : Option (Dynamic H)). core (Fail (error.ErrorDataRace [] pos)) k (record s.local { focus = o })) (sym stands)))
@@ -68,7 +68,7 @@ module _ {S H : Type 0} (rules : Rules S H) (f : Function H) (args : List (Dynam
 
   -- and else it runs with the focus as its `this`
   pub inside_runs : (s new : State S H) (r : Result (Dynamic H) (EvalAltResult H)) → races s.local.around.cells args ≡ false →
-      Runs rules (EnterFunction (entry_of f TheFocus true args pos s.local)) s r new → StartsAs rules inside s r new
+      Runs rules (EnterFunction (entry_of f TheFocus is_fresh args pos s.local)) s r new → StartsAs rules inside s r new
   unfolding StartsAs Steps
   inside_runs s new r is runs k = rw is (runs k)
 
@@ -87,7 +87,7 @@ module _ {S H : Type 0} (rules : Rules S H) (f : Function H) (args : List (Dynam
     -- where the machine stands once the focus is entered
     starts_inside : (focus inner : Dynamic H) (id : CellId) (cells : Cells H) (k : List (Frame H)) → focus.value ≡ value.Cell id →
         value_of_cell cells id.number ≡ Some inner →
-        focus_core f args pos k (standing focus cells old).local
+        focus_core f is_fresh args pos k (standing focus cells old).local
         ≡ inside (StepDown focus (ToCell id.number) ∷ k) (standing inner (with_held cells id.number) old).local
     starts_inside focus inner id cells k handle there =
         ap (λ (u : Union H). on_value (through_union cells u focus pos) (λ v. entered_by u v inside k (standing focus cells old).local) k
@@ -96,22 +96,22 @@ module _ {S H : Type 0} (rules : Rules S H) (f : Function H) (args : List (Dynam
         (λ v. entered_by (value.Cell id) v inside k (standing focus cells old).local) k (standing focus cells old).local) there
 
     starts_itself : (focus : Dynamic H) (cells : Cells H) (k : List (Frame H)) → is_handle focus.value ≡ false →
-        focus_core f args pos k (standing focus cells old).local ≡ inside k (standing focus cells old).local
+        focus_core f is_fresh args pos k (standing focus cells old).local ≡ inside k (standing focus cells old).local
     starts_itself focus cells k plain =
         ap (λ (seen : Result (Dynamic H) (EvalAltResult H)). on_value seen (λ v. entered v inside k (standing focus cells old).local) k
         (standing focus cells old).local) (seen_itself cells focus.value focus pos plain)
         ∙ not_entered focus.value focus inside k (standing focus cells old).local plain
 
     opens_focus : (focus : Dynamic H) (cells : Cells H) (k : List (Frame H)) (c : Core H) →
-        focus_core f args pos k (standing focus cells old).local ≡ c → {end : State S H} →
+        focus_core f is_fresh args pos k (standing focus cells old).local ≡ c → {end : State S H} →
         Goes rules (with_core c (standing focus cells old)) (at (ended r) k end) →
-        Goes rules (at (EnterOnFocus f args pos) k (standing focus cells old)) (at (ended r) k end)
+        Goes rules (at (EnterOnFocus f is_fresh args pos) k (standing focus cells old)) (at (ended r) k end)
     opens_focus focus cells k c is goes = step_by rules _ _ (Go c) (ap Go is) goes
 
     -- the focus is entered and left
     pub enters_focus : (above : Option (CellId × Dynamic H)) (focus inner worked end : Dynamic H) (cells taken left put : Cells H) →
         Enters above focus inner cells taken → StartsAs rules inside (standing inner taken old) r (standing worked left new) →
-        Leaves above worked end left put → Runs rules (EnterOnFocus f args pos) (standing focus cells old) r (standing end put new)
+        Leaves above worked end left put → Runs rules (EnterOnFocus f is_fresh args pos) (standing focus cells old) r (standing end put new)
     unfolding StartsAs Steps
     enters_focus None focus inner worked end cells taken left put e runs l k = rw (l.0, l.1)
         (opens_focus focus cells k (inside k (standing focus cells old).local) (starts_itself focus cells k e.0)

@@ -1,4 +1,5 @@
-mod BodyLemmas
+mod ArgsLeft
+pub mod BodyLemmas
 mod CallSteps
 pub mod Chain
 pub mod ChainLemmas
@@ -6,7 +7,7 @@ mod ChainSteps
 mod ChoiceSteps
 mod Conditions
 mod DataSteps
-mod FocusSteps
+pub mod FocusSteps
 mod LoopSteps
 mod NameLemmas
 mod RootLemmas

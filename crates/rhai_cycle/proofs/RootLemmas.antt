@@ -1,5 +1,5 @@
 -- The root of a chain: where its walk begins, and how its end comes back.
-use Rattle.std.proofs.Common.{◌≡◌, ℕ, Bool, true, false, not, List, ◌∷◌, Option, Some, None, Result, Ok, Err, slice_get, is_some}
+use Rattle.std.proofs.Common.{◌≡◌, ℕ, Bool, true, false, not, List, [], ◌∷◌, Option, Some, None, Result, Ok, Err, slice_get, is_some}
 use Rattle.std.proofs.Common.{refl, sym, ap, subst, ◌∙◌}
 use Rattle.std.specs.Option.{option_map, option_or}
 use Rattle.rhai_tree.specs.Positions.{position_of}
@@ -18,13 +18,13 @@ use Rattle.rhai_state.specs.Scope.{entries_of, index_of, revalued, value_in}
 use Rattle.rhai_machine.specs.machine.Machine.{Go}
 use Rattle.rhai_machine.specs.machine.Memory.{here, wanting, ◌⨾◌}
 use Rattle.rhai_machine.specs.language.Setting.{Rules}
-use Rattle.rhai_machine.specs.language.State.{Held, State}
-use Rattle.rhai_machine.specs.language.Values.{Cells, copied, flat}
+use Rattle.rhai_machine.specs.language.State.{Held, Local, State}
+use Rattle.rhai_machine.specs.language.Values.{Cells, copied, flat, through, through_union, used}
 use Rattle.rhai_machine.specs.language.Functions.{meant_function, pointer_to}
 use Rattle.rhai_functions.specs.Functions.{named_in}
 use Rattle.rhai_machine.specs.language.Names.{bound_this, entered, looked_up, variable_of}
 use Rattle.rhai_machine.specs.language.Calls.{is_held}
-use Rattle.rhai_machine.specs.language.Chains.{begun_core, read_root_core, this_root_core}
+use Rattle.rhai_machine.specs.language.Chains.{begun_core, read_root_core, this_begun, this_root_core}
 use Rattle.rhai_machine.specs.language.Frames.{Lender, FromEntry, FromThis, Chain, Frame, Core, core, ended, marked, on_value, Back, Fail, ReadRoot, RootValue, ChainEnd}
 use Rattle.rhai_machine.specs.language.Members.{focused_on}
 use Rattle.rhai_machine.specs.language.Runs.{at, with_core, Goes, Runs, Steps}
@@ -37,6 +37,7 @@ use Rattle.rhai_calls.specs.Marks.{without_mark}
 use Rattle.rhai_steps.specs.Marked.{lending, RunsFrom}
 use Rattle.rhai_chains.specs.Chains.{WalkRuns}
 use Rattle.rhai_cycle.specs.Calls.{RunsUnder, StartsAs}
+use Rattle.rhai_cycle.proofs.FocusSteps.{through_held}
 
 module _ {H : Type 0} (cells : Cells H) (name : List ℕ) (at : Position) where
   entered_held : (v : Dynamic H) (o : Option (Dynamic H)) → not (is_some o) ≡ true → entered name at v o ≡ Err (error.ErrorDataRace name at)
@@ -119,13 +120,46 @@ module _ {S H : Type 0} (rules : Rules S H) where
         begins true (Some FromThis) v (state_of before was scope (record { this = Some v; focus = focus }))
         (state_of left is scope (record { this = Some v; focus = Some w })) runs
 
+  -- a `this` that is no handle of a held cell is begun on
+  used_begins : (o : Option (Dynamic H)) (c : Core H) (pos : Position) (k : List (Frame H)) (l : Local H) → not (is_some o) ≡ false →
+      on_value (used [] pos o) (λ inner. c) k l ≡ c
+  used_begins (Some v) c pos k l free = refl
+  used_begins None c pos k l free = cc
+
+  free_begins : (cells : Cells H) (u : Union H) (v : Dynamic H) (c : Core H) (pos : Position) (k : List (Frame H)) (l : Local H) →
+      is_held cells u ≡ false → on_value (through_union cells u v pos) (λ inner. c) k l ≡ c
+  free_begins cells (value.Cell id) v c pos k l free = used_begins (value_of_cell cells id.number) c pos k l free
+  free_begins cells _ v c pos k l free = refl
+
+  module _ (pos : Position) (chain : Chain H) (s : State S H) (v : Dynamic H) (bound : s.local.this ≡ Some v) where
+    this_seen : (k : List (Frame H)) →
+        this_root_core pos chain k s.local ≡ this_begun (through_union s.local.around.cells v.value v pos) v chain k s.local
+    this_seen k = ap (λ (o : Option (Dynamic H)). on_value (bound_this pos o)
+        (λ x. this_begun (through s.local.around.cells x pos) x chain k s.local) k s.local) bound
+
+    pub this_enters : is_held s.local.around.cells v.value ≡ false → (r : Result (Dynamic H) (EvalAltResult H)) (new : State S H) →
+        StartsAs rules (begun_core true (Some FromThis) v chain) s r new → StartsAs rules (this_root_core pos chain) s r new
+    unfolding StartsAs
+    this_enters free r new starts k = rw (
+      this_seen k,
+      free_begins s.local.around.cells v.value v
+          (begun_core true (Some FromThis) v chain k s.local) pos k s.local free,
+    ) (starts k)
+
+    -- and else it is another's
+    pub this_held : is_held s.local.around.cells v.value ≡ true → (e : EvalAltResult H) →
+        (is_out_of_memory e ≡ false → e ≡ error.ErrorDataRace [] pos) → StartsAs rules (this_root_core pos chain) s (Err e) s
+    unfolding StartsAs
+    this_held held e told k = rw (this_seen k, through_held s.local.around.cells v.value v pos held)
+        (faulted rules e (error.ErrorDataRace [] pos) told k s)
+
   -- there is no `this` to begin on
   pub this_missing : (pos : Position) (chain : Chain H) (s : State S H) → s.local.this ≡ None →
       StartsAs rules (this_root_core pos chain) s (Err (error.ErrorUnboundThis pos)) s
   unfolding StartsAs
   this_missing pos chain s is k =
       subst (λ (o : Option (Dynamic H)). Goes rules (with_core (on_value (bound_this pos o)
-      (λ v. begun_core true (Some FromThis) v chain k s.local) k s.local) s) (at (Fail (error.ErrorUnboundThis pos)) k s)) (sym is) here
+      (λ v. this_begun (through s.local.around.cells v pos) v chain k s.local) k s.local) s) (at (Fail (error.ErrorUnboundThis pos)) k s)) (sym is) here
 
   -- ---- a variable
 

@@ -1,14 +1,35 @@
 -- How a function of a script that is entered is told: what it is entered with, and what its caller has again behind it.
-use Rattle.std.specs.Prelude.{ℕ, Bool, List, Option, length}
+use Rattle.std.specs.Prelude.{ℕ, Bool, true, false, not, ◌&&◌, List, [], ◌∷◌, Option, length, map}
 use Rattle.rhai_tree.specs.declared.function.ScriptFuncDef.{ScriptFuncDef}
+use Rattle.rhai_tree.specs.declared.expr.Stmt.{Stmt}
 use Rattle.rhai_tree.specs.declared.position.Position.{Position}
 use Rattle.rhai_values.specs.declared.base.value.Dynamic.{Dynamic}
 use Rattle.rhai_values.specs.declared.base.value.EncapsulatedEnviron.{EncapsulatedEnviron}
+use Rattle.rhai_state.specs.declared.limits.Limits.{Limits}
+use Rattle.rhai_state.specs.Limits.{limit_of}
+use Rattle.rhai_machine.specs.machine.Machine.{below}
 use Rattle.rhai_machine.specs.language.State.{Held, Local, State}
+use Rattle.rhai_machine.specs.language.Values.{unit_value}
 use Rattle.rhai_machine.specs.language.Activations.{Entered, Object}
-use Rattle.rhai_machine.specs.language.Bodies.{back_by, focus_back, variables_after, variables_back}
+use Rattle.rhai_machine.specs.language.Bodies.{back_by, focus_back, statements_of, variables_after, variables_back}
+use Rattle.rhai_bodies.specs.Opening.{is_deep, is_full}
+
+-- there is a statement
+abbrev pub has_statements : List Stmt → Bool
+has_statements [] = false
+has_statements (stmt ∷ stmts) = true
+
+-- a body is entered where its call is let through, it is not too deep, its parameters have room, and it has statements
+abbrev pub is_entered : Limits → (count level variables : ℕ) → ScriptFuncDef → Bool
+is_entered limits count level variables def = below (limit_of limits.max_operations) count
+    && (not (is_deep limits level) && (not (is_full limits variables (length def.params)) && has_statements (statements_of def.body)))
 
 module _ {H : Type 0} where
+  -- what is left of a function's arguments: `()` of each where its body was entered
+  abbrev pub args_left : (entered : Bool) → List (Dynamic H) → List (Dynamic H)
+  args_left true args = map (λ v. unit_value) args
+  args_left false args = args
+
   -- a function that runs at a level, whose list restores or does not
   abbrev pub entered : ScriptFuncDef → Option (EncapsulatedEnviron H) → Object → (is_fresh restores : Bool) → List (Dynamic H) →
       (level : ℕ) → Position → Entered H

@@ -10,12 +10,12 @@ ghost use Rattle.rhai_machine.specs.language.Calls.{entry_of};
 ghost use Rattle.rhai_machine.specs.language.Frames.{EnterFunction, EnterOnFocus};
 ghost use Rattle.rhai_machine.specs.language.Methods.{method_core};
 ghost use Rattle.rhai_machine.specs.language.Runs.{Runs};
-ghost use Rattle.rhai_machine.specs.language.State.{deeper};
+ghost use Rattle.rhai_machine.specs.language.State.{HasMemory, deeper};
 ghost use Rattle.rhai_steps.specs.States.{local_of, state_of};
 ghost use Rattle.rhai_calls.specs.Called.{came_out};
 ghost use Rattle.rhai_calls.specs.Dispatch.{Offers};
 ghost use Rattle.rhai_steps.specs.Marked.{lending, RunsFrom};
-ghost use Rattle.rhai_cycle.specs.Bodies.{behind_call, entered};
+ghost use Rattle.rhai_cycle.specs.Bodies.{args_left, behind_call, entered, is_entered};
 ghost use Rattle.rhai_cycle.specs.Calls.{StartsAs};
 ghost use Rattle.rhai_cycle.specs.States.{names, offer_of, state_in, under};
 
@@ -41,7 +41,7 @@ use std::alloc::Global;
 use std::mem::replace;
 
 /// The environment that a function runs in, if it has one.
-fn environ_in<H: Host>(function: &Function<H>) -> Option<&EncapsulatedEnviron<H>>
+pub fn environ_in<H: Host>(function: &Function<H>) -> Option<&EncapsulatedEnviron<H>>
     ensures { option_copied result ≡ function.now.environ }
 {
     match &function.environ {
@@ -51,14 +51,14 @@ fn environ_in<H: Host>(function: &Function<H>) -> Option<&EncapsulatedEnviron<H>
 }
 
 /// The level of a function that a call dispatches to.
-fn level_below(level: usize) -> usize
+pub fn level_below(level: usize) -> usize
     ensures { result ≡ deeper level }
 {
     level.saturating_add(1)
 }
 
 /// The `this` that a function leaves goes back into the place that lent it.
-fn put_this<H: Host>(place: &mut Dynamic<H>, left: Option<Dynamic<H>>)
+pub fn put_this<H: Host>(place: &mut Dynamic<H>, left: Option<Dynamic<H>>)
     ensures { is_some left ≡ true → left ≡ Some place.new }
 {
     match left {
@@ -79,7 +79,7 @@ impl<'e, H: Host> Evaluator<'e, H> {
     }
 
     /// A function that is entered at a level, on the variables and with the `this` that the run has, its call
-    /// charged first. Its arguments are taken, unless its body has no statements. Its variables stay.
+    /// charged first. `()` is left of its arguments where its body is entered. Its variables stay.
     #[cycle(eval)]
     pub fn run_body<T: NativeTable<H>>(
         &self,
@@ -94,6 +94,9 @@ impl<'e, H: Host> Evaluator<'e, H> {
         pos: Position,
     ) -> Result<Dynamic<H>, EvalAltResult<H>>
         ensures charges { OnOk result (run.old.global.num_operations < run.new.global.num_operations) }
+        ensures args { HasMemory result → length def.now.params ≡ length args.old → args.new
+            ≡ args_left (is_entered self.now.limits.now run.old.global.num_operations level
+            (length (entries_of run.old.scope)) def.now) args.old }
         ensures runs { (scope : _) (held : _) (object : _) (is_fresh : _) →
             let caller = local_of run.old.global scope held in
             let e = entered def.now (option_copied environ.entry) object is_fresh restores args.old level
@@ -230,7 +233,7 @@ impl<'e, H: Host> Evaluator<'e, H> {
         ensures scope { run.new.scope ≡ run.old.scope }
         ensures this { run.new.this ≡ run.old.this }
         ensures runs { (scope : _) (held : _) → Runs (under H.name_of self.now T.natives)
-            (EnterOnFocus function args pos)
+            (EnterOnFocus function true args pos)
             (state_of (T.state table.old) run.old.global scope (lending held focus.old)) result
             (state_of (T.state table.new) run.new.global scope (lending held focus.new)) }
     {
@@ -263,7 +266,8 @@ impl<'e, H: Host> Evaluator<'e, H> {
         result
     }
 
-    /// A method that is called on a value, its arguments there, with the function that it enters.
+    /// A method that is called on a value, its arguments there, with the function that it enters. Whether the value
+    /// was a handle before it was entered is what `is_shared` answers.
     #[cycle(eval)]
     pub fn run_method<T: NativeTable<H>>(
         &self,
@@ -275,13 +279,15 @@ impl<'e, H: Host> Evaluator<'e, H> {
         args: &mut [Dynamic<H>],
         first_arg_pos: Option<Position>,
         pos: Position,
+        was_handle: bool,
     ) -> Result<(Dynamic<H>, bool), EvalAltResult<H>>
         ensures counts { run.old.global.num_operations ≤ run.new.global.num_operations }
         ensures scope { run.new.scope ≡ run.old.scope }
         ensures this { run.new.this ≡ run.old.this }
         ensures runs { (scope : _) (held : _) → let rules = under H.name_of self.now T.natives in
             RunsFrom rules (method_core rules.setting
-            (record { name = name.now; at = pos; first_at = first_arg_pos }) args.old focus.old)
+            (record { name = name.now; at = pos; first_at = first_arg_pos; was_handle = was_handle })
+            args.old focus.old)
             (state_of (T.state table.old) run.old.global scope (lending held focus.old)) result
             (state_of (T.state table.new) run.new.global scope (lending held focus.new)) }
     {
@@ -298,6 +304,7 @@ impl<'e, H: Host> Evaluator<'e, H> {
             args,
             first_arg_pos,
             pos,
+            was_handle,
         ) {
             MethodCall::Ended(result) => result,
             MethodCall::OnTarget(function, args) => {

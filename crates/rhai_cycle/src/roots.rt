@@ -21,7 +21,7 @@ use rhai_context::Context;
 use rhai_items::{Shared, Text};
 use rhai_state::error::EvalAltResult;
 use rhai_state::table::NativeTable;
-use rhai_steps::errors::data_race_of;
+use rhai_steps::errors::{data_race, data_race_of};
 use rhai_steps::values::{flatten, let_go, unit_value};
 use rhai_steps::variables::{place_of_variable, read_function};
 use rhai_tree::expr::Expr;
@@ -111,7 +111,8 @@ impl<'e, H: Host> Evaluator<'e, H> {
     /// walked on there, and put back on every way out.
     ///
     /// # Errors
-    /// `ErrorUnboundThis` at `this`. All others are those of `walk_chain`.
+    /// At `this`: `ErrorUnboundThis`, and `ErrorDataRace` where it is the handle of a cell that is held. All
+    /// others are those of `walk_chain`.
     #[cycle(eval)]
     pub(crate) fn walk_this<T: NativeTable<H>>(
         &self,
@@ -142,6 +143,12 @@ impl<'e, H: Host> Evaluator<'e, H> {
             }
             Some(value) => {
                 let mut focus = value;
+                let is_anothers = is_held(&run.global.cells, &focus);
+                if is_anothers {
+                    drop(replace(&mut run.this, Some(focus)));
+                    drop(new);
+                    return Err(data_race(alloc, pos));
+                }
                 let answer = self.walk_chain(
                     alloc, run, table, root, &mut focus, rest, args, new, true,
                 );

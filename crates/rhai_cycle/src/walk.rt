@@ -15,7 +15,6 @@ mod methods;
 mod spots;
 
 use crate::evaluator::Evaluator;
-use crate::walk::methods::asked_by;
 use rhai_chains::chain::{NewValue, Switches};
 use rhai_chains::links::link_of;
 use rhai_context::Context;
@@ -54,7 +53,7 @@ impl<'e, H: Host> Evaluator<'e, H> {
 }
 
 impl<'e, H: Host> Evaluator<'e, H> {
-    /// The walk of what is left of a chain. A method is called on the focus, and then comes what is behind it.
+    /// The walk of what is left of a chain.
     #[cycle(eval)]
     pub(crate) fn walk_chain<T: NativeTable<H>>(
         &self,
@@ -89,14 +88,6 @@ impl<'e, H: Host> Evaluator<'e, H> {
             Begun::Enters => self.walk_entered(
                 alloc, run, table, root, focus, link, args, new, in_place,
             ),
-            Begun::Calls(method) => {
-                let (given, behind) = args.split_at_mut(method.call.args.len());
-                let (name, first) = asked_by(method);
-                let answer = self.run_method(
-                    alloc, run, table, name, focus, given, first, method.at,
-                );
-                self.walk_behind(alloc, run, table, root, answer, method.link, behind, new)
-            }
         }
     }
 }

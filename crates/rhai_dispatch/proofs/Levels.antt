@@ -16,7 +16,7 @@ use Rattle.rhai_machine.specs.language.Activations.{NoObject}
 use Rattle.rhai_machine.specs.language.Frames.{Dispatch, Call, Purpose, ToCall, ToCallOn, ToCallOnThis, ToCallFunction, ToCallNumber, ToCurry}
 use Rattle.rhai_machine.specs.language.Frames.{ToChain, Frame, Core, core, on_value, EnterFunction, Question, Fail}
 use Rattle.rhai_machine.specs.language.Calls.{asks_function, call_of, called_function, dispatch_core, enter_core, entry_of, found_core}
-use Rattle.rhai_machine.specs.language.Calls.{named_core, races}
+use Rattle.rhai_machine.specs.language.Calls.{call_races, named_core, races}
 use Rattle.rhai_machine.specs.language.Arguments.{arguments_there, call_on, lent_this, linked_core, numbered_core}
 use Rattle.rhai_machine.specs.language.Runs.{at, with_core, Goes}
 
@@ -56,7 +56,7 @@ module _ {H : Type 0} (k : List (Frame H)) (l : Local H) where
 
     pub dispatch_level : (how : Dispatch) (call : Call H) → IsLevel k l (dispatch_core s how call k l)
     dispatch_level how call =
-        either (races l.around.cells call.args) _ _ (record { stack = refl; local = refl }) (named_level how call.args call)
+        either (call_races how.of_method l.around.cells call.args) _ _ (record { stack = refl; local = refl }) (named_level how call.args call)
 
     pub number_level : (call : Call H) → IsLevel k l (numbered_core call k l)
     number_level call = either (races l.around.cells call.args)

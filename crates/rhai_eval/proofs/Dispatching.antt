@@ -74,10 +74,10 @@ module _ {S H : Type 0} (rules : Rules S H) where
   module _ (is_fresh : Bool) (pos : Position) (f : Function H) (args : List (Dynamic H)) (k : List (Frame H)) (s : State S H) where
     -- it is entered on the value that the call works on, or memory runs out before
     enters_on : (x : MethodCall H) → IsEntered x (method.OnTarget f args) →
-        Goes rules (at (EnterOnFocus f args pos) k s) (with_core (came_to is_fresh pos x k s.local) s)
-    enters_on (method.Ended (Err e)) is = wants_at (EnterOnFocus f args pos) k s e is
+        Goes rules (at (EnterOnFocus f is_fresh args pos) k s) (with_core (came_to is_fresh pos x k s.local) s)
+    enters_on (method.Ended (Err e)) is = wants_at (EnterOnFocus f is_fresh args pos) k s e is
     enters_on x is = subst (λ (y : MethodCall H).
-        Goes rules (at (EnterOnFocus f args pos) k s) (with_core (came_to is_fresh pos y k s.local) s)) (sym is) here
+        Goes rules (at (EnterOnFocus f is_fresh args pos) k s) (with_core (came_to is_fresh pos y k s.local) s)) (sym is) here
 
     -- or by itself
     enters_alone : (x : MethodCall H) → IsEntered x (method.Alone f args) →
@@ -186,7 +186,7 @@ module _ {S H : Type 0} (rules : Rules S H) where
     -- that of a method which was entered
     pub method_out : (f : Function H) (args : List (Dynamic H)) (r : Result (Dynamic H × Bool) (EvalAltResult H)) →
         call ≡ method.OnTarget f args → ComesTo is_fresh pos rules start old call middle →
-        MarkedRuns rules (EnterOnFocus f args pos) middle r new → ComesOut is_fresh pos rules start old (Ended r) new
+        MarkedRuns rules (EnterOnFocus f is_fresh args pos) middle r new → ComesOut is_fresh pos rules start old (Ended r) new
     unfolding ComesTo ComesOut Steps
     method_out f args r is to runs k = (rw is at to) k ⨾ runs k
 

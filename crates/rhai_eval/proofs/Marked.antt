@@ -13,9 +13,9 @@ use Rattle.rhai_machine.specs.language.Calls.{dispatch_core}
 use Rattle.rhai_machine.specs.language.Language.{machine}
 use Rattle.rhai_machine.specs.language.Memory.{IsWanting}
 use Rattle.rhai_machine.specs.language.Runs.{at, with_core, Goes, Steps}
-use Rattle.rhai_laws.specs.Kept.{Kept}
+use Rattle.rhai_laws.specs.Kept.{Kept, names_of}
 use Rattle.rhai_laws.proofs.KeptCalls.{dispatch_keeps}
-use Rattle.rhai_laws.proofs.KeptLaws.{kept, kept_from}
+use Rattle.rhai_laws.proofs.KeptLaws.{kept, kept_from, names_stay_from}
 use Rattle.rhai_laws.proofs.MemoryLaws.{straight}
 use Rattle.rhai_laws.proofs.WantLaws.{runs_up_to_memory, wants}
 use Rattle.rhai_steps.specs.States.{state_of}
@@ -90,6 +90,12 @@ module _ {S H : Type 0} (rules : Rules S H) where
     pub call_kept : RunsFrom rules (dispatch_core rules.setting how call) old r new → Kept rules old new
     unfolding RunsFrom
     call_kept runs = kept_from rules (dispatch_core rules.setting how call [] old.local) (marked r) old new
+        (λ a. dispatch_keeps a rules.setting how call [] old.local) (runs [])
+
+    -- the variables have the names that they had
+    pub call_names : RunsFrom rules (dispatch_core rules.setting how call) old r new → names_of new.local ≡ names_of old.local
+    unfolding RunsFrom
+    call_names runs = names_stay_from rules (dispatch_core rules.setting how call [] old.local) (marked r) old new
         (λ a. dispatch_keeps a rules.setting how call [] old.local) (runs [])
 
   -- which is the same whatever is in hand

@@ -5,6 +5,7 @@ use Rattle.rhai_values.specs.declared.base.value.Dynamic.{Dynamic}
 use Rattle.rhai_state.specs.declared.scope.Scope.{Scope}
 use Rattle.rhai_state.specs.declared.state.GlobalRuntimeState.{GlobalRuntimeState}
 use Rattle.rhai_state.specs.declared.error.EvalAltResult.{EvalAltResult}
+use Rattle.rhai_state.specs.Scope.{names_in}
 use Rattle.rhai_machine.specs.language.Setting.{Rules}
 use Rattle.rhai_machine.specs.language.State.{Held}
 use Rattle.rhai_machine.specs.language.Frames.{Operation}
@@ -44,3 +45,9 @@ module _ {S H : Type 0} (rules : Rules S H) (operation : Operation) (rest : List
 
     pub kept_told : (held : Held H) → KeptTold held was_there is_left → KeptTold held scope left
     kept_told held told = rw (is, leaves) told
+
+-- the variables of a scope have their names again
+pub names_told : {H : Type 0} (variables : Scope H) (scope left was_there is_left : Option (Scope H)) → scope ≡ was_there → left ≡ is_left →
+    names_in (unwrap_or is_left variables) ≡ names_in (unwrap_or was_there variables) →
+    names_in (unwrap_or left variables) ≡ names_in (unwrap_or scope variables)
+names_told variables scope left was_there is_left is leaves told = rw (is, leaves) told

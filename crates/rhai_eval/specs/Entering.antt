@@ -22,7 +22,7 @@ module _ {H : Type 0} (is_fresh : Bool) (at : Position) where
   -- the caller's
   abbrev pub came_to : MethodCall H → List (Frame H) → Local H → Core H
   came_to (method.Ended r) k l = core (marked r) k l
-  came_to (method.OnTarget function args) k l = core (EnterOnFocus function args at) k l
+  came_to (method.OnTarget function args) k l = core (EnterOnFocus function is_fresh args at) k l
   came_to (method.Alone function args) k l = core (EnterFunction (entry_of function NoObject is_fresh args at l)) k l
 
   -- the same of a call that enters no method any more

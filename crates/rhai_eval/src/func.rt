@@ -1,6 +1,7 @@
 //! Calls.
 
 pub mod call;
+mod captured;
 pub mod dispatch;
 pub mod method;
 pub mod native;

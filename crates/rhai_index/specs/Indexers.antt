@@ -1,14 +1,13 @@
 -- The indexers of a host: where one is asked, what it is asked, and what its answer comes to.
-use Rattle.std.specs.Prelude.{ℕ, Bool, true, false, not, ◌&&◌, List, [], ◌∷◌, Option, Some, None, Result, Ok, Err, codes, length}
+use Rattle.std.specs.Prelude.{ℕ, Bool, true, false, not, ◌&&◌, List, [], ◌∷◌, Option, Some, Result, Ok, Err, codes, length}
 use Rattle.rhai_tree.specs.declared.position.Position.{Position}
 use Rattle.rhai_tree.specs.Position.{none}
-use Rattle.rhai_index.specs.Types.{CellId, Dynamic, EvalAltResult, Limits, Part}
+use Rattle.rhai_index.specs.Types.{Dynamic, EvalAltResult, Limits, Part}
 use Rattle.rhai_state.specs.declared.error.EvalAltResult.TheVariants as error
 use Rattle.rhai_values.specs.declared.base.value.FnPtrKind.TheOpen as layer
 use Rattle.rhai_values.specs.Layers.{UnionLayer}
 use Rattle.rhai_state.specs.Native.{Request, Reply, Missing, Gives, Faults, Effect, Natives, Named, OfName, effect, request}
 use Rattle.rhai_values.specs.TypeNames.{type_name_of}
-use Rattle.rhai_values.specs.Cells.{value_of_cell, with_held, with_value}
 use Rattle.rhai_places.specs.declared.target.Part.TheVariants as part
 use Rattle.rhai_state.specs.Errors.{indexing_text}
 use Rattle.rhai_machine.specs.language.Calls.{placed_if_none, sized}
@@ -27,10 +26,6 @@ module _ {H : Type 0} where
   -- the indexer that reads, to which the object is lent
   abbrev pub reading : (index : Dynamic H) → Position → IndexerCall H
   reading index at = record { name = codes "index$get$"; index = index; values = []; is_lent = true; at = at }
-
-  -- the indexer that writes, with whether the object is lent to it
-  abbrev pub writing : (index value : Dynamic H) → (is_lent : Bool) → Position → IndexerCall H
-  writing index value is_lent at = record { name = codes "index$set$"; index = index; values = value ∷ []; is_lent = is_lent; at = at }
 
   -- ---- where one is asked
 
@@ -99,37 +94,7 @@ module _ {H : Type 0} where
   abbrev pub by_itself : (is_pure : Bool) → Result (Dynamic H) (EvalAltResult H) → Result (Dynamic H) (EvalAltResult H)
   by_itself is_pure outcome = outcome
 
-  -- an outcome with whether the object may have been changed
-  abbrev pub with_change : (changed : Bool) → Result (Dynamic H) (EvalAltResult H) → Result (Dynamic H × Bool) (EvalAltResult H)
-  with_change changed (Ok v) = Ok (v, changed)
-  with_change changed (Err e) = Err e
-
-  abbrev pub beside_change : (is_pure : Bool) → Result (Dynamic H) (EvalAltResult H) → Result (Dynamic H × Bool) (EvalAltResult H)
-  beside_change is_pure outcome = with_change (not is_pure) outcome
-
   -- its value as a part of a target: a temporary
   abbrev pub as_temporary : Result (Dynamic H) (EvalAltResult H) → Result (Part H) (EvalAltResult H)
   as_temporary (Ok v) = Ok (part.Temporary v)
   as_temporary (Err e) = Err e
-
-  -- ---- an object that is a handle
-
-  -- the cell that a value is a handle of
-  abbrev pub cell_of : UnionLayer H → Option CellId
-  cell_of (layer.Cell id) = Some id
-  cell_of _ = None
-
-  -- the value that is lent for an object: the one of its cell where it is a handle, None where the cell is held
-  abbrev pub lent_by : Option CellId → List (Option (Dynamic H)) → (object : Dynamic H) → Option (Dynamic H)
-  lent_by None cells object = Some object
-  lent_by (Some id) cells object = value_of_cell cells id.number
-
-  -- the cells while it is lent: that cell is held
-  abbrev pub lending : Option CellId → List (Option (Dynamic H)) → List (Option (Dynamic H))
-  lending None cells = cells
-  lending (Some id) cells = with_held cells id.number
-
-  -- the cells and the object once it is given back
-  abbrev pub given_back : Option CellId → List (Option (Dynamic H)) → (object left : Dynamic H) → List (Option (Dynamic H)) × Dynamic H
-  given_back None cells object left = (cells, left)
-  given_back (Some id) cells object left = (with_value (with_held cells id.number) id.number left, object)

@@ -5,5 +5,4 @@ pub use Rattle.rhai_places.specs.declared.target.Target.{Target}
 pub use Rattle.rhai_state.specs.declared.error.EvalAltResult.{EvalAltResult}
 pub use Rattle.rhai_state.specs.declared.limits.Limits.{Limits}
 pub use Rattle.rhai_state.specs.declared.state.GlobalRuntimeState.{GlobalRuntimeState}
-pub use Rattle.rhai_values.specs.declared.base.value.CellId.{CellId}
 pub use Rattle.rhai_values.specs.declared.base.value.Dynamic.{Dynamic}

@@ -194,7 +194,8 @@ module _ {H : Type 0} (a : Asked) where
     answered_keeps InPlace (Faults e) u k l stands =
         fault_keeps (says_missing (native_of InPlace u.operator) e) (placed_if_none u.at e) u k l stands
     answered_keeps AsValue reply u k l stands =
-        value_keeps (replied s.limits s.host_type reply (Some u.target) (u.operand ∷ []) (operation_of u) l.around.cells) u k l stands
+        value_keeps (replied s.limits s.host_type reply (Some u.target) (u.operand ∷ []) (operation_of u) false l.around.cells) u k l
+        stands
 
     lent_keeps : (reply : Reply H) (v : Dynamic H) (u : Update H) (k : List (Frame H)) (l : Local H) → Stands u.place l →
         Keeps a (calm k l) (lent_core s reply v u k l)

@@ -95,7 +95,7 @@ module _ {H : Type 0} (a : Asked) where
     backs = λ v. quiet a tt refl (λ t. t);
     asks = λ call. quiet a tt refl (λ t. t);
     enters = λ f object is_fresh args at. quiet a tt refl (λ t. t);
-    on_focus = λ is f args at. quiet a tt refl (λ t. t);
+    on_focus = λ is f is_fresh args at. quiet a tt refl (λ t. t);
   }
 
   -- a call that was not written as an operator
@@ -144,7 +144,8 @@ module _ {H : Type 0} (a : Asked) where
     native_keeps call from first rest k l stands = λ reply left.
         after a (calm k l) refl (λ t. t) (through a (put_left_keeps from left k l stands)
         (answered_keeps call.marks reply
-        (replied s.limits s.host_type reply left rest call.operation (while_from from l.around.cells)) k (put_left from left l)))
+        (replied s.limits s.host_type reply left rest call.operation (is_some call.number) (put_left from left l).around.cells) k
+        (put_left from left l)))
 
     fire_first_keeps : (call : Call H) (rest : List (Dynamic H)) (x : Dynamic H) (r : Result (First H) (EvalAltResult H))
         (k : List (Frame H)) (l : Local H) → first_of l.around.cells call x ≡ r →

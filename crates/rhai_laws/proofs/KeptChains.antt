@@ -21,7 +21,7 @@ use Rattle.rhai_places.specs.Parts.{part_of, value_at}
 use Rattle.rhai_machine.specs.machine.Machine.{Move, Halt}
 use Rattle.rhai_machine.specs.language.Setting.{Setting}
 use Rattle.rhai_machine.specs.language.State.{Local}
-use Rattle.rhai_machine.specs.language.Values.{through_union, through as seen_through, unit_value}
+use Rattle.rhai_machine.specs.language.Values.{is_handle, through_union, through as seen_through, unit_value}
 use Rattle.rhai_machine.specs.language.Names.{bound_this, meant, variable_of}
 use Rattle.rhai_machine.specs.language.Places.{focus_target}
 use Rattle.rhai_machine.specs.language.Links.{Link, LinkForm, AtIndex, AtProperty, AtMethod, asked_by, first_position, link_of, name_in}
@@ -83,7 +83,7 @@ module _ {H : Type 0} (a : Asked) where
   root_keeps (layer.Variable offset name namespace pos) chain k l =
       if_there (is_unqualified namespace.path) (core (ChainRoot chain) k l) _ (quiet a tt refl (λ t. t))
   root_keeps (layer.ThisPtr pos) chain k l = after a (calm k l) refl (λ t. t)
-      (on_keeps a (bound_this pos l.this) _ k l (λ v. quiet a tt refl (λ t. t)))
+      (on_keeps a (bound_this pos l.this) _ k l (λ v. on_keeps a (seen_through l.around.cells v pos) _ k l (λ inner. quiet a tt refl (λ t. t))))
   root_keeps _ chain k l = there_keeps a (is_none chain.new) (core (ChainRoot chain) k l) _ (quiet a tt refl (λ t. t))
 
   pub read_root_keeps : (name : List ℕ) (pos : Position) (chain : Chain H) (k : List (Frame H)) (l : Local H) →
@@ -209,9 +209,10 @@ module _ {H : Type 0} (a : Asked) where
     -- ---- what a link does
 
     -- a method of the focus, over what waits for its value
-    method_of_keeps : (name : List ℕ) (args : List Expr) (pos : Position) (chain : Chain H) (k : List (Frame H)) (l : Local H) →
-        Keeps a (calm k l) (method_of s name args pos chain k l)
-    method_of_keeps name args pos chain k l = method_keeps a s (record { name = name; at = pos; first_at = first_position args })
+    method_of_keeps : (name : List ℕ) (args : List Expr) (pos : Position) (was_handle : Bool) (chain : Chain H) (k : List (Frame H))
+        (l : Local H) → Keeps a (calm k l) (method_of s name args pos was_handle chain k l)
+    method_of_keeps name args pos was_handle chain k l = method_keeps a s
+        (record { name = name; at = pos; first_at = first_position args; was_handle = was_handle })
         (take (length args) chain.args) (focus_of l) k l
 
     after_method_keeps : (behind : Option ExprLayer) (link : Link) (chain : Chain H) (k : List (Frame H)) (l : Local H) →
@@ -270,7 +271,7 @@ module _ {H : Type 0} (a : Asked) where
         through a (after_method_keeps link.behind link chain k l)
         (after a (calm (PartMethod source at pos ∷ after_method link.behind link chain k) (focused_on (Some (part_of source at)) l))
         refl (λ t. t)
-        (method_of_keeps name args pos chain _ (focused_on (Some (part_of source at)) l)))
+        (method_of_keeps name args pos false chain _ (focused_on (Some (part_of source at)) l)))
     part_form_keeps _ link at chain source k l = quiet a tt refl (λ t. t)
 
     part_keeps : (link : Option Link) (at : Spot) (chain : Chain H) (source : Dynamic H) (k : List (Frame H)) (l : Local H) →
@@ -328,8 +329,9 @@ module _ {H : Type 0} (a : Asked) where
         property_keeps (is_map (layer_of inner)) name pos link inner chain k l is
     form_keeps (AtMethod name args pos) link inner chain k l is =
         there_keeps a (is_some link.behind || is_none chain.new) (core (Walk chain) k l) _
-        (after a (calm k l) refl (λ t. t) (through a (after_method_keeps link.behind link chain k l)
-        (method_of_keeps name args pos chain (after_method link.behind link chain k) l)))
+        (after a (calm k l) refl (λ t. t) (entered_keeps link inner _ k l is (λ above below.
+        through a (after_method_keeps link.behind link chain above below)
+        (method_of_keeps name args pos (is_handle (focus_of l).value) chain (after_method link.behind link chain above) below))))
 
     stop_keeps : (stopped : Bool) (link : Link) (inner : Dynamic H) (chain : Chain H) (k : List (Frame H)) (l : Local H) →
         Seen link inner l →

@@ -1,6 +1,6 @@
 -- What the rules of methods keep.
 use Rattle.std.proofs.Common.{refl, ap}
-use Rattle.std.specs.Prelude.{List}
+use Rattle.std.specs.Prelude.{Bool, List}
 use Rattle.rhai_tree.specs.declared.position.Position.{Position}
 use Rattle.rhai_values.specs.declared.base.value.Dynamic.{Dynamic}
 use Rattle.rhai_functions.specs.declared.function.Function.{Function}
@@ -24,11 +24,11 @@ module _ {H : Type 0} (a : Asked) (s : Setting H) where
 
 module _ {H : Type 0} (a : Asked) where
   -- and neither does a function that is entered on the focus
-  pub focus_keeps : (f : Function H) (args : List (Dynamic H)) (pos : Position) (k : List (Frame H)) (l : Local H) →
-      Keeps a (calm k l) (focus_core f args pos k l)
-  focus_keeps f args pos k l = focus_ends k l (λ d. Keeps a (calm k l) d) (record {
+  pub focus_keeps : (f : Function H) (is_fresh : Bool) (args : List (Dynamic H)) (pos : Position) (k : List (Frame H)) (l : Local H) →
+      Keeps a (calm k l) (focus_core f is_fresh args pos k l)
+  focus_keeps f is_fresh args pos k l = focus_ends k l (λ d. Keeps a (calm k l) d) (record {
     fails = λ e. quiet a tt refl (λ h. h);
-    enters = λ f args at. quiet a tt refl (λ h. h);
+    enters = λ f is_fresh args at. quiet a tt refl (λ h. h);
     fails_inside = λ n inner e free. quiet a tt (ap (unwound k) (entered_cell n inner l free)) (λ h. h);
-    enters_inside = λ n inner f args at free. quiet a tt (ap (unwound k) (entered_cell n inner l free)) (λ h. h);
-  }) f args pos
+    enters_inside = λ n inner f is_fresh args at free. quiet a tt (ap (unwound k) (entered_cell n inner l free)) (λ h. h);
+  }) f is_fresh args pos

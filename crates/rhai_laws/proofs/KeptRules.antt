@@ -459,7 +459,7 @@ module _ {H : Type 0} (a : Asked) where
           named_keeps a s operation curried args captures alone k l
       move_keeps (EnterFunction e) k l h = full_keeps (nat_lt s.limits.max_call_levels e.level)
           (nat_lt s.limits.max_variables (length (variables_before e.is_fresh l.scope) + length e.def.params)) e k l refl
-      move_keeps (EnterOnFocus f args pos) k l h = after a (calm k l) refl (λ t. t) (focus_keeps a f args pos k l)
+      move_keeps (EnterOnFocus f is_fresh args pos) k l h = after a (calm k l) refl (λ t. t) (focus_keeps a f is_fresh args pos k l)
       move_keeps (AssignThis op pos v) k l h = quiet a tt refl (λ t. t)
       move_keeps (Question call) k l h = question_keeps a s call call.args k l
       move_keeps (Fire call) k l h = fire_keeps a s call call.args k l

@@ -1,5 +1,5 @@
 -- Steps on which memory may run out, of any machine: their counts, what they keep, and up to where the machine takes them by itself.
-use Rattle.std.proofs.Common.{refl, inl, inr, arith}
+use Rattle.std.proofs.Common.{refl, inl, inr, arith, ◌∙◌}
 use Rattle.std.proofs.lemmas.Bool.Decides.{nat_tests}
 use Rattle.std.specs.Prelude.{◌≡◌, ◌⊎◌, ◌≤◌, ◌<◌, ℕ, Bool, true, false, Option, nat_lt}
 use Rattle.rhai_tree.specs.declared.position.Position.{Position}
@@ -8,9 +8,10 @@ use Rattle.rhai_state.specs.Native.{Request, Reply, Faults}
 use Rattle.rhai_machine.specs.machine.Machine.{Move, Halt, Go, Charge, Native, AskPure, Machine, below}
 use Rattle.rhai_machine.specs.machine.Unwinding.{Passes}
 use Rattle.rhai_machine.specs.machine.Point.{Point, Reaches, here as stop, next as step, paid, moved, after}
-use Rattle.rhai_machine.specs.machine.Memory.{Leads, here, next, wanting, starved, out_of_memory, starved_at, RunsOut, Wants}
+use Rattle.rhai_machine.specs.machine.Memory.{Leads, here, next, wanting, starved, out_of_memory, starved_at}
+use Rattle.rhai_machine.specs.machine.Memory.{before_step, in_native, RunsOut, Wants}
 use Rattle.rhai_laws.specs.Steady.{Moves, Steady}
-use Rattle.rhai_laws.specs.Memory.{IsStraight, IsUpTo, Counts, CountsWithin, IsKept}
+use Rattle.rhai_laws.specs.Memory.{IsStraight, IsUpTo, IsLeft, LeavesAll, Counts, CountsWithin, IsKept}
 
 module _ {S H Core : Type 0} (M : Machine S H Core) (allows : ℕ → Bool) where
   module _ (W : Core → Type 0) (w : Wants M W) where
@@ -40,23 +41,61 @@ module _ {S H Core : Type 0} (M : Machine S H Core) (allows : ℕ → Bool) wher
         Reaches M allows p q ⊎ RunsOut M allows W p q
     later (inl r) = inl (step r)
     later (inr o) =
-        inr (record { before = o.before; since = o.since; steps = step o.steps; count = o.count; wants = o.wants; unwinds = o.unwinds })
+        inr (record {
+          before = o.before;
+          since = o.since;
+          steps = step o.steps;
+          runs_out = o.runs_out;
+          wants = o.wants;
+          unwinds = o.unwinds;
+        })
 
     -- the machine takes the steps by itself, or up to where memory runs out
     pub up_to : {p q : Point S Core} → Leads M allows p q → Reaches M allows p q ⊎ RunsOut M allows W p q
     up_to here = inl stop
     up_to (next r) = later (up_to r)
     up_to (wanting {p = p} {at = at} r) =
-        inr (record { before = p; since = out_of_memory M at p; steps = stop; count = refl; wants = w.begins at p.core; unwinds = r })
+        inr (record {
+          before = p;
+          since = out_of_memory M at p;
+          steps = stop;
+          runs_out = before_step at;
+          wants = w.begins at p.core;
+          unwinds = r;
+        })
     up_to (starved {p = p} {f = f} {at = at} is e first state r) =
         inr (record {
           before = p;
           since = starved_at M at f e first state p;
           steps = stop;
-          count = refl;
+          runs_out = in_native is at e first state;
           wants = w.begins at (f (Faults e) first);
           unwinds = r;
         })
+
+    no_native : (v : Move H Core) (q : Request H) (f : Reply H → Option (Dynamic H) → Core) → v ≡ Native q f → Passes W v → ⊥
+    no_native v q f is s = rw is at s
+
+    left_moved : (v : Move H Core) (p : Point S Core) → Passes W v → IsLeft p (moved M allows v p)
+    left_moved Halt p s = record { count = refl; table = refl }
+    left_moved (Go d) p s = record { count = refl; table = refl }
+    left_moved (Charge at d) p s = absurd s
+    left_moved (Native q f) p s = absurd s
+    left_moved (AskPure q f) p s = absurd s
+
+    left_through : {p m q : Point S Core} → IsLeft p m → IsLeft m q → IsLeft p q
+    left_through a b = record { count = b.count ∙ a.count; table = b.table ∙ a.table }
+
+    -- want of memory charges nothing and calls nothing on its way down
+    pub left : {p q : Point S Core} → Leads M allows p q → W p.core → IsLeft p q
+    unfolding after
+    left here h = record { count = refl; table = refl }
+    left (next {p = p} r) h = left_through (left_moved (M.move p.core) p (w.stays p.core h))
+        (left r (passed (M.move p.core) p h (w.stays p.core h)))
+    left (wanting {p = p} {at = at} r) h =
+        let on = left r (w.begins at p.core) in record { count = on.count; table = on.table }
+    left (starved {p = p} {call = call} {f = f} is e first state r) h =
+        absurd (no_native (M.move p.core) call f is (w.stays p.core h))
 
   charge_counts : (b : Bool) (at : Position) (d : Core) (p : Point S Core) → p.count ≤ (paid M b at d p).count
   charge_counts true at d p = omega arith
@@ -131,6 +170,9 @@ module _ {S H Core : Type 0} (M : Machine S H Core) where
 
   pub up_to_law : (W : Core → Type 0) → IsUpTo M W
   up_to_law W w allows p q steps = up_to M allows W w steps
+
+  pub leaves_law : (W : Core → Type 0) → LeavesAll M W
+  leaves_law W w allows p q o = left M allows W w o.unwinds o.wants
 
   pub counts_law : Counts M
   counts_law allows p q steps = counts M allows steps

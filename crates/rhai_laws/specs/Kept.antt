@@ -28,6 +28,10 @@ module _ {H : Type 0} where
     constant_tables = map forgotten_table around.constant_tables;
   }
 
+  -- what is around stays so: the surroundings are the same but for values of cells and for constants
+  abbrev pub Around : (old new : Surroundings H) → Type 0
+  Around old new = forgotten new ≡ forgotten old
+
   -- a place that may be written to: a cell has to be free
   abbrev pub Stands : Place → Local H → Type 0
   Stands (InEntry index) l = ⊤
@@ -60,11 +64,10 @@ module _ {H : Type 0} where
   AddsNone (Enter stmts false) = ⊥
   AddsNone _ = ⊤
 
-  -- what stays: the count grows up to the limit, the surroundings are the same but for values of cells and for constants, and `this` stays
-  -- bound or unbound
+  -- what stays: the count grows up to the limit, what is around stays so, and `this` stays bound or unbound
   pub record Kept {S : Type 0} (rules : Rules S H) (old new : State S H) : Type 0 where
     pub counts : old.count ≤ new.count
     pub within : old.count ≤ limit_under rules → new.count ≤ limit_under rules
-    pub around : forgotten new.local.around ≡ forgotten old.local.around
+    pub around : Around old.local.around new.local.around
     pub scope_level : new.local.scope_level ≡ old.local.scope_level
     pub bound : is_some new.local.this ≡ is_some old.local.this

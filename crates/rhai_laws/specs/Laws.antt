@@ -8,9 +8,11 @@ use Rattle.rhai_machine.specs.language.Setting.{Rules, cut}
 use Rattle.rhai_machine.specs.language.State.{State, HasMemory}
 use Rattle.rhai_machine.specs.language.Frames.{Control, Core, ended}
 use Rattle.rhai_machine.specs.language.Language.{machine}
-use Rattle.rhai_machine.specs.language.Memory.{UpToMemory}
+use Rattle.rhai_machine.specs.machine.Memory.{RunsOut}
+use Rattle.rhai_machine.specs.language.Memory.{IsWanting, UpToMemory}
 use Rattle.rhai_machine.specs.language.Runs.{at, Goes, Steps}
 use Rattle.rhai_laws.specs.Kept.{Sound, names_of, AddsNone, Kept}
+use Rattle.rhai_laws.specs.Memory.{IsLeft}
 
 module _ {S H : Type 0} (rules : Rules S H) where
   -- where memory was not wanting at the end, the machine takes the steps by itself
@@ -22,6 +24,10 @@ module _ {S H : Type 0} (rules : Rules S H) where
   -- else it does up to where memory runs out
   abbrev pub GoesUpToMemory : Type 0
   GoesUpToMemory = (p q : Point S (Core H)) → Goes rules p q → UpToMemory rules p q
+
+  -- where memory ran out count and table's state stay as they were there
+  abbrev pub OutOfMemoryStays : Type 0
+  OutOfMemoryStays = (p q : Point S (Core H)) → (o : RunsOut (machine rules) (cut rules) IsWanting p q) → IsLeft o.since q
 
   -- what steps keep, from a control that is not in the midst of an update, or whose update has a place that stands
   abbrev pub StepsKeep : Type 0

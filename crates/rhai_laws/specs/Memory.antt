@@ -1,9 +1,14 @@
 -- The laws of steps on which memory may run out, of every machine.
-use Rattle.std.specs.Prelude.{◌⊎◌, ◌≤◌, ℕ, Bool}
+use Rattle.std.specs.Prelude.{◌≡◌, ◌⊎◌, ◌≤◌, ℕ, Bool}
 use Rattle.rhai_machine.specs.machine.Machine.{Machine, below}
 use Rattle.rhai_machine.specs.machine.Point.{Point, Reaches}
 use Rattle.rhai_machine.specs.machine.Memory.{Leads, RunsOut, Wants}
 use Rattle.rhai_laws.specs.Steady.{Steady}
+
+-- the count and the table's state of another point
+pub record IsLeft {S Core : Type 0} (p q : Point S Core) : Type 0 where
+  pub count : q.count ≡ p.count
+  pub table : q.table ≡ p.table
 
 module _ {S H Core : Type 0} (M : Machine S H Core) where
   module _ (W : Core → Type 0) where
@@ -14,6 +19,10 @@ module _ {S H Core : Type 0} (M : Machine S H Core) where
     -- the machine takes the steps by itself, or up to where memory runs out
     abbrev pub IsUpTo : Type 0
     IsUpTo = Wants M W → (allows : ℕ → Bool) (p q : Point S Core) → Leads M allows p q → Reaches M allows p q ⊎ RunsOut M allows W p q
+
+    -- where memory ran out, count and table stay as they were there
+    abbrev pub LeavesAll : Type 0
+    LeavesAll = Wants M W → (allows : ℕ → Bool) (p q : Point S Core) → (o : RunsOut M allows W p q) → IsLeft o.since q
 
   -- charges are only added
   abbrev pub Counts : Type 0

@@ -2,7 +2,7 @@
 //! function stands for the law that is its contract.
 
 ghost use Rattle.rhai_machine.specs.machine.Machine.{Machine};
-ghost use Rattle.rhai_laws.specs.Memory.{IsStraight, IsUpTo, Counts, CountsWithin, IsKept};
+ghost use Rattle.rhai_laws.specs.Memory.{IsStraight, IsUpTo, LeavesAll, Counts, CountsWithin, IsKept};
 
 use std::marker::PhantomData;
 
@@ -31,6 +31,11 @@ pub fn steps_are_straight<H, L: Starving<H>>(of: PhantomData<(H, L)>)
 /// The machine takes the steps by itself, or up to where memory runs out.
 pub fn steps_up_to_memory<H, L: Starving<H>>(of: PhantomData<(H, L)>)
     ensures { IsUpTo L.machine L.Wanting }
+{}
+
+/// Where memory ran out, count and table's state stay from there as they are at that point.
+pub fn want_of_memory_leaves_all<H, L: Starving<H>>(of: PhantomData<(H, L)>)
+    ensures { LeavesAll L.machine L.Wanting }
 {}
 
 /// The count never falls.

@@ -2,8 +2,8 @@
 //! run: each function stands for the law that is its contract.
 
 ghost use Rattle.rhai_machine.specs.language.Setting.{Setting, over};
-ghost use Rattle.rhai_laws.specs.Laws.{GoesWithMemory, GoesUpToMemory, StepsKeep, NamesStay, NamesBegin};
-ghost use Rattle.rhai_laws.specs.Laws.{VariablesStay};
+ghost use Rattle.rhai_laws.specs.Laws.{GoesWithMemory, GoesUpToMemory, OutOfMemoryStays};
+ghost use Rattle.rhai_laws.specs.Laws.{StepsKeep, NamesStay, NamesBegin, VariablesStay};
 ghost use Rattle.rhai_laws.specs.Assigned.{AssignsAtPath, RunsAssignAtPath};
 
 use rhai_state::table::NativeTable;
@@ -18,6 +18,12 @@ pub fn script_goes_with_memory<H: Host, T: NativeTable<H>>(of: PhantomData<(H, T
 /// Else the machine does so up to where memory runs out, and from there the run only unwinds.
 pub fn script_goes_up_to_memory<H: Host, T: NativeTable<H>>(of: PhantomData<(H, T)>)
     ensures { (setting : Setting H) → GoesUpToMemory (over setting T.natives) }
+{}
+
+/// Where memory ran out the count and the table's state stay: those of the point to which the machine
+/// came by itself, or what the native left there that found no memory.
+pub fn script_stays_out_of_memory<H: Host, T: NativeTable<H>>(of: PhantomData<(H, T)>)
+    ensures { (setting : Setting H) → OutOfMemoryStays (over setting T.natives) }
 {}
 
 /// A run adds charges alone, up to the limit. Its surroundings stay as they were but for the values

@@ -68,7 +68,7 @@ module _ {H : Type 0} where
     answered_falls InPlace (Gives v) u k l = changed_falls (sized s.limits v u.at) u k l
     answered_falls InPlace (Faults e) u k l = fault_falls (says_missing (native_of InPlace u.operator) e) (placed_if_none u.at e) u k l
     answered_falls AsValue reply u k l = value_falls (replied s.limits s.host_type reply (Some u.target) (u.operand ∷ [])
-        (operation_of u) l.around.cells) u k l
+        (operation_of u) false l.around.cells) u k l
 
     update_native_falls : (u : Update H) (k : List (Frame H)) (l : Local H) → Falls size (core (FireUpdate u) k l) (call_update s u k l)
     update_native_falls u k l reply left = answered_falls u.attempt reply (record u { target = left_in u left }) k

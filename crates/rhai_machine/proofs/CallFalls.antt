@@ -1,7 +1,7 @@
 -- The moves of calls make a core smaller.
 use Rattle.std.proofs.Common.{arith, refl}
 use Rattle.std.specs.Prelude.{◌<◌, ◌≤◌, ℕ, ◌+◌, length, ◌&&◌, Bool, true, false, List, [], ◌∷◌, ◌++◌, Option, Some, None}
-use Rattle.std.specs.Prelude.{Result, Ok, Err, codes}
+use Rattle.std.specs.Prelude.{Result, Ok, Err, codes, is_some}
 use Rattle.rhai_tree.specs.declared.position.Position.{Position}
 use Rattle.rhai_tree.specs.declared.expr.Expr.{Expr, out-Expr}
 use Rattle.rhai_values.specs.declared.base.value.Dynamic.{Dynamic}
@@ -20,7 +20,7 @@ use Rattle.rhai_machine.specs.language.Frames.{MakePointer, Curry, IsShared}
 use Rattle.rhai_machine.specs.language.Frames.{IsDefinedVariable, ToChain}
 use Rattle.rhai_machine.specs.language.Places.{Place, is_barred}
 use Rattle.rhai_machine.specs.language.Calls.{operator_core, call_of, plainly, races, dispatch_core, focus_core, fire_first, fire_move, First}
-use Rattle.rhai_machine.specs.language.Calls.{first_of, while_from, barred_call, question_first, question_move, call_native}
+use Rattle.rhai_machine.specs.language.Calls.{first_of, put_left, barred_call, question_first, question_move, call_native}
 use Rattle.rhai_machine.specs.language.Calls.{replied, applied}
 use Rattle.rhai_machine.specs.language.Arguments.{call_on, lent_this, this_in, is_captured, linked_core, linked_to, numbered_core}
 use Rattle.rhai_machine.specs.language.Arguments.{arguments_there, arguments_core, on_variable, on_this, captured_move}
@@ -37,7 +37,7 @@ module _ {H : Type 0} where
         (l : Local H) →
         Falls size (core (Fire call) k l) (call_native s call from first rest k l)
     native_falls call from first rest k l reply left = reply_falls call.marks reply
-        (replied s.limits s.host_type reply left rest call.operation (while_from from l.around.cells)) (11 + stack_size k)
+        (replied s.limits s.host_type reply left rest call.operation (is_some call.number) (put_left from left l).around.cells) (11 + stack_size k)
         (stack_size k) (omega arith)
 
     fire_first_falls : (call : Call H) (rest : List (Dynamic H)) (r : Result (First H) (EvalAltResult H)) (k : List (Frame H))
@@ -75,7 +75,7 @@ module _ {H : Type 0} where
       backs = λ v. omega arith;
       asks = λ call. omega arith;
       enters = λ f object is_fresh args at. omega arith;
-      on_focus = λ is f args at. omega arith;
+      on_focus = λ is f is_fresh args at. omega arith;
     }) s how refl call
 
     plain_falls : (call : Call H) (k : List (Frame H)) (l : Local H) →
@@ -199,17 +199,17 @@ module _ {H : Type 0} where
         backs = λ v. omega arith;
         asks = λ call. omega arith;
         enters = λ f object is_fresh args at. omega arith;
-        on_focus = λ is f args at. omega arith;
+        on_focus = λ is f is_fresh args at. omega arith;
       };
       questions = λ call. omega arith;
     }) method args focus
 
     -- a function that is entered on the focus
-    pub focus_falls : (f : Function H) (args : List (Dynamic H)) (at : Position) (k : List (Frame H)) (l : Local H) →
-        size (focus_core f args at k l) < 12 + stack_size k
-    focus_falls f args at k l = focus_ends k l (λ c. size c < 12 + stack_size k) (record {
+    pub focus_falls : (f : Function H) (is_fresh : Bool) (args : List (Dynamic H)) (at : Position) (k : List (Frame H)) (l : Local H) →
+        size (focus_core f is_fresh args at k l) < 12 + stack_size k
+    focus_falls f is_fresh args at k l = focus_ends k l (λ c. size c < 12 + stack_size k) (record {
       fails = λ e. omega arith;
-      enters = λ f args at. omega arith;
+      enters = λ f is_fresh args at. omega arith;
       fails_inside = λ n inner e free. omega arith;
-      enters_inside = λ n inner f args at free. omega arith;
-    }) f args at
+      enters_inside = λ n inner f is_fresh args at free. omega arith;
+    }) f is_fresh args at

@@ -22,7 +22,7 @@ use Rattle.rhai_paths.specs.Paths.{ToCell}
 use Rattle.rhai_machine.specs.machine.Settling.{Falls}
 use Rattle.rhai_machine.specs.language.Setting.{Setting}
 use Rattle.rhai_machine.specs.language.State.{Local}
-use Rattle.rhai_machine.specs.language.Values.{unit_value, through}
+use Rattle.rhai_machine.specs.language.Values.{unit_value, is_handle, through}
 use Rattle.rhai_machine.specs.language.Frames.{Frame, Core, core, Eval, NewValue, Chain, Member, Property, Item, MemberAccess, OpenChain}
 use Rattle.rhai_machine.specs.language.Frames.{ChainArguments, ChainRoot, ReadRoot, Walk, RootValue, StepDown, PartMethod, PartAssigned}
 use Rattle.rhai_machine.specs.language.Frames.{MemberLink, MemberGot, MemberSet}
@@ -36,7 +36,7 @@ use Rattle.rhai_machine.specs.language.Members.{indexer_missing}
 use Rattle.rhai_machine.specs.language.Located.{index_by, is_indexed, is_map, is_place_spot, is_unit, spot_of}
 use Rattle.rhai_machine.specs.language.Handles.{entered_by}
 use Rattle.rhai_machine.specs.language.Chains.{ready, opened_core, open_move, asked_move, root_move, read_root_core}
-use Rattle.rhai_machine.specs.language.Chains.{behind_link, after_method, kept_access, is_property, after_set, unless_barred, method_of}
+use Rattle.rhai_machine.specs.language.Chains.{behind_link, after_method, kept_access, is_property, after_set, unless_barred, method_of, method_entered}
 use Rattle.rhai_machine.specs.language.Chains.{assign_member, member_core, assign_focus, measured_place, assign_spot, part_form}
 use Rattle.rhai_machine.specs.language.Chains.{part_core as chain_part, descend, spot_core, indexed_core, locate_core, property_move}
 use Rattle.rhai_machine.specs.language.Chains.{form_move, stop_move, seen_move, walk_move}
@@ -196,7 +196,8 @@ module _ {H : Type 0} where
         size (part_form s form link at chain source k l) < 22 + (20 * links chain.rest + stack_size k)
     part_form_falls (AtMethod name args pos) link at chain source k l less = omega (
       arith,
-      method_falls s (record { name = name; at = pos; first_at = first_position args }) (take (length args) chain.args)
+      method_falls s (record { name = name; at = pos; first_at = first_position args; was_handle = false })
+          (take (length args) chain.args)
           (part_of source at) (PartMethod source at pos ∷ after_method link.behind link chain k)
           (focused_on (Some (part_of source at)) l),
       method_link_size link.behind link chain k,
@@ -265,17 +266,29 @@ module _ {H : Type 0} where
       less,
     )
 
+    -- a method enters the focus, over what waits for its value
+    method_of_falls : (name : List ℕ) (args : List Expr) (at : Position) (was_handle : Bool) (link : Link) (chain : Chain H)
+        (k : List (Frame H)) (l : Local H) →
+        size (method_of s name args at was_handle chain (after_method link.behind link chain k) l) < 13 + 20 * left_by link.behind + stack_size k
+    method_of_falls name args at was_handle link chain k l = omega (
+      arith,
+      method_falls s (record { name = name; at = at; first_at = first_position args; was_handle = was_handle })
+          (take (length args) chain.args) (focus_of l) (after_method link.behind link chain k) l,
+      method_link_size link.behind link chain k,
+    )
+
     form_falls : (form : LinkForm) (link : Link) (inner : Dynamic H) (chain : Chain H) (k : List (Frame H)) (l : Local H) →
         left_by link.behind ≤ links chain.rest → Falls size (core (Walk chain) k l) (form_move s form link inner chain k l)
     form_falls (AtIndex index) link inner chain k l less = tt
     form_falls (AtProperty name at) link inner chain k l less =
         property_falls (is_map (layer_of inner)) name at link inner chain k l less
     form_falls (AtMethod name args at) link inner chain k l less = there_falls (is_some link.behind || is_none chain.new)
-        (core (Walk chain) k l) (method_of s name args at chain (after_method link.behind link chain k) l) (omega (
+        (core (Walk chain) k l) (method_entered s name args at link inner chain k l) (omega (
           arith,
-          method_falls s (record { name = name; at = at; first_at = first_position args }) (take (length args) chain.args) (focus_of l)
-              (after_method link.behind link chain k) l,
-          method_link_size link.behind link chain k,
+          entered_falls (focus_of l).value inner
+              (λ above below. method_of s name args at (is_handle (focus_of l).value) chain (after_method link.behind link chain above) below)
+              (13 + 20 * left_by link.behind) k l
+              (λ j m. method_of_falls name args at (is_handle (focus_of l).value) link chain j m),
           less,
         ))
 

@@ -461,7 +461,7 @@ module _ {H : Type 0} where
     control_falls (AskUpdate u) k l = tt
     control_falls (Argument e) k l = argument_falls (literal_of (out-Expr e)) e k l
     control_falls (EnterFunction e) k l = tt
-    control_falls (EnterOnFocus f args at) k l = focus_falls s f args at k l
+    control_falls (EnterOnFocus f is_fresh args at) k l = focus_falls s f is_fresh args at k l
     control_falls (AssignThis op at v) k l = tt
     control_falls (CallNamed operation curried args captures alone) k l = named_call_falls s operation curried args captures alone k l
     control_falls (Question call) k l = question_falls s call call.args k l

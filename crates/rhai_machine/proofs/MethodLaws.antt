@@ -25,7 +25,8 @@ use Rattle.rhai_machine.specs.language.Activations.{Object, NoObject, TheFocus}
 use Rattle.rhai_machine.specs.language.Frames.{Operation, Dispatch, Call, Frame, Core, core, on_value, Ask, EnterFunction, EnterOnFocus}
 use Rattle.rhai_machine.specs.language.Frames.{Question, Back, Fail, StepDown}
 use Rattle.rhai_machine.specs.language.Handles.{entered_by, focus_of}
-use Rattle.rhai_machine.specs.language.Calls.{args_given, call_of, races, asks_function, entry_of, inside_core, focus_core, enter_core, plainly}
+use Rattle.rhai_machine.specs.language.Calls.{args_given, asks_function, call_of, call_races, entry_of, inside_core, focus_core, enter_core}
+use Rattle.rhai_machine.specs.language.Calls.{plainly, races}
 use Rattle.rhai_machine.specs.language.Calls.{called_function, found_core, named_core, dispatch_core}
 use Rattle.rhai_machine.specs.language.Arguments.{operation_named, pointer_wanted, numbered_core, linked_core, linked_to, natives_alone}
 use Rattle.rhai_machine.specs.language.Methods.{Method, MethodWord, CallWord, CurryWord, SharedWord, PlainWord, word_of, argument_at}
@@ -58,7 +59,8 @@ pub record Dispatched {H : Type 0} (of_method : Bool) (k : List (Frame H)) (l : 
   pub asks : (call : Call H) → R (core (Ask call) k l)
   pub enters : (f : Function H) (object : Object) (is_fresh : Bool) (args : List (Dynamic H)) (at : Position) →
       R (core (EnterFunction (entry_of f object is_fresh args at l)) k l)
-  pub on_focus : of_method ≡ true → (f : Function H) (args : List (Dynamic H)) (at : Position) → R (core (EnterOnFocus f args at) k l)
+  pub on_focus : of_method ≡ true → (f : Function H) (is_fresh : Bool) (args : List (Dynamic H)) (at : Position) →
+      R (core (EnterOnFocus f is_fresh args at) k l)
 
 -- and besides of a question
 pub record Ends {H : Type 0} (k : List (Frame H)) (l : Local H) (R : Core H → Type 0) : Type 0 where
@@ -68,12 +70,12 @@ pub record Ends {H : Type 0} (k : List (Frame H)) (l : Local H) (R : Core H → 
 -- what holds of an error and of a function that is entered, here or in the cell of the focus
 pub record Focused {H : Type 0} (k : List (Frame H)) (l : Local H) (R : Core H → Type 0) : Type 0 where
   pub fails : (e : EvalAltResult H) → R (core (Fail e) k l)
-  pub enters : (f : Function H) (args : List (Dynamic H)) (at : Position) →
-      R (core (EnterFunction (entry_of f TheFocus true args at l)) k l)
+  pub enters : (f : Function H) (is_fresh : Bool) (args : List (Dynamic H)) (at : Position) →
+      R (core (EnterFunction (entry_of f TheFocus is_fresh args at l)) k l)
   pub fails_inside : (n : ℕ) (inner : Dynamic H) (e : EvalAltResult H) → IsFree n l →
       R (core (Fail e) (frames_inside n k l) (inside n inner l))
-  pub enters_inside : (n : ℕ) (inner : Dynamic H) (f : Function H) (args : List (Dynamic H)) (at : Position) → IsFree n l →
-      R (core (EnterFunction (entry_of f TheFocus true args at (inside n inner l))) (frames_inside n k l) (inside n inner l))
+  pub enters_inside : (n : ℕ) (inner : Dynamic H) (f : Function H) (is_fresh : Bool) (args : List (Dynamic H)) (at : Position) →
+      IsFree n l → R (core (EnterFunction (entry_of f TheFocus is_fresh args at (inside n inner l))) (frames_inside n k l) (inside n inner l))
 
 module _ {H : Type 0} (k : List (Frame H)) (l : Local H) (R : Core H → Type 0) where
   if_ends : (holds : Bool) (c d : Core H) → R c → R d → R (if holds then c else d)
@@ -94,18 +96,19 @@ module _ {H : Type 0} (k : List (Frame H)) (l : Local H) (R : Core H → Type 0)
   on_ends (Err e) go fails h = fails e
 
   -- a function that is entered on the focus
-  pub focus_ends : Focused k l R → (f : Function H) (args : List (Dynamic H)) (at : Position) → R (focus_core f args at k l)
-  focus_ends b f args at = on_ends (through l.around.cells (focus_of l) at) _ b.fails (λ inner is.
-      entered_ends at (focus_of l).value inner (λ k l. inside_core f args at k l) is
-      (if_ends (races l.around.cells args) _ _ (b.fails _) (b.enters f args at))
+  pub focus_ends : Focused k l R → (f : Function H) (is_fresh : Bool) (args : List (Dynamic H)) (at : Position) →
+      R (focus_core f is_fresh args at k l)
+  focus_ends b f is_fresh args at = on_ends (through l.around.cells (focus_of l) at) _ b.fails (λ inner is.
+      entered_ends at (focus_of l).value inner (λ k l. inside_core f is_fresh args at k l) is
+      (if_ends (races l.around.cells args) _ _ (b.fails _) (b.enters f is_fresh args at))
       (λ n free. if_ends (races (inside n inner l).around.cells args) _ _ (b.fails_inside n inner _ free)
-      (b.enters_inside n inner f args at free)))
+      (b.enters_inside n inner f is_fresh args at free)))
 
 module _ {H : Type 0} (k : List (Frame H)) (l : Local H) (R : Core H → Type 0) (m : Bool) (b : Dispatched m k l R) where
   -- functions of scripts
   enter_ends : (of_method : Bool) → of_method ≡ m → (f : Function H) (how : Dispatch) (call : Call H) →
       R (enter_core of_method f how call k l)
-  enter_ends true is f how call = b.on_focus (sym is) f (drop 1 call.args) call.operation.at
+  enter_ends true is f how call = b.on_focus (sym is) f (not how.on_scope) (drop 1 call.args) call.operation.at
   enter_ends false is f how call = b.enters f NoObject (not how.on_scope) (args_given call.lender call.args) call.operation.at
 
   pub linked_ends : (f : Function H) (at : Position) (args : List (Dynamic H)) → R (linked_core f at args k l)
@@ -128,7 +131,7 @@ module _ {H : Type 0} (k : List (Frame H)) (l : Local H) (R : Core H → Type 0)
     named_ends (v ∷ w ∷ x ∷ args) call = found_ends (called_function s how call l) call
 
     pub dispatch_ends : (call : Call H) → R (dispatch_core s how call k l)
-    dispatch_ends call = if_ends k l R (races l.around.cells call.args) _ _ (b.fails _) (named_ends call.args call)
+    dispatch_ends call = if_ends k l R (call_races how.of_method l.around.cells call.args) _ _ (b.fails _) (named_ends call.args call)
 
 module _ {H : Type 0} (s : Setting H) (k : List (Frame H)) (l : Local H) (R : Core H → Type 0) (b : Ends k l R) where
   fails : (e : EvalAltResult H) → R (core (Fail e) k l)
@@ -145,7 +148,7 @@ module _ {H : Type 0} (s : Setting H) (k : List (Frame H)) (l : Local H) (R : Co
   numbered_on_ends : (number : ℕ) (operation : Operation) (args : List (Dynamic H)) (focus : Dynamic H) →
       R (numbered_on number operation args focus k l)
   numbered_on_ends number operation args focus =
-      if_ends k l R (races l.around.cells args) _ _ (fails _) (b.questions _)
+      if_ends k l R (call_races true l.around.cells (focus ∷ args)) _ _ (fails _) (b.questions _)
 
   -- pointers
   unlinked_on_ends : (of : FnPtrKind H) (pointer : FnPtr H) (method : Method) (called : List ℕ) (args : List (Dynamic H))
@@ -157,7 +160,7 @@ module _ {H : Type 0} (s : Setting H) (k : List (Frame H)) (l : Local H) (R : Co
 
   pointer_on_ends : (function : Option (Function H)) (pointer : FnPtr H) (method : Method) (called : List ℕ) (args : List (Dynamic H))
       (focus : Dynamic H) → R (pointer_on s function pointer method called args focus k l)
-  pointer_on_ends (Some f) pointer method called args focus = (b.dispatched true).on_focus refl f args method.at
+  pointer_on_ends (Some f) pointer method called args focus = (b.dispatched true).on_focus refl f true args method.at
   pointer_on_ends None pointer method called args focus = unlinked_on_ends (out-FnPtr H pointer).kind pointer method called args focus
 
   unlinked_alone_ends : (of : FnPtrKind H) (pointer : FnPtr H) (at : Position) (args : List (Dynamic H)) →

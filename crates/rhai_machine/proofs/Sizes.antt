@@ -41,7 +41,7 @@ module _ {H : Type 0} where
   control_size (AskUpdate u) = 0
   control_size (Argument e) = 1
   control_size (EnterFunction e) = 0
-  control_size (EnterOnFocus function args at) = 12
+  control_size (EnterOnFocus function is_fresh args at) = 12
   control_size (AssignThis op at v) = 0
   control_size (CallNamed operation curried args captures natives_alone) = 14
   control_size (Question call) = 12

@@ -33,6 +33,7 @@ module _ {S H : Type 0} (table : Table S H) (host : H → List ℕ) where
     mismatch = by_times _ _ 0 (simp pointing);
     own = λ replies impure. by_times _ _ 3 (simp (replies, impure, pointing));
     shared = by_times _ _ 0 refl;
+    entered = by_times _ _ 0 refl;
     races = by_times _ _ 0 refl;
     called_race = by_times _ _ 0 refl;
   }

@@ -5,6 +5,8 @@ use Rattle.std.specs.Str.{chars, encode_utf8_all}
 use lib.Utf8.{encode}
 use Rattle.rhai_places.specs.Bits.{digits, bits, bit, with_bit}
 use Rattle.rhai_state.specs.Native.{Request}
+use Rattle.rhai_values.specs.declared.base.value.FnPtr.{out-roll-FnPtr}
+use Rattle.rhai_values.specs.declared.base.value.Union.TheVariants as kind
 use Rattle.rhai_machine.specs.Types.{Dynamic, Expr}
 use Rattle.rhai_machine.specs.machine.Machine.{Config}
 use Rattle.rhai_machine.specs.language.Frames.{Core, Temporary, Walk}
@@ -14,7 +16,7 @@ use Rattle.rhai_machine_samples.specs.Data.{word}
 use Rattle.rhai_machine_samples.specs.Handles.{handle}
 use Rattle.rhai_machine_samples.specs.Items.{array, dot}
 use Rattle.rhai_machine_samples.specs.Parts.{MethodChains, Parts, asked, char, fixed_text, m_of, m_of_first, method_call, n_of_m}
-use Rattle.rhai_machine_samples.specs.Parts.{p_of_handle, part_by}
+use Rattle.rhai_machine_samples.specs.Parts.{call_of_handle, f_of_handle, handle_map, handle_pointer, p_of_handle, part_by}
 use Rattle.rhai_machine_samples.proofs.SampleRuns.{by_steps, stretch}
 use Rattle.rhai_machine_samples.proofs.ChainRuns.{chained, asks, reads, sets, walks_in, new_at, below, on_x, on_its_way}
 
@@ -36,6 +38,8 @@ unfolding digits
 two_of_bit = refl
 
 ruleset parted = (chained, ab_chars, xb_text, bit_of_two, two_of_bit)
+
+ruleset pointed = (chained, kind.outs-Map, kind.outs-FnPtr, out-roll-FnPtr)
 
 module _ {S H : Type 0} (table : Table S H) (host : H → List ℕ) where
   -- the chain of a method of an item has its index
@@ -70,6 +74,10 @@ module _ {S H : Type 0} (table : Table S H) (host : H → List ℕ) where
         (method_call 3 (codes "is_shared") [])) None [] (below 2) 3) (simp chained) (by_steps _ _ 12 (simp chained) refl);
     of_handle = λ impure replies. stretch _ _ 9 _ (walks_in table host (Some (integer 1)) [] (codes "h") 0 handle
         (m_of (codes "h") []) None [] (below 2) 3) (simp chained) (by_steps _ _ 20 (simp (impure, replies, chained)) refl);
+    own_argument = stretch _ _ 9 _ (walks_in table host (Some handle_pointer) [] (codes "h") 0 handle call_of_handle None [] (below 2) 3)
+        (simp pointed) (by_steps _ _ 12 (simp pointed) refl);
+    own_entry = stretch _ _ 9 _ (walks_in table host (Some handle_map) [] (codes "h") 0 handle f_of_handle None [] (below 2) 3)
+        (simp pointed) (by_steps _ _ 12 (simp pointed) refl);
     property_of_handle = λ replies. stretch _ _ 9 _ (walks_in table host (Some (integer 1)) [] (codes "h") 0 handle p_of_handle None []
         (below 2) 3) (simp chained) (by_steps _ _ 20 (simp (replies, chained)) refl);
   }

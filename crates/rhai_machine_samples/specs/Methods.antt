@@ -22,9 +22,9 @@ use Rattle.rhai_machine_samples.specs.Data.{word}
 use Rattle.rhai_machine_samples.specs.Handles.{handle}
 use Rattle.rhai_machine_samples.specs.Calls.{number_pointer}
 
--- a method after a variable of one letter
+-- a method after a variable of one letter, whose value is a handle or was one
 abbrev pub method : List ℕ → Method
-method name = record { name = name; at = column 3; first_at = Some (column 8) }
+method name = record { name = name; at = column 3; first_at = Some (column 8); was_handle = true }
 
 module _ {H : Type 0} where
   -- the value that a method is called on, where the only cell is held
@@ -72,7 +72,8 @@ module _ {S H : Type 0} (table : Table S H) (host : H → List ℕ) where
     -- a map's own pointer is called on the map, after what the pointer has
     pub own : Answers table g_asked (Gives unit) f_map → IsImpure table (OfName (codes "g") (codes "map") 3) →
         Comes f_map (codes "f") (integer 4 ∷ []) (Changed unit) 1 f_map
-    -- a handle is shared, also of a held cell, which no other method is called on
+    -- a handle is shared, also of a held cell, which no other method is called on, and so is what was one before it was entered
     pub shared : Comes handle (codes "is_shared") [] (Back (truth true)) 0 handle
+    pub entered : Comes (integer 1) (codes "is_shared") [] (Back (truth true)) 0 (integer 1)
     pub races : Comes handle (codes "inc") [] (Fail (ErrorDataRace (codes "inc") (column 3))) 0 handle
     pub called_race : Comes handle (codes "call") [] (Fail (ErrorDataRace [] (column 3))) 0 handle

@@ -3,16 +3,18 @@ use Rattle.std.specs.Prelude.{◌≡◌, ℕ, true, false, List, [], ◌∷◌, 
 use Rattle.rhai_machine.specs.Types.{Dynamic, Expr, Stmt}
 use Rattle.rhai_tree.specs.declared.expr.Expr.TheVariants as expr
 use Rattle.rhai_values.specs.declared.base.value.AccessMode.TheVariants.{ReadOnly}
+use Rattle.rhai_values.specs.declared.base.value.FnPtr.{roll-FnPtr}
+use Rattle.rhai_values.specs.declared.base.value.FnPtrKind.TheVariants as leads
 use Rattle.rhai_values.specs.declared.base.value.Union.TheVariants as kind
 use Rattle.rhai_values.specs.Copy.{plain}
-use Rattle.rhai_state.specs.declared.error.EvalAltResult.TheVariants.{ErrorAssignmentToConstant, ErrorMismatchDataType}
+use Rattle.rhai_state.specs.declared.error.EvalAltResult.TheVariants.{ErrorAssignmentToConstant, ErrorDataRace, ErrorMismatchDataType}
 use Rattle.rhai_state.specs.declared.error.EvalAltResult.TheVariants.{ErrorTooManyOperations}
 use Rattle.rhai_state.specs.Native.{Request, Purity, Gives, Named, OfName, request}
 use Rattle.rhai_machine_samples.specs.Trees.{column, int, bool, var, value, assign}
 use Rattle.rhai_machine_samples.specs.Runs.{Table, Answers, IsImpure, EndsScript, usual, limited, integer, truth}
 use Rattle.rhai_machine_samples.specs.Data.{word}
 use Rattle.rhai_machine_samples.specs.Calls.{named}
-use Rattle.rhai_machine_samples.specs.Handles.{one_cell, EndsOver}
+use Rattle.rhai_machine_samples.specs.Handles.{handle, one_cell, EndsOver}
 use Rattle.rhai_machine_samples.specs.Items.{Reads, Refuses, Sets, array, dot, index, property}
 use Rattle.rhai_machine_samples.specs.Members.{Calls, OnX}
 
@@ -36,6 +38,13 @@ m_of_first name = index 2 (var 1 name) (dot 5 (int 3 0) (method_call 6 (codes "m
 -- `h.is_shared()`
 abbrev pub is_shared : List Stmt
 is_shared = value (dot 2 (var 1 (codes "h")) (method_call 3 (codes "is_shared") [])) ∷ []
+
+-- `h.call()` and `h.f()`
+abbrev pub call_of_handle : Expr
+call_of_handle = dot 2 (var 1 (codes "h")) (method_call 3 (codes "call") [])
+
+abbrev pub f_of_handle : Expr
+f_of_handle = dot 2 (var 1 (codes "h")) (method_call 3 (codes "f") [])
 
 -- `h.p`
 abbrev pub p_of_handle : Expr
@@ -77,6 +86,13 @@ module _ {H : Type 0} where
   abbrev pub p_in_cell : Request H
   p_in_cell = request (None ∷ []) (Named (codes "get$p")) (Some (integer 1)) [] (column 3)
 
+  -- a pointer by the name `g` that has the handle of the one cell already, and a map with that handle under `f`
+  abbrev pub handle_pointer : Dynamic H
+  handle_pointer = plain (kind.FnPtr {X1 = H} (roll-FnPtr H (record { name = codes "g"; curry = handle ∷ []; kind = leads.Name })))
+
+  abbrev pub handle_map : Dynamic H
+  handle_map = plain (kind.Map (codes "f" ∷ [], handle ∷ []))
+
   -- a text that may not be changed
   abbrev pub fixed_text : Dynamic H
   fixed_text = record { value = kind.Str (codes "ab"); mode = ReadOnly }
@@ -111,6 +127,11 @@ module _ {S H : Type 0} (table : Table S H) (host : H → List ℕ) where
     pub of_handle : IsImpure table (m_on (codes "i64") 1) → Answers table m_in_cell (Gives (integer 7)) (integer 2) →
         EndsScript table (usual host) false (value (m_of (codes "h") []) ∷ []) 0 (one_cell table host (Some (integer 1)) [])
         (Ok (integer 7)) 4 (one_cell table host (Some (integer 2)) []) (m_in_cell ∷ [])
+    -- the cell is held while a method works on its value: so a pointer there that is called with the handle races, and so does a map there
+    -- whose own entry is the handle
+    pub own_argument : EndsOver table host (Some handle_pointer) (value call_of_handle ∷ [])
+        (Err (ErrorDataRace (codes "g") (column 3))) 3 []
+    pub own_entry : EndsOver table host (Some handle_map) (value f_of_handle ∷ []) (Err (ErrorDataRace [] (column 3))) 3 []
     -- so is its property got
     pub property_of_handle : Answers table p_in_cell (Gives (integer 7)) (integer 9) →
         EndsScript table (usual host) false (value p_of_handle ∷ []) 0 (one_cell table host (Some (integer 1)) [])

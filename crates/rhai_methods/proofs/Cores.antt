@@ -1,6 +1,6 @@
 -- What a pointer is called by, and what its copy is.
 use Rattle.std.proofs.Common.{◌≡◌, List, ◌++◌, map, length, Option, Some, None, Result, Ok, Err, refl, sym, ap, ◌∙◌}
-use Rattle.std.specs.Prelude.{ℕ, false, codes}
+use Rattle.std.specs.Prelude.{ℕ, false, true, codes}
 use Rattle.std.specs.Option.{option_map}
 use Rattle.rhai_tree.specs.declared.position.Position.{Position}
 use Rattle.rhai_values.specs.declared.base.value.Dynamic.{Dynamic}
@@ -57,7 +57,7 @@ module _ {H : Type 0} where
         (focus : Dynamic H) →
         pointer_on s found q method called (copied_before q args) focus k l ≡ on_as s found (copy_pointer q) called method.at args focus k l
     copied_on_is (Some f) q method called args focus =
-        sym (ap (λ o. core (EnterOnFocus f (o.curry ++ args) method.at) k l) (copied_out q))
+        sym (ap (λ o. core (EnterOnFocus f true (o.curry ++ args) method.at) k l) (copied_out q))
     copied_on_is None q method called args focus =
         unlinked_on_is (out-FnPtr H q).kind q method called (copied_before q args) focus
         ∙ sym (ap (λ o. on_by s (number_in o.kind) called o.name method.at (o.curry ++ args) focus k l) (copied_out q))

@@ -12,7 +12,7 @@ use Rattle.rhai_machine.specs.language.Setting.{Rules}
 use Rattle.rhai_machine.specs.language.State.{Answers, Local, State}
 use Rattle.rhai_machine.specs.language.Activations.{NoObject}
 use Rattle.rhai_machine.specs.language.Frames.{Operation, Dispatch, Call, EnterFunction, Frame, Core, core, ended, marked, Question, Fail}
-use Rattle.rhai_machine.specs.language.Calls.{call_of, dispatch_core, entry_of, plainly, races}
+use Rattle.rhai_machine.specs.language.Calls.{call_of, call_races, dispatch_core, entry_of, plainly, races}
 use Rattle.rhai_machine.specs.language.Arguments.{linked_core, natives_alone, operation_named}
 use Rattle.rhai_machine.specs.language.Methods.{as_method, number_on_focus, numbered_on, on_focus}
 use Rattle.rhai_machine.specs.language.Runs.{at, with_core, Goes, Runs, Steps}
@@ -156,7 +156,7 @@ module _ {S H : Type 0} (rules : Rules S H) (pos : Position) where
   module _ (number : ℕ) (operation : Operation) (args : List (Dynamic H)) where
     -- it is asked about on the focus
     pub number_asks_on : (focus : Dynamic H) (s new : State S H) (r : Result (Dynamic H × Bool) (EvalAltResult H)) →
-        races s.local.around.cells args ≡ false → MarkedRuns rules (Question (number_on_focus number operation args focus)) s r new →
+        call_races true s.local.around.cells (focus ∷ args) ≡ false → MarkedRuns rules (Question (number_on_focus number operation args focus)) s r new →
         CallsFrom rules pos (numbered_on number operation args focus) s (Ended r) new
     unfolding CallsFrom Steps
     number_asks_on focus s new r free runs k =
@@ -165,7 +165,8 @@ module _ {S H : Type 0} (rules : Rules S H) (pos : Position) where
         else core (Question (number_on_focus number operation args focus)) k s.local) s) (at (marked r) k new)) (sym free) (runs k)
 
     -- unless an argument's cell is held
-    pub number_races_on : (focus : Dynamic H) (s : State S H) (e : EvalAltResult H) → races s.local.around.cells args ≡ true →
+    pub number_races_on : (focus : Dynamic H) (s : State S H) (e : EvalAltResult H) →
+        call_races true s.local.around.cells (focus ∷ args) ≡ true →
         (is_out_of_memory e ≡ false → e ≡ error.ErrorDataRace operation.name operation.at) →
         CallsFrom rules pos (numbered_on number operation args focus) s (Ended (Err e)) s
     number_races_on focus s e held is = fails_from (numbered_on number operation args focus) s e

@@ -14,7 +14,7 @@ use Rattle.rhai_machine.specs.language.Setting.{Setting}
 use Rattle.rhai_machine.specs.language.State.{Local}
 use Rattle.rhai_machine.specs.language.Values.{through}
 use Rattle.rhai_machine.specs.language.Frames.{Operation, Frame, ToCallFunction}
-use Rattle.rhai_machine.specs.language.Calls.{call_of, plainly, races}
+use Rattle.rhai_machine.specs.language.Calls.{call_of, call_races, plainly}
 use Rattle.rhai_machine.specs.language.Arguments.{linked_core, linked_to, natives_alone, operation_named, pointer_wanted}
 use Rattle.rhai_machine.specs.language.Methods.{Method, CallWord, argument_at, as_method, call_argument, call_core, copied_before}
 use Rattle.rhai_machine.specs.language.Methods.{entry_core, numbered_on, on_focus, own_core, own_entry, pointer_alone, pointer_on}
@@ -37,7 +37,7 @@ module _ {H : Type 0} (k : List (Frame H)) (l : Local H) where
   numbered_level : (number : ℕ) (operation : Operation) (args : List (Dynamic H)) (focus : Dynamic H) →
       IsLevel k l (numbered_on number operation args focus k l)
   numbered_level number operation args focus =
-      either k l (races l.around.cells args) _ _ (record { stack = refl; local = refl }) (record { stack = refl; local = refl })
+      either k l (call_races true l.around.cells (focus ∷ args)) _ _ (record { stack = refl; local = refl }) (record { stack = refl; local = refl })
 
   module _ (s : Setting H) where
     pub linked_level : (f : Function H) (at : Position) (args : List (Dynamic H)) → IsLevel k l (linked_core f at args k l)

@@ -8,7 +8,7 @@ use Rattle.rhai_state.specs.declared.error.EvalAltResult.{EvalAltResult}
 use Rattle.rhai_state.specs.Errors.{is_out_of_memory}
 use Rattle.rhai_machine.specs.language.Setting.{Rules}
 use Rattle.rhai_machine.specs.language.State.{Answers, State}
-use Rattle.rhai_machine.specs.language.Values.{bool_value, is_handle, mismatch, through}
+use Rattle.rhai_machine.specs.language.Values.{bool_value, mismatch, through}
 use Rattle.rhai_machine.specs.language.Arguments.{pointer_wanted}
 use Rattle.rhai_machine.specs.language.Methods.{Method, MethodWord, CallWord, CurryWord, SharedWord, argument_at, call_argument}
 use Rattle.rhai_machine.specs.language.Methods.{own_core, own_entry, word_core, word_of}
@@ -105,10 +105,10 @@ module _ {S H : Type 0} (rules : Rules S H) (method : Method) (args : List (Dyna
 
   -- ---- `is_shared`
 
-  pub shared_goes : (v : Dynamic H) → v ≡ bool_value (is_handle focus.value) →
+  pub shared_goes : (v : Dynamic H) → v ≡ bool_value method.was_handle →
       CallsFrom rules method.at (word_core rules.setting SharedWord method args focus) old (Ended (Ok (v, false))) old
   shared_goes v is = ends_from rules method.at (word_core rules.setting SharedWord method args focus) old
-      (Ok (bool_value (is_handle focus.value))) (Ok v) (Ok (v, false)) (λ k. refl) (λ m. ap Ok is) refl
+      (Ok (bool_value method.was_handle)) (Ok v) (Ok (v, false)) (λ k. refl) (λ m. ap Ok is) refl
 
   -- ---- any other name
 

@@ -17,7 +17,7 @@ module _ {H : Type 0} where
   -- what came of a method's call: its answer comes back with its mark, or a function of a script is entered, on the focus or by itself
   abbrev pub came_from : Position → MethodCall H → List (Frame H) → Local H → Core H
   came_from at (Ended r) k l = core (marked r) k l
-  came_from at (OnTarget function args) k l = core (EnterOnFocus function args at) k l
+  came_from at (OnTarget function args) k l = core (EnterOnFocus function true args at) k l
   came_from at (Alone function args) k l = core (EnterFunction (entry_of function NoObject true args at l)) k l
 
   -- a function is entered so, unless memory was wanting

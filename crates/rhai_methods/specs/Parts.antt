@@ -35,7 +35,7 @@ module _ {H : Type 0} (s : Setting H) where
   -- on the focus, by this name where it is a native's number
   abbrev pub on_as : Option (Function H) → FnPtr H → (called : List ℕ) → Position → (args : List (Dynamic H)) → (focus : Dynamic H) →
       List (Frame H) → Local H → Core H
-  on_as (Some function) pointer called at args focus k l = core (EnterOnFocus function (all_of pointer args) at) k l
+  on_as (Some function) pointer called at args focus k l = core (EnterOnFocus function true (all_of pointer args) at) k l
   on_as None pointer called at args focus k l =
       on_by s (number_in (out-FnPtr H pointer).kind) called (out-FnPtr H pointer).name at (all_of pointer args) focus k l
 

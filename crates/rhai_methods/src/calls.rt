@@ -14,7 +14,7 @@ ghost use Rattle.rhai_methods.specs.Methods.{IsEntered, CallsFrom};
 ghost use Rattle.rhai_methods.specs.declared.calls.MethodCall.TheVariants.{Alone, Ended, OnTarget};
 
 use crate::copies::{taken_behind, taken_out};
-use rhai_calls::dispatch::{Dispatched, Seeks, pass_all, pass_call, races};
+use rhai_calls::dispatch::{Dispatched, Seeks, call_races, pass_all, pass_call, races};
 use rhai_calls::native::{Passing, call_number, call_number_alone, call_number_on, marked};
 use rhai_functions::function::{Function, Offered};
 use rhai_items::Items;
@@ -63,7 +63,7 @@ fn number_on<H: Host, T: NativeTable<H>>(
         (state_of (T.state table.old) global.old scope (lending held target.old))
         result (state_of (T.state table.new) global.new scope (lending held target.new)) }
 {
-    if races(&global.cells, args) {
+    if call_races(&global.cells, true, target, args) {
         return MethodCall::Ended(Err(data_race_by(alloc, name, pos)));
     }
     MethodCall::Ended(call_number_on(limits, alloc, global, table, id, name, target, args, pos))

@@ -10,7 +10,6 @@ ghost use Rattle.rhai_values.specs.TypeNames.{type_name_of};
 ghost use Rattle.rhai_state.specs.Errors.{is_out_of_memory};
 ghost use Rattle.rhai_machine.specs.language.Methods.{entry_in, entry_seen, pointer_there};
 ghost use Rattle.rhai_machine.specs.language.State.{Answers};
-ghost use Rattle.rhai_machine.specs.language.Values.{bool_value as truth_of, is_handle};
 ghost use Rattle.rhai_machine.specs.language.Values.{mismatch as mismatched, through, used};
 ghost use Rattle.rhai_methods.specs.Copies.{copy_seen, curried_seen, own_copy};
 
@@ -20,7 +19,7 @@ use rhai_pointers::arguments::keep_argument;
 use rhai_pointers::pointers::with_curried;
 use rhai_state::error::EvalAltResult;
 use rhai_steps::errors::{data_race, mismatch};
-use rhai_steps::values::{bool_value, copy, is_bare_handle, unit_value};
+use rhai_steps::values::{copy, unit_value};
 use rhai_tree::position::Position;
 use rhai_values::base::value::{Dynamic, FnPtr, Host, Union};
 use rhai_values::cells::CellStore;
@@ -38,13 +37,6 @@ pub(crate) fn seen<'a, H: Host>(
         Union::Cell(id) => cells.get(*id),
         _ => Some(value),
     }
-}
-
-/// Whether a value is the handle of a cell.
-pub fn is_shared<H: Host>(value: &Dynamic<H>) -> Dynamic<H>
-    ensures { result ≡ truth_of (is_handle value.now.value) }
-{
-    bool_value(is_bare_handle(value))
 }
 
 /// The value that a map has under a name, None where there is no map.

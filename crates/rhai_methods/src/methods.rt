@@ -16,7 +16,7 @@ ghost use Rattle.rhai_methods.specs.Parts.{IsLinkedAlone};
 ghost use Rattle.rhai_methods.specs.declared.calls.MethodCall.TheVariants.{OnTarget};
 
 use crate::calls::{MethodCall, call_alone, call_named_on, call_on, on_target};
-use crate::copies::{curried, is_shared, no_pointer, own_pointer, pointer_copy, taken_behind};
+use crate::copies::{curried, no_pointer, own_pointer, pointer_copy, taken_behind};
 use crate::words::{MethodWord, word_of};
 use rhai_calls::dispatch::races;
 use rhai_calls::native::marked;
@@ -30,7 +30,7 @@ use rhai_state::limits::Limits;
 use rhai_state::state::GlobalRuntimeState;
 use rhai_state::table::NativeTable;
 use rhai_steps::errors::data_race_by;
-use rhai_steps::values::unit_value;
+use rhai_steps::values::{bool_value, unit_value};
 use rhai_tree::position::Position;
 use rhai_values::base::value::{Dynamic, FnPtr, Host, Module};
 use rhai_values::cells::CellStore;
@@ -230,11 +230,11 @@ fn call_argument<H: Host, T: NativeTable<H>>(
     pos: Position,
 ) -> MethodCall<H>
     ensures counts { global.old.num_operations ≤ global.new.num_operations }
-    ensures runs { (offer : _) (scope : _) (held : _) (name : _) (seen : _) → Offers offer offered.now →
+    ensures runs { (offer : _) (scope : _) (held : _) (name : _) (was_handle : _) (seen : _) → Offers offer offered.now →
         through (cells_of global.old.cells) target.old pos ≡ Ok seen →
         let rules = rules_of limits.now H.name_of offer T.natives in
         CallsFrom rules pos (call_argument rules.setting
-        (record { name = name; at = pos; first_at = first_arg_pos }) args.old seen target.old)
+        (record { name = name; at = pos; first_at = first_arg_pos; was_handle = was_handle }) args.old seen target.old)
         (state_of (T.state table.old) global.old scope (lending held target.old))
         result (state_of (T.state table.new) global.new scope (lending held target.new)) }
 {
@@ -273,10 +273,10 @@ fn call_word<H: Host, T: NativeTable<H>>(
     pos: Position,
 ) -> MethodCall<H>
     ensures counts { global.old.num_operations ≤ global.new.num_operations }
-    ensures runs { (offer : _) (scope : _) (held : _) (name : _) → Offers offer offered.now →
+    ensures runs { (offer : _) (scope : _) (held : _) (name : _) (was_handle : _) → Offers offer offered.now →
         let rules = rules_of limits.now H.name_of offer T.natives in
         CallsFrom rules pos (word_core rules.setting CallWord
-        (record { name = name; at = pos; first_at = first_arg_pos }) args.old target.old)
+        (record { name = name; at = pos; first_at = first_arg_pos; was_handle = was_handle }) args.old target.old)
         (state_of (T.state table.old) global.old scope (lending held target.old))
         result (state_of (T.state table.new) global.new scope (lending held target.new)) }
 {
@@ -312,10 +312,10 @@ fn call_plain<H: Host, T: NativeTable<H>>(
     pos: Position,
 ) -> MethodCall<H>
     ensures counts { global.old.num_operations ≤ global.new.num_operations }
-    ensures runs { (offer : _) (scope : _) (held : _) (first_at : _) → Offers offer offered.now →
+    ensures runs { (offer : _) (scope : _) (held : _) (first_at : _) (was_handle : _) → Offers offer offered.now →
         let rules = rules_of limits.now H.name_of offer T.natives in
         CallsFrom rules pos (own_core rules.setting
-        (record { name = name.now; at = pos; first_at = first_at }) args.old target.old)
+        (record { name = name.now; at = pos; first_at = first_at; was_handle = was_handle }) args.old target.old)
         (state_of (T.state table.old) global.old scope (lending held target.old))
         result (state_of (T.state table.new) global.new scope (lending held target.new)) }
 {
@@ -333,8 +333,8 @@ fn call_plain<H: Host, T: NativeTable<H>>(
 /// A method that is called on a value, its arguments there: `call`, `curry` and `is_shared` on pointers and
 /// handles; a map's own pointer under the name; and else a call by name with the value before the
 /// arguments, which is lent, and kept from a native that is not pure where it is a constant. The answer
-/// says whether a native that is not pure gave it, and so may have changed the value. A function of a
-/// script, which a name means or a pointer is linked to, is for the caller to enter. What stands in the
+/// says whether a native that is not pure gave it, and so may have changed the value. `is_shared` is told
+/// whether the value was a handle before it was entered. A function of a script, which a name means or a pointer is linked to, is for the caller to enter. What stands in the
 /// places of the arguments afterwards is not told. Where a native is called by the name no memory is taken.
 /// Ports upstream's `make_method_call`.
 ///
@@ -353,11 +353,13 @@ pub fn call_method<H: Host, T: NativeTable<H>>(
     args: &mut [Dynamic<H>],
     first_arg_pos: Option<Position>,
     pos: Position,
+    was_handle: bool,
 ) -> MethodCall<H>
     ensures counts { global.old.num_operations ≤ global.new.num_operations }
     ensures runs { (offer : _) (scope : _) (held : _) → Offers offer offered.now →
         MethodRuns (rules_of limits.now H.name_of offer T.natives)
-        (record { name = name.now; at = pos; first_at = first_arg_pos }) args.old target.old
+        (record { name = name.now; at = pos; first_at = first_arg_pos; was_handle = was_handle })
+        args.old target.old
         (state_of (T.state table.old) global.old scope (lending held target.old))
         result (state_of (T.state table.new) global.new scope (lending held target.new)) }
 {
@@ -377,7 +379,7 @@ pub fn call_method<H: Host, T: NativeTable<H>>(
             let result = curried(alloc, &global.cells, target, args, pos);
             MethodCall::Ended(marked(result, false))
         }
-        MethodWord::Shared => MethodCall::Ended(Ok((is_shared(target), false))),
+        MethodWord::Shared => MethodCall::Ended(Ok((bool_value(was_handle), false))),
         MethodWord::Plain => {
             call_plain(
                 limits, alloc, offered, global, table, name, target, args, pos,

@@ -2,7 +2,8 @@
 //! The contracts cite specs/Targets.antt.
 
 ghost use Rattle.std.specs.Prelude.{◌≡◌, Some, true, false, IfErr, IfOk, IsOk, IsSome, OnErr, OnOk};
-ghost use Rattle.rhai_state.specs.Errors.{is_out_of_memory};
+ghost use Rattle.rhai_tree.specs.Position.{none};
+ghost use Rattle.rhai_state.specs.declared.error.EvalAltResult.TheVariants as error;
 
 use crate::part::is_part;
 use crate::put::put_part;
@@ -94,7 +95,7 @@ impl<'t, H: Host> Target<'t, H> {
     /// Where there is no memory for a copy it is `ErrorOutOfMemory`.
     pub fn take_or_clone(self, alloc: Global) -> Result<Dynamic<H>, EvalAltResult<H>>
         ensures ok { IfOk result (λ value. value ≡ taken self.entry.part self.entry.at.now) }
-        ensures err { IfErr result (λ e. is_out_of_memory e ≡ true) }
+        ensures err { IfErr result (λ e. e ≡ error.ErrorOutOfMemory none) }
         ensures memory { OnErr result (is_place self.entry.part ≡ true) }
     {
         let Target { at, part } = self;
@@ -124,6 +125,8 @@ impl<'t, H: Host> Target<'t, H> {
         ensures part { self.new.part ≡ self.old.part }
         ensures ok { IsFit self.old.part self.old.at.now →
             OnOk result (propagated self.old.part self.old.at.now ≡ Some self.new.at.now) }
+        ensures unfit { (¬ IsFit self.old.part self.old.at.now) → self.new.at.now ≡ self.old.at.now }
+        ensures unfit_ok { (¬ IsFit self.old.part self.old.at.now) → IsOk result }
         ensures err { OnErr result (self.new.at.now ≡ self.old.at.now) }
         ensures refused { IfErr result (λ e. IsNotPropagated H.name_of self.old.part self.old.at.now
             position e) }

@@ -19,7 +19,7 @@ use Rattle.rhai_machine.specs.language.Setting.{Setting, Rules}
 use Rattle.rhai_machine.specs.language.State.{State, Local, HasMemory, Answers}
 use Rattle.rhai_machine.specs.language.Frames.{Back, Call, Control, Core, Dispatch, Fail, Frame, core, ended}
 use Rattle.rhai_machine.specs.language.Calls.{applied, called_core, called_function, dispatch_core, enter_core, found_core}
-use Rattle.rhai_machine.specs.language.Calls.{asks_function, knows_asked, named_core, operator_core, plainly, races, signature, types_of}
+use Rattle.rhai_machine.specs.language.Calls.{asks_function, call_races, knows_asked, named_core, operator_core, plainly, signature, types_of}
 use Rattle.rhai_machine.specs.language.Values.{bool_value, through}
 use Rattle.rhai_machine.specs.language.Language.{want}
 use Rattle.rhai_machine.specs.language.Runs.{at, with_core, Goes}
@@ -75,7 +75,7 @@ module _ {H : Type 0} (s : Setting H) (how : Dispatch) (call : Call H) (k : List
 
   -- so it does before a call is dispatched
   pub dispatch_wants : (pos : Position) → want pos (dispatch_core s how call k l) ≡ fails_at pos
-  dispatch_wants pos = wants_dispatched (races l.around.cells call.args) pos
+  dispatch_wants pos = wants_dispatched (call_races how.of_method l.around.cells call.args) pos
 
 module _ {S H : Type 0} (rules : Rules S H) where
   -- memory runs out before an operator is done

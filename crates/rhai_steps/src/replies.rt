@@ -11,7 +11,7 @@ ghost use Rattle.rhai_operators.specs.Answers.{HasMemory};
 ghost use Rattle.rhai_machine.specs.language.State.{Answers, HasMemory as WithMemory};
 ghost use Rattle.rhai_machine.specs.language.Values.{is_handle as handle_at};
 ghost use Rattle.rhai_machine.specs.language.Calls.{applied as applied_at, builtin_of as builtin_for};
-ghost use Rattle.rhai_machine.specs.language.Calls.{not_found as not_found_at, unknown};
+ghost use Rattle.rhai_machine.specs.language.Calls.{not_found as not_found_at};
 ghost use Rattle.rhai_machine.specs.language.Calls.{placed_if_none, replied as replied_at};
 ghost use Rattle.rhai_machine.specs.language.Calls.{signature as signature_of, sized as sized_at, types_of};
 ghost use Rattle.rhai_machine.specs.language.Calls.{names_indexer, property_named, second};
@@ -136,20 +136,24 @@ pub fn function_not_found<H: Host>(
 }
 
 /// No native takes these arguments: a getter or a setter is of a property that is not there, an
-/// indexer's values do not go together, and of any other name there is no such function.
+/// indexer's values do not go together, and of any other name, and of a number, there is no such function.
 #[cold]
 #[inline(never)]
 fn not_found<H: Host>(
     alloc: Global,
     cells: &CellStore<H>,
     name: &str,
+    by_number: bool,
     first: &Dynamic<H>,
     rest: &[Dynamic<H>],
     pos: Position,
 ) -> EvalAltResult<H>
     ensures { is_out_of_memory result ≡ false → result ≡ not_found_at H.name_of (cells_of cells.now)
-        name.now (first.now ∷ rest.now) pos }
+        name.now by_number (first.now ∷ rest.now) pos }
 {
+    if by_number {
+        return function_not_found(alloc, cells, name, first, rest, pos);
+    }
     if let Some(property) = property_of(name) {
         return unknown_property(alloc, property, pos);
     }
@@ -179,13 +183,27 @@ fn no_types(alloc: Global) -> Result<Shared<Text>, AllocError>
     Shared::new(alloc, text)
 }
 
-/// No native of a name takes no argument.
+/// There is no function of a name that takes no argument.
+fn lone_not_found<H>(alloc: Global, name: &str, pos: Position) -> EvalAltResult<H>
+    ensures { is_out_of_memory result ≡ false → result ≡ error.ErrorFunctionNotFound
+        (signature_of name.now []) pos }
+{
+    match bare_signature(alloc, name) {
+        Ok(text) => EvalAltResult::ErrorFunctionNotFound(text, pos),
+        Err(_) => EvalAltResult::ErrorOutOfMemory(pos),
+    }
+}
+
+/// No native of a name, or of a number, takes no argument.
 #[cold]
 #[inline(never)]
-fn not_found_alone<H>(alloc: Global, name: &str, pos: Position) -> EvalAltResult<H>
-    ensures { is_out_of_memory result ≡ false → result ≡ unknown (property_named name.now)
-        (names_indexer name.now) name.now [] [] pos }
+fn not_found_alone<H>(alloc: Global, name: &str, by_number: bool, pos: Position) -> EvalAltResult<H>
+    ensures { (host : _) (cells : _) → is_out_of_memory result ≡ false → result ≡ not_found_at host cells
+        name.now by_number [] pos }
 {
+    if by_number {
+        return lone_not_found(alloc, name, pos);
+    }
     if let Some(property) = property_of(name) {
         return unknown_property(alloc, property, pos);
     }
@@ -195,10 +213,7 @@ fn not_found_alone<H>(alloc: Global, name: &str, pos: Position) -> EvalAltResult
             Err(_) => EvalAltResult::ErrorOutOfMemory(pos),
         };
     }
-    match bare_signature(alloc, name) {
-        Ok(text) => EvalAltResult::ErrorFunctionNotFound(text, pos),
-        Err(_) => EvalAltResult::ErrorOutOfMemory(pos),
-    }
+    lone_not_found(alloc, name, pos)
 }
 
 /// A native's fault, at the call where it has no position of its own.
@@ -273,28 +288,30 @@ fn missing<H: Host>(
     limits: &Limits,
     cells: &CellStore<H>,
     name: &str,
+    by_number: bool,
     token: Option<Token>,
     first: &Dynamic<H>,
     rest: &[Dynamic<H>],
     pos: Position,
 ) -> Result<Dynamic<H>, EvalAltResult<H>>
     ensures { Answers result (replied_at limits.now H.name_of Missing (Some first.now) rest.now
-        (record { name = name.now; token = token; at = pos }) (cells_of cells.now)) }
+        (record { name = name.now; token = token; at = pos }) by_number (cells_of cells.now)) }
 {
     match builtin(alloc, token, first, rest) {
         Some(outcome) => applied(alloc, limits, outcome, pos),
-        None => Err(not_found(alloc, cells, name, first, rest, pos)),
+        None => Err(not_found(alloc, cells, name, by_number, first, rest, pos)),
     }
 }
 
-/// What a native's answer comes to, at the call. The cells are those of the moment of the call, while
-/// the first argument is lent to the native; the first argument is what the native left of it.
+/// What a native's answer comes to, at the call. The cells are those of the moment when it is told; the
+/// first argument is what the native left of it.
 pub fn replied<H: Host>(
     alloc: Global,
     limits: &Limits,
     cells: &CellStore<H>,
     answer: Answer<H>,
     name: &str,
+    by_number: bool,
     token: Option<Token>,
     first: &Dynamic<H>,
     rest: &[Dynamic<H>],
@@ -302,11 +319,15 @@ pub fn replied<H: Host>(
 ) -> Result<Dynamic<H>, EvalAltResult<H>>
     ensures told { IfSome (reply_of answer) (λ reply. Answers result
         (replied_at limits.now H.name_of reply (Some first.now) rest.now
-        (record { name = name.now; token = token; at = pos }) (cells_of cells.now))) }
+        (record { name = name.now; token = token; at = pos }) by_number (cells_of cells.now))) }
     ensures memory { WithMemory result → is_some (reply_of answer) ≡ true }
 {
     match answer {
-        Answer::Missing => missing(alloc, limits, cells, name, token, first, rest, pos),
+        Answer::Missing => {
+            missing(
+                alloc, limits, cells, name, by_number, token, first, rest, pos,
+            )
+        }
         Answer::Value(value) => sized(alloc, limits, value, pos),
         Answer::Fault(error) => Err(placed(error, pos)),
         Answer::NoMemory => Err(EvalAltResult::ErrorOutOfMemory(pos)),
@@ -319,16 +340,17 @@ pub fn replied_alone<H: Host>(
     limits: &Limits,
     answer: Answer<H>,
     name: &str,
+    by_number: bool,
     token: Option<Token>,
     pos: Position,
 ) -> Result<Dynamic<H>, EvalAltResult<H>>
     ensures told { (cells : _) → IfSome (reply_of answer) (λ reply. Answers result
         (replied_at limits.now H.name_of reply None [] (record { name = name.now; token = token; at = pos })
-        cells)) }
+        by_number cells)) }
     ensures memory { WithMemory result → is_some (reply_of answer) ≡ true }
 {
     match answer {
-        Answer::Missing => Err(not_found_alone(alloc, name, pos)),
+        Answer::Missing => Err(not_found_alone(alloc, name, by_number, pos)),
         Answer::Value(value) => sized(alloc, limits, value, pos),
         Answer::Fault(error) => Err(placed(error, pos)),
         Answer::NoMemory => Err(EvalAltResult::ErrorOutOfMemory(pos)),

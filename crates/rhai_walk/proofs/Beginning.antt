@@ -20,12 +20,12 @@ use Rattle.rhai_machine.specs.machine.Point.{Point, moved, after}
 use Rattle.rhai_machine.specs.machine.Memory.{here, next, wanting, ◌⨾◌}
 use Rattle.rhai_machine.specs.language.Setting.{Setting, Rules, cut, limit_under}
 use Rattle.rhai_machine.specs.language.State.{Held, Local, State}
-use Rattle.rhai_machine.specs.language.Values.{through, unit_value, used}
+use Rattle.rhai_machine.specs.language.Values.{is_handle, through, unit_value, used}
 use Rattle.rhai_machine.specs.language.Links.{Link, LinkForm, AtIndex, AtProperty, AtMethod, link_of}
 use Rattle.rhai_machine.specs.language.Frames.{Chain, Frame, Core, core, marked, on_value, where_there, Walk, Locate, Back, Fail}
 use Rattle.rhai_machine.specs.language.Located.{index_by, is_indexed, is_map, is_unit}
 use Rattle.rhai_machine.specs.language.Members.{focus_of}
-use Rattle.rhai_machine.specs.language.Chains.{after_method, entered, form_move, indexed_core, locate_core, method_of, property_move}
+use Rattle.rhai_machine.specs.language.Chains.{entered, form_move, indexed_core, locate_core, method_entered, property_move}
 use Rattle.rhai_machine.specs.language.Chains.{seen_move, stop_move, walk_move}
 use Rattle.rhai_machine.specs.language.Language.{machine, move}
 use Rattle.rhai_machine.specs.language.Runs.{at, with_core, Goes}
@@ -33,8 +33,8 @@ use Rattle.rhai_steps.specs.States.{state_of}
 use Rattle.rhai_steps.proofs.Pieces.{charged, faulted, refused, step_by}
 use Rattle.rhai_steps.specs.Marked.{lending, RunsFrom}
 use Rattle.rhai_chains.specs.Chains.{FollowsFrom, Does, Wants, WalkRuns}
-use Rattle.rhai_walk.specs.Walking.{entered_core, inside_by, inside_core, Calls, Comes, GoesOn, IsCharged, IsFree, IsMember, IsWay}
-use Rattle.rhai_walk.specs.Walking.{IsLocated, StopsThere, WayBy}
+use Rattle.rhai_walk.specs.Walking.{entered_core, inside_by, inside_core, Comes, GoesOn, IsCharged, IsFree, IsUncharged, IsWay}
+use Rattle.rhai_walk.specs.Walking.{MayEnd, StopsThere, WayBy}
 use Rattle.rhai_walk.specs.declared.ways.Way.{Way}
 use Rattle.rhai_walk.specs.declared.ways.Way.TheVariants as way
 
@@ -53,34 +53,24 @@ module _ {H : Type 0} where
   pub free_seen : (link : Link) (cells : List (Option (Dynamic H))) (focus : Dynamic H) → GoesOn link cells focus → IsFree cells focus.value
   free_seen link cells focus goes = free_by cells focus.value focus.mode link.at goes.inner goes.seen
 
-  -- what is charged is located, and so is a member
-  pub charged_located : (form : LinkForm) (inner : UnionLayer H) → IsCharged form inner → IsLocated form
-  charged_located (AtIndex index) inner is = tt
-  charged_located (AtProperty name pos) inner is = tt
-  charged_located (AtMethod name args pos) inner is = is
-
-  pub member_located : (form : LinkForm) (inner : UnionLayer H) → IsMember form inner → IsLocated form
-  member_located (AtIndex index) inner is = tt
-  member_located (AtProperty name pos) inner is = tt
-  member_located (AtMethod name args pos) inner is = is
-
   module _ (s : Setting H) (link : Link) (inner : Dynamic H) (chain : Chain H) where
     -- what is charged is located
-    inside_located : (form : LinkForm) → IsCharged form (layer_of inner) →
-        inside_by s form (is_map (layer_of inner)) link inner chain
+    inside_located : (form : LinkForm) (was_handle : Bool) → IsCharged form (layer_of inner) →
+        inside_by s form (is_map (layer_of inner)) was_handle link inner chain
         ≡ (λ k l. indexed_core s (is_indexed (layer_of inner)) link (index_by form chain.args) chain inner k l)
-    inside_located (AtIndex index) charged = refl
-    inside_located (AtProperty name pos) charged =
-        ap (λ (b : Bool). λ k l. inside_by s (AtProperty name pos) b link inner chain k l) charged
-    inside_located (AtMethod name args pos) charged = absurd charged
+    inside_located (AtIndex index) was_handle charged = refl
+    inside_located (AtProperty name pos) was_handle charged =
+        ap (λ (b : Bool). λ k l. inside_by s (AtProperty name pos) b was_handle link inner chain k l) charged
+    inside_located (AtMethod name args pos) was_handle charged = absurd charged
 
     located : (k : List (Frame H)) (l : Local H) → through l.around.cells (focus_of l) link.at ≡ Ok inner →
         IsCharged link.form (layer_of inner) → locate_core s link chain k l ≡ entered_core s link chain k l
     located k l seen charged =
         ap (λ (r : Result (Dynamic H) (EvalAltResult H)). on_value r
         (λ v. entered v (λ k l. indexed_core s (is_indexed (layer_of v)) link (index_by link.form chain.args) chain v k l) k l) k l) seen
-        ∙ ap (λ (go : List (Frame H) → Local H → Core H). entered inner go k l) (sym (inside_located link.form charged))
-        ∙ sym (ap (λ (r : Result (Dynamic H) (EvalAltResult H)). on_value r (λ v. entered v (inside_core s link v chain) k l) k l) seen)
+        ∙ ap (λ (go : List (Frame H) → Local H → Core H). entered inner go k l) (sym (inside_located link.form (is_handle (focus_of l).value) charged))
+        ∙ sym (ap (λ (r : Result (Dynamic H) (EvalAltResult H)). on_value r
+        (λ v. entered v (inside_core s link (is_handle (focus_of l).value) v chain) k l) k l) seen)
 
     -- a link by its form
     charges : (form : LinkForm) (k : List (Frame H)) (l : Local H) → IsCharged form (layer_of inner) →
@@ -89,12 +79,16 @@ module _ {H : Type 0} where
     charges (AtProperty name pos) k l is = ap (λ (b : Bool). property_move s b name pos link inner chain k l) is
     charges (AtMethod name args pos) k l is = absurd is
 
-    member : (form : LinkForm) (k : List (Frame H)) (l : Local H) → IsMember form (layer_of inner) →
-        form_move s form link inner chain k l ≡ Go (entered inner (λ k l. inside_by s form (is_map (layer_of inner)) link inner chain k l) k l)
-    member (AtIndex index) k l is = absurd is
-    member (AtProperty name pos) k l is = ap (λ (b : Bool). property_move s b name pos link inner chain k l) is
-        ∙ sym (ap (λ (b : Bool). Go (entered inner (λ k l. inside_by s (AtProperty name pos) b link inner chain k l) k l)) is)
-    member (AtMethod name args pos) k l is = absurd is
+    uncharged : (form : LinkForm) (k : List (Frame H)) (l : Local H) → IsUncharged form (layer_of inner) →
+        MayEnd form (is_some link.behind || is_none chain.new) →
+        form_move s form link inner chain k l ≡ Go (entered inner
+        (λ k m. inside_by s form (is_map (layer_of inner)) (is_handle (focus_of l).value) link inner chain k m) k l)
+    uncharged (AtIndex index) k l is may = absurd is
+    uncharged (AtProperty name pos) k l is may = ap (λ (b : Bool). property_move s b name pos link inner chain k l) is
+        ∙ sym (ap (λ (b : Bool). Go (entered inner
+        (λ k m. inside_by s (AtProperty name pos) b (is_handle (focus_of l).value) link inner chain k m) k l)) is)
+    uncharged (AtMethod name args pos) k l is may =
+        ap (λ (b : Bool). where_there b (method_entered s name args pos link inner chain k l)) may
 
   -- the chain does not stop there
   seen_goes : (s : Setting H) (link : Link) (chain : Chain H) (k : List (Frame H)) (l : Local H)
@@ -111,7 +105,6 @@ module _ {H : Type 0} where
   way_is way.Stops link cells focus goes by = absurd by
   way_is way.Charges link cells focus goes by = (goes, by)
   way_is way.Enters link cells focus goes by = (goes, by)
-  way_is (way.Calls call pos) link cells focus goes by = (goes, by)
 
 module _ {S H : Type 0} (rules : Rules S H) (link : Link) (chain : Chain H) (is : link_of chain.rest ≡ Some link) where
   -- the walk as a link is seen
@@ -143,30 +136,18 @@ module _ {S H : Type 0} (rules : Rules S H) (link : Link) (chain : Chain H) (is 
       ∙ ap (λ (b : Bool). stop_move rules.setting b link stops.inner chain k s.local) stops.stops)
       (rw unit here)
 
-  -- a member is entered
-  pub member_comes : (s : State S H) (goes : GoesOn link s.local.around.cells (focus_of s.local)) →
-      IsMember link.form (layer_of goes.inner) → Comes rules link chain s s
-  member_comes s goes of =
+  -- a member or a method is entered
+  pub uncharged_comes : (s : State S H) (goes : GoesOn link s.local.around.cells (focus_of s.local)) →
+      IsUncharged link.form (layer_of goes.inner) → Comes rules link chain s s
+  uncharged_comes s goes of =
       record {
-        comes = λ k. walks k s _ (Go (entered_core rules.setting link chain k s.local))
-            (seen_goes rules.setting link chain k s.local goes ∙ member rules.setting link goes.inner chain link.form k s.local of
+        comes = λ may k. walks k s _ (Go (entered_core rules.setting link chain k s.local))
+            (seen_goes rules.setting link chain k s.local goes ∙ uncharged rules.setting link goes.inner chain link.form k s.local of may
             ∙ ap (λ (c : Core H). Go c) (sym (ap (λ (r : Result (Dynamic H) (EvalAltResult H)). on_value r
-            (λ v. entered v (inside_core rules.setting link v chain) k s.local) k s.local) goes.seen))) here;
+            (λ v. entered v (inside_core rules.setting link (is_handle (focus_of s.local).value) v chain) k s.local) k s.local) goes.seen)))
+            here;
         starves = λ pos k. wanting {at = pos} here;
       }
-
-  -- a method is called
-  pub method_comes : (s : State S H) (name : List ℕ) (args : List Expr) (pos : Position)
-      (goes : GoesOn link s.local.around.cells (focus_of s.local)) → link.form ≡ AtMethod name args pos →
-      (is_some link.behind || is_none chain.new) ≡ true → (k : List (Frame H)) →
-      Goes rules (at (Walk chain) k s)
-      (with_core (method_of rules.setting name args pos chain (after_method link.behind link chain k) s.local) s)
-  method_comes s name args pos goes of ends k =
-      let called : Core H = method_of rules.setting name args pos chain (after_method link.behind link chain k) s.local in
-      walks k s _ (Go called)
-      (seen_goes rules.setting link chain k s.local goes
-      ∙ ap (λ (form : LinkForm). form_move rules.setting form link goes.inner chain k s.local) of
-      ∙ ap (λ (b : Bool). where_there b called) ends) here
 
   module _ (t : S) (old new : GlobalRuntimeState H) (scope : Scope H) (held : Held H) (focus : Dynamic H)
       (goes : GoesOn link (cells_of old.cells) focus) (charged_by : IsCharged link.form (layer_of goes.inner)) where
@@ -185,7 +166,7 @@ module _ {S H : Type 0} (rules : Rules S H) (link : Link) (chain : Chain H) (is 
     unfolding after
     charge_comes room spent =
         record {
-          comes = λ k. charged rules t old new scope (lending held focus) (Walk chain) (Locate link chain) none moves room spent k
+          comes = λ may k. charged rules t old new scope (lending held focus) (Walk chain) (Locate link chain) none moves room spent k
               ⨾ step_by rules _ _ (Go (entered_core rules.setting link chain k (state_in new).local))
               (ap (λ (c : Core H). Go c) (located rules.setting link goes.inner chain k (state_in new).local
               (rw spent goes.seen) charged_by)) here;
@@ -203,22 +184,8 @@ module _ {S H : Type 0} (rules : Rules S H) (link : Link) (chain : Chain H) (is 
 module _ {S H : Type 0} (rules : Rules S H) (link : Link) (chain : Chain H) (old mid new : State S H)
     (r : Result (Dynamic H × Bool) (EvalAltResult H)) where
   -- the walk goes on where the focus is entered
-  pub comes_on : Comes rules link chain old mid → FollowsFrom rules (entered_core rules.setting link chain) mid r new →
-      WalkRuns rules chain old r new
+  pub comes_on : Comes rules link chain old mid → MayEnd link.form (is_some link.behind || is_none chain.new) →
+      FollowsFrom rules (entered_core rules.setting link chain) mid r new → WalkRuns rules chain old r new
   unfolding RunsFrom
-  comes_on comes (Does runs) k = comes.comes k ⨾ runs k
-  comes_on comes (Wants pos is stays) k = rw (is, stays) (comes.starves pos k)
-
-  -- a method is called as its link says
-  abbrev called_by : (name : List ℕ) → (args : List Expr) → Position → Link → List (Frame H) → Local H → Core H
-  called_by name args pos by k = method_of rules.setting name args pos chain (after_method by.behind by chain k)
-
-  -- and goes on where it is called
-  pub calls_on : (by : Link) (name : List ℕ) (args : List Expr) (pos : Position) → by ≡ link → mid ≡ old →
-      Calls rules link chain old mid name args pos → (is_some link.behind || is_none chain.new) ≡ true →
-      RunsFrom rules (called_by name args pos by) mid r new → WalkRuns rules chain old r new
-  unfolding RunsFrom
-  calls_on by name args pos same stays calls ends runs k =
-      calls ends k
-      ⨾ subst (λ (s : State S H). Goes rules (with_core (called_by name args pos link k s.local) s) (at (marked r) k new)) stays
-      (subst (λ (x : Link). Goes rules (with_core (called_by name args pos x k mid.local) mid) (at (marked r) k new)) same (runs k))
+  comes_on comes may (Does runs) k = comes.comes may k ⨾ runs k
+  comes_on comes may (Wants pos is stays) k = rw (is, stays) (comes.starves pos k)

@@ -253,7 +253,7 @@ module _ {S H : Type 0} (rules : Rules S H) where
     -- a method works on it
     pub part_method : (first : Link) (name : List ℕ) (args : List Expr) (pos : Position) → link ≡ Some first →
         first.form ≡ AtMethod name args pos →
-        RunsFrom rules (λ k l. method_of rules.setting name args pos chain
+        RunsFrom rules (λ k l. method_of rules.setting name args pos false chain
         (PartMethod source there pos ∷ after_method first.behind first chain k) (focused_on (Some (part_of source there)) l)) old r new →
         FollowsFrom rules (part_core rules.setting link there chain source) old r new
     part_method first name args pos is of runs = Does (begins_alike rules _ (part_core rules.setting link there chain source) old new r

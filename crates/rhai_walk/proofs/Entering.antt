@@ -38,6 +38,12 @@ module _ {H : Type 0} where
   as_they_were (None ∷ cells) zero v there = cc
   as_they_were (cell ∷ cells) (suc n) v there = ap (λ rest. cell ∷ rest) (as_they_were cells n v there)
 
+  -- what is kept of the focus says whether it was a handle
+  pub entered_handle : (above : Option (CellId × Dynamic H)) (focus inner : Dynamic H) (cells taken : Cells H) →
+      Enters above focus inner cells taken → is_some above ≡ is_handle focus.value
+  entered_handle None focus inner cells taken e = sym e.0
+  entered_handle (Some (id, handle)) focus inner cells taken e = sym (ap (λ (u : Union H). is_handle u) e.0)
+
   -- what is no handle is seen as it is
   pub seen_itself : (cells : Cells H) (u : Union H) (v : Dynamic H) (at : Position) → is_handle u ≡ false → through_union cells u v at ≡ Ok v
   seen_itself cells (value.Cell id) v at plain = cc
@@ -61,31 +67,31 @@ module _ {S H : Type 0} (rules : Rules S H) where
   up_from_cell (Err e) focus worked n left new k = next here
 
   module _ (link : Link) (chain : Chain H) (old new : State S H) (r : Result (Dynamic H × Bool) (EvalAltResult H)) where
-    abbrev inside : Dynamic H → List (Frame H) → Local H → Core H
-    inside inner = inside_core rules.setting link inner chain
+    abbrev inside : (focus inner : Dynamic H) → List (Frame H) → Local H → Core H
+    inside focus inner = inside_core rules.setting link (is_handle focus.value) inner chain
 
     -- where the machine stands once the focus is entered
     starts_inside : (focus inner : Dynamic H) (id : CellId) (cells : Cells H) (k : List (Frame H)) → focus.value ≡ value.Cell id →
         value_of_cell cells id.number ≡ Some inner →
         entered_core rules.setting link chain k (standing focus cells old).local
-        ≡ inside inner (StepDown focus (ToCell id.number) ∷ k) (standing inner (with_held cells id.number) old).local
+        ≡ inside focus inner (StepDown focus (ToCell id.number) ∷ k) (standing inner (with_held cells id.number) old).local
     starts_inside focus inner id cells k handle there =
         ap (λ (u : Union H). on_value (through_union cells u focus link.at)
-        (λ v. entered_by u v (inside v) k (standing focus cells old).local) k (standing focus cells old).local) handle
+        (λ v. entered_by u v (inside focus v) k (standing focus cells old).local) k (standing focus cells old).local) handle
         ∙ ap (λ (o : Option (Dynamic H)). on_value (used [] link.at o)
-        (λ v. entered_by (value.Cell id) v (inside v) k (standing focus cells old).local) k (standing focus cells old).local) there
+        (λ v. entered_by (value.Cell id) v (inside focus v) k (standing focus cells old).local) k (standing focus cells old).local) there
 
     starts_itself : (focus : Dynamic H) (cells : Cells H) (k : List (Frame H)) → is_handle focus.value ≡ false →
-        entered_core rules.setting link chain k (standing focus cells old).local ≡ inside focus k (standing focus cells old).local
+        entered_core rules.setting link chain k (standing focus cells old).local ≡ inside focus focus k (standing focus cells old).local
     starts_itself focus cells k plain =
         ap (λ (seen : Result (Dynamic H) (EvalAltResult H)). on_value seen
-        (λ v. entered v (inside v) k (standing focus cells old).local) k (standing focus cells old).local)
+        (λ v. entered v (inside focus v) k (standing focus cells old).local) k (standing focus cells old).local)
         (seen_itself cells focus.value focus link.at plain)
-        ∙ not_entered focus.value focus (inside focus) k (standing focus cells old).local plain
+        ∙ not_entered focus.value focus (inside focus focus) k (standing focus cells old).local plain
 
     runs_inside : (focus inner worked : Dynamic H) (id : CellId) (cells left : Cells H) → focus.value ≡ value.Cell id →
         value_of_cell cells id.number ≡ Some inner →
-        FollowsFrom rules (inside inner) (standing inner (with_held cells id.number) old) r (standing worked left new) →
+        FollowsFrom rules (inside focus inner) (standing inner (with_held cells id.number) old) r (standing worked left new) →
         FollowsFrom rules (entered_core rules.setting link chain) (standing focus cells old) r
         (standing focus (with_value left id.number worked) new)
     unfolding RunsFrom
@@ -99,10 +105,10 @@ module _ {S H : Type 0} (rules : Rules S H) where
     -- the focus is entered and left
     pub enters : (above : Option (CellId × Dynamic H)) (focus inner worked end : Dynamic H) (cells taken left put : Cells H) →
         Enters above focus inner cells taken →
-        FollowsFrom rules (inside inner) (standing inner taken old) r (standing worked left new) → Leaves above worked end left put →
+        FollowsFrom rules (inside focus inner) (standing inner taken old) r (standing worked left new) → Leaves above worked end left put →
         FollowsFrom rules (entered_core rules.setting link chain) (standing focus cells old) r (standing end put new)
     enters None focus inner worked end cells taken left put e follows l = rw (l.0, l.1)
-        (follows_alike rules (inside focus) (entered_core rules.setting link chain) (standing focus cells old) (standing worked left new) r
+        (follows_alike rules (inside focus focus) (entered_core rules.setting link chain) (standing focus cells old) (standing worked left new) r
         (λ k. starts_itself focus cells k e.0) (rw (e.1.0, e.1.1) at follows))
     enters (Some (id, handle)) focus inner worked end cells taken left put e follows l = rw (l.0, l.1, e.1.0)
         (runs_inside focus inner worked id cells left e.0 e.1.1.0 (rw e.1.1.1 at follows))

@@ -12,15 +12,15 @@ use Rattle.rhai_state.specs.declared.error.EvalAltResult.TheVariants as error
 use Rattle.rhai_state.specs.Errors.{is_out_of_memory}
 use Rattle.rhai_machine.specs.language.Setting.{Rules}
 use Rattle.rhai_machine.specs.language.State.{Answers, Local, State}
-use Rattle.rhai_machine.specs.language.Links.{Link, LinkForm, AtIndex, AtProperty}
+use Rattle.rhai_machine.specs.language.Links.{Link, LinkForm, AtIndex, AtProperty, AtMethod}
 use Rattle.rhai_machine.specs.language.Frames.{Chain, NewValue, Property, Item, MemberAccess, MemberLink, Frame, Core}
 use Rattle.rhai_machine.specs.language.Located.{args_behind, is_indexed, is_map}
 use Rattle.rhai_machine.specs.language.Members.{get_core}
-use Rattle.rhai_machine.specs.language.Chains.{indexed_core, is_property, kept_access, member_core, spot_core}
+use Rattle.rhai_machine.specs.language.Chains.{after_method, indexed_core, method_of, is_property, kept_access, member_core, spot_core}
 use Rattle.rhai_steps.specs.Marked.{RunsFrom}
 use Rattle.rhai_chains.specs.Chains.{FollowsFrom, Does, Wants}
 use Rattle.rhai_walk.specs.Walking.{inside_by, inside_core}
-use Rattle.rhai_chains.proofs.Alike.{follows_alike}
+use Rattle.rhai_chains.proofs.Alike.{begins_alike, follows_alike}
 use Rattle.rhai_walk.proofs.Descending.{map_indexed}
 use Rattle.rhai_walk.proofs.Walked.{index_first}
 
@@ -65,13 +65,13 @@ module _ {S H : Type 0} (rules : Rules S H) where
     indexed_follows index indexed = FollowsFrom rules (indexed_core rules.setting indexed link index chain source) old r new
 
     -- an index works on the first of the arguments
-    pub item_inside : (expr : Expr) (index : Dynamic H) (rest : List (Dynamic H)) → link.form ≡ AtIndex expr →
+    pub item_inside : (was_handle : Bool) (expr : Expr) (index : Dynamic H) (rest : List (Dynamic H)) → link.form ≡ AtIndex expr →
         chain.args ≡ index ∷ rest → indexed_follows index (is_indexed (layer_of source)) →
-        FollowsFrom rules (inside_core rules.setting link source chain) old r new
-    item_inside expr index rest of args follows =
+        FollowsFrom rules (inside_core rules.setting link was_handle source chain) old r new
+    item_inside was_handle expr index rest of args follows =
         follows_alike rules (indexed_core rules.setting (is_indexed (layer_of source)) link index chain source)
-        (inside_core rules.setting link source chain) old new r
-        (λ k. ap (λ (form : LinkForm). inside_by rules.setting form (is_map (layer_of source)) link source chain k old.local) of
+        (inside_core rules.setting link was_handle source chain) old new r
+        (λ k. ap (λ (form : LinkForm). inside_by rules.setting form (is_map (layer_of source)) was_handle link source chain k old.local) of
         ∙ ap (λ (i : Dynamic H). indexed_core rules.setting (is_indexed (layer_of source)) link i chain source k old.local)
         (index_first expr chain.args rest index args)) follows
 
@@ -85,16 +85,29 @@ module _ {S H : Type 0} (rules : Rules S H) where
         indexed_follows index (is_indexed (layer_of source))
     item_by_natives index is follows = subst (indexed_follows index) (sym is) follows
 
-    module _ (name : List ℕ) (pos : Position) where
+    -- a method is called on what stands there
+    pub method_inside : (was_handle : Bool) (name : List ℕ) (args : List Expr) (pos : Position) → link.form ≡ AtMethod name args pos →
+        RunsFrom rules (λ k. method_of rules.setting name args pos was_handle chain (after_method link.behind link chain k)) old r new →
+        FollowsFrom rules (inside_core rules.setting link was_handle source chain) old r new
+    method_inside was_handle name args pos of runs = Does (begins_alike rules
+        (λ k. method_of rules.setting name args pos was_handle chain (after_method link.behind link chain k))
+        (inside_core rules.setting link was_handle source chain) old new r
+        (λ k. ap (λ (form : LinkForm). inside_by rules.setting form (is_map (layer_of source)) was_handle link source chain k old.local) of)
+        runs)
+
+    module _ (was_handle : Bool) (name : List ℕ) (pos : Position) where
       abbrev property_follows : (of_map : Bool) → Type 0
-      property_follows of_map = FollowsFrom rules (inside_by rules.setting (AtProperty name pos) of_map link source chain) old r new
+      property_follows of_map =
+          FollowsFrom rules (inside_by rules.setting (AtProperty name pos) of_map was_handle link source chain) old r new
 
       -- a property
       pub named_inside : link.form ≡ AtProperty name pos → property_follows (is_map (layer_of source)) →
-          FollowsFrom rules (inside_core rules.setting link source chain) old r new
-      named_inside of follows = follows_alike rules (inside_by rules.setting (AtProperty name pos) (is_map (layer_of source)) link source chain)
-          (inside_core rules.setting link source chain) old new r
-          (λ k. ap (λ (form : LinkForm). inside_by rules.setting form (is_map (layer_of source)) link source chain k old.local) of) follows
+          FollowsFrom rules (inside_core rules.setting link was_handle source chain) old r new
+      named_inside of follows = follows_alike rules
+          (inside_by rules.setting (AtProperty name pos) (is_map (layer_of source)) was_handle link source chain)
+          (inside_core rules.setting link was_handle source chain) old new r
+          (λ k. ap (λ (form : LinkForm). inside_by rules.setting form (is_map (layer_of source)) was_handle link source chain k old.local) of)
+          follows
 
       -- of a map it is an entry, and of any other value a member
       pub entry_there : (key : Dynamic H) → key ≡ plain (value.Str name) → is_map (layer_of source) ≡ true → spot_follows key →

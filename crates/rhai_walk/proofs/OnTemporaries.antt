@@ -96,17 +96,17 @@ module _ {S H : Type 0} (rules : Rules S H) where
       (calls (behind_value link.behind (record chain { args = args; in_place = false }) k) ⨾ goes k)
 
   -- a method is called with the first of the arguments
-  module _ (name : List ℕ) (asked : List Expr) (pos : Position) (chain : Chain H) (given : List (Dynamic H))
+  module _ (name : List ℕ) (asked : List Expr) (pos : Position) (was_handle : Bool) (chain : Chain H) (given : List (Dynamic H))
       (is : given ≡ take (length asked) chain.args) (v : Dynamic H) (old new : State S H)
       (r : Result (Dynamic H × Bool) (EvalAltResult H)) where
     abbrev method : Method
-    method = record { name = name; at = pos; first_at = first_position asked }
+    method = record { name = name; at = pos; first_at = first_position asked; was_handle = was_handle }
 
     -- on the focus
     pub focus_called : old.local.focus ≡ Some v → RunsFrom rules (method_core rules.setting method given v) old r new →
-        RunsFrom rules (method_of rules.setting name asked pos chain) old r new
+        RunsFrom rules (method_of rules.setting name asked pos was_handle chain) old r new
     focus_called stands runs = begins_alike rules (method_core rules.setting method given v)
-        (method_of rules.setting name asked pos chain) old new r
+        (method_of rules.setting name asked pos was_handle chain) old new r
         (λ k. ap (λ (o : Option (Dynamic H)).
         method_core rules.setting method (take (length asked) chain.args) (unwrap_or o unit_value) k old.local) stands
         ∙ ap (λ (xs : List (Dynamic H)). method_core rules.setting method xs v k old.local) (sym is)) runs
@@ -114,10 +114,10 @@ module _ {S H : Type 0} (rules : Rules S H) where
     -- and on a part
     pub called_on_part : (source : Dynamic H) (there : Spot) →
         RunsFrom rules (λ k l. method_core rules.setting method given v (PartMethod source there pos ∷ k) (focused_on (Some v) l)) old r new →
-        RunsFrom rules (λ k l. method_of rules.setting name asked pos chain (PartMethod source there pos ∷ k) (focused_on (Some v) l)) old r new
+        RunsFrom rules (λ k l. method_of rules.setting name asked pos was_handle chain (PartMethod source there pos ∷ k) (focused_on (Some v) l)) old r new
     called_on_part source there runs = begins_alike rules
         (λ k l. method_core rules.setting method given v (PartMethod source there pos ∷ k) (focused_on (Some v) l))
-        (λ k l. method_of rules.setting name asked pos chain (PartMethod source there pos ∷ k) (focused_on (Some v) l)) old new r
+        (λ k l. method_of rules.setting name asked pos was_handle chain (PartMethod source there pos ∷ k) (focused_on (Some v) l)) old new r
         (λ k. ap (λ (xs : List (Dynamic H)).
         method_core rules.setting method xs v (PartMethod source there pos ∷ k) (focused_on (Some v) old.local)) (sym is)) runs
 

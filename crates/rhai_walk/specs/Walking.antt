@@ -64,6 +64,11 @@ IsDescent (descent.Part at) (spot.Value i) = ⊥
 IsDescent (descent.Part at) spot.Missing = ⊥
 IsDescent (descent.Part at) there = at ≡ there
 
+-- a chain that is assigned to does not end in a method
+abbrev pub MayEnd : LinkForm → (holds : Bool) → Type 0
+MayEnd (AtMethod name args at) holds = holds ≡ true
+MayEnd _ holds = ⊤
+
 -- an index or a property
 abbrev pub IsLocated : LinkForm → Type 0
 IsLocated (AtMethod name args at) = ⊥
@@ -102,21 +107,24 @@ module _ {H : Type 0} where
   -- ---- where the machine stands
 
   module _ (s : Setting H) where
-    -- a property of a value that is no map is a member, and anything else is located
-    abbrev pub inside_by : LinkForm → (of_map : Bool) → Link → (inner : Dynamic H) → Chain H → List (Frame H) → Local H → Core H
-    inside_by (AtProperty name at) false link inner chain k l = member_core s link.behind chain.new link
+    -- a property of a value that is no map is a member, a method is called over what waits for its value, and anything else is located
+    abbrev pub inside_by : LinkForm → (of_map was_handle : Bool) → Link → (inner : Dynamic H) → Chain H → List (Frame H) → Local H →
+        Core H
+    inside_by (AtProperty name at) false was_handle link inner chain k l = member_core s link.behind chain.new link
         (record { member = Property name at; at = link.at; guarded = chain.in_place }) chain k l
-    inside_by form of_map link inner chain k l =
+    inside_by (AtMethod name args at) of_map was_handle link inner chain k l =
+        method_of s name args at was_handle chain (after_method link.behind link chain k) l
+    inside_by form of_map was_handle link inner chain k l =
         indexed_core s (is_indexed (layer_of inner)) link (index_by form chain.args) chain inner k l
 
-    -- an index or a property, of the value that is the focus or stands in its cell
-    abbrev pub inside_core : Link → (inner : Dynamic H) → Chain H → List (Frame H) → Local H → Core H
-    inside_core link inner chain k l = inside_by link.form (is_map (layer_of inner)) link inner chain k l
+    -- a link, of the value that is the focus or stands in its cell
+    abbrev pub inside_core : Link → (was_handle : Bool) → (inner : Dynamic H) → Chain H → List (Frame H) → Local H → Core H
+    inside_core link was_handle inner chain k l = inside_by link.form (is_map (layer_of inner)) was_handle link inner chain k l
 
     -- and of the focus itself, which is entered where it is a handle
     abbrev pub entered_core : Link → Chain H → List (Frame H) → Local H → Core H
     entered_core link chain k l = on_value (through l.around.cells (focus_of l) link.at)
-        (λ inner. entered inner (inside_core link inner chain) k l) k l
+        (λ inner. entered inner (inside_core link (is_handle (focus_of l).value) inner chain) k l) k l
 
   -- what waits for a method's value: the walk of what is behind it
   abbrev pub behind_value : (behind : Option ExprLayer) → Chain H → List (Frame H) → List (Frame H)
@@ -143,16 +151,16 @@ module _ {H : Type 0} where
   IsCharged (AtProperty name at) inner = is_map inner ≡ true
   IsCharged (AtMethod name args at) inner = ⊥
 
-  -- a property of any other value
-  abbrev pub IsMember : LinkForm → UnionLayer H → Type 0
-  IsMember (AtProperty name at) inner = is_map inner ≡ false
-  IsMember _ inner = ⊥
+  -- a property of any other value, and a method
+  abbrev pub IsUncharged : LinkForm → UnionLayer H → Type 0
+  IsUncharged (AtIndex index) inner = ⊥
+  IsUncharged (AtProperty name at) inner = is_map inner ≡ false
+  IsUncharged (AtMethod name args at) inner = ⊤
 
   -- which way the walk goes by the form of a link
   abbrev pub WayBy : Way → LinkForm → UnionLayer H → Type 0
   WayBy way.Charges form inner = IsCharged form inner
-  WayBy way.Enters form inner = IsMember form inner
-  WayBy (way.Calls call at) form inner = form ≡ AtMethod call.now.name call.now.args at
+  WayBy way.Enters form inner = IsUncharged form inner
   WayBy _ form inner = ⊥
 
   -- which way it goes
@@ -162,32 +170,22 @@ module _ {H : Type 0} where
   IsWay way link cells focus = (goes : GoesOn link cells focus) × WayBy way link.form (layer_of goes.inner)
 
   module _ {S : Type 0} (rules : Rules S H) (link : Link) (chain : Chain H) (old new : State S H) where
-    -- the machine comes to where the focus is entered, and memory may run out there
+    -- the machine comes to where the focus is entered, unless it is assigned to in a method, and memory may run out there
     pub record Comes : Type 0 where
-      pub comes : (k : List (Frame H)) →
+      pub comes : MayEnd link.form (is_some link.behind || is_none chain.new) → (k : List (Frame H)) →
           Goes rules (at (Walk chain) k old) (with_core (entered_core rules.setting link chain k new.local) new)
       pub starves : (pos : Position) (k : List (Frame H)) →
           Goes rules (at (Walk chain) k old) (at (Fail (error.ErrorOutOfMemory pos)) k new)
-
-    -- and to a method; a chain that is assigned to does not end in one
-    abbrev pub Calls : (name : List ℕ) → (args : List Expr) → Position → Type 0
-    Calls name args pos = (is_some link.behind || is_none chain.new) ≡ true → (k : List (Frame H)) →
-        Goes rules (at (Walk chain) k old)
-        (with_core (method_of rules.setting name args pos chain (after_method link.behind link chain k) old.local) old)
 
   -- the walk has ended, or the machine comes to the link
   abbrev pub Begins : {S : Type 0} → Rules S H → Link → Chain H → State S H → Begun H → State S H → Type 0
   Begins rules link chain old (begun.Ended r) new = WalkRuns rules chain old r new
   Begins rules link chain old begun.Enters new = Comes rules link chain old new
-  Begins rules link chain old (begun.Calls method) new =
-      (new ≡ old) × Calls rules link chain old new method.call.now.name method.call.now.args method.at
 
-  -- an index or a property, of a focus that may be entered; or a method
-  abbrev pub FitsLink : Begun H → Link → Cells H → (focus : Dynamic H) → Type 0
-  FitsLink begun.Enters link cells focus = IsLocated link.form × IsFree cells focus.value
-  FitsLink (begun.Calls method) link cells focus = (link_seen method.link ≡ link) ×
-      (form_seen method.link.form ≡ AtMethod method.call.now.name method.call.now.args method.at)
-  FitsLink (begun.Ended r) link cells focus = ⊤
+  -- the focus may be entered
+  abbrev pub FitsLink : Begun H → Cells H → (focus : Dynamic H) → Type 0
+  FitsLink begun.Enters cells focus = IsFree cells focus.value
+  FitsLink (begun.Ended r) cells focus = ⊤
 
   -- ---- what an index or a key leads to
 

@@ -1,6 +1,6 @@
 //! What the walk does at a link, by the form of the link and by what it finds.
 
-ghost use Rattle.std.specs.Prelude.{◌≡◌, ◌≤◌, ◌&&◌, [], Some};
+ghost use Rattle.std.specs.Prelude.{◌≡◌, ◌≤◌, ◌&&◌, [], Some, is_some};
 ghost use Rattle.std.specs.Option.{option_copied};
 ghost use Rattle.rhai_tree.specs.declared.expr.Expr.{out-Expr};
 ghost use Rattle.rhai_values.specs.Cells.{cells_of, with_value};
@@ -38,7 +38,7 @@ use std::mem::replace;
 
 /// Which way the walk goes at a link.
 #[derive(Clone, Copy)]
-pub enum Way<'e> {
+pub enum Way {
     /// Nowhere: the focus is the handle of a cell that is held.
     Races,
     /// Nowhere: the chain stops at `()`.
@@ -47,8 +47,6 @@ pub enum Way<'e> {
     Charges,
     /// It enters the focus.
     Enters,
-    /// It calls a method.
-    Calls(&'e FnCallExpr, Position),
 }
 
 /// A value, seen through a handle. None where the handle's cell is held.
@@ -86,7 +84,7 @@ fn is_unit<H: Host>(value: &Dynamic<H>) -> bool
 }
 
 /// Which way the walk goes by the form of a link, on a value that is seen through a handle.
-fn way_at<'e, H: Host>(form: LinkForm<'e>, inner: &Dynamic<H>) -> Way<'e>
+fn way_at<H: Host>(form: LinkForm<'_>, inner: &Dynamic<H>) -> Way
     ensures { WayBy result (form_seen form.entry) (layer_of inner.now) }
 {
     match form {
@@ -98,7 +96,7 @@ fn way_at<'e, H: Host>(form: LinkForm<'e>, inner: &Dynamic<H>) -> Way<'e>
                 Way::Enters
             }
         }
-        LinkForm::Method(call, pos) => Way::Calls(call, pos),
+        LinkForm::Method(_, _) => Way::Enters,
     }
 }
 
@@ -110,7 +108,7 @@ fn stops_there<H: Host>(link: Link<'_>, inner: &Dynamic<H>) -> bool
 }
 
 /// Which way the walk goes at a link.
-fn way_of<'e, H: Host>(cells: &CellStore<H>, focus: &Dynamic<H>, link: Link<'e>) -> Way<'e>
+fn way_of<H: Host>(cells: &CellStore<H>, focus: &Dynamic<H>, link: Link<'_>) -> Way
     ensures { IsWay result (link_seen link.entry) (cells_of cells.now) focus.now }
 {
     let Some(inner) = seen(cells, focus) else {
@@ -132,29 +130,27 @@ pub struct MethodIn<'e> {
 }
 
 /// How the walk begins at a link.
-pub enum Begun<'e, H> {
+pub enum Begun<H> {
     /// It has ended there.
     Ended(Result<(Dynamic<H>, bool), EvalAltResult<H>>),
     /// It enters the focus.
     Enters,
-    /// It calls a method.
-    Calls(MethodIn<'e>),
 }
 
 /// The beginning of the walk at a link: the focus is looked at, and the charge is made.
 ///
 /// # Errors
 /// At the operator `ErrorDataRace` for the handle of a cell that is held; and a charge's.
-pub fn begin_link<'e, H: Host, T: NativeTable<H>>(
+pub fn begin_link<H: Host, T: NativeTable<H>>(
     limits: &Limits,
     alloc: Global,
     global: &mut GlobalRuntimeState<H>,
     table: &T,
     focus: &Dynamic<H>,
-    link: Link<'e>,
-) -> Begun<'e, H>
+    link: Link<'_>,
+) -> Begun<H>
     ensures counts { global.old.num_operations ≤ global.new.num_operations }
-    ensures fits { FitsLink result (link_seen link.entry) (cells_of global.new.cells) focus.now }
+    ensures fits { FitsLink result (cells_of global.new.cells) focus.now }
     ensures begins { (offer : _) (scope : _) (held : _) (chain : _) →
         link_in chain.rest ≡ Some (link_seen link.entry) →
         Begins (rules_of limits.now H.name_of offer T.natives) (link_seen link.entry) chain
@@ -169,7 +165,6 @@ pub fn begin_link<'e, H: Host, T: NativeTable<H>>(
             Err(error) => Begun::Ended(Err(error)),
         },
         Way::Enters => Begun::Enters,
-        Way::Calls(call, at) => Begun::Calls(MethodIn { link, call, at }),
     }
 }
 
@@ -188,6 +183,13 @@ pub fn step_in<H: Host>(
     let id = *id;
     let inner = cells.take(id).unwrap();
     Some((id, replace(focus, inner)))
+}
+
+/// Whether what is worked on was a handle.
+pub fn was_handle<H: Host>(above: &Option<(CellId, Dynamic<H>)>) -> bool
+    ensures { result ≡ is_some above.now }
+{
+    above.is_some()
 }
 
 /// Gives a cell a value, where there is such a cell.

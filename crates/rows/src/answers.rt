@@ -2,6 +2,7 @@
 
 use crate::errors::write_shown;
 use crate::functions::write_call;
+use crate::handles::write_handled;
 use crate::program::{write_refusals, write_run};
 use crate::scripts::{write_number, write_ways};
 use crate::searches::write_search;
@@ -23,6 +24,7 @@ use std::io::Write;
 /// - `finds NAME OFFSET`, `searches NAME OFFSET`: where a variable stands in a scope, if its offset
 ///   tells, and its value; the second has variables searched for
 /// - `calls NAME`: what a host's own call of a function answers, and what it leaves
+/// - `handles CHAIN`: what a chain on handles of a cell comes to
 /// - `shows VARIANT [PART] ..`: an error as a user reads it; behind `nowhere`, without its place
 /// - `tells metadata`, `tells signature`, `tells surroundings`: what is told of a function without its
 ///   body, and what it finds around it
@@ -42,6 +44,7 @@ fn write_answer(alloc: Global, call: &str, out: &mut Vec<u8>) -> io::Result<()> 
         "finds" => write_search(alloc, rest, false, out),
         "searches" => write_search(alloc, rest, true, out),
         "calls" => write_call(alloc, rest, out),
+        "handles" => write_handled(alloc, rest, out),
         "shows" => write_shown(alloc, rest, out),
         "tells" => write_told(alloc, rest, out),
         "above" => {

@@ -21,7 +21,8 @@ pub fn write_shown(alloc: Global, words: &str, out: &mut Vec<u8>) -> io::Result<
     }
 }
 
-fn write_error(alloc: Global, error: EvalAltResult<Pair>, out: &mut Vec<u8>) -> io::Result<()> {
+/// Writes an error as a user reads it. Between two lines of it stands `\n`.
+pub fn write_error(alloc: Global, error: EvalAltResult<Pair>, out: &mut Vec<u8>) -> io::Result<()> {
     let shown = format!(in alloc; "{error}");
     drop(error);
     let shown = shown?;

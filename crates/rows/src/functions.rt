@@ -2,11 +2,12 @@
 
 ghost use Rattle.std.specs.Prelude.{◌≡◌, IfOk, length};
 
+use crate::errors::write_error;
 use rhai_bench::outcome::Ending;
 use rhai_bench::print::{write_ending, write_value};
 use rhai_bench::script::add_library;
 use rhai_build::functions::TreeParts;
-use rhai_eval::base::{AccessMode, EvalAltResult, Items, Position, Scope, Shared, Union};
+use rhai_eval::base::{AccessMode, CellId, EvalAltResult, Items, Position, Scope, Shared, Union};
 use rhai_eval::check::{CheckedFn, CheckedTree, check_tree};
 use rhai_eval::engine::Engine;
 use rhai_eval::script::FnKey;
@@ -44,6 +45,11 @@ type Answer = Result<(Dynamic<Pair>, bool), EvalAltResult<Pair>>;
 
 fn int(value: i64) -> Dynamic<Pair> {
     Dynamic::new(Union::Int(value))
+}
+
+/// A handle of the first cell.
+fn handle() -> Dynamic<Pair> {
+    Dynamic::new(Union::Cell(CellId { number: 0 }))
 }
 
 /// So many arguments.
@@ -122,8 +128,8 @@ impl Caller {
         )
     }
 
-    /// A function by its name on the variables, with the object before the arguments.
-    fn call_captured(&mut self, alloc: Global, name: &str) -> Answer {
+    /// A function by its name on the variables, with the object before the arguments or as a method's.
+    fn call_captured(&mut self, alloc: Global, name: &str, is_method: bool) -> Answer {
         Engine::new(alloc).exec_fn_call(
             alloc,
             &mut self.global,
@@ -135,9 +141,37 @@ impl Caller {
             Some(&mut self.object),
             self.args.as_mut_slice(),
             false,
-            false,
+            is_method,
             Position::new(1, 1),
         )
+    }
+
+    /// A native by its name, on the object before the arguments.
+    fn call_native(&mut self, alloc: Global, name: &str) -> Answer {
+        Engine::new(alloc).exec_native_fn_call(
+            alloc,
+            &mut self.global,
+            &mut self.caches,
+            &mut self.table,
+            name,
+            None,
+            Some(&mut self.object),
+            self.args.as_mut_slice(),
+            true,
+            Position::new(1, 1),
+        )
+    }
+
+    /// The object goes into a cell, and object and arguments are handles of that.
+    fn share(&mut self) -> Result<(), AllocError> {
+        if let Err((value, error)) = self.global.cells.add(replace(&mut self.object, handle())) {
+            drop(value);
+            return Err(error);
+        }
+        'arguments: for arg in self.args.as_mut_slice() {
+            drop(replace(arg, handle()));
+        }
+        Ok(())
     }
 
     /// A method on the object.
@@ -208,10 +242,12 @@ pub fn write_call(alloc: Global, name: &str, out: &mut Vec<u8>) -> io::Result<()
 /// The tree with the function of a call.
 fn parts_for(alloc: Global, name: &str) -> Result<TreeParts, AllocError> {
     match name {
-        "this" | "a method" | "on a target" => method_that_changes_an_item(alloc),
+        "this" | "a method" | "a racing method" | "on a target" => method_that_changes_an_item(
+            alloc,
+        ),
         "all variables" | "its variables" | "too deep" => variable_declared(alloc),
         "a reference" | "a value" => parameter_assigned(alloc),
-        "the scope" => variable_of_the_caller_increased(alloc),
+        "the scope" | "a method on the scope" => variable_of_the_caller_increased(alloc),
         _ => empty_function(alloc),
     }
 }
@@ -223,11 +259,30 @@ fn write_called(
     function: &Shared<CheckedFn>,
     out: &mut Vec<u8>,
 ) -> io::Result<()> {
-    let count = usize::from(matches!(name, "a method" | "on a target"));
+    let count = usize::from(matches!(
+        name,
+        "a method"
+            | "a method on the scope"
+            | "a racing method"
+            | "a racing native"
+            | "a missing native"
+            | "on a target"
+    ));
     let mut caller = Caller::new(alloc, count)?;
     add_library(alloc, &mut caller.global, tree)?;
     let answer = answer_of(alloc, &mut caller, name, function.get())?;
+    if name == "a missing native" {
+        return write_text(alloc, answer, out);
+    }
     caller.write_left(answer, out)
+}
+
+/// Writes what the error of a call says.
+fn write_text(alloc: Global, answer: Answer, out: &mut Vec<u8>) -> io::Result<()> {
+    match answer {
+        Ok(_) => write!(out, "no error"),
+        Err(error) => write_error(alloc, error, out),
+    }
 }
 
 fn answer_of(
@@ -243,7 +298,16 @@ fn answer_of(
         "a method" => Ok(caller.call_named(alloc, "add", false, true)),
         "a reference" => Ok(caller.call_named(alloc, "chg", true, false)),
         "a value" => Ok(caller.call_named(alloc, "chg", false, false)),
-        "the scope" => Ok(caller.call_captured(alloc, "bump")),
+        "the scope" => Ok(caller.call_captured(alloc, "bump", false)),
+        "a method on the scope" => Ok(caller.call_captured(alloc, "bump", true)),
+        "a racing method" | "a racing native" | "a missing native" => {
+            caller.share()?;
+            Ok(match name {
+                "a racing method" => caller.call_named(alloc, "add", false, true),
+                "a racing native" => caller.call_named(alloc, "none", false, true),
+                _ => caller.call_native(alloc, "none"),
+            })
+        }
         "on a target" => Ok(caller.call_method(alloc, "add")),
         "a name" => Ok(caller.seeks(alloc, "e")),
         _ => Ok(caller.seeks(alloc, "f")),

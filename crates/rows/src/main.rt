@@ -5,6 +5,7 @@
 mod answers;
 mod errors;
 mod functions;
+mod handles;
 mod program;
 mod scripts;
 mod searches;

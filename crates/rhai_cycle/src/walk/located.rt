@@ -1,4 +1,4 @@
-//! The walk at an index or a property.
+//! The walk at a link, once its focus is entered.
 
 ghost use Rattle.std.specs.Prelude.{◌≡◌, ◌≤◌, length, is_some};
 ghost use Rattle.rhai_values.specs.Cells.{cells_of};
@@ -6,13 +6,14 @@ ghost use Rattle.rhai_machine.specs.language.Frames.{Item};
 ghost use Rattle.rhai_cycle.specs.States.{under};
 ghost use Rattle.rhai_steps.specs.States.{state_of};
 ghost use Rattle.rhai_steps.specs.Marked.{lending};
-ghost use Rattle.rhai_chains.specs.Chains.{chain_at, FollowsFrom, form_seen};
+ghost use Rattle.rhai_chains.specs.Chains.{chain_at, FollowsFrom};
 ghost use Rattle.rhai_chains.specs.Chains.{link_seen};
 ghost use Rattle.rhai_chains.specs.Members.{access_of};
 ghost use Rattle.rhai_walk.specs.Walking.{entered_core, IsFree};
-ghost use Rattle.rhai_walk.specs.Walking.{IsLocated, LinkWalks};
+ghost use Rattle.rhai_walk.specs.Walking.{LinkWalks};
 
 use crate::evaluator::Evaluator;
+use crate::walk::methods::asked_by;
 use rhai_chains::chain::NewValue;
 use rhai_chains::links::{Link, LinkForm};
 use rhai_chains::members::{Member, MemberAccess};
@@ -23,7 +24,7 @@ use rhai_steps::values::{text_value, unit_value};
 use rhai_tree::expr::Expr;
 use rhai_tree::position::Position;
 use rhai_values::base::value::{Dynamic, Host};
-use rhai_walk::ways::{is_indexed, is_map, step_in, step_out};
+use rhai_walk::ways::{is_indexed, is_map, step_in, step_out, was_handle};
 use std::alloc::Global;
 use std::mem::replace;
 
@@ -43,8 +44,9 @@ fn item_access<'m, H: Host>(
 }
 
 impl<'e, H: Host> Evaluator<'e, H> {
-    /// An index or a property of the focus: what stands in it, or else a member by natives. Of a handle it is one
-    /// of its cell's value, which is taken from there and goes back whatever comes of it.
+    /// An index or a property of the focus: what stands in it, or else a member by natives; or a method, and then
+    /// what is behind it. Of a handle it is one of its cell's value, which is taken from there and goes back
+    /// whatever comes of it, once the chain is left.
     #[cycle(eval)]
     pub(crate) fn walk_entered<T: NativeTable<H>>(
         &self,
@@ -58,7 +60,6 @@ impl<'e, H: Host> Evaluator<'e, H> {
         new: Option<NewValue<H>>,
         in_place: bool,
     ) -> Result<(Dynamic<H>, bool), EvalAltResult<H>>
-        requires located { IsLocated (form_seen link.form) }
         requires free { IsFree (cells_of run.old.global.cells) focus.old.value }
         requires walks { LinkWalks (is_some new) (link_seen link) (length args.old) }
         ensures counts { run.old.global.num_operations ≤ run.new.global.num_operations }
@@ -121,7 +122,17 @@ impl<'e, H: Host> Evaluator<'e, H> {
                     result
                 }
             }
-            LinkForm::Method(_, _) => unreachable!(),
+            LinkForm::Method(call, pos) => {
+                let on_handle = was_handle(&above);
+                let (given, behind) = args.split_at_mut(call.args.len());
+                let (name, first) = asked_by(call);
+                let answer = self.run_method(
+                    alloc, run, table, name, focus, given, first, pos, on_handle,
+                );
+                let result = self.walk_behind(alloc, run, table, root, answer, link, behind, new);
+                step_out(&mut run.global.cells, focus, above);
+                result
+            }
         }
     }
 }

@@ -17,19 +17,17 @@ use rhai_chains::links::Link;
 use rhai_context::Context;
 use rhai_state::error::EvalAltResult;
 use rhai_state::table::NativeTable;
-use rhai_tree::expr::Expr;
+use rhai_tree::expr::{Expr, FnCallExpr};
 use rhai_tree::position::Position;
 use rhai_values::base::value::{Dynamic, Host};
 use rhai_walk::calls::first_position;
-use rhai_walk::ways::MethodIn;
 use std::alloc::Global;
 
 /// The name that a method is called by, and where its first argument stands.
-pub(crate) fn asked_by<'m>(method: MethodIn<'m>) -> (&'m str, Option<Position>)
-    ensures name { result.0.now ≡ method.entry.call.now.name }
-    ensures first { result.1 ≡ first_position_in method.entry.call.now.args }
+pub(crate) fn asked_by(call: &FnCallExpr) -> (&str, Option<Position>)
+    ensures name { result.0.now ≡ call.now.name }
+    ensures first { result.1 ≡ first_position_in call.now.args }
 {
-    let call = method.call;
     (
         call.name.get().as_str(),
         first_position(call.args.as_slice()),

@@ -156,9 +156,9 @@ impl<'e, H: Host> Evaluator<'e, H> {
         match method_in(rest) {
             Some(method) => {
                 let (given, behind) = args.split_at_mut(method.call.args.len());
-                let (name, first) = asked_by(method);
+                let (name, first) = asked_by(method.call);
                 let answer = self.run_method(
-                    alloc, run, table, name, &mut part, given, first, method.at,
+                    alloc, run, table, name, &mut part, given, first, method.at, false,
                 );
                 let result = put_back(alloc, source, at, &part, answer, method.at);
                 drop(part);

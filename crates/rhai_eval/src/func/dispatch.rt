@@ -7,6 +7,7 @@ ghost use Rattle.std.specs.Option.{option_copied};
 ghost use Rattle.rhai_values.specs.Copy.{copy_of};
 ghost use Rattle.rhai_state.specs.Errors.{is_out_of_memory};
 ghost use Rattle.rhai_state.specs.Native.{left_by, was};
+ghost use Rattle.rhai_state.specs.Scope.{names_in};
 ghost use Rattle.rhai_machine.specs.language.Calls.{dispatch_core};
 ghost use Rattle.rhai_machine.specs.language.Frames.{EnterOnFocus};
 ghost use Rattle.rhai_machine.specs.language.State.{Answers};
@@ -23,6 +24,7 @@ ghost use Rattle.rhai_eval.specs.Plain.{Plain};
 ghost use Rattle.rhai_eval.specs.States.{under};
 
 use crate::engine::Engine;
+use crate::func::captured::enter_with_this;
 use rhai_calls::dispatch::{Dispatched, Seeks, pass_all, pass_call};
 use rhai_calls::native::{Passing, marked};
 use rhai_context::{give_back, take};
@@ -192,7 +194,7 @@ impl<H: Host> Engine<H> {
         }
     }
 
-    /// The same, and a method of a script is entered on its object.
+    /// The same, and a method of a script is entered on its object, with variables of its own.
     fn call_with<T: NativeTable<H>>(
         &self,
         alloc: Global,
@@ -206,15 +208,15 @@ impl<H: Host> Engine<H> {
         is_method_call: bool,
         pos: Position,
     ) -> Outcome<H>
-        ensures lent { (scope : _) (held : _) (on_scope : _) → (is_ref_mut || is_method_call) ≡ true →
+        ensures lent { (scope : _) (held : _) → (is_ref_mut || is_method_call) ≡ true →
             let rules = under H.name_of self.now T.natives in
-            ComesOut (not on_scope) pos rules (dispatch_core rules.setting (by_name is_method_call on_scope)
+            ComesOut true pos rules (dispatch_core rules.setting (by_name is_method_call false)
             (on_place (record { name = name.now; token = token; at = pos }) true (Some first.old) rest.old))
             (state_of (T.state table.old) global.old scope (lending held first.old)) result
             (state_of (T.state table.new) global.new scope (lending held first.new)) }
-        ensures by_value { (scope : _) (held : _) (on_scope : _) → (is_ref_mut || is_method_call) ≡ false →
+        ensures by_value { (scope : _) (held : _) → (is_ref_mut || is_method_call) ≡ false →
             let rules = under H.name_of self.now T.natives in
-            ComesOut (not on_scope) pos rules (dispatch_core rules.setting (by_name false on_scope)
+            ComesOut true pos rules (dispatch_core rules.setting (by_name false false)
             (by_value (record { name = name.now; token = token; at = pos }) (Some first.old) rest.old))
             (state_of (T.state table.old) global.old scope held) result
             (state_of (T.state table.new) global.new scope held) }
@@ -237,6 +239,56 @@ impl<H: Host> Engine<H> {
             MethodCall::OnTarget(function, args) => {
                 Outcome::Ended(self.enter_on(alloc, global, table, function, first, args, pos))
             }
+            MethodCall::Alone(function, args) => Outcome::Enters(function, args),
+        }
+    }
+
+    /// The same on the caller's variables, on which a method of a script runs too.
+    fn call_on<T: NativeTable<H>>(
+        &self,
+        alloc: Global,
+        global: &mut GlobalRuntimeState<H>,
+        table: &mut T,
+        scope: &mut Scope<H>,
+        name: &str,
+        token: Option<Token>,
+        first: &mut Dynamic<H>,
+        rest: &mut [Dynamic<H>],
+        is_ref_mut: bool,
+        is_method_call: bool,
+        pos: Position,
+    ) -> Outcome<H>
+        ensures lent { (held : _) → (is_ref_mut || is_method_call) ≡ true →
+            let rules = under H.name_of self.now T.natives in
+            ComesOut false pos rules (dispatch_core rules.setting (by_name is_method_call true)
+            (on_place (record { name = name.now; token = token; at = pos }) true (Some first.old) rest.old))
+            (state_of (T.state table.old) global.old scope.old (lending held first.old)) result
+            (state_of (T.state table.new) global.new scope.new (lending held first.new)) }
+        ensures by_value { (held : _) → (is_ref_mut || is_method_call) ≡ false →
+            let rules = under H.name_of self.now T.natives in
+            ComesOut false pos rules (dispatch_core rules.setting (by_name false true)
+            (by_value (record { name = name.now; token = token; at = pos }) (Some first.old) rest.old))
+            (state_of (T.state table.old) global.old scope.old held) result
+            (state_of (T.state table.new) global.new scope.new held) }
+        ensures search { global.new.always_search_scope ≡ global.old.always_search_scope }
+    {
+        let call = self.call_first(
+            alloc,
+            global,
+            table,
+            name,
+            token,
+            first,
+            rest,
+            is_ref_mut,
+            is_method_call,
+            pos,
+        );
+        match call {
+            MethodCall::Ended(result) => Outcome::Ended(result),
+            MethodCall::OnTarget(function, args) => Outcome::Ended(self.enter_on_scope(
+                alloc, global, table, scope, function, first, args, pos,
+            )),
             MethodCall::Alone(function, args) => Outcome::Enters(function, args),
         }
     }
@@ -289,7 +341,7 @@ impl<H: Host> Engine<H> {
         pos: Position,
     ) -> Result<(Dynamic<H>, bool), EvalAltResult<H>>
         ensures runs { (scope : _) (held : _) → MarkedRuns (under H.name_of self.now T.natives)
-            (EnterOnFocus function args pos)
+            (EnterOnFocus function true args pos)
             (state_of (T.state table.old) global.old scope (lending held place.old)) result
             (state_of (T.state table.new) global.new scope (lending held place.new)) }
         ensures search { global.new.always_search_scope ≡ global.old.always_search_scope }
@@ -301,6 +353,34 @@ impl<H: Host> Engine<H> {
         let result = evaluator.enter_on_focus(alloc, &mut run, table, function, place, args, pos);
         give_back(run, global, &mut scope);
         drop(scope);
+        marked(result, false)
+    }
+
+    /// The same on the caller's variables: what it adds to them goes at its end.
+    fn enter_on_scope<T: NativeTable<H>>(
+        &self,
+        alloc: Global,
+        global: &mut GlobalRuntimeState<H>,
+        table: &mut T,
+        scope: &mut Scope<H>,
+        function: Function<H>,
+        place: &mut Dynamic<H>,
+        args: Items<Dynamic<H>>,
+        pos: Position,
+    ) -> Result<(Dynamic<H>, bool), EvalAltResult<H>>
+        ensures runs { (held : _) → MarkedRuns (under H.name_of self.now T.natives)
+            (EnterOnFocus function false args pos)
+            (state_of (T.state table.old) global.old scope.old (lending held place.old)) result
+            (state_of (T.state table.new) global.new scope.new (lending held place.new)) }
+        ensures search { global.new.always_search_scope ≡ global.old.always_search_scope }
+    {
+        let mut run = take(alloc, global, scope);
+        let limits = self.limits();
+        let evaluator = self.evaluator(&limits);
+        let result = enter_with_this(
+            &evaluator, alloc, &mut run, table, function, place, args, pos,
+        );
+        give_back(run, global, scope);
         marked(result, false)
     }
 
@@ -367,17 +447,17 @@ impl<H: Host> Engine<H> {
     /// the native of the name as `exec_native_fn_call` calls it. With the value comes whether a native gave it
     /// that is not pure. Ports upstream's `exec_fn_call`.
     ///
-    /// A function of a script runs one level deeper. For a method it has the first argument as its `this`, in
-    /// its own place, and variables of its own. Otherwise it gets all arguments, of a first one in a place of
-    /// the caller (`is_ref_mut`) a copy, and runs on the variables of the scope where there is one; its own
-    /// go at its end. What stands in the places of the arguments that it took is not told.
+    /// A function of a script runs one level deeper, on the variables of the scope where there is one; its own
+    /// go at its end. For a method it has the first argument as its `this`, in its own place, and no other
+    /// argument may lead to the cell of that. Otherwise it gets all arguments, of a first one in a place of the
+    /// caller (`is_ref_mut`) a copy. What stands in the places of the arguments that it took is not told.
     ///
     /// Asked: a first argument where there is a mark; and no global modules, whose constants the machine has no
     /// rule of yet (`Plain`). Where there is no first argument the call has none.
     ///
     /// # Errors
-    /// At the call: `ErrorDataRace` for an argument that is the handle of a cell which is held;
-    /// `ErrorFunctionNotFound` for `eval`; and those of `call_script_fn` and `exec_native_fn_call`.
+    /// At the call: `ErrorDataRace` for an argument that is the handle of a cell which is held, by the object of
+    /// a method too; `ErrorFunctionNotFound` for `eval`; and those of `call_script_fn` and `exec_native_fn_call`.
     pub fn exec_fn_call<T: NativeTable<H>>(
         &self,
         alloc: Global,
@@ -414,29 +494,46 @@ impl<H: Host> Engine<H> {
         ensures kept { (variables : _) (held : _) → Kept (under H.name_of self.now T.natives)
             (state_of (T.state table.old) global.old (unwrap_or (was_of scope.entry) variables) held)
             (state_of (T.state table.new) global.new (unwrap_or (left_of scope.exit) variables) held) }
+        ensures names { (variables : _) → names_in (unwrap_or (left_of scope.exit) variables)
+            ≡ names_in (unwrap_or (was_of scope.entry) variables) }
         ensures caches { _caches.new ≡ _caches.old }
         ensures search { global.new.always_search_scope ≡ global.old.always_search_scope }
     {
         let (token, pos) = (op_token.copied(), position);
         match first {
-            Some(first) => {
-                let outcome = self.call_with(
-                    alloc,
-                    global,
-                    table,
-                    name,
-                    token,
-                    first,
-                    rest,
-                    is_ref_mut,
-                    is_method_call,
-                    pos,
-                );
-                match scope {
-                    Some(scope) => return self.finish_on(alloc, global, table, scope, outcome, pos),
-                    None => return self.finish_fresh(alloc, global, table, outcome, pos),
+            Some(first) => match scope {
+                Some(scope) => {
+                    let outcome = self.call_on(
+                        alloc,
+                        global,
+                        table,
+                        scope,
+                        name,
+                        token,
+                        first,
+                        rest,
+                        is_ref_mut,
+                        is_method_call,
+                        pos,
+                    );
+                    return self.finish_on(alloc, global, table, scope, outcome, pos);
                 }
-            }
+                None => {
+                    let outcome = self.call_with(
+                        alloc,
+                        global,
+                        table,
+                        name,
+                        token,
+                        first,
+                        rest,
+                        is_ref_mut,
+                        is_method_call,
+                        pos,
+                    );
+                    return self.finish_fresh(alloc, global, table, outcome, pos);
+                }
+            },
             None => {
                 let outcome = self.call_none(alloc, global, table, name, token, pos);
                 match scope {

@@ -3,7 +3,7 @@
 //! specs/Targets.antt of `rhai_methods`.
 
 ghost use Rattle.std.specs.Prelude.{◌≡◌, Some};
-ghost use Rattle.rhai_places.specs.Targets.{IsFit, shown};
+ghost use Rattle.rhai_places.specs.Targets.{IsFit, is_shared as shows_handle, shown};
 ghost use Rattle.rhai_methods.specs.Targets.{on_target, StaysAlike, stands};
 ghost use Rattle.rhai_steps.specs.Marked.{lending, RunsFrom};
 ghost use Rattle.rhai_cycle.specs.States.{under as under_what_is_read};
@@ -47,23 +47,31 @@ fn method_on<H: Host, T: NativeTable<H>>(
     ensures runs { (scope : _) (held : _) →
         let rules = under_what_is_read H.name_of evaluator.now T.natives in
         RunsFrom rules (on_target rules.setting
-        (record { name = name.now; at = pos; first_at = first }) args.old
+        (record {
+          name = name.now;
+          at = pos;
+          first_at = first;
+          was_handle = shows_handle target.old.part target.old.at.now;
+        }) args.old
         target.old.part target.old.at.now)
         (state_of (T.state table.old) run.old.global scope
         (lending held (shown target.old.part target.old.at.now)))
         result (state_of (T.state table.new) run.new.global scope
         (lending held (stands target.new.part target.new.at.now))) }
 {
+    let is_handle = target.is_shared();
     match &mut target.part {
         Part::Whole => {
             let place = &mut *target.at;
-            evaluator.run_method(alloc, run, table, name, place, args, first, pos)
+            evaluator.run_method(alloc, run, table, name, place, args, first, pos, is_handle)
         }
-        Part::Temporary(value) => {
-            evaluator.run_method(alloc, run, table, name, value, args, first, pos)
-        }
+        Part::Temporary(value) => evaluator.run_method(
+            alloc, run, table, name, value, args, first, pos, is_handle,
+        ),
         Part::Of(_, value) => {
-            let answer = evaluator.run_method(alloc, run, table, name, value, args, first, pos);
+            let answer = evaluator.run_method(
+                alloc, run, table, name, value, args, first, pos, is_handle,
+            );
             put_back(alloc, target, answer, pos)
         }
     }
@@ -101,7 +109,12 @@ impl<H: Host> Engine<H> {
         requires fit { IsFit target.old.part target.old.at.now }
         ensures ends { (scope : _) (this : _) → let rules = under H.name_of self.now T.natives in
             EndsMarked rules (on_target rules.setting
-            (record { name = fn_name.now; at = pos; first_at = Some first_arg_pos })
+            (record {
+              name = fn_name.now;
+              at = pos;
+              first_at = Some first_arg_pos;
+              was_handle = shows_handle target.old.part target.old.at.now;
+            })
             call_args.old target.old.part target.old.at.now)
             (state_of (T.state table.old) global.old scope
             (with_place this (Some (shown target.old.part target.old.at.now)))) result

@@ -10,15 +10,16 @@ ghost use Rattle.rhai_functions.specs.Keys.{key_seen};
 ghost use Rattle.rhai_machine.specs.language.Activations.{OwnThis};
 ghost use Rattle.rhai_machine.specs.language.Frames.{EnterFunction};
 ghost use Rattle.rhai_machine.specs.language.Runs.{Runs};
+ghost use Rattle.rhai_machine.specs.language.State.{HasMemory};
 ghost use Rattle.rhai_state.specs.Native.{left_by, was};
 ghost use Rattle.rhai_state.specs.Scope.{entries_of, names_in};
 ghost use Rattle.rhai_steps.specs.States.{holding, state_of};
-ghost use Rattle.rhai_cycle.specs.Bodies.{entered};
+ghost use Rattle.rhai_cycle.specs.Bodies.{args_left, entered, is_entered};
 ghost use Rattle.rhai_cycle.specs.States.{state_in};
 ghost use Rattle.rhai_laws.specs.Kept.{Kept};
 ghost use Rattle.rhai_eval.specs.Ends.{AgreesAbove, EndsAs};
 ghost use Rattle.rhai_eval.specs.Plain.{Plain};
-ghost use Rattle.rhai_eval.specs.States.{under};
+ghost use Rattle.rhai_eval.specs.States.{limits_of, under};
 
 use crate::engine::Engine;
 use crate::this::{give_back_with, take_with};
@@ -62,6 +63,9 @@ impl<H: Host> Engine<H> {
         pos: Position,
     ) -> Result<Dynamic<H>, EvalAltResult<H>>
         ensures charges { OnOk result (run.old.global.num_operations < run.new.global.num_operations) }
+        ensures args { HasMemory result → length def.now.params ≡ length args.old → args.new
+            ≡ args_left (is_entered (limits_of self.now) run.old.global.num_operations
+            run.old.global.level (length (entries_of run.old.scope)) def.now) args.old }
         ensures runs { Runs (under H.name_of self.now T.natives)
             (EnterFunction (entered def.now (option_copied env.entry) OwnThis false rewind_scope args.old
             run.old.global.level pos))
@@ -131,6 +135,9 @@ impl<H: Host> Engine<H> {
             global.old.level pos))
             (state_of (T.state table.old) global.old scope.old (holding (was this.entry))) result
             (state_of (T.state table.new) global.new scope.new (holding (left_by this.exit))) }
+        ensures args { HasMemory result → length def.now.params ≡ length args.old → args.new
+            ≡ args_left (is_entered (limits_of self.now) global.old.num_operations global.old.level
+            (length (entries_of scope.old)) def.now) args.old }
         ensures lib { global.new.lib ≡ global.old.lib }
         ensures imports { global.new.imports ≡ global.old.imports }
         ensures constants { global.new.constants ≡ global.old.constants }

@@ -135,7 +135,7 @@ module _ {H : Type 0} where
     answered_core InPlace (Gives v) u k l = changed_core (sized s.limits v u.at) u k l
     answered_core InPlace (Faults e) u k l = fault_core (says_missing (native_of InPlace u.operator) e) (placed_if_none u.at e) u k l
     answered_core AsValue reply u k l = value_core (replied s.limits s.host_type reply (Some u.target) (u.operand ∷ []) (operation_of u)
-        l.around.cells) u k l
+        false l.around.cells) u k l
 
     -- the target is lent to the native, which may change it, and is written back whatever the answer
     abbrev pub lent_core : Reply H → Dynamic H → Update H → List (Frame H) → Local H → Core H

@@ -97,10 +97,11 @@ module _ {H : Type 0} where
   first_type host cells [] = []
   first_type host cells (v ∷ vs) = type_name_of host cells v
 
-  -- there is no such native: a name that was written as an operator may be a getter's, a setter's or an indexer's
-  abbrev pub not_found : (H → List ℕ) → Cells H → List ℕ → List (Dynamic H) → Position → EvalAltResult H
-  not_found host cells name args at =
+  -- there is no such native: a name may be a getter's, a setter's or an indexer's, but of a number it is a function's
+  abbrev pub not_found : (H → List ℕ) → Cells H → (name : List ℕ) → (numbered : Bool) → List (Dynamic H) → Position → EvalAltResult H
+  not_found host cells name false args at =
       unknown (property_named name) (names_indexer name) name (first_type host cells args) (types_of host cells args) at
+  not_found host cells name true args at = error.ErrorFunctionNotFound (signature name (types_of host cells args)) at
 
   -- an error stands where it says, or here where it does not say
   abbrev pub placed_if_none : Position → EvalAltResult H → EvalAltResult H
@@ -188,10 +189,10 @@ module _ {H : Type 0} where
 
     module _ (host : H → List ℕ) where
       -- where no native has the name: the built-in, or there is no such function
-      abbrev pub missing : Option (Result (Dynamic H) (EvalAltResult H)) → Operation → List (Dynamic H) → Cells H →
+      abbrev pub missing : Option (Result (Dynamic H) (EvalAltResult H)) → Operation → (numbered : Bool) → List (Dynamic H) → Cells H →
           Result (Dynamic H) (EvalAltResult H)
-      missing (Some r) operation args cells = applied r operation.at
-      missing None operation args cells = Err (not_found host cells operation.name args operation.at)
+      missing (Some r) operation numbered args cells = applied r operation.at
+      missing None operation numbered args cells = Err (not_found host cells operation.name numbered args operation.at)
 
       -- the arguments as the native left the first
       abbrev pub args_left : Option (Dynamic H) → List (Dynamic H) → List (Dynamic H)
@@ -199,11 +200,12 @@ module _ {H : Type 0} where
       args_left None rest = rest
 
       -- what a native answered, at the call
-      abbrev pub replied : Reply H → Option (Dynamic H) → List (Dynamic H) → Operation → Cells H → Result (Dynamic H) (EvalAltResult H)
-      replied Missing first rest operation cells = missing (builtin_of operation.token (args_left first rest)) operation
+      abbrev pub replied : Reply H → Option (Dynamic H) → List (Dynamic H) → Operation → (numbered : Bool) → Cells H →
+          Result (Dynamic H) (EvalAltResult H)
+      replied Missing first rest operation numbered cells = missing (builtin_of operation.token (args_left first rest)) operation numbered
           (args_left first rest) cells
-      replied (Gives v) first rest operation cells = sized v operation.at
-      replied (Faults e) first rest operation cells = Err (placed_if_none operation.at e)
+      replied (Gives v) first rest operation numbered cells = sized v operation.at
+      replied (Faults e) first rest operation numbered cells = Err (placed_if_none operation.at e)
 
   -- a handle of a cell that is held
   abbrev pub is_held : Cells H → Union H → Bool
@@ -214,6 +216,22 @@ module _ {H : Type 0} where
   abbrev pub races : Cells H → List (Dynamic H) → Bool
   races cells [] = false
   races cells (v ∷ args) = is_held cells v.value || races cells args
+
+  -- a handle of the same cell
+  abbrev pub is_same_cell : Union H → Union H → Bool
+  is_same_cell (value.Cell id) (value.Cell other) = nat_eq id.number other.number
+  is_same_cell _ _ = false
+
+  -- an argument is a handle of the cell that this is one of
+  abbrev pub leads_there : Union H → List (Dynamic H) → Bool
+  leads_there object [] = false
+  leads_there object (v ∷ args) = is_same_cell object v.value || leads_there object args
+
+  -- the same of a call: a method's object is entered, so that no other argument may lead to its cell
+  abbrev pub call_races : (of_method : Bool) → Cells H → List (Dynamic H) → Bool
+  call_races false cells args = races cells args
+  call_races true cells [] = false
+  call_races true cells (v ∷ args) = races cells (v ∷ args) || leads_there v.value args
 
   -- a function's name and the number of its parameters
   abbrev pub names_function : Union H → Union H → Bool
@@ -245,18 +263,18 @@ module _ {H : Type 0} where
   }
 
   -- a function on the focus: of a handle it runs on the cell's value, the cell is held meanwhile, and no argument may lead there
-  abbrev pub inside_core : Function H → (args : List (Dynamic H)) → Position → List (Frame H) → Local H → Core H
-  inside_core function args at k l =
+  abbrev pub inside_core : Function H → (is_fresh : Bool) → (args : List (Dynamic H)) → Position → List (Frame H) → Local H → Core H
+  inside_core function is_fresh args at k l =
       if races l.around.cells args then core (Fail (error.ErrorDataRace function.def.name at)) k l
-      else core (EnterFunction (entry_of function TheFocus true args at l)) k l
+      else core (EnterFunction (entry_of function TheFocus is_fresh args at l)) k l
 
-  abbrev pub focus_core : Function H → (args : List (Dynamic H)) → Position → List (Frame H) → Local H → Core H
-  focus_core function args at k l = on_value (through l.around.cells (focus_of l) at)
-      (λ inner. entered inner (λ k l. inside_core function args at k l) k l) k l
+  abbrev pub focus_core : Function H → (is_fresh : Bool) → (args : List (Dynamic H)) → Position → List (Frame H) → Local H → Core H
+  focus_core function is_fresh args at k l = on_value (through l.around.cells (focus_of l) at)
+      (λ inner. entered inner (λ k l. inside_core function is_fresh args at k l) k l) k l
 
   -- a call enters the function that it found: a method on the focus, and any other with all its arguments
   abbrev pub enter_core : (of_method : Bool) → Function H → Dispatch → Call H → List (Frame H) → Local H → Core H
-  enter_core true function how call k l = core (EnterOnFocus function (drop 1 call.args) call.operation.at) k l
+  enter_core true function how call k l = core (EnterOnFocus function (not how.on_scope) (drop 1 call.args) call.operation.at) k l
   enter_core false function how call k l = core (EnterFunction (entry_of function NoObject (not how.on_scope)
       (args_given call.lender call.args) call.operation.at l)) k l
 
@@ -317,7 +335,7 @@ module _ {H : Type 0} where
     -- a call by name whose arguments are there: no argument's cell may be held
     abbrev pub dispatch_core : Dispatch → Call H → List (Frame H) → Local H → Core H
     dispatch_core how call k l =
-        if races l.around.cells call.args then core (Fail (error.ErrorDataRace call.operation.name call.operation.at)) k l
+        if call_races how.of_method l.around.cells call.args then core (Fail (error.ErrorDataRace call.operation.name call.operation.at)) k l
         else named_core how call.args call k l
 
     -- a built-in operator, or else a call of its name
@@ -344,13 +362,15 @@ module _ {H : Type 0} where
     question_move call [] k l = AskPure (purity_of (key_of call) [] 0) (λ pure. core (Fire (noted call.marks pure call)) k l)
     question_move call (x ∷ rest) k l = question_first call rest (first_of l.around.cells call x) k l
 
-    -- it is called, and what it leaves of its first argument goes back to where that was lent from, whatever the answer
+    -- it is called, and what it leaves of its first argument goes back to where that was lent from, whatever the answer; what is told of
+    -- the arguments is told then
     abbrev pub call_native : Call H → (from : Option Place) → Option (Dynamic H) → List (Dynamic H) → List (Frame H) → Local H →
         Move H (Core H)
     call_native call from first rest k l =
         Native (request (while_from from l.around.cells) (key_of call) first rest call.operation.at)
         (λ reply left. core (answered call.marks reply
-        (replied s.limits s.host_type reply left rest call.operation (while_from from l.around.cells))) k (put_left from left l))
+        (replied s.limits s.host_type reply left rest call.operation (is_some call.number) (put_left from left l).around.cells)) k
+        (put_left from left l))
 
     abbrev pub fire_first : Call H → (rest : List (Dynamic H)) → Result (First H) (EvalAltResult H) → List (Frame H) → Local H →
         Move H (Core H)

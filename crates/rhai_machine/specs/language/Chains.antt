@@ -19,7 +19,7 @@ use Rattle.rhai_paths.specs.Paths.{ToPlace}
 use Rattle.rhai_machine.specs.machine.Machine.{Move, Halt, Go, Charge}
 use Rattle.rhai_machine.specs.language.Setting.{Setting}
 use Rattle.rhai_machine.specs.language.State.{Local}
-use Rattle.rhai_machine.specs.language.Values.{unit_value, through}
+use Rattle.rhai_machine.specs.language.Values.{unit_value, is_handle, through}
 use Rattle.rhai_machine.specs.language.Names.{bound_this, meant, variable_of}
 use Rattle.rhai_machine.specs.language.Places.{focus_target}
 use Rattle.rhai_machine.specs.language.Links.{Link, LinkForm, AtIndex, AtProperty, AtMethod, asked_by, first_position, link_of, name_in}
@@ -74,8 +74,13 @@ module _ {H : Type 0} where
   read_root_core name at chain k l = on_value (variable_of l.around.cells name at (meant l.around.lib name l.scope))
       (λ v. begun_core (is_some (index_of name l.scope)) (option_map FromEntry (index_of name l.scope)) v chain k l) k l
 
+  -- a `this` that is the handle of a held cell is another's, as such a variable is
+  abbrev pub this_begun : (seen : Result (Dynamic H) (EvalAltResult H)) → Dynamic H → Chain H → List (Frame H) → Local H → Core H
+  this_begun seen v chain k l = on_value seen (λ inner. begun_core true (Some FromThis) v chain k l) k l
+
   abbrev pub this_root_core : Position → Chain H → List (Frame H) → Local H → Core H
-  this_root_core at chain k l = on_value (bound_this at l.this) (λ v. begun_core true (Some FromThis) v chain k l) k l
+  this_root_core at chain k l =
+      on_value (bound_this at l.this) (λ v. this_begun (through l.around.cells v at) v chain k l) k l
 
   -- a variable is charged, and read after that, and so is `this`; any other root is evaluated, and is not assigned to
   abbrev pub root_move : ExprLayer → Chain H → List (Frame H) → Local H → Move H (Core H)
@@ -131,9 +136,18 @@ module _ {H : Type 0} where
     -- ---- methods
 
     -- a method of the focus, over what waits for its value
-    abbrev pub method_of : (name : List ℕ) → (args : List Expr) → Position → Chain H → List (Frame H) → Local H → Core H
-    method_of name args at chain k l = method_core s (record { name = name; at = at; first_at = first_position args })
+    abbrev pub method_of : (name : List ℕ) → (args : List Expr) → Position → (was_handle : Bool) → Chain H → List (Frame H) → Local H →
+        Core H
+    method_of name args at was_handle chain k l = method_core s
+        (record { name = name; at = at; first_at = first_position args; was_handle = was_handle })
         (take (length args) chain.args) (focus_of l) k l
+
+    -- a method enters the focus as every link does, and the cell is held until the chain is left: what waits for the method's value stands
+    -- above its release
+    abbrev pub method_entered : (name : List ℕ) → (args : List Expr) → Position → Link → (inner : Dynamic H) → Chain H → List (Frame H) →
+        Local H → Core H
+    method_entered name args at link inner chain k l = entered inner
+        (λ above below. method_of name args at (is_handle (focus_of l).value) chain (after_method link.behind link chain above) below) k l
 
     -- ---- members by natives
 
@@ -175,7 +189,7 @@ module _ {H : Type 0} where
     -- a method of a part may change it, and for any other link it is a temporary
     abbrev pub part_form : LinkForm → Link → Spot → Chain H → (source : Dynamic H) → List (Frame H) → Local H → Core H
     part_form (AtMethod name args pos) link at chain source k l =
-        method_of name args pos chain (PartMethod source at pos ∷ after_method link.behind link chain k)
+        method_of name args pos false chain (PartMethod source at pos ∷ after_method link.behind link chain k)
         (focused_on (Some (part_of source at)) l)
     part_form form link at chain source k l = core (Walk chain) (Temporary (Some source) None ∷ k) (focused_on (Some (part_of source at)) l)
 
@@ -229,7 +243,7 @@ module _ {H : Type 0} where
     form_move (AtIndex index) link inner chain k l = Charge none (core (Locate link chain) k l)
     form_move (AtProperty name at) link inner chain k l = property_move (is_map (layer_of inner)) name at link inner chain k l
     form_move (AtMethod name args at) link inner chain k l = where_there (is_some link.behind || is_none chain.new)
-        (method_of name args at chain (after_method link.behind link chain k) l)
+        (method_entered name args at link inner chain k l)
 
     -- a null conditional stops at `()`, seen through a handle
     abbrev pub stop_move : (stopped : Bool) → Link → (inner : Dynamic H) → Chain H → List (Frame H) → Local H → Move H (Core H)

@@ -140,8 +140,8 @@ pub data Control (H : Type 0) : Type 0 where
   Fire : Call H → Control H
   QuestionUpdate : Update H → Control H
   FireUpdate : Update H → Control H
-  -- a function of a script is entered on the value that a chain works on
-  EnterOnFocus : Function H → (args : List (Dynamic H)) → (at : Position) → Control H
+  -- a function of a script is entered on the value that a chain works on, with variables of its own or on the caller's
+  EnterOnFocus : Function H → (is_fresh : Bool) → (args : List (Dynamic H)) → (at : Position) → Control H
   -- these go on: the form of a charged expression or statement, a list that is entered, the rest of a list after a value
   OpenExpr : ExprLayer → Control H
   OpenStmt : StmtLayer → (restoring : Bool) → Control H

@@ -31,7 +31,7 @@ module _ {H : Type 0} (s : Setting H) where
   move_at (Ask call) k l = Charge call.operation.at (core (Question call) k l)
   move_at (EnterFunction e) k l = Charge e.at (opened_function s.limits e k l)
   move_at (Assign assignment v) k l = Charge assignment.at (core (Store assignment v) k l)
-  move_at (EnterOnFocus function args at) k l = Go (focus_core function args at k l)
+  move_at (EnterOnFocus function is_fresh args at) k l = Go (focus_core function is_fresh args at k l)
   move_at (AssignThis op at v) k l = Charge at (core (StoreThis op at v) k l)
   move_at (AskUpdate u) k l = Charge u.at (core (QuestionUpdate u) k l)
   move_at (Argument e) k l = argument_move (literal_of (out-Expr e)) e k l

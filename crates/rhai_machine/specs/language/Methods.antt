@@ -15,18 +15,20 @@ use Rattle.rhai_values.specs.TypeNames.{type_name_of}
 use Rattle.rhai_state.specs.declared.error.EvalAltResult.TheVariants as error
 use Rattle.rhai_machine.specs.language.Setting.{Setting}
 use Rattle.rhai_machine.specs.language.State.{Local}
-use Rattle.rhai_machine.specs.language.Values.{Cells, bool_value, is_handle, mismatch, through}
+use Rattle.rhai_machine.specs.language.Values.{Cells, bool_value, mismatch, through}
 use Rattle.rhai_machine.specs.language.Functions.{Function}
 use Rattle.rhai_machine.specs.language.Frames.{Operation, FromFocus, Dispatch, Call, Frame, Core, core, on_value, EnterOnFocus, Question}
 use Rattle.rhai_machine.specs.language.Frames.{Back, Fail}
-use Rattle.rhai_machine.specs.language.Calls.{call_of, dispatch_core, plainly, races}
+use Rattle.rhai_machine.specs.language.Calls.{call_of, call_races, dispatch_core, plainly}
 use Rattle.rhai_machine.specs.language.Arguments.{linked_core, linked_to, natives_alone, numbered_core, operation_named, pointer_wanted}
 
--- a method as it is called: its name, where it stands, and where its first argument starts
+-- a method as it is called: its name, where it stands, where its first argument starts, and whether the value that it is called on was a
+-- handle before the chain entered it
 pub record Method : Type 0 where
   pub name : List ℕ
   pub at : Position
   pub first_at : Option Position
+  pub was_handle : Bool
 
 -- the words by which a method is no function's, and any other name
 pub data MethodWord : Type 0 where
@@ -110,10 +112,10 @@ module _ {H : Type 0} where
 
   -- ---- pointers
 
-  -- the native of a number is called on the focus at once; of the others, none may be a handle of a cell that is held
+  -- the native of a number is called on the focus at once; no argument's cell may be held
   abbrev pub numbered_on : (number : ℕ) → Operation → (args : List (Dynamic H)) → (focus : Dynamic H) → List (Frame H) → Local H → Core H
   numbered_on number operation args focus k l =
-      if races l.around.cells args then core (Fail (error.ErrorDataRace operation.name operation.at)) k l
+      if call_races true l.around.cells (focus ∷ args) then core (Fail (error.ErrorDataRace operation.name operation.at)) k l
       else core (Question (number_on_focus number operation args focus)) k l
 
   module _ (s : Setting H) where
@@ -128,7 +130,7 @@ module _ {H : Type 0} where
 
     abbrev pub pointer_on : Option (Function H) → FnPtr H → Method → (called : List ℕ) → (args : List (Dynamic H)) →
         (focus : Dynamic H) → List (Frame H) → Local H → Core H
-    pointer_on (Some function) pointer method called args focus k l = core (EnterOnFocus function args method.at) k l
+    pointer_on (Some function) pointer method called args focus k l = core (EnterOnFocus function true args method.at) k l
     pointer_on None pointer method called args focus k l = unlinked_on (out-FnPtr H pointer).kind pointer method called args focus k l
 
     -- the pointer that the method works on is called itself, with all its arguments, and gets nothing lent
@@ -178,13 +180,13 @@ module _ {H : Type 0} where
     own_core method args focus k l =
         on_value (own_entry l.around.cells method focus) (λ own. entry_core own method args focus k l) k l
 
-    -- what the words mean: pointers are seen through a handle, and whether there is a handle is no use of its cell
+    -- what the words mean: pointers are seen through a handle, and whether there was a handle is no use of its cell
     abbrev pub word_core : MethodWord → Method → (args : List (Dynamic H)) → (focus : Dynamic H) → List (Frame H) → Local H → Core H
     word_core CallWord method args focus k l = on_value (through l.around.cells focus method.at)
         (λ seen. call_core (layer_of seen) method args seen focus k l) k l
     word_core CurryWord method args focus k l = on_value (through l.around.cells focus method.at)
         (λ seen. curry_core (layer_of seen) method.at args seen k l) k l
-    word_core SharedWord method args focus k l = core (Back (bool_value (is_handle focus.value))) k l
+    word_core SharedWord method args focus k l = core (Back (bool_value method.was_handle)) k l
     word_core PlainWord method args focus k l = own_core method args focus k l
 
     -- a method is called on the focus, once its arguments are there

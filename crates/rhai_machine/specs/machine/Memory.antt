@@ -26,13 +26,19 @@ module _ {S H Core : Type 0} (M : Machine S H Core) (allows : ℕ → Bool) wher
         M.move p.core ≡ Native call f →
         (e : EvalAltResult H) (first : Option (Dynamic H)) (state : S) → Leads (starved_at M at f e first state p) q → Leads p q
 
-  -- The machine by itself comes to a point. There memory runs out, within a native or before anything else is done, and from
-  -- there the run only unwinds: it charges nothing and calls nothing.
+  -- what a point is once memory has run out there: before its step is done, or within its native
+  pub data OutOfMemory (p : Point S Core) : Point S Core → Type 0 where
+    before_step : (at : Position) → OutOfMemory p (out_of_memory M at p)
+    in_native : {call : Request H} {f : Reply H → Option (Dynamic H) → Core} → M.move p.core ≡ Native call f →
+        (at : Position) (e : EvalAltResult H) (first : Option (Dynamic H)) (state : S) → OutOfMemory p (starved_at M at f e first state p)
+
+  -- The machine by itself comes to a point. There memory runs out, and from there the run only unwinds: it charges nothing and
+  -- calls nothing.
   pub record RunsOut (W : Core → Type 0) (p q : Point S Core) : Type 0 where
     pub before : Point S Core
     pub since : Point S Core
     pub steps : Reaches M allows p before
-    pub count : since.count ≡ before.count
+    pub runs_out : OutOfMemory before since
     pub wants : W since.core
     pub unwinds : Leads since q
 

@@ -7,12 +7,12 @@ use Rattle.rhai_steps.specs.Marked.{lending}
 use Rattle.rhai_methods.proofs.Going.{number_asks_on, number_races_on}
 use Rattle.rhai_methods.proofs.calls.number_on.Goals as goal
 
-pub returns-then-races-clause-runs : goal.returns-then-races-clause-runs
-returns-then-races-clause-runs g c offer scope held =
+pub returns-then-call_races-clause-runs : goal.returns-then-call_races-clause-runs
+returns-then-call_races-clause-runs g c offer scope held =
     let rules : Rules _ _ = rules_of c.args.limits.now g.H.Host.name_of offer g.T.NativeTable.natives in
     number_races_on rules c.args.pos c.args.id.number (operation_named c.args.name.now c.args.pos) c.args.args.now c.args.target.now
     (state_of (g.T.NativeTable.state c.args.table.now) c.args.global.now scope (lending held c.args.target.now))
-    c.data_race_by.result (sym c.races.ensures ∙ c.if-races.true) c.data_race_by.ensures
+    c.data_race_by.result (sym c.call_races.ensures ∙ c.if-call_races.true) c.data_race_by.ensures
 
 pub returns-clause-runs : goal.returns-clause-runs
 returns-clause-runs g c offer scope held =
@@ -21,5 +21,5 @@ returns-clause-runs g c offer scope held =
     (state_of (g.T.NativeTable.state c.args.table.now) c.args.global.now scope (lending held c.args.target.now))
     (state_of (g.T.NativeTable.state c.call_number_on.new.table) c.call_number_on.new.global scope
     (lending held c.call_number_on.new.first))
-    c.call_number_on.result (sym c.races.ensures ∙ c.if-races.false)
+    c.call_number_on.result (sym c.call_races.ensures ∙ c.if-call_races.false)
     (c.call_number_on.ensures.runs offer scope (lending held c.args.target.now) (Some FromFocus) refl)

@@ -1,5 +1,4 @@
-use Rattle.std.proofs.Common.{Some, ◌∙◌}
-use Rattle.std.specs.Prelude.{codes}
+use Rattle.std.proofs.Common.{◌∙◌}
 use Rattle.rhai_machine.specs.language.Setting.{Rules, rules_of}
 use Rattle.rhai_machine.specs.language.Methods.{Method}
 use Rattle.rhai_steps.specs.States.{state_of}
@@ -9,17 +8,17 @@ use Rattle.rhai_methods.proofs.Meanings.{argument_errs, argument_goes, argument_
 use Rattle.rhai_methods.proofs.methods.call_argument.Goals as goal
 
 pub returns-in_default-clause-runs : goal.returns-in_default-clause-runs
-returns-in_default-clause-runs g c offer scope held name seen offers sees =
+returns-in_default-clause-runs g c offer scope held name was_handle seen offers sees =
     let rules : Rules _ _ = rules_of c.args.limits.now g.H.Host.name_of offer g.T.NativeTable.natives in
-    let method : Method = record { name = name; at = c.args.pos; first_at = c.args.first_arg_pos } in
+    let method : Method = record { name = name; at = c.args.pos; first_at = c.args.first_arg_pos; was_handle = was_handle } in
     argument_misses rules method c.args.args.now c.args.target.now
     (state_of (g.T.NativeTable.state c.args.table.now) c.args.global.now scope (lending held c.args.target.now))
     seen (none_below c.args.args.now c.in_default.len_below) c.no_pointer.result (rw sees at c.no_pointer.ensures)
 
 pub returns-in-Ok-clause-runs : goal.returns-in-Ok-clause-runs
-returns-in-Ok-clause-runs g c offer scope held name seen offers sees =
+returns-in-Ok-clause-runs g c offer scope held name was_handle seen offers sees =
     let rules : Rules _ _ = rules_of c.args.limits.now g.H.Host.name_of offer g.T.NativeTable.natives in
-    let method : Method = record { name = name; at = c.args.pos; first_at = c.args.first_arg_pos } in
+    let method : Method = record { name = name; at = c.args.pos; first_at = c.args.first_arg_pos; was_handle = was_handle } in
     argument_goes rules method c.args.args.now c.args.target.now
     (state_of (g.T.NativeTable.state c.args.table.now) c.args.global.now scope (lending held c.args.target.now))
     seen c.replace-first.result (others c.args.args.now)
@@ -31,9 +30,9 @@ returns-in-Ok-clause-runs g c offer scope held name seen offers sees =
     (c.call_pointer_on.ensures.runs offer scope held offers)
 
 pub returns-in-Err-clause-runs : goal.returns-in-Err-clause-runs
-returns-in-Err-clause-runs g c offer scope held name seen offers sees =
+returns-in-Err-clause-runs g c offer scope held name was_handle seen offers sees =
     let rules : Rules _ _ = rules_of c.args.limits.now g.H.Host.name_of offer g.T.NativeTable.natives in
-    let method : Method = record { name = name; at = c.args.pos; first_at = c.args.first_arg_pos } in
+    let method : Method = record { name = name; at = c.args.pos; first_at = c.args.first_arg_pos; was_handle = was_handle } in
     argument_errs rules method c.args.args.now c.args.target.now
     (state_of (g.T.NativeTable.state c.args.table.now) c.args.global.now scope (lending held c.args.target.now))
     seen c.replace-first.result (others c.args.args.now)

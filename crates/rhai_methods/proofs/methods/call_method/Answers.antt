@@ -10,17 +10,17 @@ use Rattle.rhai_methods.proofs.methods.call_method.Goals as goal
 pub returns-in-Call-clause-runs : goal.returns-in-Call-clause-runs
 returns-in-Call-clause-runs g c offer scope held offers =
     let rules : Rules _ _ = rules_of c.args.limits.now g.H.Host.name_of offer g.T.NativeTable.natives in
-    let method : Method = record { name = c.args.name.now; at = c.args.pos; first_at = c.args.first_arg_pos } in
+    let method : Method = record { name = c.args.name.now; at = c.args.pos; first_at = c.args.first_arg_pos; was_handle = c.args.was_handle } in
     by_word rules method c.args.args.now c.args.target.now
     (state_of (g.T.NativeTable.state c.args.table.now) c.args.global.now scope (lending held c.args.target.now))
     CallWord c.in-Call.ensures c.call_word.result
     (state_of (g.T.NativeTable.state c.call_word.new.table) c.call_word.new.global scope (lending held c.call_word.new.target))
-    (c.call_word.ensures.runs offer scope held c.args.name.now offers)
+    (c.call_word.ensures.runs offer scope held c.args.name.now c.args.was_handle offers)
 
 pub returns-in-Curry-clause-runs : goal.returns-in-Curry-clause-runs
 returns-in-Curry-clause-runs g c offer scope held offers =
     let rules : Rules _ _ = rules_of c.args.limits.now g.H.Host.name_of offer g.T.NativeTable.natives in
-    let method : Method = record { name = c.args.name.now; at = c.args.pos; first_at = c.args.first_arg_pos } in
+    let method : Method = record { name = c.args.name.now; at = c.args.pos; first_at = c.args.first_arg_pos; was_handle = c.args.was_handle } in
     let old = state_of (g.T.NativeTable.state c.args.table.now) c.args.global.now scope (lending held c.args.target.now) in
     by_word rules method c.args.args.now c.args.target.now old CurryWord c.in-Curry.ensures (Ended c.marked.result) old
     (curry_goes rules method c.args.args.now c.args.target.now old c.curried-result.result c.marked.result c.marked.ensures
@@ -29,17 +29,17 @@ returns-in-Curry-clause-runs g c offer scope held offers =
 pub returns-in-Shared-clause-runs : goal.returns-in-Shared-clause-runs
 returns-in-Shared-clause-runs g c offer scope held offers =
     let rules : Rules _ _ = rules_of c.args.limits.now g.H.Host.name_of offer g.T.NativeTable.natives in
-    let method : Method = record { name = c.args.name.now; at = c.args.pos; first_at = c.args.first_arg_pos } in
+    let method : Method = record { name = c.args.name.now; at = c.args.pos; first_at = c.args.first_arg_pos; was_handle = c.args.was_handle } in
     let old = state_of (g.T.NativeTable.state c.args.table.now) c.args.global.now scope (lending held c.args.target.now) in
-    by_word rules method c.args.args.now c.args.target.now old SharedWord c.in-Shared.ensures (Ended (Ok (c.is_shared.result, false))) old
-    (shared_goes rules method c.args.args.now c.args.target.now old c.is_shared.result c.is_shared.ensures)
+    by_word rules method c.args.args.now c.args.target.now old SharedWord c.in-Shared.ensures (Ended (Ok (c.bool_value.result, false))) old
+    (shared_goes rules method c.args.args.now c.args.target.now old c.bool_value.result c.bool_value.ensures)
 
 pub returns-in-Plain-clause-runs : goal.returns-in-Plain-clause-runs
 returns-in-Plain-clause-runs g c offer scope held offers =
     let rules : Rules _ _ = rules_of c.args.limits.now g.H.Host.name_of offer g.T.NativeTable.natives in
-    let method : Method = record { name = c.args.name.now; at = c.args.pos; first_at = c.args.first_arg_pos } in
+    let method : Method = record { name = c.args.name.now; at = c.args.pos; first_at = c.args.first_arg_pos; was_handle = c.args.was_handle } in
     by_word rules method c.args.args.now c.args.target.now
     (state_of (g.T.NativeTable.state c.args.table.now) c.args.global.now scope (lending held c.args.target.now))
     PlainWord c.in-Plain.ensures c.call_plain.result
     (state_of (g.T.NativeTable.state c.call_plain.new.table) c.call_plain.new.global scope (lending held c.call_plain.new.target))
-    (c.call_plain.ensures.runs offer scope held c.args.first_arg_pos offers)
+    (c.call_plain.ensures.runs offer scope held c.args.first_arg_pos c.args.was_handle offers)

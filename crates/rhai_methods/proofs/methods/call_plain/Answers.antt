@@ -7,9 +7,9 @@ use Rattle.rhai_methods.proofs.Meanings.{named_goes, own_errs, own_goes}
 use Rattle.rhai_methods.proofs.methods.call_plain.Goals as goal
 
 pub returns-in-Ok-Some-clause-runs : goal.returns-in-Ok-Some-clause-runs
-returns-in-Ok-Some-clause-runs g c offer scope held first_at offers =
+returns-in-Ok-Some-clause-runs g c offer scope held first_at was_handle offers =
     let rules : Rules _ _ = rules_of c.args.limits.now g.H.Host.name_of offer g.T.NativeTable.natives in
-    let method : Method = record { name = c.args.name.now; at = c.args.pos; first_at = first_at } in
+    let method : Method = record { name = c.args.name.now; at = c.args.pos; first_at = first_at; was_handle = was_handle } in
     own_goes rules method c.args.args.now c.args.target.now
     (state_of (g.T.NativeTable.state c.args.table.now) c.args.global.now scope (lending held c.args.target.now))
     c.in-Ok-Some.pointer (ap Ok (sym c.in-Ok-Some.field-0-is) ∙ c.in-Ok-Some.ensures tt) c.call_pointer_on.result
@@ -18,9 +18,9 @@ returns-in-Ok-Some-clause-runs g c offer scope held first_at offers =
     (c.call_pointer_on.ensures.runs offer scope held offers)
 
 pub returns-in-Ok-None-clause-runs : goal.returns-in-Ok-None-clause-runs
-returns-in-Ok-None-clause-runs g c offer scope held first_at offers =
+returns-in-Ok-None-clause-runs g c offer scope held first_at was_handle offers =
     let rules : Rules _ _ = rules_of c.args.limits.now g.H.Host.name_of offer g.T.NativeTable.natives in
-    let method : Method = record { name = c.args.name.now; at = c.args.pos; first_at = first_at } in
+    let method : Method = record { name = c.args.name.now; at = c.args.pos; first_at = first_at; was_handle = was_handle } in
     named_goes rules method c.args.args.now c.args.target.now
     (state_of (g.T.NativeTable.state c.args.table.now) c.args.global.now scope (lending held c.args.target.now))
     (ap Ok (sym c.in-Ok-None.field-0-is) ∙ c.in-Ok-None.ensures tt) c.call_named_on.result
@@ -28,9 +28,9 @@ returns-in-Ok-None-clause-runs g c offer scope held first_at offers =
     (c.call_named_on.ensures.runs offer scope held offers)
 
 pub returns-in-Err-clause-runs : goal.returns-in-Err-clause-runs
-returns-in-Err-clause-runs g c offer scope held first_at offers =
+returns-in-Err-clause-runs g c offer scope held first_at was_handle offers =
     let rules : Rules _ _ = rules_of c.args.limits.now g.H.Host.name_of offer g.T.NativeTable.natives in
-    let method : Method = record { name = c.args.name.now; at = c.args.pos; first_at = first_at } in
+    let method : Method = record { name = c.args.name.now; at = c.args.pos; first_at = first_at; was_handle = was_handle } in
     own_errs rules method c.args.args.now c.args.target.now
     (state_of (g.T.NativeTable.state c.args.table.now) c.args.global.now scope (lending held c.args.target.now))
     c.in-Err.error c.in-Err.ensures

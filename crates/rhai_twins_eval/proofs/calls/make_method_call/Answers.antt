@@ -1,7 +1,9 @@
 use Rattle.std.proofs.Common.{Some, ap, refl, ◌∙◌}
 use Rattle.rhai_machine.specs.language.Methods.{Method}
 use Rattle.rhai_machine.specs.language.Setting.{Rules}
-use Rattle.rhai_places.specs.Targets.{shown}
+use Rattle.rhai_places.specs.Targets.{is_shared, shown}
+use Rattle.rhai_places.specs.declared.target.Part.{Part}
+use Rattle.rhai_values.specs.declared.base.value.Dynamic.{Dynamic}
 use Rattle.rhai_methods.specs.Targets.{on_target}
 use Rattle.rhai_eval.specs.Places.{with_place}
 use Rattle.rhai_eval.specs.States.{under}
@@ -12,11 +14,13 @@ use Rattle.rhai_twins_eval.proofs.calls.make_method_call.Goals as goal
 pub returns-clause-run : goal.returns-clause-run
 returns-clause-run g c = let one = c.make_method_call in let other = c.make_method_call-2 in let a = c.args in
     let rules : Rules _ _ = under g.H.Host.name_of a.engine.now g.T.NativeTable.natives in
-    let method : Method = record { name = a.fn_name.now; at = a.pos; first_at = Some a.first_arg_pos } in
+    let method : Part _ → Dynamic _ → Method = λ part place.
+    record { name = a.fn_name.now; at = a.pos; first_at = Some a.first_arg_pos; was_handle = is_shared part place } in
     λ scope this. mark_once rules _ _ _ _ _ _ one.result other.result
-    (ap (λ x. on_target rules.setting method x a.target.now.part a.target.now.at.now) c.requires.call_args
-    ∙ ap (λ x. on_target rules.setting method a.also_call_args.now x a.target.now.at.now) c.requires.part
-    ∙ ap (λ x. on_target rules.setting method a.also_call_args.now a.also_target.now.part x) c.requires.place)
+    (ap (λ x. on_target rules.setting (method a.target.now.part a.target.now.at.now) x a.target.now.part a.target.now.at.now)
+    c.requires.call_args
+    ∙ ap (λ x. on_target rules.setting (method x a.target.now.at.now) a.also_call_args.now x a.target.now.at.now) c.requires.part
+    ∙ ap (λ x. on_target rules.setting (method a.also_target.now.part x) a.also_call_args.now a.also_target.now.part x) c.requires.place)
     (same_start c.requires.table c.requires.global refl
     (ap (λ x. with_place this (Some (shown x a.target.now.at.now))) c.requires.part
     ∙ ap (λ x. with_place this (Some (shown a.also_target.now.part x))) c.requires.place))

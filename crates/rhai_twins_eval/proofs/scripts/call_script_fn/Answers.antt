@@ -1,10 +1,11 @@
-use Rattle.std.proofs.Common.{Some, false, ap, ◌∙◌}
+use Rattle.std.proofs.Common.{Some, false, ap, length, sym, ◌∙◌}
 use Rattle.std.specs.Option.{option_copied}
 use Rattle.rhai_machine.specs.language.Activations.{OwnThis}
 use Rattle.rhai_machine.specs.language.Frames.{EnterFunction, core}
-use Rattle.rhai_cycle.specs.Bodies.{entered}
+use Rattle.rhai_state.specs.Scope.{entries_of}
+use Rattle.rhai_cycle.specs.Bodies.{args_left, entered, is_entered}
 use Rattle.rhai_steps.specs.States.{holding}
-use Rattle.rhai_eval.specs.States.{under}
+use Rattle.rhai_eval.specs.States.{limits_of, under}
 use Rattle.rhai_twins_eval.proofs.Once.{call_once}
 use Rattle.rhai_twins_eval.proofs.Starts.{same_start}
 use Rattle.rhai_twins_eval.proofs.scripts.call_script_fn.Goals as goal
@@ -18,3 +19,14 @@ returns-clause-run g c = let one = c.call_script_fn in let other = c.call_script
     a.pos)) k l) c.requires.global)
     (same_start c.requires.table c.requires.global c.requires.scope (ap (λ x. holding (Some x)) c.requires.this))
     one.ensures.ends other.ensures.ends
+
+pub returns-clause-args : goal.returns-clause-args
+returns-clause-args g c same memory also = let one = c.call_script_fn in let other = c.call_script_fn-2 in let a = c.args in
+    one.ensures.args memory same
+    ∙ ap (λ x. args_left (is_entered (limits_of a.engine.now) x.num_operations x.level (length (entries_of a.scope.now)) a.def.now)
+    a.args.now) c.requires.global
+    ∙ ap (λ x. args_left (is_entered (limits_of a.engine.now) a.also_global.now.num_operations a.also_global.now.level
+    (length (entries_of x)) a.def.now) a.args.now) c.requires.scope
+    ∙ ap (λ x. args_left (is_entered (limits_of a.engine.now) a.also_global.now.num_operations a.also_global.now.level
+    (length (entries_of a.also_scope.now)) a.def.now) x) c.requires.args
+    ∙ sym (other.ensures.args also (same ∙ ap length c.requires.args))

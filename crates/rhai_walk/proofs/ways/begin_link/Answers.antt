@@ -1,13 +1,10 @@
-use Rattle.std.proofs.Common.{refl}
 use Rattle.rhai_machine.specs.language.Setting.{Rules, rules_of}
 use Rattle.rhai_steps.specs.States.{state_of}
 use Rattle.rhai_steps.specs.Marked.{lending}
 use Rattle.rhai_chains.specs.Chains.{link_seen}
 use Rattle.rhai_values.specs.Cells.{cells_of}
-use Rattle.rhai_values.specs.Layers.{layer_of}
-use Rattle.rhai_walk.specs.Walking.{IsFree, IsLocated}
-use Rattle.rhai_walk.proofs.Beginning.{charge_comes, charge_refused, charged_located, free_seen, member_comes, member_located}
-use Rattle.rhai_walk.proofs.Beginning.{method_comes, races_there, stops_there}
+use Rattle.rhai_walk.specs.Walking.{IsFree}
+use Rattle.rhai_walk.proofs.Beginning.{charge_comes, charge_refused, free_seen, races_there, stops_there, uncharged_comes}
 use Rattle.rhai_walk.proofs.ways.begin_link.Goals as goal
 
 pub returns-in-Races-clause-begins : goal.returns-in-Races-clause-begins
@@ -41,32 +38,16 @@ returns-in-Err-clause-begins g c offer scope held chain is =
 pub returns-in-Enters-clause-begins : goal.returns-in-Enters-clause-begins
 returns-in-Enters-clause-begins g c offer scope held chain is =
     let rules : Rules _ _ = rules_of c.args.limits.now g.H.Host.name_of offer g.T.NativeTable.natives in
-    member_comes rules (link_seen c.args.link) chain is
+    uncharged_comes rules (link_seen c.args.link) chain is
     (state_of (g.T.NativeTable.state c.args.table.now) c.args.global.now scope (lending held c.args.focus.now)) c.in-Enters.ensures.0
     c.in-Enters.ensures.1
 
-pub returns-in-Calls-clause-begins : goal.returns-in-Calls-clause-begins
-returns-in-Calls-clause-begins g c offer scope held chain is =
-    let rules : Rules _ _ = rules_of c.args.limits.now g.H.Host.name_of offer g.T.NativeTable.natives in
-    let s = state_of (g.T.NativeTable.state c.args.table.now) c.args.global.now scope (lending held c.args.focus.now) in (
-      refl,
-      method_comes rules (link_seen c.args.link) chain is s c.in-Calls.call.now.name c.in-Calls.call.now.args c.in-Calls.at
-          c.in-Calls.ensures.0 c.in-Calls.ensures.1,
-    )
-
 pub returns-in-Ok-clause-fits : goal.returns-in-Ok-clause-fits
 returns-in-Ok-clause-fits g c =
-    let goes = c.in-Charges.ensures.0 in
-    let fits : IsLocated (link_seen c.args.link).form × IsFree (cells_of c.args.global.now.cells) c.args.focus.now.value = (
-      charged_located (link_seen c.args.link).form (layer_of goes.inner) c.in-Charges.ensures.1,
-      free_seen (link_seen c.args.link) (cells_of c.args.global.now.cells) c.args.focus.now goes,
-    ) in rw c.in-Ok.ensures.charged fits
+    let free : IsFree (cells_of c.args.global.now.cells) c.args.focus.now.value =
+    free_seen (link_seen c.args.link) (cells_of c.args.global.now.cells) c.args.focus.now c.in-Charges.ensures.0 in
+    rw c.in-Ok.ensures.charged free
 
 pub returns-in-Enters-clause-fits : goal.returns-in-Enters-clause-fits
-returns-in-Enters-clause-fits g c = (
-  member_located (link_seen c.args.link).form (layer_of c.in-Enters.ensures.0.inner) c.in-Enters.ensures.1,
-  free_seen (link_seen c.args.link) (cells_of c.args.global.now.cells) c.args.focus.now c.in-Enters.ensures.0,
-)
-
-pub returns-in-Calls-clause-fits : goal.returns-in-Calls-clause-fits
-returns-in-Calls-clause-fits g c = (refl, c.in-Calls.ensures.1)
+returns-in-Enters-clause-fits g c =
+    free_seen (link_seen c.args.link) (cells_of c.args.global.now.cells) c.args.focus.now c.in-Enters.ensures.0

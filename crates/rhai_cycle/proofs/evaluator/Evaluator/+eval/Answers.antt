@@ -50,6 +50,18 @@ run_body-returns-in-Some-clause-charges = bodies.run_body-returns-in-Some-clause
 pub run_body-returns-in-Some-clause-runs : goal.run_body-returns-in-Some-clause-runs
 run_body-returns-in-Some-clause-runs = bodies.run_body-returns-in-Some-clause-runs
 
+pub run_body-returns-in_err-track_operation-clause-args : goal.run_body-returns-in_err-track_operation-clause-args
+run_body-returns-in_err-track_operation-clause-args = bodies.run_body-returns-in_err-track_operation-clause-args
+
+pub run_body-returns-in_err-open_function-clause-args : goal.run_body-returns-in_err-open_function-clause-args
+run_body-returns-in_err-open_function-clause-args = bodies.run_body-returns-in_err-open_function-clause-args
+
+pub run_body-returns-in-None-clause-args : goal.run_body-returns-in-None-clause-args
+run_body-returns-in-None-clause-args = bodies.run_body-returns-in-None-clause-args
+
+pub run_body-returns-in-Some-clause-args : goal.run_body-returns-in-Some-clause-args
+run_body-returns-in-Some-clause-args = bodies.run_body-returns-in-Some-clause-args
+
 pub enter_captured-returns-clause-runs : goal.enter_captured-returns-clause-runs
 enter_captured-returns-clause-runs = bodies.enter_captured-returns-clause-runs
 
@@ -596,8 +608,11 @@ run_return-returns-in_ok-value-in-Some-2-clause-runs = leaving.run_return-return
 pub walk_entered-unreachable-requires : goal.walk_entered-unreachable-requires
 walk_entered-unreachable-requires = located.walk_entered-unreachable-requires
 
-pub walk_entered-unreachable-requires-in-Method : goal.walk_entered-unreachable-requires-in-Method
-walk_entered-unreachable-requires-in-Method = located.walk_entered-unreachable-requires-in-Method
+pub walk_entered-split_at_mut-given-requires : goal.walk_entered-split_at_mut-given-requires
+walk_entered-split_at_mut-given-requires = located.walk_entered-split_at_mut-given-requires
+
+pub walk_entered-walk_behind-result-requires : goal.walk_entered-walk_behind-result-requires
+walk_entered-walk_behind-result-requires = located.walk_entered-walk_behind-result-requires
 
 pub walk_entered-walk_spot-result-requires : goal.walk_entered-walk_spot-result-requires
 walk_entered-walk_spot-result-requires = located.walk_entered-walk_spot-result-requires
@@ -625,6 +640,9 @@ walk_entered-returns-in-Ok-clause-runs = located.walk_entered-returns-in-Ok-clau
 
 pub walk_entered-returns-else-is_map-clause-runs : goal.walk_entered-returns-else-is_map-clause-runs
 walk_entered-returns-else-is_map-clause-runs = located.walk_entered-returns-else-is_map-clause-runs
+
+pub walk_entered-returns-in-Method-clause-runs : goal.walk_entered-returns-in-Method-clause-runs
+walk_entered-returns-in-Method-clause-runs = located.walk_entered-returns-in-Method-clause-runs
 
 pub run_while-turns-init : goal.run_while-turns-init
 run_while-turns-init = loops.run_while-turns-init
@@ -758,8 +776,11 @@ walk_variable-returns-else-is_anothers-clause-runs = roots.walk_variable-returns
 pub walk_this-returns-in-None-clause-runs : goal.walk_this-returns-in-None-clause-runs
 walk_this-returns-in-None-clause-runs = roots.walk_this-returns-in-None-clause-runs
 
-pub walk_this-returns-in-Some-clause-runs : goal.walk_this-returns-in-Some-clause-runs
-walk_this-returns-in-Some-clause-runs = roots.walk_this-returns-in-Some-clause-runs
+pub walk_this-returns-then-is_anothers-clause-runs : goal.walk_this-returns-then-is_anothers-clause-runs
+walk_this-returns-then-is_anothers-clause-runs = roots.walk_this-returns-then-is_anothers-clause-runs
+
+pub walk_this-returns-else-is_anothers-clause-runs : goal.walk_this-returns-else-is_anothers-clause-runs
+walk_this-returns-else-is_anothers-clause-runs = roots.walk_this-returns-else-is_anothers-clause-runs
 
 pub walk_value-returns-in_err-focus-clause-runs : goal.walk_value-returns-in_err-focus-clause-runs
 walk_value-returns-in_err-focus-clause-runs = roots.walk_value-returns-in_err-focus-clause-runs
@@ -947,17 +968,8 @@ walk_chain-unreachable-requires = walking.walk_chain-unreachable-requires
 pub walk_chain-walk_entered-requires : goal.walk_chain-walk_entered-requires
 walk_chain-walk_entered-requires = walking.walk_chain-walk_entered-requires
 
-pub walk_chain-split_at_mut-given-requires : goal.walk_chain-split_at_mut-given-requires
-walk_chain-split_at_mut-given-requires = walking.walk_chain-split_at_mut-given-requires
-
-pub walk_chain-walk_behind-requires : goal.walk_chain-walk_behind-requires
-walk_chain-walk_behind-requires = walking.walk_chain-walk_behind-requires
-
 pub walk_chain-returns-in-Ended-clause-runs : goal.walk_chain-returns-in-Ended-clause-runs
 walk_chain-returns-in-Ended-clause-runs = walking.walk_chain-returns-in-Ended-clause-runs
 
 pub walk_chain-returns-in-Enters-clause-runs : goal.walk_chain-returns-in-Enters-clause-runs
 walk_chain-returns-in-Enters-clause-runs = walking.walk_chain-returns-in-Enters-clause-runs
-
-pub walk_chain-returns-in-Calls-clause-runs : goal.walk_chain-returns-in-Calls-clause-runs
-walk_chain-returns-in-Calls-clause-runs = walking.walk_chain-returns-in-Calls-clause-runs

@@ -22,3 +22,6 @@ returns-clause-runs g c =
     (g.T.NativeTable.state c.run_body-result.new.table) c.args.run.now c.run_body-result.new.run c.leave_variables.new.scope
     c.run_body-result.result left
     (rw reads at (c.run_body-result.ensures.runs c.args.run.now.scope (holding c.args.run.now.this) OwnThis false refl refl))
+
+pub returns-clause-args : goal.returns-clause-args
+returns-clause-args g c memory same = rw c.evaluator-evaluator.ensures.limits at (c.run_body-result.ensures.args memory same)

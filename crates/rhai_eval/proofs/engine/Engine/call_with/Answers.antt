@@ -1,4 +1,4 @@
-use Rattle.std.proofs.Common.{Some, false, not, true}
+use Rattle.std.proofs.Common.{Some, false, true}
 use Rattle.rhai_machine.specs.language.Calls.{dispatch_core}
 use Rattle.rhai_machine.specs.language.Frames.{Operation}
 use Rattle.rhai_machine.specs.language.Setting.{Rules}
@@ -10,67 +10,67 @@ use Rattle.rhai_eval.proofs.Dispatching.{alone_out, ended_out, method_out, no_me
 use Rattle.rhai_eval.proofs.engine.Engine.call_with.Goals as goal
 
 pub returns-in-Ended-clause-lent : goal.returns-in-Ended-clause-lent
-returns-in-Ended-clause-lent g c scope held on_scope lent =
+returns-in-Ended-clause-lent g c scope held lent =
     let rules : Rules _ _ = under g.H.Host.name_of c.args.self.now g.T.NativeTable.natives in
     let operation : Operation = record { name = c.args.name.now; token = c.args.token; at = c.args.pos } in
-    ended_out rules (not on_scope) c.args.pos (dispatch_core rules.setting (by_name c.args.is_method_call on_scope)
+    ended_out rules true c.args.pos (dispatch_core rules.setting (by_name c.args.is_method_call false)
     (on_place operation true (Some c.args.first.now) c.args.rest.now))
     c.call_first-call.result
     (state_of (g.T.NativeTable.state c.args.table.now) c.args.global.now scope (lending held c.args.first.now))
     (state_of (g.T.NativeTable.state c.call_first-call.new.table) c.call_first-call.new.global scope (lending held c.call_first-call.new.first))
     (state_of (g.T.NativeTable.state c.call_first-call.new.table) c.call_first-call.new.global scope (lending held c.call_first-call.new.first))
-    c.in-Ended.result c.in-Ended.is (c.call_first-call.ensures.lent scope held on_scope lent)
+    c.in-Ended.result c.in-Ended.is (c.call_first-call.ensures.lent scope held false lent)
 
 pub returns-in-OnTarget-clause-lent : goal.returns-in-OnTarget-clause-lent
-returns-in-OnTarget-clause-lent g c scope held on_scope lent =
+returns-in-OnTarget-clause-lent g c scope held lent =
     let rules : Rules _ _ = under g.H.Host.name_of c.args.self.now g.T.NativeTable.natives in
     let operation : Operation = record { name = c.args.name.now; token = c.args.token; at = c.args.pos } in
-    method_out rules (not on_scope) c.args.pos (dispatch_core rules.setting (by_name c.args.is_method_call on_scope)
+    method_out rules true c.args.pos (dispatch_core rules.setting (by_name c.args.is_method_call false)
     (on_place operation true (Some c.args.first.now) c.args.rest.now))
     c.call_first-call.result
     (state_of (g.T.NativeTable.state c.args.table.now) c.args.global.now scope (lending held c.args.first.now))
     (state_of (g.T.NativeTable.state c.call_first-call.new.table) c.call_first-call.new.global scope (lending held c.call_first-call.new.first))
     (state_of (g.T.NativeTable.state c.enter_on.new.table) c.enter_on.new.global scope (lending held c.enter_on.new.place))
     c.in-OnTarget.function c.in-OnTarget.args c.enter_on.result c.in-OnTarget.is
-    (c.call_first-call.ensures.lent scope held on_scope lent) (c.enter_on.ensures.runs scope held)
+    (c.call_first-call.ensures.lent scope held false lent) (c.enter_on.ensures.runs scope held)
 
 pub returns-in-Alone-clause-lent : goal.returns-in-Alone-clause-lent
-returns-in-Alone-clause-lent g c scope held on_scope lent =
+returns-in-Alone-clause-lent g c scope held lent =
     let rules : Rules _ _ = under g.H.Host.name_of c.args.self.now g.T.NativeTable.natives in
     let operation : Operation = record { name = c.args.name.now; token = c.args.token; at = c.args.pos } in
-    alone_out rules (not on_scope) c.args.pos (dispatch_core rules.setting (by_name c.args.is_method_call on_scope)
+    alone_out rules true c.args.pos (dispatch_core rules.setting (by_name c.args.is_method_call false)
     (on_place operation true (Some c.args.first.now) c.args.rest.now))
     c.call_first-call.result
     (state_of (g.T.NativeTable.state c.args.table.now) c.args.global.now scope (lending held c.args.first.now))
     (state_of (g.T.NativeTable.state c.call_first-call.new.table) c.call_first-call.new.global scope (lending held c.call_first-call.new.first))
     (state_of (g.T.NativeTable.state c.call_first-call.new.table) c.call_first-call.new.global scope (lending held c.call_first-call.new.first))
-    c.in-Alone.function c.in-Alone.args c.in-Alone.is (c.call_first-call.ensures.lent scope held on_scope lent)
+    c.in-Alone.function c.in-Alone.args c.in-Alone.is (c.call_first-call.ensures.lent scope held false lent)
 
 pub returns-in-Ended-clause-by_value : goal.returns-in-Ended-clause-by_value
-returns-in-Ended-clause-by_value g c scope held on_scope none =
+returns-in-Ended-clause-by_value g c scope held none =
     let rules : Rules _ _ = under g.H.Host.name_of c.args.self.now g.T.NativeTable.natives in
     let operation : Operation = record { name = c.args.name.now; token = c.args.token; at = c.args.pos } in
-    ended_out rules (not on_scope) c.args.pos (dispatch_core rules.setting (by_name false on_scope)
+    ended_out rules true c.args.pos (dispatch_core rules.setting (by_name false false)
     (by_value operation (Some c.args.first.now) c.args.rest.now))
     c.call_first-call.result
     (state_of (g.T.NativeTable.state c.args.table.now) c.args.global.now scope held)
     (state_of (g.T.NativeTable.state c.call_first-call.new.table) c.call_first-call.new.global scope held)
     (state_of (g.T.NativeTable.state c.call_first-call.new.table) c.call_first-call.new.global scope held)
-    c.in-Ended.result c.in-Ended.is (c.call_first-call.ensures.by_value scope held on_scope none)
+    c.in-Ended.result c.in-Ended.is (c.call_first-call.ensures.by_value scope held false none)
 
 pub returns-in-OnTarget-clause-by_value : goal.returns-in-OnTarget-clause-by_value
-returns-in-OnTarget-clause-by_value g c scope held on_scope none =
+returns-in-OnTarget-clause-by_value g c scope held none =
     absurd (no_method c.call_first-call.result c.in-OnTarget.function c.in-OnTarget.args c.in-OnTarget.is
     (c.call_first-call.ensures.by_itself (none_lends c.args.is_ref_mut c.args.is_method_call none).1))
 
 pub returns-in-Alone-clause-by_value : goal.returns-in-Alone-clause-by_value
-returns-in-Alone-clause-by_value g c scope held on_scope none =
+returns-in-Alone-clause-by_value g c scope held none =
     let rules : Rules _ _ = under g.H.Host.name_of c.args.self.now g.T.NativeTable.natives in
     let operation : Operation = record { name = c.args.name.now; token = c.args.token; at = c.args.pos } in
-    alone_out rules (not on_scope) c.args.pos (dispatch_core rules.setting (by_name false on_scope)
+    alone_out rules true c.args.pos (dispatch_core rules.setting (by_name false false)
     (by_value operation (Some c.args.first.now) c.args.rest.now))
     c.call_first-call.result
     (state_of (g.T.NativeTable.state c.args.table.now) c.args.global.now scope held)
     (state_of (g.T.NativeTable.state c.call_first-call.new.table) c.call_first-call.new.global scope held)
     (state_of (g.T.NativeTable.state c.call_first-call.new.table) c.call_first-call.new.global scope held)
-    c.in-Alone.function c.in-Alone.args c.in-Alone.is (c.call_first-call.ensures.by_value scope held on_scope none)
+    c.in-Alone.function c.in-Alone.args c.in-Alone.is (c.call_first-call.ensures.by_value scope held false none)

@@ -1,4 +1,4 @@
-use Rattle.std.proofs.Common.{ap}
+use Rattle.std.proofs.Common.{ap, true}
 use Rattle.rhai_machine.specs.language.Frames.{EnterOnFocus}
 use Rattle.rhai_calls.specs.Marks.{MarkedRuns}
 use Rattle.rhai_steps.specs.Marked.{lending}
@@ -14,12 +14,12 @@ returns-clause-runs g c scope held =
     let reads = same_rules g.H.Host.name_of g.T.NativeTable.natives c.args.self.now c.evaluator-evaluator.result
     c.evaluator-evaluator.ensures.limits c.evaluator-evaluator.ensures.offer in
     let runs = runs_unmarked (under_what_is_read g.H.Host.name_of c.evaluator-evaluator.result g.T.NativeTable.natives)
-    (EnterOnFocus c.args.function c.args.args c.args.pos)
+    (EnterOnFocus c.args.function true c.args.args c.args.pos)
     (state_of (g.T.NativeTable.state c.args.table.now) c.take-run.result.global scope (lending held c.args.place.now))
     (state_of (g.T.NativeTable.state c.enter_on_focus-result.new.table) c.enter_on_focus-result.new.run.global scope
     (lending held c.enter_on_focus-result.new.focus))
     c.enter_on_focus-result.result c.marked.result c.marked.ensures (c.enter_on_focus-result.ensures.runs scope held) in
-    handed_apart reads (λ rules old new. MarkedRuns rules (EnterOnFocus c.args.function c.args.args c.args.pos) old c.marked.result new)
+    handed_apart reads (λ rules old new. MarkedRuns rules (EnterOnFocus c.args.function true c.args.args c.args.pos) old c.marked.result new)
     (g.T.NativeTable.state c.args.table.now) (g.T.NativeTable.state c.enter_on_focus-result.new.table) c.take-run.result
     c.enter_on_focus-result.new.run c.args.global.now c.give_back.new.global c.give_back.ensures.global scope scope
     (lending held c.args.place.now) (lending held c.enter_on_focus-result.new.focus)

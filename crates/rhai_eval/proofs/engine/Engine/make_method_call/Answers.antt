@@ -2,7 +2,7 @@ use Rattle.std.proofs.Common.{Some, None, Option, ap, ◌∙◌}
 use Rattle.rhai_values.specs.declared.base.value.Dynamic.{Dynamic}
 use Rattle.rhai_state.specs.declared.scope.Scope.{Scope}
 use Rattle.rhai_state.specs.declared.state.GlobalRuntimeState.{GlobalRuntimeState}
-use Rattle.rhai_places.specs.Targets.{shown}
+use Rattle.rhai_places.specs.Targets.{is_shared, shown}
 use Rattle.rhai_machine.specs.language.Methods.{Method}
 use Rattle.rhai_steps.specs.Marked.{RunsFrom}
 use Rattle.rhai_methods.specs.Targets.{on_target, stands}
@@ -17,7 +17,12 @@ use Rattle.rhai_eval.proofs.engine.Engine.make_method_call.Goals as goal
 
 -- the method, as it is called
 abbrev method : (g : Over) → goal.After-drop g → Method
-method g c = record { name = c.args.fn_name.now; at = c.args.pos; first_at = Some c.args.first_arg_pos }
+method g c = record {
+  name = c.args.fn_name.now;
+  at = c.args.pos;
+  first_at = Some c.args.first_arg_pos;
+  was_handle = is_shared c.args.target.now.part c.args.target.now.at.now;
+}
 
 -- its run, over what the caller handed in
 method_runs : (g : Over) (c : goal.After-drop g) (scope : Scope g.row.H.Denot) (this : Option (Dynamic g.row.H.Denot)) →

@@ -1,4 +1,4 @@
-use Rattle.std.proofs.Common.{◌≡◌, false, true, None, Some, Err, refl, sym, ap, ◌∙◌, arith}
+use Rattle.std.proofs.Common.{◌≡◌, false, true, None, Some, Err, length, refl, sym, ap, ◌∙◌, arith}
 use Rattle.std.specs.Option.{option_copied}
 use Rattle.rhai_state.specs.Scope.{entries_of}
 use Rattle.rhai_state.specs.declared.state.GlobalRuntimeState.{GlobalRuntimeState}
@@ -21,6 +21,7 @@ use Rattle.rhai_cycle.specs.Calls.{StartsAs}
 use Rattle.rhai_cycle.specs.States.{offer_of, under}
 use Rattle.rhai_cycle.proofs.Chain.{on_ok}
 use Rattle.rhai_cycle.proofs.BodyLemmas.{body_resolves, brings_no_charge, captured_ends, failed_ends, fresh_ends, passed_ends, refused_ends}
+use Rattle.rhai_cycle.proofs.ArgsLeft.{entered_never, entered_not, entered_nothing, entered_so, has_memory}
 use Rattle.rhai_cycle.proofs.BodyLemmas.{whole_ends}
 use Rattle.rhai_cycle.proofs.FocusSteps.{enters_focus, focus_held, inside_races, inside_runs, may_be_entered}
 use Rattle.rhai_cycle.proofs.evaluator.Evaluator.+eval.Goals as goal
@@ -111,17 +112,46 @@ run_body-returns-in-Some-clause-runs g t c scope held object is_fresh scope_is t
     (rw c.in-Some.is at c.in_ok-open_function.ensures.exit))
     (rw c.def-def.ensures.value at c.close_function.ensures.outcome)
 
+-- its arguments
+
+pub run_body-returns-in_err-track_operation-clause-args : goal.run_body-returns-in_err-track_operation-clause-args
+run_body-returns-in_err-track_operation-clause-args g t c memory same =
+    rw (entered_never c.args.self.now.limits.now c.args.run.now.global.num_operations c.args.level
+    (length (entries_of c.args.run.now.scope)) c.args.def.now c.in_err-track_operation.ensures.full) refl
+
+pub run_body-returns-in_err-open_function-clause-args : goal.run_body-returns-in_err-open_function-clause-args
+run_body-returns-in_err-open_function-clause-args g t c memory same =
+    let has = has_memory _ _ (passed _ c.from_residual-in_err-open_function.ensures) memory in
+    rw (entered_not c.args.self.now.limits.now c.args.run.now.global.num_operations c.args.level
+    (length (entries_of c.args.run.now.scope)) c.args.def.now c.args.pos _
+    (rw c.def-def.ensures.value at (c.in_err-open_function.ensures.refused has))) (c.in_err-open_function.ensures.untaken has)
+
+pub run_body-returns-in-None-clause-args : goal.run_body-returns-in-None-clause-args
+run_body-returns-in-None-clause-args g t c memory same =
+    rw (entered_nothing c.args.self.now.limits.now c.args.run.now.global.num_operations c.args.level
+    (length (entries_of c.args.run.now.scope)) c.args.def.now
+    (rw (c.in-None.is, c.def-def.ensures.value) at c.in_ok-open_function.ensures.no_body))
+    (rw c.in-None.is at c.in_ok-open_function.ensures.same_args)
+
+pub run_body-returns-in-Some-clause-args : goal.run_body-returns-in-Some-clause-args
+run_body-returns-in-Some-clause-args g t c memory same =
+    rw (entered_so c.args.self.now.limits.now c.args.run.now.global.num_operations c.args.level
+    (length (entries_of c.args.run.now.scope)) c.args.def.now c.in_ok-track_operation.ensures.room
+    c.in_ok-open_function.ensures.not_deep (rw c.def-def.ensures.value at c.in_ok-open_function.ensures.not_full)
+    (rw (c.in-Some.is, c.def-def.ensures.value) at c.in_ok-open_function.ensures.body))
+    ((rw (c.in-Some.is, c.def-def.ensures.value) at c.in_ok-open_function.ensures.left) same)
+
 pub enter_captured-returns-clause-runs : goal.enter_captured-returns-clause-runs
 enter_captured-returns-clause-runs g t c held =
     let rules = under g.H.Host.name_of c.args.self.now g.T.NativeTable.natives in
     rw c.keep_list.ensures
-    (captured_ends rules c.args.function c.args.args c.args.pos c.args.run.now.global c.args.run.now.scope held c.get-def.result.now
+    (captured_ends rules c.args.function NoObject c.args.args c.args.pos c.args.run.now.global c.args.run.now.scope held c.get-def.result.now
     (option_copied c.environ_in-environ.result) c.level_below-level.result (g.T.NativeTable.state c.args.table.now)
     (g.T.NativeTable.state c.run_body-result.new.table) c.run_body-result.new.run c.run_body-result.result c.get-def.ensures
     c.environ_in-environ.ensures c.level_below-level.ensures
     (rw c.as_mut_slice-values.ensures.value at
     (c.run_body-result.ensures.runs c.args.run.now.scope held NoObject false refl c.replace-outer.ensures.after))
-    c.rewind.new.self c.len-length.result c.len-length.ensures c.rewind.ensures)
+    c.rewind.new.self c.len-length.result c.len-length.ensures c.rewind.ensures c.run_body-result.new.run.this refl)
 
 pub enter_captured-returns-clause-counts : goal.enter_captured-returns-clause-counts
 enter_captured-returns-clause-counts g t c =
@@ -179,7 +209,7 @@ pub enter_on_focus-returns-then-is_anothers-clause-runs : goal.enter_on_focus-re
 enter_on_focus-returns-then-is_anothers-clause-runs g t c scope held =
     let rules = under g.H.Host.name_of c.args.self.now g.T.NativeTable.natives in
     rw c.keep_list.ensures
-    (focus_held rules c.args.function c.args.args c.args.pos c.data_race.result c.args.focus.now
+    (focus_held rules c.args.function true c.args.args c.args.pos c.data_race.result c.args.focus.now
     (state_of (g.T.NativeTable.state c.args.table.now) c.args.run.now.global scope (lending held c.args.focus.now)) refl
     (sym c.is_held-is_anothers.ensures ∙ c.if-is_anothers.true) c.data_race.ensures)
 
@@ -194,12 +224,12 @@ enter_on_focus-returns-then-is_racing-clause-runs g t c scope held =
     let lent = state_of (g.T.NativeTable.state c.args.table.now) (record c.args.run.now.global { cells = c.step_in-above.new.cells }) scope
     (lending held c.step_in-above.new.focus) in
     rw c.keep_list-then-is_racing.ensures
-    (enters_focus rules c.args.function c.args.args c.args.pos
+    (enters_focus rules c.args.function true c.args.args c.args.pos
     (state_of (g.T.NativeTable.state c.args.table.now) c.args.run.now.global scope (lending held c.args.focus.now)) lent
     (Err c.data_race_by-error.result) c.step_in-above.result c.args.focus.now c.step_in-above.new.focus c.step_in-above.new.focus
     c.step_out.new.focus (cells_of c.args.run.now.global.cells) (cells_of c.step_in-above.new.cells)
     (cells_of c.step_in-above.new.cells) (cells_of c.step_out.new.cells) c.step_in-above.ensures
-    (inside_races rules c.args.function c.args.args c.args.pos c.data_race_by-error.result lent
+    (inside_races rules c.args.function true c.args.args c.args.pos c.data_race_by-error.result lent
     (sym (rw c.as_slice.ensures at c.races-is_racing.ensures) ∙ c.if-is_racing.true)
     (rw (c.as_str.ensures, c.get-then-is_racing.ensures, c.def.ensures.value, c.get.ensures) at c.data_race_by-error.ensures))
     c.step_out.ensures)
@@ -230,13 +260,13 @@ enter_on_focus-returns-clause-runs g t c scope held =
     let bound = (kept rules (EnterFunction (entry_of c.args.function OwnThis true c.args.args c.args.pos (local_of entered scope owned)))
     (ended c.run_body-result.result) _ _ tt owns).bound in
     rw c.keep_list-2.ensures
-    (enters_focus rules c.args.function c.args.args c.args.pos
+    (enters_focus rules c.args.function true c.args.args c.args.pos
     (state_of (g.T.NativeTable.state c.args.table.now) c.args.run.now.global scope (lending held c.args.focus.now))
     (state_of (g.T.NativeTable.state c.run_body-result.new.table) c.take_up.new.run.global scope (lending held c.put_this.new.place))
     c.run_body-result.result c.step_in-above.result c.args.focus.now inner c.put_this.new.place
     c.step_out-2.new.focus (cells_of c.args.run.now.global.cells) (cells_of c.step_in-above.new.cells)
     (cells_of c.take_up.new.run.global.cells) (cells_of c.step_out-2.new.cells) c.step_in-above.ensures
-    (inside_runs rules c.args.function c.args.args c.args.pos
+    (inside_runs rules c.args.function true c.args.args c.args.pos
     (state_of (g.T.NativeTable.state c.args.table.now) entered scope (lending held inner)) _ c.run_body-result.result
     (sym (rw c.as_slice.ensures at c.races-is_racing.ensures) ∙ c.if-is_racing.false) (rw (c.put_this.ensures bound) at runs))
     c.step_out-2.ensures)
@@ -244,7 +274,7 @@ enter_on_focus-returns-clause-runs g t c scope held =
 pub enter_on_focus-returns-clause-counts : goal.enter_on_focus-returns-clause-counts
 enter_on_focus-returns-clause-counts g t c =
     let rules = under g.H.Host.name_of c.args.self.now g.T.NativeTable.natives in
-    counted rules (EnterOnFocus c.args.function c.args.args c.args.pos) (ended c.run_body-result.result) _ _
+    counted rules (EnterOnFocus c.args.function true c.args.args c.args.pos) (ended c.run_body-result.result) _ _
     (enter_on_focus-returns-clause-runs g t c c.args.run.now.scope (holding None))
 
 pub run_method-returns-in-Ended-clause-runs : goal.run_method-returns-in-Ended-clause-runs

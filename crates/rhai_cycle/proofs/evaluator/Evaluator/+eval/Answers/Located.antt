@@ -1,13 +1,17 @@
-use Rattle.std.proofs.Common.{Err, sym, ap, ◌∙◌, arith, length, is_some}
+use Rattle.std.proofs.Common.{Err, sym, ap, ◌∙◌, ◌+◌, arith, length, take, drop, is_some, refl}
 use Rattle.rhai_values.specs.Cells.{cells_of}
+use Rattle.rhai_machine.specs.language.Chains.{method_of}
+use Rattle.rhai_machine.specs.language.Values.{is_handle}
 use Rattle.rhai_cycle.specs.States.{under}
 use Rattle.rhai_steps.specs.States.{state_of}
 use Rattle.rhai_steps.specs.Marked.{lending}
 use Rattle.rhai_chains.specs.Chains.{chain_at, form_seen, link_seen}
-use Rattle.rhai_walk.proofs.Entering.{enters}
+use Rattle.rhai_walk.proofs.Entering.{entered_handle, enters}
 use Rattle.rhai_walk.proofs.Inside.{entry_there, given_is, item_by_natives, item_inside}
-use Rattle.rhai_walk.proofs.Inside.{item_there, named_inside, property_by_natives, wants_first}
+use Rattle.rhai_walk.proofs.Inside.{item_there, method_inside, named_inside, property_by_natives, wants_first}
 use Rattle.rhai_walk.proofs.Walked.{first_and_others, index_left, index_there, index_walks, named_behind, named_walks, others}
+use Rattle.rhai_walk.proofs.Walked.{method_behind, method_there, method_walks}
+use Rattle.rhai_walk.proofs.OnTemporaries.{focus_called, method_goes}
 use Rattle.rhai_walk.specs.Walking.{inside_core}
 use Rattle.rhai_cycle.proofs.evaluator.Evaluator.+eval.Goals as goal
 
@@ -17,8 +21,20 @@ walk_entered-unreachable-requires g t c =
     c.in-Index.field-0.now (ap form_seen c.in-Index.is) in
     absurd (omega (arith, there, c.in_default.len_below))
 
-pub walk_entered-unreachable-requires-in-Method : goal.walk_entered-unreachable-requires-in-Method
-walk_entered-unreachable-requires-in-Method g t c = rw (ap form_seen c.in-Method.is) at c.requires.located
+pub walk_entered-split_at_mut-given-requires : goal.walk_entered-split_at_mut-given-requires
+walk_entered-split_at_mut-given-requires g t c =
+    let asked = c.in-Method.call.now in
+    let there = method_there (is_some c.args.new) (link_seen c.args.link) (length c.args.args.now) c.requires.walks asked.name asked.args
+    c.in-Method.pos (ap form_seen c.in-Method.is) in
+    omega (arith, there, c.len.ensures)
+
+pub walk_entered-walk_behind-result-requires : goal.walk_entered-walk_behind-result-requires
+walk_entered-walk_behind-result-requires g t c =
+    let asked = c.in-Method.call.now in
+    let behind = method_walks (is_some c.args.new) (link_seen c.args.link) (length c.args.args.now) c.requires.walks asked.name asked.args
+    c.in-Method.pos (length c.split_at_mut-given.result.1.now) (ap form_seen c.in-Method.is)
+    (ap (λ n. length c.split_at_mut-given.result.1.now + n) (sym c.len.ensures) ∙ c.split_at_mut-given.ensures.back_len) in
+    λ κs lives. (omega (arith, c.run_method-answer.ensures.counts), (lives.0, (lives.1, behind)))
 
 pub walk_entered-walk_spot-result-requires : goal.walk_entered-walk_spot-result-requires
 walk_entered-walk_spot-result-requires g t c =
@@ -54,6 +70,7 @@ walk_entered-returns-then-is_indexed-clause-runs g t c scope held rest =
     let link = link_seen c.args.link in
     let chain = chain_at c.args.root.now rest c.args.args.now c.args.new c.args.in_place in
     let inner = c.step_in-above.new.focus in
+    let was = is_handle c.args.focus.now.value in
     let old = state_of (g.T.NativeTable.state c.args.table.now) c.args.run.now.global scope (lending held c.args.focus.now) in
     let taken = state_of (g.T.NativeTable.state c.args.table.now) (record c.args.run.now.global { cells = c.step_in-above.new.cells }) scope
     (lending held inner) in
@@ -67,7 +84,7 @@ walk_entered-returns-then-is_indexed-clause-runs g t c scope held rest =
     c.walk_spot-result.new.source c.step_out.new.focus
     (cells_of c.args.run.now.global.cells) (cells_of c.step_in-above.new.cells) (cells_of c.walk_spot-result.new.run.global.cells)
     (cells_of c.step_out.new.cells) c.step_in-above.ensures
-    (item_inside rules link chain inner taken worked c.walk_spot-result.result c.in-Index.field-0.now index (others c.args.args.now) form
+    (item_inside rules link chain inner taken worked c.walk_spot-result.result was c.in-Index.field-0.now index (others c.args.args.now) form
     all
     (item_there rules link chain inner taken worked c.walk_spot-result.result index (sym c.is_indexed.ensures ∙ c.if-is_indexed.true)
     (c.walk_spot-result.ensures.runs scope held rest c.args.args.now left))) c.step_out.ensures
@@ -78,6 +95,7 @@ walk_entered-returns-else-is_indexed-clause-runs g t c scope held rest =
     let link = link_seen c.args.link in
     let chain = chain_at c.args.root.now rest c.args.args.now c.args.new c.args.in_place in
     let inner = c.step_in-above.new.focus in
+    let was = is_handle c.args.focus.now.value in
     let old = state_of (g.T.NativeTable.state c.args.table.now) c.args.run.now.global scope (lending held c.args.focus.now) in
     let taken = state_of (g.T.NativeTable.state c.args.table.now) (record c.args.run.now.global { cells = c.step_in-above.new.cells }) scope
     (lending held inner) in
@@ -91,7 +109,7 @@ walk_entered-returns-else-is_indexed-clause-runs g t c scope held rest =
     c.walk_member-result.new.source c.step_out-else-is_indexed.new.focus
     (cells_of c.args.run.now.global.cells) (cells_of c.step_in-above.new.cells) (cells_of c.walk_member-result.new.run.global.cells)
     (cells_of c.step_out-else-is_indexed.new.cells) c.step_in-above.ensures
-    (item_inside rules link chain inner taken worked c.walk_member-result.result c.in-Index.field-0.now index (others c.args.args.now)
+    (item_inside rules link chain inner taken worked c.walk_member-result.result was c.in-Index.field-0.now index (others c.args.args.now)
     form all
     (item_by_natives rules link chain inner taken worked c.walk_member-result.result index (sym c.is_indexed.ensures ∙
     c.if-is_indexed.false)
@@ -104,13 +122,14 @@ walk_entered-returns-in-Err-clause-runs g t c scope held rest =
     let link = link_seen c.args.link in
     let chain = chain_at c.args.root.now rest c.args.args.now c.args.new c.args.in_place in
     let inner = c.step_in-above.new.focus in
+    let was = is_handle c.args.focus.now.value in
     let old = state_of (g.T.NativeTable.state c.args.table.now) c.args.run.now.global scope (lending held c.args.focus.now) in
     let taken = state_of (g.T.NativeTable.state c.args.table.now) (record c.args.run.now.global { cells = c.step_in-above.new.cells }) scope
     (lending held inner) in
     enters rules link chain old taken (Err c.in-Err.error) c.step_in-above.result c.args.focus.now inner inner c.step_out-in-Err.new.focus
     (cells_of c.args.run.now.global.cells) (cells_of c.step_in-above.new.cells) (cells_of c.step_in-above.new.cells)
     (cells_of c.step_out-in-Err.new.cells) c.step_in-above.ensures
-    (wants_first rules (inside_core rules.setting link inner chain) taken c.in-Err.error _ c.in-Err.ensures) c.step_out-in-Err.ensures
+    (wants_first rules (inside_core rules.setting link was inner chain) taken c.in-Err.error _ c.in-Err.ensures) c.step_out-in-Err.ensures
 
 pub walk_entered-returns-in-Ok-clause-runs : goal.walk_entered-returns-in-Ok-clause-runs
 walk_entered-returns-in-Ok-clause-runs g t c scope held rest =
@@ -118,6 +137,7 @@ walk_entered-returns-in-Ok-clause-runs g t c scope held rest =
     let link = link_seen c.args.link in
     let chain = chain_at c.args.root.now rest c.args.args.now c.args.new c.args.in_place in
     let inner = c.step_in-above.new.focus in
+    let was = is_handle c.args.focus.now.value in
     let old = state_of (g.T.NativeTable.state c.args.table.now) c.args.run.now.global scope (lending held c.args.focus.now) in
     let taken = state_of (g.T.NativeTable.state c.args.table.now) (record c.args.run.now.global { cells = c.step_in-above.new.cells }) scope
     (lending held inner) in
@@ -132,8 +152,8 @@ walk_entered-returns-in-Ok-clause-runs g t c scope held rest =
     (cells_of c.args.run.now.global.cells) (cells_of c.step_in-above.new.cells) (cells_of
     c.walk_spot-result-then-is_map.new.run.global.cells)
     (cells_of c.step_out-then-is_map.new.cells) c.step_in-above.ensures
-    (named_inside rules link chain inner taken worked c.walk_spot-result-then-is_map.result name at form
-    (entry_there rules link chain inner taken worked c.walk_spot-result-then-is_map.result name at c.in-Ok.key (given_is c.in-Ok.key _
+    (named_inside rules link chain inner taken worked c.walk_spot-result-then-is_map.result was name at form
+    (entry_there rules link chain inner taken worked c.walk_spot-result-then-is_map.result was name at c.in-Ok.key (given_is c.in-Ok.key _
     c.in-Ok.ensures)
     (sym c.is_map.ensures ∙ c.if-is_map.true) (c.walk_spot-result-then-is_map.ensures.runs scope held rest c.args.args.now left)))
     c.step_out-then-is_map.ensures
@@ -144,6 +164,7 @@ walk_entered-returns-else-is_map-clause-runs g t c scope held rest =
     let link = link_seen c.args.link in
     let chain = chain_at c.args.root.now rest c.args.args.now c.args.new c.args.in_place in
     let inner = c.step_in-above.new.focus in
+    let was = is_handle c.args.focus.now.value in
     let old = state_of (g.T.NativeTable.state c.args.table.now) c.args.run.now.global scope (lending held c.args.focus.now) in
     let taken = state_of (g.T.NativeTable.state c.args.table.now) (record c.args.run.now.global { cells = c.step_in-above.new.cells }) scope
     (lending held inner) in
@@ -158,7 +179,42 @@ walk_entered-returns-else-is_map-clause-runs g t c scope held rest =
     (cells_of c.args.run.now.global.cells) (cells_of c.step_in-above.new.cells) (cells_of
     c.walk_member-result-else-is_map.new.run.global.cells)
     (cells_of c.step_out-else-is_map.new.cells) c.step_in-above.ensures
-    (named_inside rules link chain inner taken worked c.walk_member-result-else-is_map.result name at form
-    (property_by_natives rules link chain inner taken worked c.walk_member-result-else-is_map.result name at (sym c.is_map.ensures ∙
+    (named_inside rules link chain inner taken worked c.walk_member-result-else-is_map.result was name at form
+    (property_by_natives rules link chain inner taken worked c.walk_member-result-else-is_map.result was name at (sym c.is_map.ensures ∙
     c.if-is_map.false)
     (c.walk_member-result-else-is_map.ensures.runs scope held rest c.args.args.now c.args.in_place left))) c.step_out-else-is_map.ensures
+
+pub walk_entered-returns-in-Method-clause-runs : goal.walk_entered-returns-in-Method-clause-runs
+walk_entered-returns-in-Method-clause-runs g t c scope held rest =
+    let rules = under g.H.Host.name_of c.args.self.now g.T.NativeTable.natives in
+    let link = link_seen c.args.link in
+    let chain = chain_at c.args.root.now rest c.args.args.now c.args.new c.args.in_place in
+    let inner = c.step_in-above.new.focus in
+    let was = is_handle c.args.focus.now.value in
+    let old = state_of (g.T.NativeTable.state c.args.table.now) c.args.run.now.global scope (lending held c.args.focus.now) in
+    let taken = state_of (g.T.NativeTable.state c.args.table.now) (record c.args.run.now.global { cells = c.step_in-above.new.cells }) scope
+    (lending held inner) in
+    let called = state_of (g.T.NativeTable.state c.run_method-answer.new.table) c.run_method-answer.new.run.global scope
+    (lending held c.run_method-answer.new.focus) in
+    let worked = state_of (g.T.NativeTable.state c.walk_behind-result.new.table) c.walk_behind-result.new.run.global scope
+    (lending held c.run_method-answer.new.focus) in
+    let asked = c.in-Method.call.now in
+    let at = c.in-Method.pos in
+    let form = ap form_seen c.in-Method.is in
+    let args = c.split_at_mut-given.result in
+    let handle = c.was_handle-on_handle.ensures ∙ entered_handle c.step_in-above.result c.args.focus.now inner
+    (cells_of c.args.run.now.global.cells) (cells_of c.step_in-above.new.cells) c.step_in-above.ensures in
+    let runs = rw (c.asked_by-first.ensures.name, c.asked_by-first.ensures.first, handle) at (c.run_method-answer.ensures.runs scope held) in
+    enters rules link chain old worked c.walk_behind-result.result c.step_in-above.result c.args.focus.now inner
+    c.run_method-answer.new.focus c.step_out-in-Method.new.focus
+    (cells_of c.args.run.now.global.cells) (cells_of c.step_in-above.new.cells) (cells_of c.walk_behind-result.new.run.global.cells)
+    (cells_of c.step_out-in-Method.new.cells) c.step_in-above.ensures
+    (method_inside rules link chain inner taken worked c.walk_behind-result.result was asked.name asked.args at form
+    (method_goes rules (method_of rules.setting asked.name asked.args at was chain) link chain args.1.now taken called worked
+    c.run_method-answer.result c.walk_behind-result.result
+    (method_behind (form_seen c.args.link.form) asked.name asked.args at c.args.args.now args.1.now form
+    (c.split_at_mut-given.ensures.back ∙ ap (λ n. drop n c.args.args.now) c.len.ensures))
+    (focus_called rules asked.name asked.args at was chain args.0.now
+    (c.split_at_mut-given.ensures.front ∙ ap (λ n. take n c.args.args.now) c.len.ensures) inner taken called
+    c.run_method-answer.result refl runs)
+    (c.walk_behind-result.ensures.runs scope (lending held c.run_method-answer.new.focus) rest))) c.step_out-in-Method.ensures

@@ -10,7 +10,7 @@ use Rattle.rhai_steps.specs.Marked.{lending}
 use Rattle.rhai_cycle.specs.Calls.{StartsAs}
 use Rattle.rhai_cycle.specs.States.{under}
 use Rattle.rhai_cycle.proofs.RootLemmas.{begins, function_begins, function_missing, lent_begins, root_begins, root_held, this_begins}
-use Rattle.rhai_cycle.proofs.RootLemmas.{this_missing, value_begins, value_fails}
+use Rattle.rhai_cycle.proofs.RootLemmas.{this_enters, this_held, this_missing, value_begins, value_fails}
 use Rattle.rhai_cycle.proofs.evaluator.Evaluator.+eval.Goals as goal
 
 -- a variable that lends its value, or what its name means that is no variable's
@@ -85,17 +85,34 @@ walk_this-returns-in-None-clause-runs g t c scope focus in_place =
     (this_missing rules c.args.pos (chain_at c.args.root.now (out-Expr c.args.rest.now) c.args.args.now c.args.new in_place)
     (state_of (g.T.NativeTable.state c.args.table.now) c.args.run.now.global scope (record { this = None; focus = focus })) refl)
 
-pub walk_this-returns-in-Some-clause-runs : goal.walk_this-returns-in-Some-clause-runs
-unfolding StartsAs
-walk_this-returns-in-Some-clause-runs g t c scope focus in_place =
+pub walk_this-returns-then-is_anothers-clause-runs : goal.walk_this-returns-then-is_anothers-clause-runs
+walk_this-returns-then-is_anothers-clause-runs g t c scope focus in_place =
     let rules = under g.H.Host.name_of c.args.self.now g.T.NativeTable.natives in
     let bound = sym c.replace.ensures.value ∙ c.in-Some.is in
+    rw (bound, c.replace-then-is_anothers.ensures.after)
+    (this_held rules c.args.pos (chain_at c.args.root.now (out-Expr c.args.rest.now) c.args.args.now c.args.new in_place)
+    (state_of (g.T.NativeTable.state c.args.table.now) c.args.run.now.global scope
+    (record { this = Some c.in-Some.value; focus = focus })) c.in-Some.value refl
+    (sym c.is_held-is_anothers.ensures ∙ c.if-is_anothers.true) c.data_race.result c.data_race.ensures)
+
+pub walk_this-returns-else-is_anothers-clause-runs : goal.walk_this-returns-else-is_anothers-clause-runs
+unfolding StartsAs
+walk_this-returns-else-is_anothers-clause-runs g t c scope focus in_place =
+    let rules = under g.H.Host.name_of c.args.self.now g.T.NativeTable.natives in
+    let bound = sym c.replace.ensures.value ∙ c.in-Some.is in
+    let chain = chain_at c.args.root.now (out-Expr c.args.rest.now) c.args.args.now c.args.new in_place in
     rw (bound, c.replace-in-Some.ensures.after)
-    (this_begins rules (chain_at c.args.root.now (out-Expr c.args.rest.now) c.args.args.now c.args.new in_place) c.walk_chain-answer.result
+    (this_enters rules c.args.pos chain
+    (state_of (g.T.NativeTable.state c.args.table.now) c.args.run.now.global scope
+    (record { this = Some c.in-Some.value; focus = focus })) c.in-Some.value refl
+    (sym c.is_held-is_anothers.ensures ∙ c.if-is_anothers.false) c.unmarked.result
+    (state_of (g.T.NativeTable.state c.walk_chain-answer.new.table) c.walk_chain-answer.new.run.global scope
+    (record { this = Some c.walk_chain-answer.new.focus; focus = focus }))
+    (this_begins rules chain c.walk_chain-answer.result
     c.unmarked.result c.unmarked.ensures c.in-Some.value c.walk_chain-answer.new.focus
     (g.T.NativeTable.state c.args.table.now) (g.T.NativeTable.state c.walk_chain-answer.new.table) c.args.run.now.global
     c.walk_chain-answer.new.run.global scope focus
-    (c.walk_chain-answer.ensures.runs scope (record { this = Some c.in-Some.value; focus = focus })))
+    (c.walk_chain-answer.ensures.runs scope (record { this = Some c.in-Some.value; focus = focus }))))
 
 -- any other value
 

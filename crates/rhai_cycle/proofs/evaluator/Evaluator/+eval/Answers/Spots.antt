@@ -201,17 +201,18 @@ walk_part-returns-in-Some-clause-runs g t c scope held =
     (lending held c.put_back-result.new.source) in
     let runs = rw (c.asked_by-first.ensures.name, c.asked_by-first.ensures.first, c.in-Ok.ensures.value) at
     (c.run_method-answer.ensures.runs scope held) in
-    let called = part_called rules (record { name = asked.name; at = method.at; first_at = first_position asked.args }) args.0.now
+    let called = part_called rules (record { name = asked.name; at = method.at; first_at = first_position asked.args; was_handle = false })
+    args.0.now
     c.args.at c.args.source.now part c.run_method-answer.new.focus c.put_back-result.new.source old mid c.run_method-answer.result
     c.put_back-result.result runs c.put_back-result.ensures in
     part_method rules (link_of (out-Expr c.args.rest.now)) c.args.at chain c.args.source.now old new c.walk_behind.result
     (link_seen method.link) asked.name asked.args method.at c.in-Some.ensures.0 c.in-Some.ensures.1
-    (method_goes rules (λ k l. method_of rules.setting asked.name asked.args method.at chain
+    (method_goes rules (λ k l. method_of rules.setting asked.name asked.args method.at false chain
     (PartMethod c.args.source.now c.args.at method.at ∷ k) (focused_on (Some part) l)) (link_seen method.link) chain args.1.now old mid new
     c.put_back-result.result c.walk_behind.result
     (method_behind (form_seen method.link.form) asked.name asked.args method.at c.args.args.now args.1.now c.in-Some.ensures.1
     (c.split_at_mut-given.ensures.back ∙ ap (λ n. drop n c.args.args.now) c.len.ensures))
-    (called_on_part rules asked.name asked.args method.at chain args.0.now
+    (called_on_part rules asked.name asked.args method.at false chain args.0.now
     (c.split_at_mut-given.ensures.front ∙ ap (λ n. take n c.args.args.now) c.len.ensures) part old mid c.put_back-result.result
     c.args.source.now c.args.at called)
     (c.walk_behind.ensures.runs scope (lending held c.put_back-result.new.source) (out-Expr c.args.rest.now)))
