@@ -1,6 +1,7 @@
 //! What a host's own calls of functions answer, and what they leave.
 
 ghost use Rattle.std.specs.Prelude.{◌≡◌, IfOk, length};
+ghost use Rattle.rhai_values.specs.Cells.{IsNoHandle};
 
 use crate::errors::write_error;
 use rhai_bench::outcome::Ending;
@@ -43,7 +44,9 @@ struct Caller {
 /// A value with whether it may have changed the object.
 type Answer = Result<(Dynamic<Pair>, bool), EvalAltResult<Pair>>;
 
-fn int(value: i64) -> Dynamic<Pair> {
+fn int(value: i64) -> Dynamic<Pair>
+    ensures { IsNoHandle result.value }
+{
     Dynamic::new(Union::Int(value))
 }
 
@@ -162,12 +165,13 @@ impl Caller {
         )
     }
 
-    /// The object goes into a cell, and object and arguments are handles of that.
+    /// A cell has 1, as the object has, and object and arguments are handles of that.
     fn share(&mut self) -> Result<(), AllocError> {
-        if let Err((value, error)) = self.global.cells.add(replace(&mut self.object, handle())) {
+        if let Err((value, error)) = self.global.cells.add(int(1)) {
             drop(value);
             return Err(error);
         }
+        drop(replace(&mut self.object, handle()));
         'arguments: for arg in self.args.as_mut_slice() {
             drop(replace(arg, handle()));
         }

@@ -12,6 +12,7 @@ use rhai_eval::base::{
     AccessMode, Boxed, CellId, Dynamic, Expr, FnPtr, FnPtrKind, Items, NativeId, Scope, Shared,
     Stmt, Table, Text, Union,
 };
+use rhai_eval::cells::CellStore;
 use rhai_eval::check::check_tree;
 use rhai_eval::engine::Engine;
 use rhai_eval::state::GlobalRuntimeState;
@@ -40,10 +41,7 @@ fn write_way(alloc: Global, chain: &str, way: Way, out: &mut Vec<u8>) -> io::Res
     let parts = parts_of(alloc, chain)?;
     let mut global = GlobalRuntimeState::new(alloc)?;
     global.always_search_scope = way.always_search_scope;
-    if let Err((value, error)) = global.cells.add(in_cell(alloc, chain)?) {
-        drop(value);
-        return Err(io::Error::from(error));
-    }
+    add_cell(alloc, &mut global.cells, chain)?;
     let mut scope = scope_of(alloc, chain)?;
     match check_tree(alloc, parts.statements, parts.functions) {
         Err(fault) => write!(out, "{fault}")?,
@@ -123,35 +121,48 @@ fn pointer(
     name: &str,
     kind: FnPtrKind<Pair>,
     has_handle: bool,
-) -> Result<Dynamic<Pair>, AllocError> {
+) -> Result<Boxed<FnPtr<Pair>>, AllocError> {
     let mut curry = Items::new(alloc);
     if has_handle {
         curry.push(handle())?;
     }
     let name = Shared::new(alloc, Text::from_str(alloc, name)?)?;
-    let pointer = FnPtr { name, curry, kind };
-    Ok(Dynamic::new(Union::FnPtr(Boxed::new(alloc, pointer)?)))
+    Boxed::new(alloc, FnPtr { name, curry, kind })
 }
 
-/// What stands in the cell: a pointer to `g`, a map with the handle under `f` or with a pointer to a native that
-/// is not there under `get$f`, or 1.
-fn in_cell(alloc: Global, chain: &str) -> Result<Dynamic<Pair>, AllocError> {
-    match chain {
-        "f.call()" => pointer(alloc, "g", FnPtrKind::Arity(1), true),
-        "f.call(a)" => pointer(alloc, "g", FnPtrKind::Arity(1), false),
+/// Adds the cell. It has a pointer to `g`, a map with the handle under `f` or with a pointer to a native that is
+/// not there under `get$f`, or 1.
+fn add_cell(alloc: Global, cells: &mut CellStore<Pair>, chain: &str) -> Result<(), AllocError> {
+    let added = match chain {
+        "f.call()" => {
+            let own = pointer(alloc, "g", FnPtrKind::Arity(1), true)?;
+            cells.add(Dynamic::new(Union::FnPtr(own)))
+        }
+        "f.call(a)" => {
+            let own = pointer(alloc, "g", FnPtrKind::Arity(1), false)?;
+            cells.add(Dynamic::new(Union::FnPtr(own)))
+        }
         "m.f()" => {
             let mut map = Table::new(alloc);
             map.insert(Shared::new(alloc, Text::from_str(alloc, "f")?)?, handle())?;
-            Ok(Dynamic::new(Union::Map(Boxed::new(alloc, map)?)))
+            cells.add(Dynamic::new(Union::Map(Boxed::new(alloc, map)?)))
         }
         "m.get$f()" => {
             let mut map = Table::new(alloc);
             let missing = FnPtrKind::Native(NativeId { number: 99 });
             let own = pointer(alloc, "get$f", missing, false)?;
-            map.insert(Shared::new(alloc, Text::from_str(alloc, "get$f")?)?, own)?;
-            Ok(Dynamic::new(Union::Map(Boxed::new(alloc, map)?)))
+            let name = Shared::new(alloc, Text::from_str(alloc, "get$f")?)?;
+            map.insert(name, Dynamic::new(Union::FnPtr(own)))?;
+            cells.add(Dynamic::new(Union::Map(Boxed::new(alloc, map)?)))
         }
-        _ => Ok(Dynamic::new(Union::Int(1))),
+        _ => cells.add(Dynamic::new(Union::Int(1))),
+    };
+    match added {
+        Ok(_) => Ok(()),
+        Err((value, error)) => {
+            drop(value);
+            Err(error)
+        }
     }
 }
 
@@ -172,6 +183,7 @@ fn scope_of(alloc: Global, chain: &str) -> Result<Scope<Pair>, AllocError> {
         AccessMode::ReadWrite,
         handle(),
     )?;
+    let called = Dynamic::new(Union::FnPtr(called));
     scope.push_entry(String::from_str(alloc, "a")?, AccessMode::ReadWrite, array)?;
     scope.push_entry(String::from_str(alloc, "p")?, AccessMode::ReadWrite, called)?;
     Ok(scope)
