@@ -1,5 +1,6 @@
 -- The native of an update is asked: its charge, its call with the target, and what it leaves.
 use Rattle.std.proofs.Common.{sym, ◌∙◌, ◌≡◌, ◌<◌, ◌≤◌, ◌+◌, ℕ, Bool, true, false, List, [], ◌∷◌, Option, Some, None, IfSome, refl, ap}
+use Rattle.std.proofs.Common.{subst}
 use Rattle.std.proofs.lemmas.Bool.{lt-ltb, le-ltb}
 use Rattle.rhai_tree.specs.declared.position.Position.{Position}
 use Rattle.rhai_values.specs.declared.base.value.CellId.{CellId}
@@ -12,7 +13,7 @@ use Rattle.rhai_state.specs.declared.state.GlobalRuntimeState.{GlobalRuntimeStat
 use Rattle.rhai_state.specs.declared.error.EvalAltResult.{EvalAltResult}
 use Rattle.rhai_state.specs.declared.error.EvalAltResult.TheVariants as error
 use Rattle.rhai_state.specs.Errors.{is_out_of_memory}
-use Rattle.rhai_state.specs.Native.{Natives, Request, Reply, Faults, Named, Obeys, effect, request}
+use Rattle.rhai_state.specs.Native.{MayLeave, Natives, Request, Reply, Faults, Named, Obeys, effect, request}
 use Rattle.rhai_machine.specs.machine.Machine.{Charge, Go, Native}
 use Rattle.rhai_machine.specs.machine.Point.{Point, after}
 use Rattle.rhai_machine.specs.machine.Memory.{here, next, starved, starved_at, ◌⨾◌}
@@ -115,19 +116,21 @@ module _ {S H : Type 0} (rules : Rules S H) where
   -- or it wants memory, and its target is written back too
   starves : (p q : Point S (Core H)) (call : Request H) (f : Reply H → Option (Dynamic H) → Core H) (pos : Position) →
       move rules.setting p.core ≡ Native call f →
-      (e : EvalAltResult H) (first : Option (Dynamic H)) (state : S) → Goes rules (starved_at (machine rules) pos f e first state p) q →
-      Goes rules p q
-  starves p q call f pos is e first state go = starved {call = call} {f = f} {at = pos} is e first state go
+      (e : EvalAltResult H) (first : Option (Dynamic H)) (state : S) →
+      MayLeave rules.setting.host_type rules.natives p.table call first state →
+      Goes rules (starved_at (machine rules) pos f e first state p) q → Goes rules p q
+  starves p q call f pos is e first state may go = starved {call = call} {f = f} {at = pos} is e first state may go
 
   fires_starved : (u : Update H) (k : List (Frame H)) (now new : State S H) (v : Dynamic H) (pos : Position) →
       is_handle u.target.value ≡ false →
       new ≡ record now { table = new.table; local = put u.place v now.local } →
+      MayLeave rules.setting.host_type rules.natives now.table (call_of u now) (Some v) new.table →
       Goes rules (at (FireUpdate u) k now) (at (Fail (error.ErrorOutOfMemory pos)) k new)
-  fires_starved u k now new v pos plain is =
+  fires_starved u k now new v pos plain is may =
       starves (at (FireUpdate u) k now) (at (Fail (error.ErrorOutOfMemory pos)) k new) (call_of u now)
       (λ reply left. lent_core rules.setting reply (left_in u left) u k now.local) pos
       (plain_move rules.setting u.target.value u k now.local plain)
-      (error.ErrorOutOfMemory pos) (Some v) new.table
+      (error.ErrorOutOfMemory pos) (Some v) new.table may
       (rw (wants_answered rules.setting u.attempt pos (record u { target = v }) k (put u.place v now.local), is) here)
 
   -- an update that is not charged, and one whose target is a bare handle
@@ -193,12 +196,16 @@ module _ {S H : Type 0} (rules : Rules S H) where
       -- an update whose native was called
       pub asked : (answer : Option (Reply H)) (name : List ℕ) (rest : List (Dynamic H)) →
           Obeys (rules.natives.gives t (request (cells_of mid.cells) (Named name) (Some u.target) rest u.at)) answer (Some w) called →
-          name ≡ native_of u.attempt u.operator → rest ≡ u.operand ∷ [] →
+          MayLeave rules.setting.host_type rules.natives t (request (cells_of mid.cells) (Named name) (Some u.target) rest u.at) (Some w)
+          called → name ≡ native_of u.attempt u.operator → rest ≡ u.operand ∷ [] →
           Asked rules u (lent u t old scope held) answer w left
       unfolding Steps
-      asked answer name rest obeys named only = record {
+      asked answer name rest obeys may named only = record {
         answered = answers_update answer name rest obeys named only;
         starved = λ pos k.
             asks_update t old mid scope held u room counted free allowed k
-            ⨾ fires_starved u k (lent u t mid scope held) left w pos plain left_is;
+            ⨾ fires_starved u k (lent u t mid scope held) left w pos plain left_is
+            (subst (λ (cells : Cells H). MayLeave rules.setting.host_type rules.natives t
+            (request cells (Named (native_of u.attempt u.operator)) (Some u.target) (u.operand ∷ []) u.at) (Some w) called)
+            (sym (lent_cells u.place cell u.target (local_of mid scope held) from own)) (rw (named, only) at may));
       }

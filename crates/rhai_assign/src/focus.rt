@@ -29,7 +29,7 @@ use rhai_steps::values::{let_go, unit_value};
 use rhai_tree::expr::{Expr, OpAssignment};
 use rhai_tree::position::Position;
 use rhai_values::base::value::{AccessMode, CellId, Dynamic, Host, Union};
-use rhai_values::cells::CellStore;
+use rhai_values::cells::{CellStore, put_back};
 use std::alloc::Global;
 use std::mem::replace;
 
@@ -145,7 +145,7 @@ pub(crate) fn assign_in_cell<H: Host, T: NativeTable<H>>(
         value,
         fast,
     );
-    global.cells.set(id, target);
+    put_back(&mut global.cells, id, target);
     result
 }
 

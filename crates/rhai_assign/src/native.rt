@@ -2,7 +2,7 @@
 
 ghost use Rattle.std.specs.Prelude.{◌≡◌, ◌∷◌, [], Some, true, is_some, IfSome, IfOk, IfErr, false};
 ghost use Rattle.rhai_values.specs.Cells.{IsNoHandle, cells_of};
-ghost use Rattle.rhai_state.specs.Native.{Named, Obeys, reply_of, request};
+ghost use Rattle.rhai_state.specs.Native.{Leaves, Named, Obeys, reply_of, request};
 ghost use Rattle.rhai_machine.specs.language.Setting.{rules_of};
 ghost use Rattle.rhai_machine.specs.language.State.{Answers, HasMemory};
 ghost use Rattle.rhai_machine.specs.language.Calls.{replied as replied_at};
@@ -28,7 +28,7 @@ use rhai_steps::values::{is_bare_handle, let_go, unit_value};
 use rhai_tree::position::Position;
 use rhai_tree::token::Token;
 use rhai_values::base::value::{AccessMode, Dynamic, Host};
-use rhai_values::cells::CellStore;
+use rhai_values::cells::{CellStore, put_back};
 use std::alloc::{AllocError, Global};
 use std::mem::replace;
 
@@ -46,6 +46,9 @@ fn call_on<H: Host, T: NativeTable<H>>(
         (request (cells_of cells.now) (Named name.now) (Some target.old) rest.now pos))
         (reply_of result) (Some target.new) (T.state table.new) }
     ensures plain { IsNoHandle target.new.value }
+    ensures leaves { Leaves H.name_of T.natives (T.state table.old)
+        (request (cells_of cells.now) (Named name.now) (Some target.old) rest.now pos)
+        (Some target.new) (T.state table.new) }
 {
     table.call(cells, name, Some(&mut *target), rest, pos)
 }
@@ -162,7 +165,7 @@ pub(crate) fn outcome_of<H: Host>(
             alloc, limits, cells, answer, name, false, token, target, rest, update.at,
         );
     };
-    cells.set(id, replace(target, unit_value()));
+    put_back(cells, id, replace(target, unit_value()));
     let back = cells.get(id).unwrap();
     let outcome = replied(
         alloc, limits, cells, answer, name, false, token, back, rest, update.at,

@@ -25,7 +25,7 @@ use rhai_steps::variables::place_of_variable;
 use rhai_tree::position::Position;
 use rhai_tree::token::Token;
 use rhai_values::base::value::{AccessMode, CellId, Dynamic, Host, Module, Union};
-use rhai_values::cells::CellStore;
+use rhai_values::cells::{CellStore, put_back};
 use std::num::NonZeroUsize;
 
 /// Where a variable's value stands: in an entry of the scope, or in a cell.
@@ -169,7 +169,7 @@ pub(crate) fn put<H: Host>(
 {
     match place {
         Place::InEntry(index) => let_go(scope.replace_value(index, value)),
-        Place::InCell(id) => cells.set(id, value),
+        Place::InCell(id) => put_back(cells, id, value),
     }
 }
 

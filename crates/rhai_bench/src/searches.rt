@@ -118,7 +118,7 @@ fn write_value_found<W: Write>(
         expr,
     );
     match found {
-        Ok(target) => write_value(out, target.at),
+        Ok(target) => write_value(out, target.as_ref()),
         Err(error) => write_ending(out, &Ending::Error(error)),
     }
 }

@@ -1,13 +1,13 @@
 //! A body is entered. The contracts cite the machine's specs/language/Bodies.antt and the crate's own
 //! specs/Opening.antt and specs/Closing.antt.
 
-ghost use Rattle.std.specs.Prelude.{◌≡◌, ◌≢◌, [], ◌++◌, false, true, length, map, take};
+ghost use Rattle.std.specs.Prelude.{◌≡◌, ◌≢◌, [], ◌++◌, false, true, length, take};
 ghost use Rattle.std.specs.Prelude.{IfErr, IfOk, IfSome, OnErr, OnOk};
 ghost use Rattle.std.specs.Option.{option_copied};
 ghost use Rattle.rhai_state.specs.declared.error.EvalAltResult.TheVariants as error;
 ghost use Rattle.rhai_state.specs.Errors.{is_out_of_memory};
 ghost use Rattle.rhai_state.specs.Scope.{entries_of};
-ghost use Rattle.rhai_functions.specs.Entering.{parameters, unit};
+ghost use Rattle.rhai_functions.specs.Entering.{left_of, parameters};
 ghost use Rattle.rhai_machine.specs.language.Bodies.{statements_of as statements_in};
 ghost use Rattle.rhai_bodies.specs.Closing.{taken_back};
 ghost use Rattle.rhai_bodies.specs.Opening.{brought, entered_global, entry, exit_seen};
@@ -153,8 +153,7 @@ fn surround<H: Host>(
     ensures state { OnOk result (global.new ≡ brought (option_copied environ.entry) global.old) }
     ensures variables { OnOk result (entries_of scope.new ≡ entries_of scope.old
         ++ parameters def.now.params args.old) }
-    ensures left { OnOk result
-        (length def.now.params ≡ length args.old → args.new ≡ map (λ _. unit) args.old) }
+    ensures left { OnOk result (args.new ≡ left_of (length def.now.params) args.old) }
     ensures state_back { OnErr result (taken_back (exit_seen global.old scope.old) global.new ≡ global.old) }
     ensures variables_back { OnErr result (take (length (entries_of scope.old)) (entries_of scope.new)
         ≡ entries_of scope.old) }
@@ -205,8 +204,7 @@ pub fn open_function<H: Host>(
         ++ parameters def.now.params args.old) }
     ensures state { OnEntered result (global.new
         ≡ entered_global (option_copied environ.entry) level global.old) }
-    ensures left { OnEntered result (length def.now.params ≡ length args.old
-        → args.new ≡ map (λ _. unit) args.old) }
+    ensures left { OnEntered result (args.new ≡ left_of (length def.now.params) args.old) }
     ensures no_body { OnPassed result (statements_in def.now.body ≡ []) }
     ensures same_scope { UnlessEntered result (entries_of scope.new ≡ entries_of scope.old) }
     ensures same_state { UnlessEntered result (global.new ≡ global.old) }

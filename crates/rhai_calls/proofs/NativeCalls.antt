@@ -17,7 +17,7 @@ use Rattle.rhai_state.specs.declared.state.GlobalRuntimeState.{GlobalRuntimeStat
 use Rattle.rhai_state.specs.declared.error.EvalAltResult.{EvalAltResult}
 use Rattle.rhai_state.specs.declared.error.EvalAltResult.TheVariants as error
 use Rattle.rhai_state.specs.Errors.{is_out_of_memory}
-use Rattle.rhai_state.specs.Native.{Request, Reply, Missing, Gives, Faults, Obeys, effect, purity_of, request}
+use Rattle.rhai_state.specs.Native.{MayLeave, Request, Reply, Missing, Gives, Faults, Obeys, effect, purity_of, request}
 use Rattle.rhai_state.specs.Scope.{entries_of}
 use Rattle.rhai_machine.specs.machine.Point.{after}
 use Rattle.rhai_machine.specs.machine.Memory.{here, next, starved, ◌⨾◌}
@@ -192,31 +192,36 @@ module _ {S H : Type 0} (rules : Rules S H) where
           step_by rules _ _ _ (ap (λ f. fire_first rules.setting (made m) rest f k now.local) is)
           (rw obeys (told_marked m r result _ told k (left_in left t)))
 
+      -- what the native may leave
+      abbrev May : Option (Dynamic H) → S → Type 0
+      May left t = MayLeave rules.setting.host_type rules.natives now.table
+          (request lending (native_key operation.name id) (Some v) rest operation.at) left t
+
       -- a native that has no memory may have changed its first argument and the table
-      fires_starved : (m : Bool) (left : Option (Dynamic H)) (t : S) (pos : Position) →
+      fires_starved : (m : Bool) (left : Option (Dynamic H)) (t : S) (pos : Position) → May left t →
           Goes rules (at (Fire (made m)) k now) (at (Fail (error.ErrorOutOfMemory pos)) k (left_in left t))
-      fires_starved m left t pos =
+      fires_starved m left t pos may =
           starved {call = request lending (native_key operation.name id) (Some v) rest operation.at}
           {f = λ reply given. core (answered m reply
           (replied rules.setting.limits rules.setting.host_type reply given rest operation (is_some (number_in id)) (later given))) k
           (put_left from given now.local)}
           {at = pos}
-          (ap (λ f. fire_first rules.setting (made m) rest f k now.local) is) (error.ErrorOutOfMemory pos) left t here
+          (ap (λ f. fire_first rules.setting (made m) rest f k now.local) is) (error.ErrorOutOfMemory pos) left t may here
 
-      starves : (m mark : Bool) (left : Option (Dynamic H)) (t : S) (result : Result (Dynamic H) (EvalAltResult H)) →
+      starves : (m mark : Bool) (left : Option (Dynamic H)) (t : S) (result : Result (Dynamic H) (EvalAltResult H)) → May left t →
           (HasMemory result → false ≡ true) →
           Goes rules (at (Fire (made m)) k now) (at (marked (with_mark mark result)) k (left_in left t))
-      starves m mark left t (Ok w) memory = absurd (false≢true (memory tt))
-      starves m mark left t (Err (error.ErrorOutOfMemory pos)) memory = fires_starved m left t pos
-      starves m mark left t (Err e) memory = absurd (false≢true (memory refl))
+      starves m mark left t (Ok w) may memory = absurd (false≢true (memory tt))
+      starves m mark left t (Err (error.ErrorOutOfMemory pos)) may memory = fires_starved m left t pos may
+      starves m mark left t (Err e) may memory = absurd (false≢true (memory refl))
 
       fires_told : (m : Bool) (answer : Option (Reply H)) (left : Option (Dynamic H)) (t : S)
           (result : Result (Dynamic H) (EvalAltResult H)) →
           Obeys (rules.natives.gives now.table (request lending (native_key operation.name id) (Some v) rest operation.at)) answer left t →
-          IfSome answer (λ r. Wanted left r result) → (HasMemory result → is_some answer ≡ true) →
+          May left t → IfSome answer (λ r. Wanted left r result) → (HasMemory result → is_some answer ≡ true) →
           Goes rules (at (Fire (made m)) k now) (at (marked (with_mark (m && gives answer) result)) k (left_in left t))
-      fires_told m None left t result obeys answers memory = starves m (m && false) left t result memory
-      fires_told m (Some r) left t result obeys answers memory = fires m r left t result obeys answers
+      fires_told m None left t result obeys may answers memory = starves m (m && false) left t result may memory
+      fires_told m (Some r) left t result obeys may answers memory = fires m r left t result obeys answers
 
   -- ---- a native on a value that is lent
 
@@ -260,7 +265,7 @@ module _ {S H : Type 0} (rules : Rules S H) where
         (HasMemory q → is_some answer ≡ true) → result ≡ with_mark changed q →
         CallsOn rules cells later operation id guarded marks lent left rest t t' result
     unfolding CallsOn Steps
-    calls_on answer left t' changed by_number q result (is, obeys, does) numbered answers memory marks_it lender from x count l stands
+    calls_on answer left t' changed by_number q result (is, leaves, does) numbered answers memory marks_it lender from x count l stands
         meanwhile back first k =
         rw (marks_it, does)
         (questions operation id lender guarded marks x rest k (record { table = t; count = count; local = l }) from lent first false
@@ -268,7 +273,7 @@ module _ {S H : Type 0} (rules : Rules S H) where
         ⨾ let_through operation id lender guarded marks x rest k (record { table = t; count = count; local = l }) from lent first pure_on
         (same_purity l.around.cells)
         ⨾ fires_told operation id lender guarded marks x rest k (record { table = t; count = count; local = l }) from lent first
-        (marks && not pure_on) answer (Some left) t' q (rw meanwhile at obeys)
+        (marks && not pure_on) answer (Some left) t' q (rw meanwhile at leaves.0) (rw meanwhile at leaves.1)
         (rw (numbered ∙ number_same id, back) at answers) memory)
 
   -- it is lent from a cell
@@ -354,22 +359,23 @@ module _ {S H : Type 0} (rules : Rules S H) where
 
     lone_fires : (m : Bool) (answer : Option (Reply H)) (t : S) (q : Result (Dynamic H) (EvalAltResult H)) →
         Obeys (rules.natives.gives now.table lone_request) answer None t →
-        IfSome answer (λ r. Answers q (replied rules.setting.limits rules.setting.host_type r None [] operation (is_some (number_in id))
+        MayLeave rules.setting.host_type rules.natives now.table lone_request None t → IfSome answer (λ r. Answers q (replied rules.setting.limits rules.setting.host_type r None [] operation (is_some (number_in id))
         now.local.around.cells)) → (HasMemory q → is_some answer ≡ true) →
         Goes rules (at (Fire (lone m)) k now) (at (marked (with_mark (m && gives answer) q)) k (record now { table = t }))
     unfolding after
-    lone_fires m (Some r) t q obeys answers memory =
+    lone_fires m (Some r) t q obeys may answers memory =
         next (rw obeys (told_marked m r q _ answers k (record now { table = t })))
-    lone_fires m None t (Ok v) obeys answers memory = absurd (false≢true (memory tt))
-    lone_fires m None t (Err (error.ErrorOutOfMemory pos)) obeys answers memory =
-        starved {at = pos} refl (error.ErrorOutOfMemory pos) None t here
-    lone_fires m None t (Err e) obeys answers memory = absurd (false≢true (memory refl))
+    lone_fires m None t (Ok v) obeys may answers memory = absurd (false≢true (memory tt))
+    lone_fires m None t (Err (error.ErrorOutOfMemory pos)) obeys may answers memory =
+        starved {at = pos} refl (error.ErrorOutOfMemory pos) None t may here
+    lone_fires m None t (Err e) obeys may answers memory = absurd (false≢true (memory refl))
 
     pub fires_alone : (marks by_number : Bool) (answer : Option (Reply H)) (t : S) (q : Result (Dynamic H) (EvalAltResult H))
         (result : Result (Dynamic H × Bool) (EvalAltResult H)) →
         Obeys (rules.natives.gives now.table lone_request) answer None t →
+        MayLeave rules.setting.host_type rules.natives now.table lone_request None t →
         by_number ≡ is_some id → IfSome answer (λ r. Answers q (replied rules.setting.limits rules.setting.host_type r None [] operation
         by_number now.local.around.cells)) → (HasMemory q → is_some answer ≡ true) → result ≡ with_mark ((marks && not lone_pure) && gives answer) q →
         Goes rules (at (Question (lone marks)) k now) (at (marked result) k (record now { table = t }))
-    fires_alone marks by_number answer t q result obeys numbered answers memory is =
-        rw is (lone_asked marks ⨾ lone_fires (marks && not lone_pure) answer t q obeys (rw (numbered ∙ number_same id) at answers) memory)
+    fires_alone marks by_number answer t q result obeys may numbered answers memory is =
+        rw is (lone_asked marks ⨾ lone_fires (marks && not lone_pure) answer t q obeys may (rw (numbered ∙ number_same id) at answers) memory)

@@ -12,7 +12,7 @@ use Rattle.rhai_state.specs.declared.error.EvalAltResult.{EvalAltResult}
 use Rattle.rhai_values.specs.TypeNames.{own_type_name}
 use Rattle.rhai_state.specs.declared.error.EvalAltResult.TheVariants as error
 use Rattle.rhai_state.specs.Errors.{is_out_of_memory}
-use Rattle.rhai_state.specs.Native.{Key, Natives, Obeys, Reply, purity_of, request}
+use Rattle.rhai_state.specs.Native.{Key, MayLeave, Natives, Obeys, Reply, purity_of, request}
 use Rattle.rhai_machine.specs.language.Setting.{Rules}
 use Rattle.rhai_machine.specs.language.State.{Local}
 use Rattle.rhai_machine.specs.language.Values.{Cells, is_handle}
@@ -47,12 +47,13 @@ module _ {S H : Type 0} (natives : Natives S H) (host : H → List ℕ) where
   Bars key guarded first rest t t' left e name at = (is_barred_from natives host t key first rest guarded ≡ true) × (t' ≡ t)
       × (left ≡ first) × (is_out_of_memory e ≡ false → e ≡ error.ErrorNonPureMethodCallOnConstant name at)
 
-  -- or else it is asked with these cells, and answers, where it had the memory; its answer is marked where it may have changed the first
+  -- or else it is asked with these cells, and answers, where it had the memory, and leaves what it may; its answer is marked where it may have changed the first
   -- argument and this is to be told
   abbrev pub Gives : (cells : Cells H) → Key → (guarded marks : Bool) → (first : Dynamic H) → (rest : List (Dynamic H)) → (at : Position) →
       (t t' : S) → Option (Reply H) → (left : Dynamic H) → (changed : Bool) → Type 0
   Gives cells key guarded marks first rest at t t' answer left changed = (is_barred_from natives host t key first rest guarded ≡ false)
-      × Obeys (natives.gives t (request cells key (Some first) rest at)) answer (Some left) t'
+      × (Obeys (natives.gives t (request cells key (Some first) rest at)) answer (Some left) t'
+      × MayLeave host natives t (request cells key (Some first) rest at) (Some left) t')
       × (changed ≡ ((marks && not (is_pure_on natives host t key first rest)) && gives answer))
 
 module _ {H : Type 0} where

@@ -3,7 +3,7 @@
 
 ghost use Rattle.std.specs.Prelude.{◌≡◌, ◌≤◌, ◌+◌, ◌&&◌, ◌∷◌, [], None, Some, IfErr, IfOk, not, true, false};
 ghost use Rattle.rhai_values.specs.Cells.{cells_of, value_of_cell, IsNoHandle};
-ghost use Rattle.rhai_state.specs.Native.{Obeys, purity_of, reply_of, request};
+ghost use Rattle.rhai_state.specs.Native.{Leaves, Obeys, purity_of, reply_of, request};
 ghost use Rattle.rhai_machine.specs.language.Calls.{call_of};
 ghost use Rattle.rhai_machine.specs.language.Frames.{Ask, Question};
 ghost use Rattle.rhai_machine.specs.language.Runs.{Runs};
@@ -28,7 +28,7 @@ use rhai_tree::literal::NativeId;
 use rhai_tree::position::Position;
 use rhai_tree::token::Token;
 use rhai_values::base::value::{AccessMode, CellId, Dynamic, Host, Union};
-use rhai_values::cells::CellStore;
+use rhai_values::cells::{CellStore, put_back};
 use std::alloc::Global;
 
 /// How a native gets its first argument, and what its answer tells of it.
@@ -146,9 +146,13 @@ fn answer_of<H: Host, T: NativeTable<H>>(
     pos: Position,
 ) -> Answer<H>
     requires { IsNoHandle first.old.value }
-    ensures { Obeys (T.natives.gives (T.state table.old)
+    ensures obeys { Obeys (T.natives.gives (T.state table.old)
         (request (cells_of cells.now) (native_key name.now id) (Some first.old) rest.now pos))
         (reply_of result) (Some first.new) (T.state table.new) }
+    ensures no_handle { IsNoHandle first.new.value }
+    ensures leaves { Leaves H.name_of T.natives (T.state table.old)
+        (request (cells_of cells.now) (native_key name.now id) (Some first.old) rest.now pos)
+        (Some first.new) (T.state table.new) }
 {
     match id {
         None => table.call(cells, name, Some(&mut *first), rest, pos),
@@ -166,9 +170,11 @@ fn answer_alone<'a, H: Host, T: NativeTable<H>>(
     id: Option<NativeId>,
     pos: Position,
 ) -> Answer<H>
-    ensures { Obeys (T.natives.gives (T.state table.old)
+    ensures obeys { Obeys (T.natives.gives (T.state table.old)
         (request (cells_of cells.now) (native_key name.now id) None [] pos))
         (reply_of result) None (T.state table.new) }
+    ensures leaves { Leaves H.name_of T.natives (T.state table.old)
+        (request (cells_of cells.now) (native_key name.now id) None [] pos) None (T.state table.new) }
 {
     let first: Option<&'a mut Dynamic<H>> = None;
     let rest = Items::new(alloc);
@@ -292,7 +298,7 @@ fn call_in_cell<H: Host, T: NativeTable<H>>(
             let asked = ask_native(
                 alloc, &*cells, table, name, id, &mut lent, rest, passing, pos,
             );
-            cells.set(cell, lent);
+            put_back(cells, cell, lent);
             match asked {
                 Err(error) => Err(error),
                 Ok((answer, changed)) => {

@@ -1,7 +1,7 @@
 //! The parameters of a function.
 
-ghost use Rattle.std.specs.Prelude.{◌≡◌, ◌++◌, OnErr, OnOk, length, map, take};
-ghost use Rattle.rhai_functions.specs.Entering.{parameters, unit};
+ghost use Rattle.std.specs.Prelude.{◌≡◌, ◌++◌, OnErr, OnOk, length, take};
+ghost use Rattle.rhai_functions.specs.Entering.{left_of, parameters};
 ghost use Rattle.rhai_state.specs.Scope.{entries_of};
 
 use rhai_items::{Shared, Text};
@@ -16,7 +16,7 @@ pub fn push_parameters<H: Host>(
     args: &mut [Dynamic<H>],
 ) -> Result<(), AllocError>
     ensures ok { OnOk result (entries_of scope.new ≡ entries_of scope.old ++ parameters params.now args.old) }
-    ensures left { OnOk result (length params.now ≡ length args.old → args.new ≡ map (λ _. unit) args.old) }
+    ensures left { OnOk result (args.new ≡ left_of (length params.now) args.old) }
     ensures err { OnErr result (take (length (entries_of scope.old)) (entries_of scope.new)
         ≡ entries_of scope.old) }
 {

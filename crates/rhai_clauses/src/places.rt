@@ -94,8 +94,7 @@ pub fn propagate_changed_value<H: Host>(
     position: Position,
 ) -> Result<(), EvalAltResult<H>>
     ensures part { target.new.part ≡ target.old.part }
-    ensures ok { IsFit target.old.part target.old.at.now →
-        OnOk result (propagated target.old.part target.old.at.now ≡ Some target.new.at.now) }
+    ensures ok { OnOk result (propagated target.old.part target.old.at.now ≡ Some target.new.at.now) }
     ensures err { OnErr result (target.new.at.now ≡ target.old.at.now) }
     ensures refused { IfErr result (λ e. IsNotPropagated H.name_of target.old.part target.old.at.now
         position e) }

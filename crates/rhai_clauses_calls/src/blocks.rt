@@ -7,7 +7,6 @@ ghost use Rattle.rhai_eval.specs.Plain.{Plain};
 ghost use Rattle.rhai_eval.specs.States.{under};
 ghost use Rattle.rhai_laws.specs.Kept.{Kept};
 ghost use Rattle.rhai_methods.specs.Targets.{StaysAlike, stands};
-ghost use Rattle.rhai_places.specs.Targets.{IsFit};
 ghost use Rattle.rhai_state.specs.Scope.{names_in};
 ghost use Rattle.rhai_steps.specs.States.{holding, state_of};
 ghost use Rattle.rhai_values.specs.Cells.{IsNoHandle};
@@ -71,7 +70,6 @@ pub fn eval_op_assignment<H: Host, T: NativeTable<H>>(
     target: &mut Target<'_, H>,
     new_val: Dynamic<H>,
 ) -> Result<(), EvalAltResult<H>>
-    requires fit { IsFit target.old.part target.old.at.now }
     requires value { IsNoHandle new_val.value }
     ensures kept { (scope : _) (this : _) → Kept (under H.name_of engine.now T.natives)
         (state_of (T.state table.old) global.old scope

@@ -60,6 +60,11 @@ kept_more (Err e) r before after kept = tt
 kept_more (Ok v) (Ok w) before after kept = rw kept (length-append before (w ∷ []))
 kept_more (Ok v) (Err e) before after kept = elim kept [ ]
 
+-- what holds anyway holds where there is a value
+pub if_ok : {A E P : Type 0} (r : Result A E) → P → OnOk r P
+if_ok (Ok v) p = p
+if_ok (Err e) p = tt
+
 module _ {H : Type 0} where
   -- the last link asks for its own
   pub asks_last : (values : List (Dynamic H)) (before : ℕ) (form : ExprLayer) (link : Link) → link_of form ≡ Some link →

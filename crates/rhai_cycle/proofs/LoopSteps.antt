@@ -50,7 +50,7 @@ module _ {S H C : Type 0} (M : Machine S H C) (limit : ℕ) where
       let same : (moved M (below limit) (M.move p.core) p).count ≡ p.count = full_step (M.move p.core) p full in
       stays_full steps (subst (λ (n : ℕ). limit ≤ n) (sym same) full) ∙ same
   stays_full (wanting steps) full = stays_full steps full
-  stays_full (starved is e first state steps) full = stays_full steps full
+  stays_full (starved is e first state may steps) full = stays_full steps full
 
 module _ {S H : Type 0} (rules : Rules S H) where
   -- a body's end at its `while`

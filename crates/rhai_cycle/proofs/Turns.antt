@@ -106,7 +106,7 @@ module _ {S H : Type 0} (rules : Rules S H) where
       paid_charges (cut rules l.count) (stmt_position_of stmt) (core (OpenStmt (out-Stmt stmt) restoring) k l.local)
       (at (Exec stmt restoring) k l) q steps
   exec_charges stmt restoring k l done (wanting {at = pos} steps) = inl (stays_lost steps (inr (pos, refl)))
-  exec_charges stmt restoring k l done (starved {at = pos} is e first state steps) = inl (stays_lost steps (inr (pos, refl)))
+  exec_charges stmt restoring k l done (starved {at = pos} is e first state may steps) = inl (stays_lost steps (inr (pos, refl)))
 
   run_charges : (stmt : Stmt) (rest : List Stmt) (restoring : Bool) (last : Dynamic H) (k : List (Frame H)) (l : State S H)
       {q : Point S (Core H)} → IsDone q.core.control →
@@ -115,7 +115,7 @@ module _ {S H : Type 0} (rules : Rules S H) where
   run_charges stmt rest restoring last k l done here = absurd done
   run_charges stmt rest restoring last k l done (next steps) = exec_charges stmt restoring (RestOfList rest restoring ∷ k) l done steps
   run_charges stmt rest restoring last k l done (wanting {at = pos} steps) = inl (stays_lost steps (inr (pos, refl)))
-  run_charges stmt rest restoring last k l done (starved {at = pos} is e first state steps) = inl (stays_lost steps (inr (pos, refl)))
+  run_charges stmt rest restoring last k l done (starved {at = pos} is e first state may steps) = inl (stays_lost steps (inr (pos, refl)))
 
   enter_charges : (stmt : Stmt) (rest : List Stmt) (l : State S H) {q : Point S (Core H)} → IsDone q.core.control →
       Goes rules (at (Enter (stmt ∷ rest) true) [] l) q → Charged (at (Enter (stmt ∷ rest) true) [] l) q
@@ -127,14 +127,14 @@ module _ {S H : Type 0} (rules : Rules S H) where
             { scope_level = deeper l.local.scope_level };
       }) done steps
   enter_charges stmt rest l done (wanting {at = pos} steps) = inl (stays_lost steps (inr (pos, refl)))
-  enter_charges stmt rest l done (starved {at = pos} is e first state steps) = inl (stays_lost steps (inr (pos, refl)))
+  enter_charges stmt rest l done (starved {at = pos} is e first state may steps) = inl (stays_lost steps (inr (pos, refl)))
 
   empty_idles : (l : State S H) {q : Point S (Core H)} → IsDone q.core.control → Goes rules (at (Enter [] true) [] l) q → IsIdle q.core
   unfolding after
   empty_idles l done here = absurd done
   empty_idles l done (next steps) = wants_on (machine rules) (cut rules) IsIdle idle steps (inr (tt, refl))
   empty_idles l done (wanting {at = pos} steps) = wants_on (machine rules) (cut rules) IsIdle idle steps (inl (pos, refl))
-  empty_idles l done (starved {at = pos} is e first state steps) = wants_on (machine rules) (cut rules) IsIdle idle steps (inl (pos, refl))
+  empty_idles l done (starved {at = pos} is e first state may steps) = wants_on (machine rules) (cut rules) IsIdle idle steps (inl (pos, refl))
 
   done : (r : Result (Dynamic H) (EvalAltResult H)) → IsDone (ended r)
   done (Ok v) = tt

@@ -1,5 +1,5 @@
 -- How a function of a script that is entered is told: what it is entered with, and what its caller has again behind it.
-use Rattle.std.specs.Prelude.{ℕ, Bool, true, false, not, ◌&&◌, List, [], ◌∷◌, Option, length, map}
+use Rattle.std.specs.Prelude.{ℕ, Bool, true, false, not, ◌&&◌, List, [], ◌∷◌, Option, length}
 use Rattle.rhai_tree.specs.declared.function.ScriptFuncDef.{ScriptFuncDef}
 use Rattle.rhai_tree.specs.declared.expr.Stmt.{Stmt}
 use Rattle.rhai_tree.specs.declared.position.Position.{Position}
@@ -9,9 +9,9 @@ use Rattle.rhai_state.specs.declared.limits.Limits.{Limits}
 use Rattle.rhai_state.specs.Limits.{limit_of}
 use Rattle.rhai_machine.specs.machine.Machine.{below}
 use Rattle.rhai_machine.specs.language.State.{Held, Local, State}
-use Rattle.rhai_machine.specs.language.Values.{unit_value}
 use Rattle.rhai_machine.specs.language.Activations.{Entered, Object}
 use Rattle.rhai_machine.specs.language.Bodies.{back_by, focus_back, statements_of, variables_after, variables_back}
+use Rattle.rhai_functions.specs.Entering.{left_of}
 use Rattle.rhai_bodies.specs.Opening.{is_deep, is_full}
 
 -- there is a statement
@@ -25,10 +25,10 @@ is_entered limits count level variables def = below (limit_of limits.max_operati
     && (not (is_deep limits level) && (not (is_full limits variables (length def.params)) && has_statements (statements_of def.body)))
 
 module _ {H : Type 0} where
-  -- what is left of a function's arguments: `()` of each where its body was entered
-  abbrev pub args_left : (entered : Bool) → List (Dynamic H) → List (Dynamic H)
-  args_left true args = map (λ v. unit_value) args
-  args_left false args = args
+  -- what is left of a function's arguments, whose parameters took them where its body was entered
+  abbrev pub args_left : (entered : Bool) → (parameters : ℕ) → List (Dynamic H) → List (Dynamic H)
+  args_left true count args = left_of count args
+  args_left false count args = args
 
   -- a function that runs at a level, whose list restores or does not
   abbrev pub entered : ScriptFuncDef → Option (EncapsulatedEnviron H) → Object → (is_fresh restores : Bool) → List (Dynamic H) →

@@ -1,5 +1,5 @@
 -- How the parts of a chain are told, and what a run may rely on in one that was checked.
-use Rattle.std.specs.Prelude.{◌≡◌, ⊤, ℕ, ◌+◌, Bool, true, false, List, length, is_some, IsTrue, Result, Ok, Err}
+use Rattle.std.specs.Prelude.{◌≡◌, ⊤, ℕ, ◌+◌, Bool, true, false, List, [], length, is_some, IsTrue, Result, Ok, Err}
 use Rattle.rhai_tree.specs.declared.expr.Expr.{out-Expr}
 use Rattle.rhai_tree.specs.declared.expr.Expr.TheOpen as layer
 use Rattle.rhai_tree.specs.Layers.{ExprLayer}
@@ -12,7 +12,7 @@ use Rattle.rhai_state.specs.declared.error.EvalAltResult.{EvalAltResult}
 use Rattle.rhai_machine.specs.machine.Point.{Point}
 use Rattle.rhai_machine.specs.language.Setting.{Rules}
 use Rattle.rhai_machine.specs.language.State.{State}
-use Rattle.rhai_machine.specs.language.Frames.{Chain, Frame, Core, ChainArguments, ChainRoot, Fail}
+use Rattle.rhai_machine.specs.language.Frames.{Chain, Frame, Core, ChainArguments, ChainRoot, Fail, OpenChain}
 use Rattle.rhai_machine.specs.language.Expressions.{literal_of}
 use Rattle.rhai_machine.specs.language.Runs.{at, Goes}
 use Rattle.rhai_chains.specs.Chains.{Walks}
@@ -56,6 +56,11 @@ module _ {S H : Type 0} (rules : Rules S H) where
   abbrev pub gathered : Chain H → Result (List (Dynamic H)) (EvalAltResult H) → List (Frame H) → State S H → Point S (Core H)
   gathered chain (Ok values) k new = at (ChainRoot (record chain { args = values })) k new
   gathered chain (Err e) k new = at (Fail e) k new
+
+  -- at one point of a chain's run the values of all its links are there, and it goes on with the root
+  abbrev pub AsksFirst : Chain H → (old : State S H) → Type 0
+  AsksFirst chain old =
+      (values : List (Dynamic H)) × (there : State S H) × Goes rules (at (OpenChain chain) [] old) (gathered chain (Ok values) [] there)
 
   -- from the arguments of a chain's links behind those that are there to where all of them are there, whatever the whole chain is
   unfoldable pub Gathers : (rest : ExprLayer) → (made : List (Dynamic H)) → State S H → Result (List (Dynamic H)) (EvalAltResult H) →

@@ -94,9 +94,9 @@ impl<'e, H: Host> Evaluator<'e, H> {
         pos: Position,
     ) -> Result<Dynamic<H>, EvalAltResult<H>>
         ensures charges { OnOk result (run.old.global.num_operations < run.new.global.num_operations) }
-        ensures args { HasMemory result → length def.now.params ≡ length args.old → args.new
-            ≡ args_left (is_entered self.now.limits.now run.old.global.num_operations level
-            (length (entries_of run.old.scope)) def.now) args.old }
+        ensures args { HasMemory result → args.new ≡ args_left (is_entered self.now.limits.now
+            run.old.global.num_operations level (length (entries_of run.old.scope)) def.now)
+            (length def.now.params) args.old }
         ensures runs { (scope : _) (held : _) (object : _) (is_fresh : _) →
             let caller = local_of run.old.global scope held in
             let e = entered def.now (option_copied environ.entry) object is_fresh restores args.old level

@@ -12,7 +12,7 @@ ghost use Rattle.rhai_machine.specs.language.Links.{first_in};
 ghost use Rattle.rhai_machine.specs.language.Runs.{Runs};
 ghost use Rattle.rhai_chains.specs.Chains.{Walks, chain_at, new_of};
 ghost use Rattle.rhai_chains.specs.Ready.{IsReady};
-ghost use Rattle.rhai_cycle.specs.Chains.{Gathers, HasAsked, IsGiven, MayWalk, StartsFrom};
+ghost use Rattle.rhai_cycle.specs.Chains.{Gathers, HasAsked, IsGiven, MayWalk, StartsFrom, AsksFirst};
 ghost use Rattle.rhai_cycle.specs.Chains.{behind_resolves};
 ghost use Rattle.rhai_cycle.specs.States.{names, state_in, under};
 
@@ -75,6 +75,9 @@ impl<'e, H: Host> Evaluator<'e, H> {
         ensures runs { Runs (under H.name_of self.now T.natives)
             (OpenChain (chain_on root.now (out-Expr chain.now) (new_of new)))
             (state_in (T.state table.old) run.old) result (state_in (T.state table.new) run.new) }
+        ensures asks { OnOk result (AsksFirst (under H.name_of self.now T.natives)
+            (chain_on root.now (out-Expr chain.now) (new_of new))
+            (state_in (T.state table.old) run.old)) }
     {
         match needs_no_step::<H>(chain) {
             Some(ready) => match ready_args(alloc, run, ready) {

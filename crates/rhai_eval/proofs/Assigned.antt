@@ -1,5 +1,5 @@
 -- An assignment to what a target shows: what comes of it, how it ends, and what it keeps.
-use Rattle.std.proofs.Common.{◌≡◌, true, false, List, [], ◌∷◌, Option, Some, None, Result, Ok, Err, inl, inr, refl, sym, ap, subst}
+use Rattle.std.proofs.Common.{◌≡◌, Bool, true, false, List, [], ◌∷◌, Option, Some, None, Result, Ok, Err, inl, inr, refl, sym, ap, subst}
 use Rattle.std.proofs.Common.{◌∙◌, arith}
 use Rattle.std.specs.Prelude.{ℕ, OnOk, OnErr, IfErr}
 use Rattle.rhai_tree.specs.declared.expr.Expr.{Expr}
@@ -34,7 +34,7 @@ use Rattle.rhai_methods.specs.Targets.{ComesBack}
 use Rattle.rhai_chains.specs.Chains as from
 use Rattle.rhai_chains.specs.Chains.{FollowsFrom}
 use Rattle.rhai_eval.specs.Assigned.{assigned, target_assigned, value_assigned, without_value}
-use Rattle.rhai_eval.specs.Ends.{EndsAssigned}
+use Rattle.rhai_eval.specs.Ends.{EndsAlone, EndsAssigned}
 use Rattle.rhai_eval.proofs.Marked.{ends_marked}
 
 module _ {H : Type 0} where
@@ -52,7 +52,7 @@ module _ {H : Type 0} where
   had_memory (Err e) has pos is =
       let same : e ≡ error.ErrorOutOfMemory pos = cc in let no : true ≡ false = rw same at has in cc
 
-  marked_memory : (r : Result (Unit {0}) (EvalAltResult H)) → HasMemory r → HasMemory (assigned r)
+  pub marked_memory : (r : Result (Unit {0}) (EvalAltResult H)) → HasMemory r → HasMemory (assigned r)
   marked_memory (Ok done) has = tt
   marked_memory (Err e) has = has
 
@@ -151,6 +151,15 @@ module _ {S H : Type 0} (rules : Rules S H) where
       record { runs = λ memory. ends.runs (marked_memory r memory); up_to = inr ends.up_to }
   assigned_ends begins old new r (from.Wants pos is same) =
       record { runs = λ memory k. absurd (had_memory r memory pos is); up_to = inl same }
+
+  -- with nothing behind it, where it had memory
+  pub assigned_alone : (begins : List (Frame H) → Local H → Core H) (old new : State S H) (r : Result (Dynamic H × Bool) (EvalAltResult H)) →
+      FollowsFrom rules begins old r new → HasMemory r → EndsAlone rules begins old new
+  unfolding RunsFrom
+  assigned_alone begins old new r (from.Does runs) memory = (r, (ends_marked rules old new r begins runs).runs memory [])
+  assigned_alone begins old new (Ok v) (from.Wants pos is same) memory = cc
+  assigned_alone begins old new (Err e) (from.Wants pos is same) memory =
+      let wants : e ≡ error.ErrorOutOfMemory pos = cc in let no : true ≡ false = rw wants at memory in cc
 
   -- ---- what it keeps
 

@@ -1,5 +1,5 @@
 -- A whole chain: what its run may rely on, and what an assignment without an operator leaves.
-use Rattle.std.proofs.Common.{◌≡◌, Bool, true, false, IsTrue, List, Option, Some, None, Result, Ok, Err, sym, ap, subst}
+use Rattle.std.proofs.Common.{◌≡◌, Bool, true, false, IsTrue, List, [], Option, Some, None, Result, Ok, Err, refl, sym, ap, subst}
 use Rattle.std.specs.Prelude.{IfSome, OnOk, unwrap_or}
 use Rattle.rhai_tree.specs.declared.expr.Expr.{Expr, out-Expr}
 use Rattle.rhai_tree.specs.Layers.{ExprLayer}
@@ -7,15 +7,21 @@ use Rattle.rhai_checked.specs.Frame.{resolves_expr}
 use Rattle.rhai_checked.specs.Names.{Name}
 use Rattle.rhai_values.specs.declared.base.value.Dynamic.{Dynamic}
 use Rattle.rhai_state.specs.declared.error.EvalAltResult.{EvalAltResult}
-use Rattle.rhai_machine.specs.language.Setting.{Rules}
+use Rattle.rhai_machine.specs.machine.Point.{Reaches}
+use Rattle.rhai_machine.specs.language.Setting.{Rules, cut}
 use Rattle.rhai_machine.specs.language.State.{State}
-use Rattle.rhai_machine.specs.language.Frames.{NewValue, OpenChain, chain_on}
+use Rattle.rhai_machine.specs.language.Frames.{ChainRoot, NewValue, OpenChain, chain_on}
+use Rattle.rhai_machine.specs.language.Language.{machine}
+use Rattle.rhai_machine.specs.language.Memory.{IsWanting}
 use Rattle.rhai_machine.specs.language.Links.{first_in}
-use Rattle.rhai_machine.specs.language.Runs.{Runs}
-use Rattle.rhai_laws.proofs.AssignedLaws.{runs_assign_at_path}
-use Rattle.rhai_cycle.specs.Chains.{MayWalk, StartsFrom, behind_resolves}
+use Rattle.rhai_machine.specs.language.Runs.{at, Runs, Steps}
+use Rattle.rhai_laws.proofs.AssignedLaws.{goes_on}
+use Rattle.rhai_laws.proofs.MemoryLaws.{straight}
+use Rattle.rhai_laws.proofs.RootLaws.{assigns_from_root}
+use Rattle.rhai_laws.proofs.WantLaws.{wants, with_memory}
+use Rattle.rhai_cycle.specs.Chains.{AsksFirst, MayWalk, StartsFrom, behind_resolves}
 use Rattle.rhai_cycle.proofs.ChainLemmas.{may_walk, root_resolves, target_parts}
-use Rattle.rhai_eval.specs.Chains.{AssignsAlong, ChainResolves, chain_with, whole_chain}
+use Rattle.rhai_eval.specs.Chains.{AssignsAlong, ChainResolves, chain_of, chain_with, whole_chain}
 
 -- what the run of a chain relies on
 pub record MayRun (assigned : Bool) (root : Expr) (form : ExprLayer) (names : List Name) : Type 0 where
@@ -54,10 +60,24 @@ module _ {S H : Type 0} (rules : Rules S H) where
       (sym (ap (λ (o : Option Expr). unwrap_or o e) starts))
       (subst (λ (n : Option (NewValue H)). Runs rules (OpenChain (chain_on root (out-Expr e) n)) old r new) same runs)
 
+  -- and so is what its links ask for first
+  pub asks_over_root : {A : Type 0} (e root : Expr) (code given : Option (NewValue H)) (old : State S H) (r : Result A (EvalAltResult H)) →
+      first_in (out-Expr e) ≡ Some root → code ≡ given → OnOk r (AsksFirst rules (chain_on root (out-Expr e) code) old) →
+      OnOk r (AsksFirst rules (chain_of e given) old)
+  asks_over_root e root code given old r starts same asks =
+      subst (λ (x : Expr). OnOk r (AsksFirst rules (chain_on x (out-Expr e) given) old)) (sym (ap (λ (o : Option Expr). unwrap_or o e) starts))
+      (subst (λ (n : Option (NewValue H)). OnOk r (AsksFirst rules (chain_on root (out-Expr e) n) old)) same asks)
+
   -- what is assigned to a chain without an operator stands where the chain led, by the law of such runs
   pub chain_assigns : (e : Expr) (given : Option (NewValue H)) (old new : State S H) (r : Result (Dynamic H) (EvalAltResult H)) →
-      Runs rules (whole_chain e given) old r new → OnOk r (IfSome given (λ n. AssignsAlong rules e n old new))
-  chain_assigns e (Some n) old new (Ok v) runs = λ name pos args path before comes given.
-      runs_assign_at_path rules (whole_chain e (Some n)) name pos (chain_with e n args) n path v old before new runs comes given
-  chain_assigns e None old new (Ok v) runs = tt
-  chain_assigns e given old new (Err x) runs = tt
+      Runs rules (whole_chain e given) old r new → OnOk r (AsksFirst rules (chain_of e given) old) →
+      OnOk r (IfSome given (λ n. AssignsAlong rules e n old new))
+  unfolding Steps
+  chain_assigns e (Some n) old new (Ok v) runs asks =
+      let comes : Reaches (machine rules) (cut rules) (at (whole_chain e (Some n)) [] old)
+      (at (ChainRoot (chain_with e n asks.0)) [] asks.1) =
+      straight (machine rules) (cut rules) IsWanting (wants rules) asks.2 (λ is. (let no = is.1 in cc)) in
+      let goes = goes_on (machine rules) (cut rules) comes (with_memory rules (Ok v) new tt (runs [])) refl in
+      (asks.0, asks.1, (comes, λ path given. assigns_from_root rules (cut rules) (chain_with e n asks.0) n path v asks.1 new goes given))
+  chain_assigns e None old new (Ok v) runs asks = tt
+  chain_assigns e given old new (Err x) runs asks = tt

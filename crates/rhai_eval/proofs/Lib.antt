@@ -2,10 +2,12 @@ mod Assigned
 mod Begun
 mod Chained
 mod Dispatching
+mod Emptied
 mod Indexed
 mod Marked
 mod NamedCalls
 mod OnTargets
 mod Public
 mod Scripts
+mod Searching
 mod Variables

@@ -1,5 +1,5 @@
 -- A method on a target: how it ends, and what it keeps.
-use Rattle.std.proofs.Common.{Bool, List, [], ◌∷◌, Some, Result, refl}
+use Rattle.std.proofs.Common.{ℕ, Bool, List, [], ◌∷◌, Some, Result, Ok, Err, refl, subst}
 use Rattle.rhai_tree.specs.declared.position.Position.{Position}
 use Rattle.rhai_values.specs.declared.base.value.Dynamic.{Dynamic}
 use Rattle.rhai_state.specs.declared.error.EvalAltResult.{EvalAltResult}
@@ -8,9 +8,9 @@ use Rattle.rhai_places.specs.declared.target.Part.{Part}
 use Rattle.rhai_places.specs.declared.target.Part.TheVariants as part
 use Rattle.rhai_places.specs.Targets.{shown}
 use Rattle.rhai_machine.specs.language.Setting.{Setting, Rules}
-use Rattle.rhai_machine.specs.language.State.{Local, State}
+use Rattle.rhai_machine.specs.language.State.{HasMemory, Local, State}
 use Rattle.rhai_machine.specs.machine.Memory.{◌⨾◌}
-use Rattle.rhai_machine.specs.language.Frames.{Frame, marked, PartMethod}
+use Rattle.rhai_machine.specs.language.Frames.{Core, Frame, marked, PartMethod}
 use Rattle.rhai_machine.specs.language.Members.{focused_on}
 use Rattle.rhai_machine.specs.language.Methods.{Method, method_core}
 use Rattle.rhai_laws.specs.Kept.{Kept}
@@ -20,7 +20,7 @@ use Rattle.rhai_laws.proofs.KeptMethods.{method_keeps}
 use Rattle.rhai_steps.specs.Marked.{RunsFrom}
 use Rattle.rhai_methods.specs.Targets.{ComesBack, on_target, waiting}
 use Rattle.rhai_methods.proofs.TargetLemmas.{answer_comes}
-use Rattle.rhai_eval.specs.Ends.{EndsMarked}
+use Rattle.rhai_eval.specs.Ends.{EndsAlone, EndsMarked}
 use Rattle.rhai_eval.proofs.Marked.{ends_marked}
 
 module _ {H : Type 0} (a : Asked) where
@@ -65,3 +65,20 @@ module _ {S H : Type 0} (rules : Rules S H) (method : Method) (args : List (Dyna
   unfolding RunsFrom
   part_runs answer result runs comes k =
       runs (PartMethod above spot method.at ∷ k) ⨾ answer_comes rules above y spot method.at k new answer result left comes
+
+-- ---- what the target's own value has become
+
+-- an answer of which something came that had memory had it too
+pub answer_memory : {H : Type 0} (host : H → List ℕ) (what : Part H) (place : Dynamic H) (pos : Position)
+    (answer result : Result (Dynamic H × Bool) (EvalAltResult H)) (left : Dynamic H) → ComesBack host what place pos answer result left →
+    HasMemory result → HasMemory answer
+answer_memory host what place pos (Ok v) result left comes memory = tt
+answer_memory host what place pos (Err e) result left comes memory =
+    subst (λ (r : Result (Dynamic _ × Bool) (EvalAltResult _)). HasMemory r) comes.0 memory
+
+-- a call that had memory comes to what it leaves with nothing behind it
+pub alone : {S H : Type 0} (rules : Rules S H) (begins : List (Frame H) → Local H → Core H) (old new : State S H)
+    (answer : Result (Dynamic H × Bool) (EvalAltResult H)) → RunsFrom rules begins old answer new → HasMemory answer →
+    EndsAlone rules begins old new
+unfolding RunsFrom
+alone rules begins old new answer runs memory = (answer, (ends_marked rules old new answer begins runs).runs memory [])

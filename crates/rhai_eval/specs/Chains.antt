@@ -4,7 +4,6 @@ use Rattle.std.specs.Prelude.{⊤, ℕ, Bool, true, false, List, [], Option, Som
 use Rattle.rhai_tree.specs.declared.expr.Expr.{Expr, out-Expr}
 use Rattle.rhai_tree.specs.declared.expr.Expr.TheOpen as layer
 use Rattle.rhai_tree.specs.declared.expr.OpAssignment.{OpAssignment}
-use Rattle.rhai_tree.specs.declared.position.Position.{Position}
 use Rattle.rhai_tree.specs.Layers.{ExprLayer}
 use Rattle.rhai_checked.specs.Frame.{resolves_expr, target_resolves, tests_of}
 use Rattle.rhai_checked.specs.Names.{Name}
@@ -15,12 +14,12 @@ use Rattle.rhai_values.specs.Modes.{with_mode}
 use Rattle.rhai_machine.specs.machine.Point.{Reaches}
 use Rattle.rhai_machine.specs.language.Setting.{Rules, cut}
 use Rattle.rhai_machine.specs.language.State.{State}
-use Rattle.rhai_machine.specs.language.Frames.{Chain, Control, NewValue, OpenChain, ReadRoot, chain_on}
+use Rattle.rhai_machine.specs.language.Frames.{Chain, ChainRoot, Control, NewValue, OpenChain, chain_on}
 use Rattle.rhai_machine.specs.language.Language.{machine}
 use Rattle.rhai_machine.specs.language.Links.{first_in}
 use Rattle.rhai_machine.specs.language.Runs.{at}
 use Rattle.rhai_laws.specs.Selectors.{Selector}
-use Rattle.rhai_laws.specs.Assigned.{AssignedAt, IsAssigning}
+use Rattle.rhai_laws.specs.Assigned.{AssignedFrom, AssignsFrom}
 use Rattle.rhai_eval.specs.declared.eval.chaining.ChainType.{ChainType}
 use Rattle.rhai_eval.specs.declared.eval.chaining.ChainType.TheVariants.{Indexing, Dotting}
 
@@ -33,6 +32,10 @@ chain_type _ = Dotting
 abbrev pub ChainResolves : (assigned : Bool) → Expr → List Name → Type 0
 ChainResolves true e names = IsTrue (target_resolves (tests_of e) names)
 ChainResolves false e names = IsTrue (resolves_expr e names)
+
+-- the root of a whole chain is what its first operator works on
+abbrev pub root_of : Expr → Expr
+root_of e = unwrap_or (first_in (out-Expr e)) e
 
 module _ {H : Type 0} where
   -- what a chain is assigned, if it is
@@ -47,9 +50,9 @@ module _ {H : Type 0} where
   AssignsNoHandle None = ⊤
   AssignsNoHandle (Some given) = IsNoHandle given.0.value
 
-  -- a whole chain over its root, which is what its first operator works on
+  -- a whole chain over its root
   abbrev pub chain_of : Expr → Option (NewValue H) → Chain H
-  chain_of e new = chain_on (unwrap_or (first_in (out-Expr e)) e) (out-Expr e) new
+  chain_of e new = chain_on (root_of e) (out-Expr e) new
 
   -- from where it is entered
   abbrev pub whole_chain : Expr → Option (NewValue H) → Control H
@@ -60,12 +63,12 @@ module _ {H : Type 0} where
   chain_with e new args = record (chain_of e (Some new)) { args = args }
 
 module _ {S H : Type 0} (rules : Rules S H) where
-  -- A chain was assigned to, and came to a value. Where on the way there the values that its links ask for are all there and its variable
-  -- is about to be read, the assignment has no operator, and the links are indexes and properties that lead from the variable down a path
-  -- through arrays and maps, nothing there being shared: then the path reads at the end as the value assigned, read-write; whatever parts
-  -- from the path, and each other variable, reads as it did just before; and but for the count nothing else has changed.
+  -- A chain was assigned to, and came to a value. On its way there the values that its links ask for were all there, and its root came
+  -- next. Where the assignment has no operator, and the links are indexes and properties that lead from the root, a variable or `this`,
+  -- down a path through arrays and maps, nothing there being shared: then the path reads at the end as the value assigned, read-write;
+  -- whatever parts from the path, and each other variable, reads as it did just before; and but for the count nothing else has changed.
   abbrev pub AssignsAlong : Expr → NewValue H → (old end : State S H) → Type 0
-  AssignsAlong e new old end = (name : List ℕ) (pos : Position) (args : List (Dynamic H)) (path : List Selector) (before : State S H) →
-      Reaches (machine rules) (cut rules) (at (whole_chain e (Some new)) [] old)
-      (at (ReadRoot name pos (chain_with e new args)) [] before) →
-      IsAssigning name (chain_with e new args) new path before → AssignedAt name path (with_mode ReadWrite new.value) before end
+  AssignsAlong e new old end = (args : List (Dynamic H)) × (before : State S H) × (
+      Reaches (machine rules) (cut rules) (at (whole_chain e (Some new)) [] old) (at (ChainRoot (chain_with e new args)) [] before)
+      × ((path : List Selector) → AssignsFrom (out-Expr (root_of e)) (chain_with e new args) new path before →
+      AssignedFrom (out-Expr (root_of e)) path (with_mode ReadWrite new.value) before end))

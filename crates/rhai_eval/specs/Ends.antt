@@ -48,6 +48,12 @@ module _ {S H : Type 0} (rules : Rules S H) where
     pub runs : memory → (k : List (Frame H)) → Reaches (machine rules) (cut rules) (with_core (begins k old.local) old) (at end k new)
     pub up_to : (new ≡ old) ⊎ ((k : List (Frame H)) → UpToMemory rules (with_core (begins k old.local) old) (at end k new))
 
+  -- With nothing on the stack the machine runs from where a call begins to some answer, and leaves this state. Of a call on a target it
+  -- tells what has become of the value that was worked on.
+  abbrev pub EndsAlone : (begins : List (Frame H) → Local H → Core H) → (old new : State S H) → Type 0
+  EndsAlone begins old new = (answer : Result (Dynamic H × Bool) (EvalAltResult H)) ×
+      Reaches (machine rules) (cut rules) (with_core (begins [] old.local) old) (at (marked answer) [] new)
+
   -- from where an assignment begins to its error, or to `()`, marked
   abbrev pub EndsAssigned : (begins : List (Frame H) → Local H → Core H) → State S H → Result (Unit {0}) (EvalAltResult H) → State S H →
       Type 0

@@ -1,5 +1,6 @@
 //! Calls.
 
+mod arguments;
 pub mod call;
 mod captured;
 pub mod dispatch;

@@ -1,5 +1,5 @@
 -- Parameters that are pushed one after the other.
-use Rattle.std.proofs.Common.{◌≡◌, ◌<◌, ◌≤◌, ◌++◌, ℕ, zero, suc, List, [], ◌∷◌, length, drop, map, take, slice_get, slice_set, refl, sym, ap, ◌∙◌, arith, get_or}
+use Rattle.std.proofs.Common.{◌≡◌, ◌<◌, ◌++◌, ℕ, zero, suc, List, [], ◌∷◌, length, drop, map, take, slice_get, slice_set, refl, sym, ap, ◌∙◌, arith, get_or}
 use Rattle.std.proofs.lemmas.List.{append_assoc}
 use Rattle.rhai_values.specs.declared.base.value.AccessMode.TheVariants.{ReadWrite}
 use Rattle.rhai_values.specs.declared.base.value.Dynamic.{Dynamic}
@@ -23,17 +23,6 @@ set_next u [] zero = refl
 set_next u [] (suc at) = refl
 set_next u (x ∷ xs) zero = refl
 set_next u (x ∷ xs) (suc at) = ap (λ ys. u ∷ ys) (set_next u xs at)
-
-all_set : {A : Type 0} (u : A) (xs : List A) (at : ℕ) → length xs ≤ at → map (λ x. u) (take at xs) ++ drop at xs ≡ map (λ x. u) xs
-all_set u [] zero most = refl
-all_set u [] (suc at) most = refl
-all_set u (x ∷ xs) zero most = absurd (omega (arith, most))
-all_set u (x ∷ xs) (suc at) most = ap (λ ys. u ∷ ys) (all_set u xs at (omega (arith, most)))
-
--- all of them are
-pub set_whole : {A : Type 0} (u : A) (xs ys : List A) (at : ℕ) → ys ≡ map (λ x. u) (take at xs) ++ drop at xs → length xs ≤ at →
-    ys ≡ map (λ x. u) xs
-set_whole u xs ys at is most = is ∙ all_set u xs at most
 
 module _ {H : Type 0} where
   abbrev none_of : List (Dynamic H)

@@ -1,5 +1,5 @@
 -- The variables that a function starts with.
-use Rattle.std.specs.Prelude.{ℕ, List, [], ◌∷◌}
+use Rattle.std.specs.Prelude.{ℕ, List, [], ◌∷◌, ◌++◌, drop, map, take}
 use Rattle.rhai_values.specs.declared.base.value.AccessMode.TheVariants.{ReadWrite}
 use Rattle.rhai_values.specs.declared.base.value.Dynamic.{Dynamic}
 use Rattle.rhai_values.specs.declared.base.value.Union.TheVariants as value
@@ -11,6 +11,10 @@ module _ {H : Type 0} where
   -- what is left of an argument that was taken
   abbrev pub unit : Dynamic H
   unit = plain value.Unit
+
+  -- what is left of arguments that so many parameters took: `()` of each that there was a parameter for
+  abbrev pub left_of : (parameters : ℕ) → List (Dynamic H) → List (Dynamic H)
+  left_of count args = map (λ v. unit) (take count args) ++ drop count args
 
   -- the parameters are variables that may be written; one without an argument is `()`
   abbrev pub parameters : List (List ℕ) → List (Dynamic H) → List (ScopeEntry H)

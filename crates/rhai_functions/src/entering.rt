@@ -1,9 +1,9 @@
 //! The variables that a function starts with.
 
-ghost use Rattle.std.specs.Prelude.{◌≡◌, ◌++◌, suc, drop, length, map, slice_get, slice_set, take, OnErr, OnOk};
+ghost use Rattle.std.specs.Prelude.{◌≡◌, ◌++◌, suc, drop, length, slice_get, slice_set, take, OnErr, OnOk};
 ghost use Rattle.std.specs.Option.{unwrap_or};
 ghost use Rattle.rhai_state.specs.Scope.{entries_of};
-ghost use Rattle.rhai_functions.specs.Entering.{parameters, unit};
+ghost use Rattle.rhai_functions.specs.Entering.{left_of, parameters, unit};
 
 use rhai_items::{Shared, Text};
 use rhai_state::scope::Scope;
@@ -35,7 +35,7 @@ pub fn push_parameters<H: Host>(
 ) -> Result<(), AllocError>
     ensures ok { OnOk result (entries_of scope.new
         ≡ entries_of scope.old ++ parameters params.now args.old) }
-    ensures left { OnOk result (length params.now ≡ length args.old → args.new ≡ map (λ _. unit) args.old) }
+    ensures left { OnOk result (args.new ≡ left_of (length params.now) args.old) }
     ensures err { OnErr result (take (length (entries_of scope.old)) (entries_of scope.new)
         ≡ entries_of scope.old) }
 {

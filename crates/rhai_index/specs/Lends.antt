@@ -1,10 +1,11 @@
 -- What an object that was indexed ends as, once the target's borrow has ended.
-use Rattle.std.specs.Prelude.{◌≡◌, ⊤, Bool, true, false, Result, IsOk, OnErr}
+use Rattle.std.specs.Prelude.{◌≡◌, Bool, true, false, Option, Some, Result, IsOk, OnErr}
 use Rattle.std.specs.Borrow.{follows_so, MutBor, RattleType, Fml}
 use Rattle.rhai_values.specs.contracts.base.value.Dynamic as dynamic
 use Rattle.rhai_index.specs.Types.{Dynamic, EvalAltResult, Spot, Target}
 use Rattle.rhai_places.specs.Found.{EndsBy}
 use Rattle.rhai_places.specs.Lends.{result_name}
+use Rattle.rhai_machine.specs.language.State.{HasMemory}
 
 module _ {H : Type 0} where
   -- what the object ends as, where the place of the target ends as it was changed: with that at the place, or where an indexer
@@ -13,14 +14,15 @@ module _ {H : Type 0} where
   EndsAs true found place end = end ≡ place
   EndsAs false found place end = EndsBy found place end
 
-  -- at an error the object stays, unless an indexer was asked
-  abbrev pub StaysUnless : (asked : Bool) → (object end : Dynamic H) → Type 0
-  StaysUnless true object end = ⊤
-  StaysUnless false object end = end ≡ object
+  -- at an error the object stays; where an indexer was called it is as that left it, want of memory aside
+  abbrev pub EndsRefused : (called : Bool) → (left : Option (Dynamic H)) → Result (Target H) (EvalAltResult H) → (object end : Dynamic H) →
+      Type 0
+  EndsRefused true left r object end = HasMemory r → left ≡ Some end
+  EndsRefused false left r object end = end ≡ object
 
 module _ (H : RattleType) where
-  abbrev pub lends_indexed : (asked : Bool) → MutBor (Dynamic H.Denot) → Result (Dynamic H.Denot × Spot) (EvalAltResult H.Denot) →
-      Result (Target H.Denot) (EvalAltResult H.Denot) → Fml
-  lends_indexed asked s found r =
+  abbrev pub lends_indexed : (asked called : Bool) → (left : Option (Dynamic H.Denot)) → MutBor (Dynamic H.Denot) →
+      Result (Dynamic H.Denot × Spot) (EvalAltResult H.Denot) → Result (Target H.Denot) (EvalAltResult H.Denot) → Fml
+  lends_indexed asked called left s found r =
       follows_so (dynamic.the_row H) (dynamic.the_row H) s.ghost_name (result_name H r)
-      (λ x n. IsOk r → EndsAs asked found x n) (λ n. OnErr r (StaysUnless asked s.now n))
+      (λ x n. IsOk r → EndsAs asked found x n) (λ n. OnErr r (EndsRefused called left r s.now n))

@@ -16,7 +16,7 @@ use Rattle.rhai_state.specs.Scope.{found, index_of, name_of, revalued, value_in,
 use Rattle.rhai_machine.specs.Types.{Dynamic, EvalAltResult, Position, ScopeEntry}
 use Rattle.rhai_machine.specs.machine.Machine.{Halt, Go, Machine}
 use Rattle.rhai_machine.specs.machine.Point.{Point, Reaches, here, next, ◌⨾◌, moved, after}
-use Rattle.rhai_machine.specs.language.Setting.{Rules, cut}
+use Rattle.rhai_machine.specs.language.Setting.{Rules}
 use Rattle.rhai_machine.specs.language.State.{State}
 use Rattle.rhai_machine.specs.language.Values.{Cells, is_handle, unit_value}
 use Rattle.rhai_machine.specs.language.Names.{looked_up, variable_of}
@@ -28,13 +28,12 @@ use Rattle.rhai_machine.specs.language.Members.{focused_on}
 use Rattle.rhai_machine.specs.language.Chains.{begun_core, read_root_core}
 use Rattle.rhai_machine.specs.language.Unwinding.{ended_chain}
 use Rattle.rhai_machine.specs.language.Language.{machine}
-use Rattle.rhai_machine.specs.language.Runs.{at, Steps}
-use Rattle.rhai_laws.specs.Assigned.{AssignedAt, AssignsAtPath, IsAssigning, LeadsDown, last, further, RunsAssignAtPath}
+use Rattle.rhai_machine.specs.language.Runs.{at}
+use Rattle.rhai_laws.specs.Assigned.{AssignedAt, AssignsAtPath, IsAssigning, LeadsDown, last, further}
 use Rattle.rhai_laws.specs.Selectors.{Selector, read}
 use Rattle.rhai_laws.proofs.SelectorLemmas.{Writes, means_no_handle}
 use Rattle.rhai_laws.proofs.KeyLemmas.{set_elsewhere, set_there}
 use Rattle.rhai_laws.proofs.Assigning.{Ends, assigning, step_by, walk_ends, working}
-use Rattle.rhai_laws.proofs.WantLaws.{with_memory}
 
 -- ---- a run has one end
 
@@ -119,7 +118,7 @@ module _ {H : Type 0} where
   looked_up_itself cells name pos _ v is = refl
 
   -- what a chain leads down from is no handle
-  root_no_handle : {rest : ExprLayer} {args : List (Dynamic H)} {v : Dynamic H} {path : List Selector} → LeadsDown rest args v path →
+  pub root_no_handle : {rest : ExprLayer} {args : List (Dynamic H)} {v : Dynamic H} {path : List Selector} → LeadsDown rest args v path →
       is_handle v.value ≡ false
   root_no_handle (last {args = args} {v = v} {s = s} link first ends means unshared) =
       means_no_handle v.value (layer_of (index_by link.form args)) s means.step
@@ -231,8 +230,3 @@ module _ {S H : Type 0} (rules : Rules S H) where
   pub assigns_at_path : AssignsAtPath rules
   assigns_at_path allows start name pos chain new path x mid end ends passes given =
       assigns_there rules allows name pos chain new path mid given x end (goes_on (machine rules) allows passes ends refl)
-
-  pub runs_assign_at_path : RunsAssignAtPath rules
-  unfolding Steps
-  runs_assign_at_path c name pos chain new path x old mid end runs passes given =
-      assigns_at_path (cut rules) (at c [] old) name pos chain new path x mid end (with_memory rules (Ok x) end tt (runs [])) passes given

@@ -45,7 +45,7 @@ and_false true b is = is
 and_false false b is = refl
 
 module _ {H : Type 0} where
-  through_itself : (cells : Cells H) (u : Union H) (v : Dynamic H) (pos : Position) → is_handle u ≡ false →
+  pub through_itself : (cells : Cells H) (u : Union H) (v : Dynamic H) (pos : Position) → is_handle u ≡ false →
       through_union cells u v pos ≡ Ok v
   through_itself cells (value.Cell id) v pos is = cc
   through_itself cells _ v pos is = refl

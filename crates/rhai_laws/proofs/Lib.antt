@@ -11,3 +11,4 @@ pub mod KeyLemmas
 pub mod SelectorLemmas
 pub mod Assigning
 pub mod AssignedLaws
+pub mod RootLaws

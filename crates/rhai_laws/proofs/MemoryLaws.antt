@@ -28,14 +28,14 @@ module _ {S H Core : Type 0} (M : Machine S H Core) (allows : ℕ → Bool) wher
     wants_on here h = h
     wants_on (next {p = p} r) h = wants_on r (passed (M.move p.core) p h (w.stays p.core h))
     wants_on (wanting {p = p} {at = at} r) h = wants_on r (w.begins at p.core)
-    wants_on (starved {f = f} {at = at} is e first state r) h = wants_on r (w.begins at (f (Faults e) first))
+    wants_on (starved {f = f} {at = at} is e first state may r) h = wants_on r (w.begins at (f (Faults e) first))
 
     -- steps that do not end in want of memory are the machine's own
     pub straight : {p q : Point S Core} → Leads M allows p q → (W q.core → ⊥) → Reaches M allows p q
     straight here has = stop
     straight (next r) has = step (straight r has)
     straight (wanting {p = p} {at = at} r) has = absurd (has (wants_on r (w.begins at p.core)))
-    straight (starved {f = f} {at = at} is e first state r) has = absurd (has (wants_on r (w.begins at (f (Faults e) first))))
+    straight (starved {f = f} {at = at} is e first state may r) has = absurd (has (wants_on r (w.begins at (f (Faults e) first))))
 
     later : {p q : Point S Core} → Reaches M allows (after M allows p) q ⊎ RunsOut M allows W (after M allows p) q →
         Reaches M allows p q ⊎ RunsOut M allows W p q
@@ -63,12 +63,12 @@ module _ {S H Core : Type 0} (M : Machine S H Core) (allows : ℕ → Bool) wher
           wants = w.begins at p.core;
           unwinds = r;
         })
-    up_to (starved {p = p} {f = f} {at = at} is e first state r) =
+    up_to (starved {p = p} {f = f} {at = at} is e first state may r) =
         inr (record {
           before = p;
           since = starved_at M at f e first state p;
           steps = stop;
-          runs_out = in_native is at e first state;
+          runs_out = in_native is at e first state may;
           wants = w.begins at (f (Faults e) first);
           unwinds = r;
         })
@@ -94,7 +94,7 @@ module _ {S H Core : Type 0} (M : Machine S H Core) (allows : ℕ → Bool) wher
         (left r (passed (M.move p.core) p h (w.stays p.core h)))
     left (wanting {p = p} {at = at} r) h =
         let on = left r (w.begins at p.core) in record { count = on.count; table = on.table }
-    left (starved {p = p} {call = call} {f = f} is e first state r) h =
+    left (starved {p = p} {call = call} {f = f} is e first state may r) h =
         absurd (no_native (M.move p.core) call f is (w.stays p.core h))
 
   charge_counts : (b : Bool) (at : Position) (d : Core) (p : Point S Core) → p.count ≤ (paid M b at d p).count
@@ -114,7 +114,7 @@ module _ {S H Core : Type 0} (M : Machine S H Core) (allows : ℕ → Bool) wher
   counts here = omega arith
   counts (next {p = p} r) = omega (arith, move_counts (M.move p.core) p, counts r)
   counts (wanting r) = counts r
-  counts (starved is e first state r) = counts r
+  counts (starved is e first state may r) = counts r
 
 module _ {S H Core : Type 0} (M : Machine S H Core) (limit : ℕ) where
   charge_within : (b : Bool) (at : Position) (d : Core) (p : Point S Core) → nat_lt p.count limit ≡ b → p.count ≤ limit →
@@ -135,7 +135,7 @@ module _ {S H Core : Type 0} (M : Machine S H Core) (limit : ℕ) where
   within here le = le
   within (next {p = p} r) le = within r (move_within (M.move p.core) p le)
   within (wanting r) le = within r le
-  within (starved is e first state r) le = within r le
+  within (starved is e first state may r) le = within r le
 
 module _ {S H Core : Type 0} (M : Machine S H Core) (allows : ℕ → Bool) (R : Core → Core → Type 0) (kept : Steady M R) where
   kept_charge : (b : Bool) (at : Position) (d : Core) (p : Point S Core) → R p.core d → R p.core (paid M b at d p).core
@@ -160,7 +160,7 @@ module _ {S H Core : Type 0} (M : Machine S H Core) (allows : ℕ → Bool) (R :
   keeps (here {p = p}) = kept.same p.core
   keeps (next {p = p} r) = kept.through (kept_move (M.move p.core) p (kept.moves p.core)) (keeps r)
   keeps (wanting {p = p} {at = at} r) = kept.through (kept.wants at p.core) (keeps r)
-  keeps (starved {p = p} {call = call} {f = f} {at = at} is e first state r) =
+  keeps (starved {p = p} {call = call} {f = f} {at = at} is e first state may r) =
       kept.through (kept_reply (M.move p.core) p.core call f (Faults e) first is (kept.moves p.core))
       (kept.through (kept.wants at (f (Faults e) first)) (keeps r))
 

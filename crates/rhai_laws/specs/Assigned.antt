@@ -1,7 +1,9 @@
--- An assignment without an operator through indexes and properties, from a variable down into arrays and maps: what it is given, and what
--- it leaves.
-use Rattle.std.specs.Prelude.{◌≡◌, ⊤, ℕ, Bool, List, [], ◌∷◌, length, slice_get, Option, Some, None, option_map, Ok}
+-- An assignment without an operator through indexes and properties, from a variable or `this` down into arrays and maps: what it is given,
+-- and what it leaves.
+use Rattle.std.specs.Prelude.{◌≡◌, ⊤, ℕ, Bool, List, [], ◌∷◌, length, slice_get, Option, Some, None, option_map}
 use Rattle.rhai_tree.specs.declared.position.Position.{Position}
+use Rattle.rhai_tree.specs.declared.expr.Expr.{out-Expr}
+use Rattle.rhai_tree.specs.declared.expr.Expr.TheOpen as form
 use Rattle.rhai_tree.specs.Layers.{ExprLayer}
 use Rattle.rhai_values.specs.declared.base.value.AccessMode.TheVariants.{ReadWrite}
 use Rattle.rhai_values.specs.declared.base.value.Dynamic.{Dynamic}
@@ -12,13 +14,13 @@ use Rattle.rhai_values.specs.Modes.{with_mode}
 use Rattle.rhai_state.specs.Scope.{found, index_of}
 use Rattle.rhai_places.specs.Indexing.{index_in}
 use Rattle.rhai_machine.specs.machine.Point.{Point, Reaches}
-use Rattle.rhai_machine.specs.language.Setting.{Rules, cut}
+use Rattle.rhai_machine.specs.language.Setting.{Rules}
 use Rattle.rhai_machine.specs.language.State.{State}
 use Rattle.rhai_machine.specs.language.Links.{Link, LinkForm, AtMethod, link_of}
 use Rattle.rhai_machine.specs.language.Located.{args_behind, index_by}
-use Rattle.rhai_machine.specs.language.Frames.{NewValue, Chain, Control, Core, ReadRoot, Back}
+use Rattle.rhai_machine.specs.language.Frames.{NewValue, Chain, ChainRoot, Core, ReadRoot, Back}
 use Rattle.rhai_machine.specs.language.Language.{machine}
-use Rattle.rhai_machine.specs.language.Runs.{at, Runs}
+use Rattle.rhai_machine.specs.language.Runs.{at}
 use Rattle.rhai_laws.specs.Selectors.{Selector, ToItem, ToKey, Part, selected, read}
 
 -- a link is an index or a property
@@ -72,6 +74,38 @@ module _ {S H : Type 0} where
     pub plain : new.op.op ≡ None
     pub leads : LeadsDown chain.rest chain.args root path
 
+module _ {S H : Type 0} where
+  -- ---- the same from the root of a chain, a variable or `this`
+
+  -- what the root is
+  abbrev pub root_in : ExprLayer → State S H → Option (Dynamic H)
+  root_in (form.Variable offset name namespace pos) s = found name s.local.scope
+  root_in (form.ThisPtr pos) s = s.local.this
+  root_in _ s = None
+
+  -- but for the count nothing else has changed: no other entry of the scope, and nothing that is no variable; or nothing but `this`
+  abbrev pub ElsewhereSame : ExprLayer → (old new : State S H) → Type 0
+  ElsewhereSame (form.Variable offset name namespace pos) old new =
+      ((index : ℕ) → (index_of name old.local.scope ≡ Some index → ⊥) →
+      slice_get new.local.scope index ≡ slice_get old.local.scope index)
+      × (new ≡ record old { count = new.count; local = record old.local { scope = new.local.scope } })
+  ElsewhereSame (form.ThisPtr pos) old new = new ≡ record old { count = new.count; local = record old.local { this = new.local.this } }
+  ElsewhereSame _ old new = ⊥
+
+  -- a root was assigned to at a path: the value is read there, whatever parts from the path reads as before, and all else is the same
+  pub record AssignedFrom (root : ExprLayer) (path : List Selector) (w : Dynamic H) (old new : State S H) : Type 0 where
+    pub written : read (root_in root new) path ≡ Some w
+    pub stays : (other : List Selector) → Part path other → read (root_in root new) other ≡ read (root_in root old) other
+    pub elsewhere : ElsewhereSame root old new
+
+  -- a chain that assigns without an operator stands before its root, and leads down a path from there
+  pub record AssignsFrom (root : ExprLayer) (chain : Chain H) (new : NewValue H) (path : List Selector) (mid : State S H) : Type 0 where
+    pub value : Dynamic H
+    pub there : root_in root mid ≡ Some value
+    pub assigns : chain.new ≡ Some new
+    pub plain : new.op.op ≡ None
+    pub leads : LeadsDown chain.rest chain.args value path
+
 module _ {S H : Type 0} (rules : Rules S H) where
   -- Where a run, cut at the limit or not, comes to the reading of the variable of such a chain, with nothing waiting below, and then to a
   -- value, the variable was assigned to at the path since that reading. What is read there then is the value, read-write.
@@ -81,9 +115,10 @@ module _ {S H : Type 0} (rules : Rules S H) where
       Reaches (machine rules) allows start (at (ReadRoot name pos chain) [] mid) → IsAssigning name chain new path mid →
       AssignedAt name path (with_mode ReadWrite new.value) mid end
 
-  -- the same of what an evaluator tells of a run, over any stack, on which memory may run out
-  abbrev pub RunsAssignAtPath : Type 0
-  RunsAssignAtPath = (c : Control H) (name : List ℕ) (pos : Position) (chain : Chain H) (new : NewValue H) (path : List Selector)
-      (x : Dynamic H) (old mid end : State S H) → Runs rules c old (Ok x) end →
-      Reaches (machine rules) (cut rules) (at c [] old) (at (ReadRoot name pos chain) [] mid) → IsAssigning name chain new path mid →
-      AssignedAt name path (with_mode ReadWrite new.value) mid end
+  -- Where a run comes to the root of such a chain, with nothing waiting below, and from there to a value, the root was assigned to at the
+  -- path.
+  abbrev pub AssignsFromRoot : Type 0
+  AssignsFromRoot = (allows : ℕ → Bool) (chain : Chain H) (new : NewValue H) (path : List Selector) (x : Dynamic H) (mid end : State S H) →
+      Reaches (machine rules) allows (at (ChainRoot chain) [] mid) (at (Back x) [] end) →
+      AssignsFrom (out-Expr chain.root) chain new path mid →
+      AssignedFrom (out-Expr chain.root) path (with_mode ReadWrite new.value) mid end

@@ -4,7 +4,7 @@
 ghost use Rattle.rhai_machine.specs.language.Setting.{Setting, over};
 ghost use Rattle.rhai_laws.specs.Laws.{GoesWithMemory, GoesUpToMemory, OutOfMemoryStays};
 ghost use Rattle.rhai_laws.specs.Laws.{StepsKeep, NamesStay, NamesBegin, VariablesStay};
-ghost use Rattle.rhai_laws.specs.Assigned.{AssignsAtPath, RunsAssignAtPath};
+ghost use Rattle.rhai_laws.specs.Assigned.{AssignsAtPath, AssignsFromRoot};
 
 use rhai_state::table::NativeTable;
 use rhai_values::base::value::Host;
@@ -55,7 +55,8 @@ pub fn chain_assigns_at_path<H: Host, T: NativeTable<H>>(of: PhantomData<(H, T)>
     ensures { (setting : Setting H) → AssignsAtPath (over setting T.natives) }
 {}
 
-/// The same, of what an evaluator tells of a run.
-pub fn run_assigns_at_path<H: Host, T: NativeTable<H>>(of: PhantomData<(H, T)>)
-    ensures { (setting : Setting H) → RunsAssignAtPath (over setting T.natives) }
+/// The same from the root of the chain on, which is a variable or `this`, where the values that its links
+/// ask for are all there.
+pub fn chain_assigns_from_root<H: Host, T: NativeTable<H>>(of: PhantomData<(H, T)>)
+    ensures { (setting : Setting H) → AssignsFromRoot (over setting T.natives) }
 {}

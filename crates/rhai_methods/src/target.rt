@@ -2,7 +2,6 @@
 //! `Target` once the method has answered. The contract cites specs/Targets.antt.
 
 ghost use Rattle.std.specs.Prelude.{◌≡◌};
-ghost use Rattle.rhai_places.specs.Targets.{IsFit};
 ghost use Rattle.rhai_methods.specs.Targets.{ComesBack};
 
 use rhai_places::target::Target;
@@ -25,7 +24,6 @@ pub fn put_back<H: Host>(
     answer: Result<(Dynamic<H>, bool), EvalAltResult<H>>,
     pos: Position,
 ) -> Result<(Dynamic<H>, bool), EvalAltResult<H>>
-    requires fit { IsFit target.old.part target.old.at.now }
     ensures same_reference { target.new.at.ghost_name ≡ target.old.at.ghost_name }
     ensures part { target.new.part ≡ target.old.part }
     ensures comes { ComesBack H.name_of target.old.part target.old.at.now pos answer result

@@ -9,7 +9,7 @@ use Rattle.rhai_natives.specs.Law.{left_no_handle, list_leaves}
 use Rattle.rhai_natives.specs.Found.{found, is_pure}
 use Rattle.rhai_natives.specs.Listed.{Entry}
 use Rattle.rhai_natives.specs.Responses.{Done}
-use Rattle.rhai_natives.specs.Table.{IsLeft, changed, effect_of, natives_in, nothing}
+use Rattle.rhai_natives.specs.Table.{IsLeft, changed, effect_of, natives_in}
 
 -- where the place of the first argument, if there is one, was one of a value and holds another as its loan ends
 module _ {H : Type 0} {first after : Option (Dynamic H)} {was now : Dynamic H} (first_was : first ≡ Some was)
@@ -23,10 +23,10 @@ module _ {H : Type 0} {first after : Option (Dynamic H)} {was now : Dynamic H} (
 module _ {S H K : Type 0} (list : List (Entry K)) (does : S → K → List (Union H) → Option (Done S H)) (s : S) (q : Request H)
     (call : Option (Found K)) (is_found : call ≡ found list q.key) (after : Option (Dynamic H)) {was now : Dynamic H}
     (first_was : q.first ≡ Some was) (first_is : after ≡ Some now) (state : S) where
-  pub leaves_left : (host : H → List ℕ) → IsLeft (is_pure call) was now → Leaves host (natives_in list does) nothing s q after state
+  pub leaves_left : (host : H → List ℕ) → IsLeft (is_pure call) was now → Leaves host (natives_in list does) s q after state
   leaves_left host left =
-      subst (λ first. Leaves host (natives_in list does) nothing s q first state) (sym (left_of first_was first_is _ left))
-      (subst (λ call. Leaves host (natives_in list does) nothing s q (option_map (changed (is_pure call) left.0) q.first) state)
+      subst (λ first. Leaves host (natives_in list does) s q first state) (sym (left_of first_was first_is _ left))
+      (subst (λ call. Leaves host (natives_in list does) s q (option_map (changed (is_pure call) left.0) q.first) state)
       (sym is_found) (list_leaves list does host s q left.0 state))
 
   pub obeys_found : (reply : Option (Reply H)) → Obeys (effect_of does s call (Some was) q.rest) reply (Some now) state →

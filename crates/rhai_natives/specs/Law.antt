@@ -90,7 +90,7 @@ module _ {S H K : Type 0} (list : List (Entry K)) (does : S → K → List (Unio
 
   -- what a call leaves, whether or not there was memory
   pub list_leaves : (s : S) (q : Request H) (change : Option (Datum H)) (state : S) →
-      Leaves host (natives_in list does) nothing s q (option_map (changed (is_pure (found list q.key)) change) q.first) state
+      Leaves host (natives_in list does) s q (option_map (changed (is_pure (found list q.key)) change) q.first) state
   list_leaves s q change state = record {
     pure_keeps = λ pure.
         let p = sym (asked q.key _ _) ∙ pure in
@@ -101,12 +101,12 @@ module _ {S H K : Type 0} (list : List (Entry K)) (does : S → K → List (Unio
 
   effect_leaves : (s : S) (q : Request H) (done : Option (Done S H)) →
       let e = effect_for (is_pure (found list q.key)) s done q.first in
-      Leaves host (natives_in list does) nothing s q e.first e.state
+      Leaves host (natives_in list does) s q e.first e.state
   effect_leaves s q None =
-      subst (λ first. Leaves host (natives_in list does) nothing s q first s) (unchanged _ q.first) (list_leaves s q None s)
+      subst (λ first. Leaves host (natives_in list does) s q first s) (unchanged _ q.first) (list_leaves s q None s)
   effect_leaves s q (Some d) = list_leaves s q (change_in d.response) d.state
 
-  pub lawful_list : Lawful host (natives_in list does) nothing
+  pub lawful_list : Lawful host (natives_in list does)
   lawful_list s q h =
       let done = done_by does s (found list q.key) (values_in q.first q.rest) in
       record {

@@ -66,4 +66,8 @@ module _ {S H : Type 0} where
   -- the table of a list of natives
   abbrev pub natives_in : {K : Type 0} → List (Entry K) → (S → K → List (Union H) → Option (Done S H)) → Natives S H
   natives_in list does =
-      record { gives = λ s q. effect_of does s (found list q.key) q.first q.rest; pure = λ s p. is_pure (found list (key_in p)) }
+      record {
+        gives = λ s q. effect_of does s (found list q.key) q.first q.rest;
+        pure = λ s p. is_pure (found list (key_in p));
+        holds = nothing;
+      }

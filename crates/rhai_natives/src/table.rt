@@ -35,7 +35,7 @@ impl<N> Natives<N> {
 }
 
 impl<H: Host, N: ListedNatives<H>> NativeTable<H> for Natives<N> {
-    ghost use Rattle.rhai_natives.specs.Table.{natives_in, nothing};
+    ghost use Rattle.rhai_natives.specs.Table.{natives_in};
     ghost use Rattle.rhai_natives.specs.Law.{lawful_list};
 
     ghost State = { N.State };
@@ -43,8 +43,6 @@ impl<H: Host, N: ListedNatives<H>> NativeTable<H> for Natives<N> {
     ghost state = { λ t. N.state t.natives };
 
     ghost natives = { natives_in N.list N.does };
-
-    ghost holds = { nothing };
 
     fn call(
         &mut self,

@@ -2,4 +2,5 @@ pub mod BitsLemmas
 pub mod CharLemmas
 pub mod FieldLemmas
 pub mod FoundLemmas
+pub mod PartLemmas
 pub mod PlaceLemmas

@@ -1,5 +1,6 @@
 -- Spots in a value: the places that hold a value, and the parts that are read.
-use Rattle.std.specs.Prelude.{ℕ, ◌<◌, ◌≤◌, pos, ⊤, Bool, true, false, length, slice_get, slice_set, slice_index, Option, None}
+use Rattle.std.specs.Prelude.{ℕ, ◌<◌, ◌≤◌, nat_lt, nat_le, pos, ⊤, Bool, true, false, ◌&&◌, length, slice_get, slice_set, slice_index}
+use Rattle.std.specs.Prelude.{Option, None}
 use Rattle.std.specs.Str.{chars}
 use Rattle.rhai_places.specs.Types.{Dynamic, Spot, Union}
 use Rattle.rhai_values.specs.declared.base.value.Union.TheVariants as value
@@ -55,6 +56,15 @@ module _ {H : Type 0} where
   IsPart source (spot.Value at) = ⊥
   IsPart source spot.Missing = ⊥
   IsPart source other = IsThere source other
+
+  -- and whether it is one
+  abbrev pub is_part : UnionLayer H → Spot → Bool
+  is_part (layer.Int n) (spot.Bit at) = nat_lt at 64
+  is_part (layer.Int n) (spot.BitField start end) = nat_le start end && nat_le end 64
+  is_part (layer.Str text) (spot.Char at) = nat_lt at (length (chars text))
+  is_part (layer.Str text) (spot.Slice start end) = nat_le start end
+  is_part (layer.Blob bytes) (spot.Byte at) = nat_lt at (length bytes)
+  is_part _ _ = false
 
   -- ---- places
 

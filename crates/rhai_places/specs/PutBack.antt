@@ -1,5 +1,5 @@
 -- Parts of values that are put back.
-use Rattle.std.specs.Prelude.{◌≡◌, ℕ, ◌%◌, ℤ, Bool, true, false, List, slice_set, Option, Some, None, option_map, codes, []}
+use Rattle.std.specs.Prelude.{◌≡◌, ℕ, ◌%◌, ℤ, Bool, true, false, if◌then◌else◌, List, slice_set, Option, Some, None, option_map, codes, []}
 use Rattle.std.specs.Int.{w64, cast_unsigned}
 use Rattle.rhai_places.specs.Types.{Dynamic, EvalAltResult, Position, Spot, Union}
 use Rattle.rhai_state.specs.Errors.{is_out_of_memory}
@@ -8,6 +8,7 @@ use Rattle.rhai_values.specs.declared.base.value.Union.TheVariants as value
 use Rattle.rhai_values.specs.declared.base.value.FnPtrKind.TheOpen as layer
 use Rattle.rhai_values.specs.Layers.{UnionLayer, layer_of}
 use Rattle.rhai_places.specs.declared.spot.Spot.TheVariants as spot
+use Rattle.rhai_places.specs.Parts.{is_part}
 use Rattle.rhai_places.specs.Bits.{with_bit, with_field}
 use Rattle.rhai_places.specs.Characters.{with_char, with_slice}
 use Rattle.rhai_places.specs.Refusals.{mismatch}
@@ -45,8 +46,9 @@ module _ {H : Type 0} where
   abbrev pub put : (source : Dynamic H) → Spot → (part : UnionLayer H) → Option (Dynamic H)
   put source at part = option_map (λ u. record source { value = u }) (put_in (layer_of source) at part)
 
+  -- the same of any spot: a value that has no such part stays as it is
   abbrev pub put_back : (source : Dynamic H) → Spot → (part : Dynamic H) → Option (Dynamic H)
-  put_back source at part = put source at (layer_of part)
+  put_back source at part = if is_part (layer_of source) at then put source at (layer_of part) else Some source
 
   -- why a part was not put back: it is of another type, unless no memory was left
   abbrev pub IsNotPut : (host_name : H → List ℕ) → (source : Dynamic H) → Spot → (part : Dynamic H) → Position → EvalAltResult H → Type 0

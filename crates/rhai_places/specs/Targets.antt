@@ -39,6 +39,12 @@ module _ {H : Type 0} where
   shown (part.Temporary v) place = v
   shown (part.Of at v) place = v
 
+  -- a temporary or a part has become another value
+  abbrev pub with_shown : Part H → Dynamic H → Part H
+  with_shown part.Whole v = part.Whole
+  with_shown (part.Temporary w) v = part.Temporary v
+  with_shown (part.Of at w) v = part.Of at v
+
   -- what is taken of it: a copy of a place, anything else as it is
   abbrev pub taken : Part H → (place : Dynamic H) → Dynamic H
   taken part.Whole place = copy_of place

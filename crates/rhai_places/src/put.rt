@@ -1,13 +1,16 @@
 //! Parts of values that are put back. Ports the put-back of upstream's `Target`. The contracts cite
 //! specs/PutBack.antt.
 
-ghost use Rattle.std.specs.Prelude.{◌≡◌, ◌<◌, Some, IfErr, IfOk, IsOk, IsSome, OnErr, OnOk, false};
+ghost use Rattle.std.specs.Prelude.{◌≡◌, ◌<◌, Some, None, IfErr, IfOk, IsOk, IsSome, OnErr, OnOk, false};
 ghost use Rattle.rhai_values.specs.Layers.{layer_of};
 ghost use Rattle.rhai_values.specs.declared.base.value.FnPtrKind.TheOpen as layer;
 ghost use Rattle.rhai_places.specs.declared.spot.Spot.TheVariants as spot;
 ghost use Rattle.rhai_places.specs.Parts.{IsPart};
 ghost use Rattle.rhai_places.specs.PutBack.{IsNotPut, is_of_text, low_byte as low_byte_of, put, put_back};
 ghost use Rattle.rhai_places.specs.PutBack.{wanted as wanted_by};
+ghost use Rattle.rhai_places.specs.Refusals.{mismatch as mismatch_of};
+ghost use Rattle.rhai_state.specs.Errors.{is_out_of_memory};
+ghost use Rattle.rhai_values.specs.TypeNames.{own_type_name};
 
 use crate::bits::{with_bit, with_field};
 use crate::chars::{with_char, with_slice};
@@ -22,7 +25,7 @@ use std::alloc::{AllocError, Global};
 /// Puts a part back in the place of the one that was read. A bit takes a truth value; a field
 /// takes the low bits of an integer, and an empty field changes nothing; a byte takes the low
 /// eight bits of an integer; a character takes a character, and a slice a text. Only parts of
-/// texts take memory.
+/// texts take memory. Asked: the source has a part there.
 ///
 /// # Errors
 /// A part of another type is `ErrorMismatchDataType` at the position, and the source stays. Where
@@ -39,6 +42,25 @@ pub fn put_part<H: Host>(
     ensures err { OnErr result (source.new ≡ source.old) }
     ensures refused { IfErr result (λ e. IsNotPut H.name_of source.old spot part.now position e) }
     ensures memory { IsSome (put_back source.old spot part.now) → is_of_text spot ≡ false → IsOk result }
+{
+    put_there(alloc, source, spot, part, position)
+}
+
+/// The same, told of a part that is there.
+fn put_there<H: Host>(
+    alloc: Global,
+    source: &mut Dynamic<H>,
+    spot: Spot,
+    part: &Dynamic<H>,
+    position: Position,
+) -> Result<(), EvalAltResult<H>>
+    requires { IsPart (layer_of source.old) spot }
+    ensures ok { OnOk result (put source.old spot (layer_of part.now) ≡ Some source.new) }
+    ensures err { OnErr result (source.new ≡ source.old) }
+    ensures refused { IfErr result (λ e. is_out_of_memory e ≡ false → (put source.old spot (layer_of part.now)
+        ≡ None) × (e ≡ mismatch_of (wanted_by spot) (own_type_name H.name_of part.now.value) position)) }
+    ensures memory { IsSome (put source.old spot (layer_of part.now)) → is_of_text spot ≡ false →
+        IsOk result }
 {
     let put = match (spot, &part.value) {
         (Spot::Bit(at), Union::Bool(on)) => Ok(put_bit(source, at, *on)),

@@ -2,8 +2,10 @@
 //! The contracts cite specs/Targets.antt.
 
 ghost use Rattle.std.specs.Prelude.{◌≡◌, Some, true, false, IfErr, IfOk, IsOk, IsSome, OnErr, OnOk};
+ghost use Rattle.std.specs.Borrow.{sem};
 ghost use Rattle.rhai_tree.specs.Position.{none};
 ghost use Rattle.rhai_state.specs.declared.error.EvalAltResult.TheVariants as error;
+ghost use Rattle.rhai_places.specs.Targets.{is_place, taken};
 
 use crate::part::is_part;
 use crate::put::put_part;
@@ -23,6 +25,25 @@ pub enum Part<H> {
     /// A bit, a bit field, a byte, a character or a slice of what the place holds, as it was read
     /// or has been changed since.
     Of(Spot, Dynamic<H>),
+}
+
+impl<H> Part<H> {
+    ghost use Rattle.rhai_places.specs.Lends.{lends_shown};
+    ghost use Rattle.rhai_places.specs.Targets.{is_place, shown};
+
+    /// The value that is shown beside the place, to be changed: a temporary, or a part as it was read. When
+    /// the borrow ends it is what it was changed to. Asked: it is not the place that is shown.
+    pub fn value_mut(&mut self) -> &mut Dynamic<H>
+        requires { is_place self.old ≡ false }
+        ensures* writes_back { sem 𝓛 (lends_shown H.row self.entry result) }
+        ensures value { (place : _) → result.now ≡ shown self.old place }
+    {
+        match self {
+            Part::Temporary(value) => value,
+            Part::Of(_, value) => value,
+            Part::Whole => unreachable!(),
+        }
+    }
 }
 
 /// A borrowed place, a temporary, or a part of what a borrowed place holds. Ports upstream's
@@ -47,15 +68,15 @@ impl<'t, H> Target<'t, H> {
         }
     }
 
-    /// The value that the target shows, to be changed. A part that was changed is put back by
-    /// `propagate_changed_value`.
+    /// The value that the target shows, to be changed: the place, or what `Part::value_mut` lends, whose
+    /// clause tells what becomes of it. A part that was changed is put back by `propagate_changed_value`.
     pub fn as_mut(&mut self) -> &mut Dynamic<H>
         ensures { result.now ≡ shown self.old.part self.old.at.now }
     {
-        match &mut self.part {
-            Part::Whole => &mut *self.at,
-            Part::Temporary(value) => value,
-            Part::Of(_, value) => value,
+        if self.is_ref() {
+            &mut *self.at
+        } else {
+            self.part.value_mut()
         }
     }
 
@@ -85,11 +106,37 @@ impl<'t, H> Target<'t, H> {
     }
 }
 
+/// What a target shows of a place, taken: a copy of the place, or a temporary or a part as it is. The place
+/// stays as it is. `Target::take_or_clone` calls this with its two fields.
+///
+/// # Errors
+/// Where there is no memory for a copy it is `ErrorOutOfMemory`.
+pub fn take_shown<H: Host>(
+    at: &mut Dynamic<H>,
+    part: Part<H>,
+    alloc: Global,
+) -> Result<Dynamic<H>, EvalAltResult<H>>
+    ensures ok { IfOk result (λ value. value ≡ taken part at.old) }
+    ensures err { IfErr result (λ e. e ≡ error.ErrorOutOfMemory none) }
+    ensures memory { OnErr result (is_place part ≡ true) }
+    ensures place { at.new ≡ at.old }
+{
+    match part {
+        Part::Whole => match at.try_clone(alloc) {
+            Ok(value) => Ok(value),
+            Err(_) => Err(EvalAltResult::ErrorOutOfMemory(Position::NONE)),
+        },
+        Part::Temporary(value) => Ok(value),
+        Part::Of(_, value) => Ok(value),
+    }
+}
+
 impl<'t, H: Host> Target<'t, H> {
     ghost use Rattle.rhai_places.specs.Targets.{is_of_a_text, is_place, propagated, taken, IsFit};
     ghost use Rattle.rhai_places.specs.Targets.{IsNotPropagated};
 
-    /// The value of the target: a copy of a place, a temporary or a part as it is.
+    /// The value of the target: a copy of a place, a temporary or a part as it is. The place stays as it is:
+    /// that is said by `take_shown`, which this calls.
     ///
     /// # Errors
     /// Where there is no memory for a copy it is `ErrorOutOfMemory`.
@@ -99,19 +146,12 @@ impl<'t, H: Host> Target<'t, H> {
         ensures memory { OnErr result (is_place self.entry.part ≡ true) }
     {
         let Target { at, part } = self;
-        match part {
-            Part::Whole => match at.try_clone(alloc) {
-                Ok(value) => Ok(value),
-                Err(_) => Err(EvalAltResult::ErrorOutOfMemory(Position::NONE)),
-            },
-            Part::Temporary(value) => Ok(value),
-            Part::Of(_, value) => Ok(value),
-        }
+        take_shown(at, part, alloc)
     }
 
     /// Puts a changed part back into its place: a bit takes a truth value, a bit field and a byte
     /// an integer, a character a character, and a slice a text. Of a place and a temporary nothing
-    /// is to be put back.
+    /// is to be put back, and a place that has no such part stays as it is.
     ///
     /// # Errors
     /// A part that has become of another type is `ErrorMismatchDataType` at the position, and the
@@ -123,10 +163,8 @@ impl<'t, H: Host> Target<'t, H> {
     ) -> Result<(), EvalAltResult<H>>
         ensures same_reference { self.new.at.ghost_name ≡ self.old.at.ghost_name }
         ensures part { self.new.part ≡ self.old.part }
-        ensures ok { IsFit self.old.part self.old.at.now →
-            OnOk result (propagated self.old.part self.old.at.now ≡ Some self.new.at.now) }
-        ensures unfit { (¬ IsFit self.old.part self.old.at.now) → self.new.at.now ≡ self.old.at.now }
-        ensures unfit_ok { (¬ IsFit self.old.part self.old.at.now) → IsOk result }
+        ensures ok { OnOk result (propagated self.old.part self.old.at.now ≡ Some self.new.at.now) }
+        ensures unfit { (¬ IsFit self.old.part self.old.at.now) → IsOk result }
         ensures err { OnErr result (self.new.at.now ≡ self.old.at.now) }
         ensures refused { IfErr result (λ e. IsNotPropagated H.name_of self.old.part self.old.at.now
             position e) }

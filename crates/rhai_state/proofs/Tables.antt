@@ -19,13 +19,13 @@ module _ {H : Type 0} (names : H → List ℕ) (own : H → List Reached) where
   kept None at = Missing
   kept (Some v) at = Faults (error.ErrorRuntime v at)
 
-  abbrev pub keeper : Natives (Option (Dynamic H)) H
-  keeper = record { gives = λ s q. effect (kept s q.at) q.first q.first; pure = λ s p. true }
-
   abbrev pub keeps : Holdings (Option (Dynamic H)) H
   keeps = record { of_state = held_by_first own; of_host = own }
 
-  pub keeper_is_lawful : Lawful names keeper keeps
+  abbrev pub keeper : Natives (Option (Dynamic H)) H
+  keeper = record { gives = λ s q. effect (kept s q.at) q.first q.first; pure = λ s p. true; holds = keeps }
+
+  pub keeper_is_lawful : Lawful names keeper
   keeper_is_lawful None q h = record {
     allowed = tt;
     first_no_handle = h;
@@ -63,9 +63,10 @@ module _ {H : Type 0} (names : H → List ℕ) (own : H → List Reached) (at : 
   inventor = record {
     gives = λ s q. effect (Faults (error.ErrorRuntime (plain (value.Cell (record { number = 0 }))) q.at)) q.first s;
     pure = λ s p. true;
+    holds = nothing names own;
   }
 
-  pub inventor_is_unlawful : Lawful names inventor (nothing names own) → ⊥
+  pub inventor_is_unlawful : Lawful names inventor → ⊥
   inventor_is_unlawful lawful =
       reaches_nothing ((lawful tt bare tt).answer_reached (Cell 0) (rw (held-runtime, held-handle) (0, omega arith, refl)))
 
@@ -75,26 +76,26 @@ module _ {H : Type 0} (names : H → List ℕ) (own : H → List Reached) (at : 
   seen (Some v) = Gives (plain value.Unit)
 
   abbrev pub peeper : Natives (Unit {0}) H
-  peeper = record { gives = λ s q. effect (seen (value_of_cell q.cells 0)) q.first s; pure = λ s p. true }
+  peeper = record { gives = λ s q. effect (seen (value_of_cell q.cells 0)) q.first s; pure = λ s p. true; holds = nothing names own }
 
   abbrev is_missing : Reply H → Bool
   is_missing Missing = true
   is_missing _ = false
 
-  pub peeper_is_unlawful : Lawful names peeper (nothing names own) → ⊥
+  pub peeper_is_unlawful : Lawful names peeper → ⊥
   peeper_is_unlawful lawful =
       let same = (lawful tt bare tt).reads_reached (Some (plain value.Unit) ∷ []) (λ number cell. absurd (reaches_nothing cell)) in
       false≢true (ap (λ e. is_missing e.reply) same)
 
   -- a table whose natives are pure and take the first argument away
   abbrev pub taker : Natives (Unit {0}) H
-  taker = record { gives = λ s q. effect (Gives (plain value.Unit)) None s; pure = λ s p. true }
+  taker = record { gives = λ s q. effect (Gives (plain value.Unit)) None s; pure = λ s p. true; holds = nothing names own }
 
   abbrev is_there : Option (Dynamic H) → Bool
   is_there None = false
   is_there (Some v) = true
 
-  pub taker_is_unlawful : Lawful names taker (nothing names own) → ⊥
+  pub taker_is_unlawful : Lawful names taker → ⊥
   taker_is_unlawful lawful =
       let call = request [] (Named []) (Some (plain value.Unit)) [] at in
       false≢true (ap is_there ((lawful tt call tt).leaves.pure_keeps refl))

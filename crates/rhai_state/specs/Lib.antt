@@ -6,4 +6,5 @@ pub mod Native
 pub mod Newest
 pub mod Reach
 pub mod Scope
+pub mod Slots
 pub mod State

@@ -43,10 +43,12 @@ pub data Purity : Type 0 where
   OfName : (name first_type : List ℕ) → (count : ℕ) → Purity
   OfNumber : ℕ → Purity
 
--- a table of natives as the rules read it: what a call leaves in a state, and which natives change nothing
+-- a table of natives as the rules read it: what a call leaves in a state, which natives change nothing, and what a state and a value of
+-- the host's own type hold
 pub record Natives (S H : Type 0) : Type 0 where
   pub gives : S → Request H → Effect S H
   pub pure : S → Purity → Bool
+  pub holds : Holdings S H
 
 abbrev pub request : {H : Type 0} → List (Option (Dynamic H)) → Key → Option (Dynamic H) → List (Dynamic H) → Position → Request H
 request cells key first rest at = record { cells = cells; key = key; first = first; rest = rest; at = at }
@@ -148,12 +150,18 @@ abbrev pub question_of : {H : Type 0} → (H → List ℕ) → Request H → Pur
 question_of host q = purity_of q.key (first_type_of host q.cells q.first) (count_of q.first q.rest)
 
 -- `host` names the types of the host's values
-module _ {S H : Type 0} (host : H → List ℕ) (natives : Natives S H) (holds : Holdings S H) where
+module _ {S H : Type 0} (host : H → List ℕ) (natives : Natives S H) where
   -- after every answer, want of memory too: a pure native leaves the first argument, and what first argument and state hold was reached
   pub record Leaves (s : S) (q : Request H) (first : Option (Dynamic H)) (state : S) : Type 0 where
     pub pure_keeps : natives.pure s (question_of host q) ≡ true → first ≡ q.first
-    pub first_reached : AreReached holds s q (held_by_first holds.of_host first)
-    pub state_reached : AreReached holds s q (holds.of_state state)
+    pub first_reached : AreReached natives.holds s q (held_by_first natives.holds.of_host first)
+    pub state_reached : AreReached natives.holds s q (natives.holds.of_state state)
+
+  -- what a call may leave, where it finds no memory too: a first argument that is no bare handle, of a pure native the one that it was
+  -- given, and nothing that was not reached
+  pub record MayLeave (s : S) (q : Request H) (first : Option (Dynamic H)) (state : S) : Type 0 where
+    pub no_handle : HasNoHandle first
+    pub leaves : Leaves s q first state
 
   -- the law of a call, of the table's function alone
   pub record LawfulCall (s : S) (q : Request H) : Type 0 where
@@ -161,8 +169,8 @@ module _ {S H : Type 0} (host : H → List ℕ) (natives : Natives S H) (holds :
     pub first_no_handle : HasNoHandle (natives.gives s q).first
     pub missing_keeps : KeepsFirst (natives.gives s q).reply q.first (natives.gives s q).first
     pub leaves : Leaves s q (natives.gives s q).first (natives.gives s q).state
-    pub answer_reached : AreReached holds s q (held_by_reply holds.of_host (natives.gives s q).reply)
-    pub reads_reached : (cells : List (Option (Dynamic H))) → AgreesOn holds s q cells →
+    pub answer_reached : AreReached natives.holds s q (held_by_reply natives.holds.of_host (natives.gives s q).reply)
+    pub reads_reached : (cells : List (Option (Dynamic H))) → AgreesOn natives.holds s q cells →
         natives.gives s (record q { cells = cells }) ≡ natives.gives s q
 
   -- the law of a table: of every call whose first argument is no bare handle

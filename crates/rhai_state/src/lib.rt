@@ -9,5 +9,6 @@ pub mod error;
 pub mod limits;
 pub mod room;
 pub mod scope;
+pub mod slot;
 pub mod state;
 pub mod table;

@@ -4,10 +4,13 @@ ghost use Rattle.std.specs.Prelude.{◌≡◌, ◌<◌, ◌↔◌, [], ◌∷◌
 ghost use Rattle.std.specs.Prelude.{string_bytes, IsTrue, IfSome, OnOk, OnErr, drop, nat_lt, ◌+◌, ◌&&◌};
 ghost use Rattle.std.specs.Option.{option_map};
 ghost use Rattle.std.specs.Borrow.{sem};
-ghost use Rattle.rhai_state.specs.Lends.{lends_value};
+ghost use Rattle.rhai_values.specs.Copy.{plain};
+ghost use Rattle.rhai_values.specs.declared.base.value.Union.TheVariants as value;
+ghost use Rattle.rhai_state.specs.Lends.{lends_spare, lends_value};
 ghost use Rattle.rhai_state.specs.Scope.{entries_of, index_of, new_entry, place_of, revalued, shown, value_of};
 ghost use Rattle.rhai_state.specs.Scope.{Fits};
 
+use crate::slot::Slot;
 use rhai_items::{Items, Shared, Text};
 use rhai_values::base::value::{AccessMode, Dynamic};
 use std::alloc::{AllocError, Global};
@@ -37,12 +40,16 @@ impl<H: Drop> Drop for ScopeEntry<H> {
 /// `Scope`.
 pub struct Scope<H> {
     entries: Items<ScopeEntry<H>>,
+    spare: Slot<H>,
 }
 
 // Written by hand, so that the crates above call this, and need not go through the entries.
 impl<H: Drop> Drop for Scope<H> {
     fn drop(self) {
-        let Scope { entries: _ } = self;
+        let Scope {
+            entries: _,
+            spare: _,
+        } = self;
     }
 }
 
@@ -53,6 +60,7 @@ impl<H> Scope<H> {
     {
         Scope {
             entries: Items::new(alloc),
+            spare: Slot::new(),
         }
     }
 
@@ -185,6 +193,15 @@ impl<H: Drop> Scope<H> {
             value,
             aliases,
         })
+    }
+
+    /// A place that no variable has, with `()` in it, for a target that shows a value of its own. The scope
+    /// stays whatever is written there.
+    pub fn spare_mut(&mut self) -> &mut Dynamic<H>
+        ensures* writes_back { sem 𝓛 (lends_spare H.row self.entry result) }
+        ensures value { result.now ≡ plain value.Unit }
+    {
+        self.spare.lend()
     }
 
     /// Lets go of all entries from `len` on, if there are any. Ports upstream's `Scope::rewind`.

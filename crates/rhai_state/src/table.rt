@@ -26,19 +26,15 @@ pub trait NativeTable<H: Host> {
     ghost use Rattle.rhai_state.specs.Native.{Natives, OfName, OfNumber, Named, Numbered, Obeys};
     ghost use Rattle.rhai_state.specs.Native.{HasNoHandle, Lawful, Leaves, reply_of, request, was};
     ghost use Rattle.rhai_state.specs.Native.{left_by};
-    ghost use Rattle.rhai_state.specs.Reach.{Holdings};
 
     /// The state of the table as far as it shows.
     ghost State: { Type 0 };
 
     ghost state: { Self → State };
 
-    /// What a call does, and which natives change nothing.
+    /// What a call does, which natives change nothing, and what a state and a value of the host's own type
+    /// hold of cells, script functions and tables of constants.
     ghost natives: { Natives State H };
-
-    /// What a state and a value of the host's own type hold of cells, script functions and tables of
-    /// constants.
-    ghost holds: { Holdings State H };
 
     /// Calls a native by its name. Asked: the first argument is no bare handle of a cell.
     fn call(
@@ -54,7 +50,7 @@ pub trait NativeTable<H: Host> {
             (request (cells_of cells.now) (Named name.now) (was first.entry) rest.now position))
             (reply_of result) (left_by first.exit) (state self.new) }
         ensures no_handle { HasNoHandle (left_by first.exit) }
-        ensures leaves { Leaves H.name_of natives holds (state self.old)
+        ensures leaves { Leaves H.name_of natives (state self.old)
             (request (cells_of cells.now) (Named name.now) (was first.entry) rest.now position)
             (left_by first.exit) (state self.new) };
 
@@ -72,7 +68,7 @@ pub trait NativeTable<H: Host> {
             (request (cells_of cells.now) (Numbered id.number) (was first.entry) rest.now position))
             (reply_of result) (left_by first.exit) (state self.new) }
         ensures no_handle { HasNoHandle (left_by first.exit) }
-        ensures leaves { Leaves H.name_of natives holds (state self.old)
+        ensures leaves { Leaves H.name_of natives (state self.old)
             (request (cells_of cells.now) (Numbered id.number) (was first.entry) rest.now position)
             (left_by first.exit) (state self.new) };
 
@@ -85,5 +81,5 @@ pub trait NativeTable<H: Host> {
     fn is_pure_numbered(&self, id: NativeId) -> bool
         ensures { result ≡ natives.pure (state self.now) (OfNumber id.number) };
 
-    ghost lawful: { Lawful H.name_of natives holds };
+    ghost lawful: { Lawful H.name_of natives };
 }

@@ -14,18 +14,18 @@ stateless = tt
 abbrev pub missing : {H : Type 0} → Stateless → Request H → Effect Stateless H
 missing s q = effect Missing q.first s
 
-abbrev pub none : {H : Type 0} → Natives Stateless H
-none = record { gives = missing; pure = λ s q. true }
-
 -- neither the table nor a value of the host's own holds anything
 abbrev pub nothing : {H : Type 0} → Holdings Stateless H
 nothing = record { of_state = λ s. []; of_host = λ h. [] }
 
+abbrev pub none : {H : Type 0} → Natives Stateless H
+none = record { gives = missing; pure = λ s q. true; holds = nothing }
+
 -- it leaves the first argument and the state
-pub none_leaves : {H : Type 0} (host : H → List ℕ) (q : Request H) → Leaves host none nothing stateless q q.first stateless
+pub none_leaves : {H : Type 0} (host : H → List ℕ) (q : Request H) → Leaves host none stateless q q.first stateless
 none_leaves host q = record { pure_keeps = λ p. refl; first_reached = λ r held. ByFirst held; state_reached = λ r held. ByState held }
 
-pub none_lawful : {H : Type 0} (host : H → List ℕ) → Lawful host none nothing
+pub none_lawful : {H : Type 0} (host : H → List ℕ) → Lawful host none
 none_lawful host s q h = record {
   allowed = tt;
   first_no_handle = h;

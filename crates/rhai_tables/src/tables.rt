@@ -24,15 +24,13 @@ fn missing_at(_first: &mut Dynamic<Pair>) -> Answer<Pair>
 }
 
 impl NativeTable<Pair> for NoNatives {
-    ghost use Rattle.rhai_tables.specs.Tables.{Stateless, stateless, none, none_lawful, nothing};
+    ghost use Rattle.rhai_tables.specs.Tables.{Stateless, stateless, none, none_lawful};
 
     ghost State = { Stateless };
 
     ghost state = { λ t. stateless };
 
     ghost natives = { none };
-
-    ghost holds = { nothing };
 
     fn call(
         &mut self,

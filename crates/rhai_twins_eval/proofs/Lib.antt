@@ -1,4 +1,5 @@
 mod Halts
 mod Once
+mod Refused
 mod Starts
 mod Targets

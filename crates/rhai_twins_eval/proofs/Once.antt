@@ -17,7 +17,7 @@ use Rattle.rhai_machine.specs.language.Runs.{at, with_core}
 use Rattle.rhai_machine.specs.language.Script.{EndsAsMachine}
 use Rattle.rhai_eval.specs.Assigned.{assigned}
 use Rattle.rhai_eval.specs.Calls.{value_with}
-use Rattle.rhai_eval.specs.Ends.{Ends, EndsAssigned, EndsFrom}
+use Rattle.rhai_eval.specs.Ends.{Ends, EndsAlone, EndsAssigned, EndsFrom}
 use Rattle.rhai_twins_eval.specs.Same.{Same}
 use Rattle.rhai_twins_eval.proofs.Halts.{from_halt, one_halt, either_way, first_step}
 
@@ -152,6 +152,15 @@ module _ {S H : Type 0} (rules : Rules S H) where
         Ends rules begins old (HasMemory r) (marked r) one → Ends rules also_begins also (HasMemory s) (marked s) other →
         Same r s one other
     mark_once r s same start a b = marks_once r s same start a.runs b.runs
+
+    -- two calls with nothing behind them leave one state
+    pub alone_once : begins ≡ also_begins → old ≡ also → EndsAlone rules begins old one → EndsAlone rules also_begins also other →
+        one ≡ other
+    alone_once same start a b =
+        let P : State S H → Type 0 = λ x. EndsAlone rules also_begins x other in
+        let Q : (List (Frame H) → Local H → Core H) → Type 0 = λ x. EndsAlone rules x old other in
+        let c : EndsAlone rules begins old other = subst Q (sym same) (subst P (sym start) b) in
+        (both_halt (unmarked a.0) (unmarked c.0) one other (to_value a.0 one a.1) (to_value c.0 other c.1)).1
 
     -- two assignments
     pub assignment_once : (r s : Result (Unit {0}) (EvalAltResult H)) → begins ≡ also_begins → old ≡ also →

@@ -38,5 +38,5 @@ module _ {S H : Type 0} where
 
   pub same_scope : (t u : S) (g h : GlobalRuntimeState H) (a b : Scope H) (i j : Held H) → state_of t g a i ≡ state_of u h b j → a ≡ b
   same_scope t u g h a b i j same =
-      let f : State S H → Scope H = λ s. record { entries = s.local.scope } in
+      let f : State S H → Scope H = λ s. record { entries = s.local.scope; spare = tt } in
       ap f same

@@ -26,26 +26,33 @@ true_unless : (b : Bool) → (b ≡ false → ⊥) → b ≡ true
 true_unless true never = refl
 true_unless false never = absurd (never refl)
 
+-- what is told of a target that was searched for
+abbrev Wanted : Type 0 → Type 0
+Wanted H = Option (Result (Dynamic H × Part H) (EvalAltResult H))
+
 module _ {H : Type 0} where
   -- ---- a variable
 
-  abbrev Shows : Option (Result (Dynamic H) (EvalAltResult H)) → Result (Target H) (EvalAltResult H) → Type 0
-  Shows wanted r = IfOk r (λ t. wanted ≡ Some (Ok t.at.now)) × (IfOk r (λ t. t.part ≡ part.Whole)
-      × IfErr r (λ e. is_out_of_memory e ≡ false → wanted ≡ Some (Err e)))
+  abbrev Shows : Wanted H → Result (Target H) (EvalAltResult H) → Type 0
+  Shows wanted r = IfOk r (λ t. wanted ≡ Some (Ok (t.at.now, t.part)))
+      × IfErr r (λ e. is_out_of_memory e ≡ false → wanted ≡ Some (Err e))
 
-  one_variable : (wanted : Option (Result (Dynamic H) (EvalAltResult H))) (r s : Result (Target H) (EvalAltResult H)) → Shows wanted r →
-      Shows wanted s → SameTarget r s
-  one_variable wanted (Ok t) (Ok u) one other = let a = one.0 in let b = other.0 in (cc, one.1.0 ∙ sym other.1.0)
+  one_variable : (wanted : Wanted H) (r s : Result (Target H) (EvalAltResult H)) → Shows wanted r → Shows wanted s → SameTarget r s
+  one_variable wanted (Ok t) (Ok u) one other =
+      let a = one.0 in
+      let b = other.0 in
+      let both : ◌≡◌ {A = Dynamic H × Part H} (t.at.now, t.part) (u.at.now, u.part) = cc in
+      (ap (λ (p : Dynamic H × Part H). p.0) both, ap (λ (p : Dynamic H × Part H). p.1) both)
   one_variable wanted (Ok t) (Err f) one other =
-      true_unless (is_out_of_memory f) (λ told. let a = one.0 in let b = other.1.1 told in cc)
+      true_unless (is_out_of_memory f) (λ told. let a = one.0 in let b = other.1 told in cc)
   one_variable wanted (Err e) (Ok u) one other =
-      true_unless (is_out_of_memory e) (λ told. let a = other.0 in let b = one.1.1 told in cc)
-  one_variable wanted (Err e) (Err f) one other = λ e_told f_told. let a = one.1.1 e_told in let b = other.1.1 f_told in cc
+      true_unless (is_out_of_memory e) (λ told. let a = other.0 in let b = one.1 told in cc)
+  one_variable wanted (Err e) (Err f) one other = λ e_told f_told. let a = one.1 e_told in let b = other.1 f_told in cc
 
-  pub variable_once : (wanted also : Option (Result (Dynamic H) (EvalAltResult H))) (r s : Result (Target H) (EvalAltResult H)) →
+  pub variable_once : (wanted also : Wanted H) (r s : Result (Target H) (EvalAltResult H)) →
       wanted ≡ also → Shows wanted r → Shows also s → SameTarget r s
   variable_once wanted also r s same one other =
-      let P : Option (Result (Dynamic H) (EvalAltResult H)) → Type 0 = λ w. Shows w s in
+      let P : Wanted H → Type 0 = λ w. Shows w s in
       one_variable wanted r s one (subst P (sym same) other)
 
   -- ---- what an indexer gives

@@ -2,7 +2,8 @@
 
 ghost use Rattle.std.specs.Prelude.{◌≡◌, Some};
 ghost use Rattle.rhai_values.specs.Cells.{IsNoHandle};
-ghost use Rattle.rhai_places.specs.Targets.{IsFit};
+ghost use Rattle.rhai_places.specs.Targets.{shown};
+ghost use Rattle.rhai_machine.specs.language.State.{HasMemory};
 ghost use Rattle.rhai_methods.specs.Targets.{stands};
 ghost use Rattle.rhai_eval.specs.Places.{with_place};
 ghost use Rattle.rhai_steps.specs.States.{holding, state_of};
@@ -183,7 +184,7 @@ pub fn call_indexer_set<H: Host, T: NativeTable<H>>(
     )
 }
 
-/// Of `Engine::make_method_call` on a part that its place has.
+/// Of `Engine::make_method_call`.
 pub fn make_method_call<H: Host, T: NativeTable<H>>(
     engine: &Engine<H>,
     alloc: Global,
@@ -209,7 +210,6 @@ pub fn make_method_call<H: Host, T: NativeTable<H>>(
     requires table { T.state table.old ≡ T.state also_table.old }
     requires place { target.old.at.now ≡ also_target.old.at.now }
     requires part { target.old.part ≡ also_target.old.part }
-    requires fit { IsFit target.old.part target.old.at.now }
     requires call_args { call_args.old ≡ also_call_args.old }
     requires plain { Plain engine.now global.old }
     ensures run { (scope : _) (this : _) → Same result.0 result.1
@@ -217,6 +217,9 @@ pub fn make_method_call<H: Host, T: NativeTable<H>>(
         (with_place this (Some (stands target.new.part target.new.at.now))))
         (state_of (T.state also_table.new) also_global.new scope
         (with_place this (Some (stands also_target.new.part also_target.new.at.now)))) }
+    ensures shown { HasMemory result.0 → HasMemory result.1 → shown target.new.part target.new.at.now
+        ≡ shown also_target.new.part also_target.new.at.now }
+    ensures call_args { call_args.new ≡ also_call_args.new }
     ensures caches { caches.new ≡ also_caches.new }
     ensures search { global.new.always_search_scope ≡ also_global.new.always_search_scope }
 {
@@ -246,7 +249,7 @@ pub fn make_method_call<H: Host, T: NativeTable<H>>(
     )
 }
 
-/// Of `Engine::eval_op_assignment` on a part that its place has.
+/// Of `Engine::eval_op_assignment`.
 pub fn eval_op_assignment<H: Host, T: NativeTable<H>>(
     engine: &Engine<H>,
     alloc: Global,
@@ -268,7 +271,6 @@ pub fn eval_op_assignment<H: Host, T: NativeTable<H>>(
     requires table { T.state table.old ≡ T.state also_table.old }
     requires place { target.old.at.now ≡ also_target.old.at.now }
     requires part { target.old.part ≡ also_target.old.part }
-    requires fit { IsFit target.old.part target.old.at.now }
     requires new_val { new_val ≡ also_new_val }
     requires value { IsNoHandle new_val.value }
     ensures run { (scope : _) (this : _) → Same result.0 result.1
@@ -276,6 +278,8 @@ pub fn eval_op_assignment<H: Host, T: NativeTable<H>>(
         (with_place this (Some (stands target.new.part target.new.at.now))))
         (state_of (T.state also_table.new) also_global.new scope
         (with_place this (Some (stands also_target.new.part also_target.new.at.now)))) }
+    ensures shown { HasMemory result.0 → HasMemory result.1 → shown target.new.part target.new.at.now
+        ≡ shown also_target.new.part also_target.new.at.now }
     ensures caches { caches.new ≡ also_caches.new }
     ensures search { global.new.always_search_scope ≡ also_global.new.always_search_scope }
 {
@@ -329,6 +333,7 @@ pub fn exec_fn_call<H: Host, T: NativeTable<H>>(
         (state_of (T.state table.new) global.new scope.new (with_place this (Some first.new)))
         (state_of (T.state also_table.new) also_global.new also_scope.new
         (with_place this (Some also_first.new))) }
+    ensures rest { rest.new ≡ also_rest.new }
     ensures caches { caches.new ≡ also_caches.new }
     ensures search { global.new.always_search_scope ≡ also_global.new.always_search_scope }
 {
@@ -397,6 +402,8 @@ pub fn exec_fn_call_by_value<H: Host, T: NativeTable<H>>(
     ensures run { (held : _) → Same result.0 result.1
         (state_of (T.state table.new) global.new scope.new (held))
         (state_of (T.state also_table.new) also_global.new also_scope.new (held)) }
+    ensures first { first.new ≡ also_first.new }
+    ensures rest { rest.new ≡ also_rest.new }
     ensures caches { caches.new ≡ also_caches.new }
     ensures search { global.new.always_search_scope ≡ also_global.new.always_search_scope }
 {

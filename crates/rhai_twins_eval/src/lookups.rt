@@ -1,8 +1,9 @@
 //! Places of variables and items, the charge, and a new engine.
 
-ghost use Rattle.std.specs.Prelude.{◌≡◌, IfErr, IfOk, length, true};
+ghost use Rattle.std.specs.Prelude.{◌≡◌, false, IfErr, IfOk, IfSome, length, true};
 ghost use Rattle.rhai_tree.specs.declared.expr.Expr.{out-Expr};
 ghost use Rattle.rhai_values.specs.Cells.{IsNoHandle};
+ghost use Rattle.rhai_state.specs.Errors.{is_out_of_memory};
 ghost use Rattle.rhai_state.specs.Scope.{entries_of, Fits};
 ghost use Rattle.rhai_steps.specs.Offsets.{offset_in};
 ghost use Rattle.rhai_eval.specs.Search.{is_variable};
@@ -12,9 +13,12 @@ ghost use Rattle.rhai_twins_eval.specs.Same.{SameEnd};
 use rhai_eval::engine::Engine;
 use rhai_eval::eval::chaining::ChainType;
 use rhai_eval::eval::search::variable_mut;
+use rhai_index::indexing;
+use rhai_places::spot::Access;
 use rhai_places::target::Target;
 use rhai_state::caches::Caches;
 use rhai_state::error::EvalAltResult;
+use rhai_state::limits::Limits;
 use rhai_state::scope::Scope;
 use rhai_state::state::GlobalRuntimeState;
 use rhai_state::table::NativeTable;
@@ -94,7 +98,7 @@ pub fn variable<'s, H: Host>(
     )
 }
 
-/// Of `Engine::search_scope_only`: what its target shows.
+/// Of `Engine::search_scope_only`: what its target shows, and what it is a part of.
 pub fn search_scope_only<'s, H: Host, T: NativeTable<H>>(
     engine: &Engine<H>,
     alloc: Global,
@@ -123,6 +127,7 @@ pub fn search_scope_only<'s, H: Host, T: NativeTable<H>>(
         (entries_of scope.old)) }
     ensures result { SameTarget result.0 result.1 }
     ensures global { global.new ≡ also_global.new }
+    ensures table { T.state table.new ≡ T.state also_table.new }
     ensures caches { caches.new ≡ also_caches.new }
 {
     (
@@ -199,4 +204,46 @@ pub fn get_indexed_mut<'t, H: Host, T: NativeTable<H>>(
             use_indexers,
         ),
     )
+}
+
+/// The same where it is refused, of the function of `rhai_index` that the call makes: the object is left as
+/// it was, or as the indexer left it.
+pub fn refused_index<H: Host, T: NativeTable<H>>(
+    alloc: Global,
+    limits: &Limits,
+    global: &mut GlobalRuntimeState<H>,
+    also_global: &mut GlobalRuntimeState<H>,
+    table: &mut T,
+    also_table: &mut T,
+    object: &mut Dynamic<H>,
+    also_object: &mut Dynamic<H>,
+    idx: &mut Dynamic<H>,
+    also_idx: &mut Dynamic<H>,
+    how: Access,
+    use_indexers: bool,
+) -> Option<(EvalAltResult<H>, EvalAltResult<H>)>
+    requires global { global.old ≡ also_global.old }
+    requires table { T.state table.old ≡ T.state also_table.old }
+    requires object { object.old ≡ also_object.old }
+    requires idx { idx.old ≡ also_idx.old }
+    requires no_handle { IsNoHandle object.old.value }
+    ensures { IfSome result (λ errors. is_out_of_memory errors.0 ≡ false → is_out_of_memory errors.1 ≡ false →
+        object.new ≡ also_object.new) }
+{
+    match indexing::get_indexed_mut(object, alloc, limits, global, table, idx, how, use_indexers) {
+        Ok(_target) => None,
+        Err(error) => match indexing::get_indexed_mut(
+            also_object,
+            alloc,
+            limits,
+            also_global,
+            also_table,
+            also_idx,
+            how,
+            use_indexers,
+        ) {
+            Ok(_target) => None,
+            Err(also_error) => Some((error, also_error)),
+        },
+    }
 }

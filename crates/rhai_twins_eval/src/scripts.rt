@@ -1,6 +1,6 @@
 //! Whole scripts and functions of scripts.
 
-ghost use Rattle.std.specs.Prelude.{◌≡◌, None, Some, length};
+ghost use Rattle.std.specs.Prelude.{◌≡◌, None, Some};
 ghost use Rattle.rhai_twins_eval.specs.Same.{SameEnd};
 ghost use Rattle.rhai_steps.specs.States.{holding, state_of};
 ghost use Rattle.rhai_eval.specs.Plain.{Plain};
@@ -106,8 +106,7 @@ pub fn call_script_fn<H: Host, T: NativeTable<H>>(
     ensures run { Same result.0 result.1
         (state_of (T.state table.new) global.new scope.new (holding (Some this.new)))
         (state_of (T.state also_table.new) also_global.new also_scope.new (holding (Some also_this.new))) }
-    ensures args { length def.now.params ≡ length args.old →
-        SameEnd result.0 result.1 args.new also_args.new }
+    ensures args { SameEnd result.0 result.1 args.new also_args.new }
     ensures caches { caches.new ≡ also_caches.new }
     ensures search { global.new.always_search_scope ≡ also_global.new.always_search_scope }
 {

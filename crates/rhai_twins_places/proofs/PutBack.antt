@@ -6,7 +6,7 @@ use Rattle.rhai_state.specs.declared.error.EvalAltResult.{EvalAltResult}
 use Rattle.rhai_state.specs.Errors.{is_out_of_memory}
 use Rattle.rhai_places.specs.declared.target.Part.{Part}
 use Rattle.rhai_places.specs.declared.target.Part.TheVariants as part
-use Rattle.rhai_places.specs.Targets.{propagated, IsFit, IsNotPropagated}
+use Rattle.rhai_places.specs.Targets.{propagated, IsNotPropagated}
 use Rattle.rhai_twins_places.specs.Ends.{Same}
 
 module _ {H : Type 0} (name : H → List ℕ) (position : Position) where
@@ -25,18 +25,18 @@ module _ {H : Type 0} (name : H → List ℕ) (position : Position) where
 
   -- what is told of an answer
   abbrev Put : Part H → (place new : Dynamic H) → Result (Unit {0}) (EvalAltResult H) → Type 0
-  Put p place new r = (IsFit p place → OnOk r (propagated p place ≡ Some new)) × IfErr r (λ e. IsNotPropagated name p place position e)
+  Put p place new r = OnOk r (propagated p place ≡ Some new) × IfErr r (λ e. IsNotPropagated name p place position e)
 
-  one_answer : (p : Part H) (place n m : Dynamic H) (r s : Result (Unit {0}) (EvalAltResult H)) → IsFit p place → Put p place n r →
+  one_answer : (p : Part H) (place n m : Dynamic H) (r s : Result (Unit {0}) (EvalAltResult H)) → Put p place n r →
       Put p place m s → Same r s
-  one_answer p place n m (Ok x) (Ok y) fit one other = λ a b. refl
-  one_answer p place n m (Ok x) (Err f) fit one other = λ a b. absurd (not_both p place n f (one.0 fit) other.1 b)
-  one_answer p place n m (Err e) (Ok y) fit one other = λ a b. absurd (not_both p place m e (other.0 fit) one.1 a)
-  one_answer p place n m (Err e) (Err f) fit one other = λ a b. ap (λ x. Err x) (one_reason p place e f one.1 other.1 a b)
+  one_answer p place n m (Ok x) (Ok y) one other = λ a b. refl
+  one_answer p place n m (Ok x) (Err f) one other = λ a b. absurd (not_both p place n f one.0 other.1 b)
+  one_answer p place n m (Err e) (Ok y) one other = λ a b. absurd (not_both p place m e other.0 one.1 a)
+  one_answer p place n m (Err e) (Err f) one other = λ a b. ap (λ x. Err x) (one_reason p place e f one.1 other.1 a b)
 
-  pub put_once : (p q : Part H) (x y n m : Dynamic H) (r s : Result (Unit {0}) (EvalAltResult H)) → p ≡ q → x ≡ y → IsFit p x →
+  pub put_once : (p q : Part H) (x y n m : Dynamic H) (r s : Result (Unit {0}) (EvalAltResult H)) → p ≡ q → x ≡ y →
       Put p x n r → Put q y m s → Same r s
-  put_once p q x y n m r s same_part same_place fit one other =
+  put_once p q x y n m r s same_part same_place one other =
       let P : Part H → Type 0 = λ z. Put z y m s in
       let Q : Dynamic H → Type 0 = λ z. Put p z m s in
-      one_answer p x n m r s fit one (subst Q (sym same_place) (subst P (sym same_part) other))
+      one_answer p x n m r s one (subst Q (sym same_place) (subst P (sym same_part) other))

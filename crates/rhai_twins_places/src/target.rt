@@ -1,12 +1,13 @@
 //! Targets.
 
-ghost use Rattle.std.specs.Prelude.{◌≡◌};
-ghost use Rattle.rhai_places.specs.Targets.{IsFit};
+ghost use Rattle.std.specs.Prelude.{◌≡◌, false};
+ghost use Rattle.rhai_places.specs.Targets.{is_place};
 ghost use Rattle.rhai_twins_places.specs.Ends.{wants, Same, SameTarget, EndsOnce};
 
 use rhai_places::indexing::get_indexed_mut;
 use rhai_places::spot::Access;
-use rhai_places::target::Target;
+use rhai_places::target;
+use rhai_places::target::{Part, Target};
 use rhai_state::error::EvalAltResult;
 use rhai_tree::position::Position;
 use rhai_values::base::value::{Dynamic, Host};
@@ -65,7 +66,45 @@ pub fn take_or_clone<'t, H: Host>(
     (one.take_or_clone(alloc), other.take_or_clone(alloc))
 }
 
-/// Of `Target::propagate_changed_value` on a part that its place has.
+/// Of `target::take_shown`, and that it leaves the place.
+pub fn take_shown<H: Host>(
+    alloc: Global,
+    one: &mut Dynamic<H>,
+    other: &mut Dynamic<H>,
+    part: Part<H>,
+    also_part: Part<H>,
+) -> (
+    Result<Dynamic<H>, EvalAltResult<H>>,
+    Result<Dynamic<H>, EvalAltResult<H>>,
+)
+    requires place { one.old ≡ other.old }
+    requires part { part ≡ also_part }
+    ensures result { Same result.0 result.1 }
+    ensures place { one.new ≡ other.new }
+{
+    (
+        target::take_shown(one, part, alloc),
+        target::take_shown(other, also_part, alloc),
+    )
+}
+
+/// Of `Part::value_mut`, whatever is written.
+pub fn value_lent<H: Drop>(
+    one: &mut Part<H>,
+    other: &mut Part<H>,
+    value: Dynamic<H>,
+    also_value: Dynamic<H>,
+)
+    requires part { one.old ≡ other.old }
+    requires value { value ≡ also_value }
+    requires shown { is_place one.old ≡ false }
+    ensures { one.new ≡ other.new }
+{
+    *one.value_mut() = value;
+    *other.value_mut() = also_value;
+}
+
+/// Of `Target::propagate_changed_value`.
 pub fn put_back<'t, 's, H: Host>(
     alloc: Global,
     one: &mut Target<'t, H>,
@@ -74,7 +113,6 @@ pub fn put_back<'t, 's, H: Host>(
 ) -> (Result<(), EvalAltResult<H>>, Result<(), EvalAltResult<H>>)
     requires place { one.old.at.now ≡ other.old.at.now }
     requires part { one.old.part ≡ other.old.part }
-    requires fit { IsFit one.old.part one.old.at.now }
     ensures answer { Same result.0 result.1 }
     ensures part { one.new.part ≡ other.new.part }
     ensures place { wants result.0 ≡ wants result.1 → one.new.at.now ≡ other.new.at.now }

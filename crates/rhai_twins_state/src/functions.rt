@@ -124,7 +124,7 @@ pub fn arity<H>(lib: &[Shared<Module<H>>], name: &str) -> (Option<usize>, Option
     (arity_named(lib, name), arity_named(lib, name))
 }
 
-/// Of `entering::push_parameters`: what is left of the arguments is told where there are as many as parameters.
+/// Of `entering::push_parameters`.
 pub fn parameters<H: Host>(
     scope: &mut Scope<H>,
     also_scope: &mut Scope<H>,
@@ -135,8 +135,7 @@ pub fn parameters<H: Host>(
     requires scope { scope.old ≡ also_scope.old }
     requires args { args.old ≡ also_args.old }
     ensures scope { OnOk result.0 (OnOk result.1 (entries_of scope.new ≡ entries_of also_scope.new)) }
-    ensures args { OnOk result.0 (OnOk result.1 (length params.now ≡ length args.old →
-        args.new ≡ also_args.new)) }
+    ensures args { OnOk result.0 (OnOk result.1 (args.new ≡ also_args.new)) }
 {
     (
         push_parameters(scope, params, args),

@@ -7,6 +7,7 @@
 pub mod caches;
 pub mod errors;
 pub mod functions;
+pub mod orders;
 pub mod scope;
 pub mod state;
 pub mod table;

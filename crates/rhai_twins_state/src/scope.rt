@@ -6,6 +6,7 @@ ghost use Rattle.rhai_state.specs.Scope.{entries_of, shown, Fits};
 
 use rhai_items::{Shared, Text};
 use rhai_state::scope::{Scope, ScopeEntry};
+use rhai_state::slot::Slot;
 use rhai_values::base::value::{AccessMode, Dynamic};
 use std::alloc::{AllocError, Global};
 use std::num::NonZeroUsize;
@@ -197,4 +198,32 @@ pub fn remove_range<H: Drop>(one: &mut Scope<H>, other: &mut Scope<H>, start: us
 {
     one.remove_range(start, len);
     other.remove_range(start, len);
+}
+
+/// Of `Scope::spare_mut`, whatever is written.
+pub fn spare_mut<H: Drop>(
+    one: &mut Scope<H>,
+    other: &mut Scope<H>,
+    value: Dynamic<H>,
+    also_value: Dynamic<H>,
+)
+    requires { one.old ≡ other.old }
+    ensures { one.new ≡ other.new }
+{
+    *one.spare_mut() = value;
+    *other.spare_mut() = also_value;
+}
+
+/// Of `Slot::lend`, whatever is written.
+pub fn lend<H: Drop>(
+    one: &mut Slot<H>,
+    other: &mut Slot<H>,
+    value: Dynamic<H>,
+    also_value: Dynamic<H>,
+)
+    requires { one.old ≡ other.old }
+    ensures { one.new ≡ other.new }
+{
+    *one.lend() = value;
+    *other.lend() = also_value;
 }

@@ -5,7 +5,7 @@ ghost use Rattle.std.specs.Option.{option_copied};
 ghost use Rattle.rhai_values.specs.Cells.{cells_of, IsHeld, IsNoHandle};
 
 use rhai_values::base::value::{CellId, Dynamic};
-use rhai_values::cells::CellStore;
+use rhai_values::cells::{CellStore, put_back};
 use std::alloc::{AllocError, Global};
 
 /// Of `CellStore::new`.
@@ -67,8 +67,8 @@ pub fn take<H>(
     (one.take(id), other.take(id))
 }
 
-/// Of `CellStore::set`.
-pub fn set<H: Drop>(
+/// Of `cells::put_back`.
+pub fn given_back<H: Drop>(
     one: &mut CellStore<H>,
     other: &mut CellStore<H>,
     id: CellId,
@@ -80,8 +80,8 @@ pub fn set<H: Drop>(
     requires known { id.number < length (cells_of one.old) }
     ensures { cells_of one.new ≡ cells_of other.new }
 {
-    one.set(id, value);
-    other.set(id, also_value);
+    put_back(one, id, value);
+    put_back(other, id, also_value);
 }
 
 /// Of `CellStore::put`.

@@ -73,15 +73,16 @@ impl<H> CellStore<H> {
     }
 }
 
-impl<H: Drop> CellStore<H> {
-    /// Gives a cell a value, and lets go of it where it is held. Asked: the cell is known.
-    pub fn set(&mut self, id: CellId, value: Dynamic<H>)
-        requires { id.number < length (cells_of self.old) }
-        ensures { cells_of self.new ≡ with_value (cells_of self.old) id.number value }
-    {
-        self.cells.set(id.number, Some(value));
-    }
+/// Gives a cell a value, and lets go of it where it is held. Asked: the cell is known. It is no call of the
+/// store, since a host could store a bare handle by it: the evaluator puts back what it took from there.
+pub fn put_back<H: Drop>(cells: &mut CellStore<H>, id: CellId, value: Dynamic<H>)
+    requires { id.number < length (cells_of cells.old) }
+    ensures { cells_of cells.new ≡ with_value (cells_of cells.old) id.number value }
+{
+    cells.cells.set(id.number, Some(value));
+}
 
+impl<H: Drop> CellStore<H> {
     /// Lets go of a cell that is held and gives it a value. Asked: the cell is held, and the value
     /// is no handle.
     pub fn put(&mut self, id: CellId, value: Dynamic<H>)
@@ -89,6 +90,6 @@ impl<H: Drop> CellStore<H> {
         requires no_handle { IsNoHandle value.value }
         ensures { cells_of self.new ≡ with_value (cells_of self.old) id.number value }
     {
-        self.set(id, value);
+        put_back(self, id, value);
     }
 }

@@ -32,7 +32,7 @@ use rhai_steps::values::unit_value;
 use rhai_tree::expr::{Expr, FnCallExpr};
 use rhai_tree::position::Position;
 use rhai_values::base::value::{CellId, Dynamic, Host, Union};
-use rhai_values::cells::CellStore;
+use rhai_values::cells::{CellStore, put_back};
 use std::alloc::Global;
 use std::mem::replace;
 
@@ -198,7 +198,7 @@ fn put_in_cell<H: Host>(cells: &mut CellStore<H>, id: CellId, value: Dynamic<H>)
 {
     let is_there = id.number < cells.len();
     if is_there {
-        cells.set(id, value);
+        put_back(cells, id, value);
     } else {
         drop(value);
     }

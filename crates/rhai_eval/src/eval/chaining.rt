@@ -71,7 +71,7 @@ impl<H: Host> Engine<H> {
     ///
     /// An assignment without an operator that comes to a value, through indexes and properties of arrays
     /// and maps that are not shared, leaves the value assigned, read-write, at the path that it went down
-    /// from its variable, and all that is off the path as it was just before (`assigns`).
+    /// from its variable or from `this`, and all that is off the path as it was just before (`assigns`).
     ///
     /// The chain is a part of a checked tree, above the variables that the scope has there: an expression,
     /// or with a value to assign the left side of an assignment. `this` is taken out of its place meanwhile,

@@ -7,7 +7,6 @@ ghost use Rattle.rhai_values.specs.Cells.{cells_of};
 ghost use Rattle.rhai_state.specs.Errors.{is_out_of_memory};
 ghost use Rattle.rhai_state.specs.Native.{left_by, was};
 ghost use Rattle.rhai_state.specs.Scope.{entries_of, names_in, Fits};
-ghost use Rattle.rhai_places.specs.declared.target.Part.TheVariants as part;
 ghost use Rattle.rhai_machine.specs.language.Frames.{Eval};
 ghost use Rattle.rhai_steps.specs.Offsets.{offset_in, place_at};
 ghost use Rattle.rhai_steps.specs.States.{holding, state_of};
@@ -18,7 +17,7 @@ ghost use Rattle.rhai_eval.specs.Search.{is_variable, searched};
 ghost use Rattle.rhai_eval.specs.States.{under};
 
 use crate::engine::Engine;
-use crate::eval::search::variable_mut;
+use crate::eval::search::{function_named, seen_variable, variable_mut};
 use crate::this::{give_back_with, take_with};
 use rhai_context::{give_back, take};
 use rhai_places::target::{Part, Target};
@@ -49,18 +48,20 @@ impl<H: Host> Engine<H> {
     }
 
     /// The place of the variable that an expression names: where it has an offset and variables are not
-    /// searched for, the entry there, whatever its name, and else the newest entry of the name. Ports
-    /// upstream's `search_scope_only`; asked for a variable alone, whose offset is at most the length.
+    /// searched for, the entry there, whatever its name, and else the newest entry of the name. A name that
+    /// no variable has means the first function of the libraries that has it: a temporary pointer, beside a
+    /// place of the scope that holds nothing (`Scope::spare_mut`). Ports upstream's `search_scope_only`; asked
+    /// for a variable alone, whose offset is at most the length.
     ///
-    /// The place is the value that `crate::eval::search::variable_mut` lends, whose clause
+    /// The place of a variable is the value that `crate::eval::search::variable_mut` lends, whose clause
     /// `writes_back` tells what becomes of the scope: behind the engine no clause here repeats it.
     ///
     /// # Errors
-    /// `ErrorVariableNotFound` where there is none, and `ErrorDataRace` where it is the handle of a
-    /// cell that is held, both at the variable.
+    /// `ErrorVariableNotFound` where there is neither, and `ErrorDataRace` where the variable is the handle
+    /// of a cell that is held, both at the variable.
     pub fn search_scope_only<'s, T: NativeTable<H>>(
         &self,
-        _alloc: Global,
+        alloc: Global,
         global: &mut GlobalRuntimeState<H>,
         _caches: &mut Caches<H>,
         _table: &mut T,
@@ -73,18 +74,26 @@ impl<H: Host> Engine<H> {
             (length (entries_of scope.old)) }
         ensures found { IfOk result (λ target.
             searched global.old.always_search_scope (out-Expr expr.now) (cells_of global.old.cells)
-            (entries_of scope.old) ≡ Some (Ok target.at.now)) }
-        ensures place { IfOk result (λ target. target.part ≡ part.Whole) }
+            global.old.lib (entries_of scope.old) ≡ Some (Ok (target.at.now, target.part))) }
         ensures missed { IfErr result (λ e. is_out_of_memory e ≡ false →
             searched global.old.always_search_scope (out-Expr expr.now) (cells_of global.old.cells)
-            (entries_of scope.old) ≡ Some (Err e)) }
+            global.old.lib (entries_of scope.old) ≡ Some (Err e)) }
         ensures same { global.new ≡ global.old }
         ensures caches { _caches.new ≡ _caches.old }
+        ensures table { T.state _table.new ≡ T.state _table.old }
     {
-        let at = variable_mut(scope, global, expr)?;
+        let is_there = seen_variable(scope, global, expr).is_some();
+        if is_there {
+            let at = variable_mut(scope, global, expr)?;
+            return Ok(Target {
+                at,
+                part: Part::Whole,
+            });
+        }
+        let pointer = function_named(alloc, global, expr)?;
         Ok(Target {
-            at,
-            part: Part::Whole,
+            at: scope.spare_mut(),
+            part: Part::Temporary(pointer),
         })
     }
 

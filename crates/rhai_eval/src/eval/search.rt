@@ -2,6 +2,7 @@
 
 ghost use Rattle.std.specs.Prelude.{◌≡◌, Some, Ok, Err, IfOk, IfErr, length, true, false};
 ghost use Rattle.std.specs.Borrow.{sem};
+ghost use Rattle.std.specs.Option.{option_copied};
 ghost use Rattle.rhai_tree.specs.declared.expr.Expr.{out-Expr};
 ghost use Rattle.rhai_values.specs.Cells.{cells_of};
 ghost use Rattle.rhai_state.specs.Errors.{is_out_of_memory};
@@ -9,19 +10,20 @@ ghost use Rattle.rhai_state.specs.Scope.{entries_of, Fits};
 ghost use Rattle.rhai_steps.specs.Lends.{lends_variable};
 ghost use Rattle.rhai_steps.specs.Offsets.{offset_in};
 ghost use Rattle.rhai_eval.specs.Lends.{with_variable};
-ghost use Rattle.rhai_eval.specs.Search.{is_variable, searched};
+ghost use Rattle.rhai_eval.specs.Search.{is_variable, value_there, variable_searched, IsNamedBy};
 
 use rhai_state::error::EvalAltResult;
 use rhai_state::scope::Scope;
 use rhai_state::state::GlobalRuntimeState;
-use rhai_steps::variables::find_variable;
+use rhai_steps::variables::{find_variable, read_function};
 use rhai_tree::expr::Expr;
 use rhai_values::base::value::{Dynamic, Host};
+use std::alloc::Global;
 
 /// The value of the variable that an expression names, to be changed in place: where it has an offset
 /// and variables are not searched for, that of the entry there, whatever its name, and else of the
-/// newest of the name. `Engine::search_scope_only` is this with the value as a target. Asked for a
-/// variable alone, whose offset is at most the scope's length.
+/// newest of the name. Of a variable `Engine::search_scope_only` is this with the value as a target. Asked
+/// for a variable alone, whose offset is at most the scope's length.
 ///
 /// The scope comes first, so that a clause can tell what becomes of it: when the borrow ends, what
 /// was written stands at the entry that was found, and every other entry is as it was. Of a variable
@@ -42,10 +44,10 @@ pub fn variable_mut<'s, H: Host>(
     ensures* writes_back { sem 𝓛 (lends_variable H.row scope.entry
         (with_variable scope.entry.now global.now.always_search_scope (out-Expr expr.now)) result) }
     ensures found { IfOk result (λ value.
-        searched global.now.always_search_scope (out-Expr expr.now) (cells_of global.now.cells)
+        variable_searched global.now.always_search_scope (out-Expr expr.now) (cells_of global.now.cells)
         (entries_of scope.old) ≡ Some (Ok value.now)) }
     ensures missed { IfErr result (λ e. is_out_of_memory e ≡ false →
-        searched global.now.always_search_scope (out-Expr expr.now) (cells_of global.now.cells)
+        variable_searched global.now.always_search_scope (out-Expr expr.now) (cells_of global.now.cells)
         (entries_of scope.old) ≡ Some (Err e)) }
 {
     match expr {
@@ -57,6 +59,48 @@ pub fn variable_mut<'s, H: Host>(
         } => {
             let offset = global.offset_in_use(*offset);
             find_variable(scope, &global.cells, offset, name, *pos)
+        }
+        _ => unreachable!(),
+    }
+}
+
+/// The value of the variable that an expression names, if the scope has it.
+pub(crate) fn seen_variable<'s, H: Host>(
+    scope: &'s Scope<H>,
+    global: &GlobalRuntimeState<H>,
+    expr: &Expr,
+) -> Option<&'s Dynamic<H>>
+    requires variable { is_variable (out-Expr expr.now) ≡ true }
+    requires fits { Fits (offset_in global.now.always_search_scope (out-Expr expr.now))
+        (length (entries_of scope.now)) }
+    ensures { option_copied result ≡ value_there global.now.always_search_scope (out-Expr expr.now)
+        (entries_of scope.now) }
+{
+    match expr {
+        Expr::Variable { offset, name, .. } => {
+            let offset = global.offset_in_use(*offset);
+            let index = scope.place_of(offset, name.get().as_str())?;
+            Some(scope.value_at(index))
+        }
+        _ => unreachable!(),
+    }
+}
+
+/// What a name means that no variable has: a pointer to the first function of the libraries that has it.
+///
+/// # Errors
+/// `ErrorVariableNotFound` at the variable where there is none.
+pub(crate) fn function_named<H: Host>(
+    alloc: Global,
+    global: &GlobalRuntimeState<H>,
+    expr: &Expr,
+) -> Result<Dynamic<H>, EvalAltResult<H>>
+    requires variable { is_variable (out-Expr expr.now) ≡ true }
+    ensures { IsNamedBy (cells_of global.now.cells) global.now.lib (out-Expr expr.now) result }
+{
+    match expr {
+        Expr::Variable { name, pos, .. } => {
+            read_function(alloc, global.lib.as_slice(), name, *pos)
         }
         _ => unreachable!(),
     }

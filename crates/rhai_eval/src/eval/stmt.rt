@@ -7,16 +7,17 @@ ghost use Rattle.rhai_checked.specs.Names.{Begins};
 ghost use Rattle.rhai_values.specs.Cells.{IsNoHandle};
 ghost use Rattle.rhai_state.specs.Native.{left_by, was};
 ghost use Rattle.rhai_state.specs.Scope.{names_in};
-ghost use Rattle.rhai_places.specs.Targets.{IsFit};
 ghost use Rattle.rhai_machine.specs.language.Frames.{Exec, Enter};
 ghost use Rattle.rhai_machine.specs.language.Setting.{rules_of};
+ghost use Rattle.rhai_machine.specs.language.State.{HasMemory};
+ghost use Rattle.rhai_places.specs.Targets.{shown};
 ghost use Rattle.rhai_steps.specs.States.{holding, state_of};
 ghost use Rattle.rhai_laws.specs.Kept.{Kept};
 ghost use Rattle.rhai_steps.specs.Marked.{lending};
 ghost use Rattle.rhai_methods.specs.Targets.{ComesBack, StaysAlike, stands};
 ghost use Rattle.rhai_chains.specs.Chains.{FollowsFrom};
 ghost use Rattle.rhai_eval.specs.Assigned.{assigned, target_assigned, value_assigned, without_value};
-ghost use Rattle.rhai_eval.specs.Ends.{EndsAs, EndsAssigned};
+ghost use Rattle.rhai_eval.specs.Ends.{EndsAlone, EndsAs, EndsAssigned};
 ghost use Rattle.rhai_eval.specs.Places.{with_place};
 ghost use Rattle.rhai_eval.specs.Plain.{Plain};
 ghost use Rattle.rhai_eval.specs.States.{under};
@@ -82,7 +83,6 @@ fn put_assigned<H: Host>(
     outcome: Result<(), EvalAltResult<H>>,
     pos: Position,
 ) -> Result<(), EvalAltResult<H>>
-    requires fit { IsFit target.old.part target.old.at.now }
     ensures same_reference { target.new.at.ghost_name ≡ target.old.at.ghost_name }
     ensures part { target.new.part ≡ target.old.part }
     ensures comes { ComesBack H.name_of target.old.part target.old.at.now pos (assigned outcome)
@@ -106,7 +106,6 @@ fn assign_target<H: Host, T: NativeTable<H>>(
     op: OpAssignment,
     value: Dynamic<H>,
 ) -> Result<(), EvalAltResult<H>>
-    requires fit { IsFit target.old.part target.old.at.now }
     ensures same_reference { target.new.at.ghost_name ≡ target.old.at.ghost_name }
     ensures part { StaysAlike target.old.part target.old.at.now target.new.part target.new.at.now }
     ensures follows { (offer : _) (scope : _) (held : _) → offer.fast_operators ≡ fast →
@@ -117,6 +116,13 @@ fn assign_target<H: Host, T: NativeTable<H>>(
         (lending held (stands target.old.part target.old.at.now)))
         (assigned result) (state_of (T.state table.new) global.new scope
         (lending held (stands target.new.part target.new.at.now))) }
+    ensures shows { (offer : _) (scope : _) (held : _) → offer.fast_operators ≡ fast → HasMemory result →
+        let rules = rules_of limits.now H.name_of offer T.natives in
+        EndsAlone rules (value_assigned rules.setting root.now (record { op = op; value = value }))
+        (state_of (T.state table.old) global.old scope
+        (lending held (shown target.old.part target.old.at.now)))
+        (state_of (T.state table.new) global.new scope
+        (lending held (shown target.new.part target.new.at.now))) }
 {
     match &mut target.part {
         Part::Whole => {
@@ -141,8 +147,9 @@ impl<H: Host> Engine<H> {
     /// of a part is as it was. The root of the chain tells which constant it is that may not be assigned
     /// to. What was assigned to is not measured here. Ports upstream's `eval_op_assignment`.
     ///
-    /// Asked: a part that its place has, and a value to assign that is no handle of a cell. No function of a
-    /// script is called.
+    /// A part that its place does not have is assigned to, and put back nowhere. The target shows afterwards
+    /// what the assignment made of what it showed. Asked: a value to assign that is no handle of a cell. No
+    /// function of a script is called.
     ///
     /// # Errors
     /// At the root's start: `ErrorAssignmentToConstant` for a constant, and `ErrorDataRace` for the handle
@@ -161,7 +168,6 @@ impl<H: Host> Engine<H> {
         target: &mut Target<'_, H>,
         new_val: Dynamic<H>,
     ) -> Result<(), EvalAltResult<H>>
-        requires fit { IsFit target.old.part target.old.at.now }
         requires value { IsNoHandle new_val.value }
         ensures ends { (scope : _) (this : _) → let rules = under H.name_of self.now T.natives in
             EndsAssigned rules (target_assigned rules.setting root.now
@@ -177,6 +183,14 @@ impl<H: Host> Engine<H> {
             (with_place this (Some (stands target.new.part target.new.at.now)))) }
         ensures same_reference { target.new.at.ghost_name ≡ target.old.at.ghost_name }
         ensures part { StaysAlike target.old.part target.old.at.now target.new.part target.new.at.now }
+        ensures shows { (scope : _) (this : _) → HasMemory result →
+            let rules = under H.name_of self.now T.natives in
+            EndsAlone rules (value_assigned rules.setting root.now
+            (record { op = op_info.now; value = new_val }))
+            (state_of (T.state table.old) global.old scope
+            (with_place this (Some (shown target.old.part target.old.at.now))))
+            (state_of (T.state table.new) global.new scope
+            (with_place this (Some (shown target.new.part target.new.at.now)))) }
         ensures caches { _caches.new ≡ _caches.old }
         ensures search { global.new.always_search_scope ≡ global.old.always_search_scope }
     {

@@ -2,8 +2,8 @@
 //! specs/Places.antt, specs/Entering.antt and specs/Ends.antt.
 
 ghost use Rattle.std.specs.Prelude.{◌≡◌, ◌∷◌, [], ◌||◌, IfErr, IfOk, None, Ok, Some, false, if◌then◌else◌};
-ghost use Rattle.std.specs.Prelude.{is_some, not, true, unwrap_or};
-ghost use Rattle.std.specs.Option.{option_copied};
+ghost use Rattle.std.specs.Prelude.{is_some, length, not, replicate, true, unwrap_or};
+ghost use Rattle.std.specs.Option.{option_copied, option_map};
 ghost use Rattle.rhai_values.specs.Copy.{copy_of};
 ghost use Rattle.rhai_state.specs.Errors.{is_out_of_memory};
 ghost use Rattle.rhai_state.specs.Native.{left_by, was};
@@ -11,6 +11,7 @@ ghost use Rattle.rhai_state.specs.Scope.{names_in};
 ghost use Rattle.rhai_machine.specs.language.Calls.{dispatch_core};
 ghost use Rattle.rhai_machine.specs.language.Frames.{EnterOnFocus};
 ghost use Rattle.rhai_machine.specs.language.State.{Answers};
+ghost use Rattle.rhai_machine.specs.language.Values.{unit_value as unit};
 ghost use Rattle.rhai_calls.specs.Marks.{MarkedRuns};
 ghost use Rattle.rhai_steps.specs.Marked.{lending, RunsFrom};
 ghost use Rattle.rhai_methods.specs.Methods.{IsEntered};
@@ -24,6 +25,7 @@ ghost use Rattle.rhai_eval.specs.Plain.{Plain};
 ghost use Rattle.rhai_eval.specs.States.{under};
 
 use crate::engine::Engine;
+use crate::func::arguments::empty_all;
 use crate::func::captured::enter_with_this;
 use rhai_calls::dispatch::{Dispatched, Seeks, pass_all, pass_call};
 use rhai_calls::native::{Passing, marked};
@@ -161,6 +163,8 @@ impl<H: Host> Engine<H> {
             (by_value (record { name = name.now; token = token; at = pos }) (Some first.old) rest.old))
             (state_of (T.state table.old) global.old scope held) result
             (state_of (T.state table.new) global.new scope held) }
+        ensures rest { rest.new ≡ replicate (length rest.old) unit }
+        ensures taken { (is_ref_mut || is_method_call) ≡ false → first.new ≡ unit }
         ensures search { global.new.always_search_scope ≡ global.old.always_search_scope }
     {
         let limits = &self.limits();
@@ -170,8 +174,9 @@ impl<H: Host> Engine<H> {
             of_method: is_method_call,
             natives_alone: false,
         };
+        let is_lent = is_guarded(is_ref_mut, is_method_call);
         let passing = Passing {
-            guarded: is_guarded(is_ref_mut, is_method_call),
+            guarded: is_lent,
             marks: true,
         };
         let dispatched = pass_call(
@@ -179,9 +184,12 @@ impl<H: Host> Engine<H> {
         );
         global.always_search_scope = search;
         match dispatched {
-            Dispatched::Ended(result) => MethodCall::Ended(result),
+            Dispatched::Ended(result) => {
+                empty_all(first, rest, is_lent);
+                MethodCall::Ended(result)
+            }
             Dispatched::Found(function) => {
-                to_enter(
+                let call = to_enter(
                     alloc,
                     function,
                     first,
@@ -189,7 +197,9 @@ impl<H: Host> Engine<H> {
                     is_ref_mut,
                     is_method_call,
                     pos,
-                )
+                );
+                empty_all(first, rest, is_lent);
+                call
             }
         }
     }
@@ -220,6 +230,8 @@ impl<H: Host> Engine<H> {
             (by_value (record { name = name.now; token = token; at = pos }) (Some first.old) rest.old))
             (state_of (T.state table.old) global.old scope held) result
             (state_of (T.state table.new) global.new scope held) }
+        ensures rest { rest.new ≡ replicate (length rest.old) unit }
+        ensures taken { (is_ref_mut || is_method_call) ≡ false → first.new ≡ unit }
         ensures search { global.new.always_search_scope ≡ global.old.always_search_scope }
     {
         let call = self.call_first(
@@ -270,6 +282,8 @@ impl<H: Host> Engine<H> {
             (by_value (record { name = name.now; token = token; at = pos }) (Some first.old) rest.old))
             (state_of (T.state table.old) global.old scope.old held) result
             (state_of (T.state table.new) global.new scope.new held) }
+        ensures rest { rest.new ≡ replicate (length rest.old) unit }
+        ensures taken { (is_ref_mut || is_method_call) ≡ false → first.new ≡ unit }
         ensures search { global.new.always_search_scope ≡ global.old.always_search_scope }
     {
         let call = self.call_first(
@@ -450,7 +464,8 @@ impl<H: Host> Engine<H> {
     /// A function of a script runs one level deeper, on the variables of the scope where there is one; its own
     /// go at its end. For a method it has the first argument as its `this`, in its own place, and no other
     /// argument may lead to the cell of that. Otherwise it gets all arguments, of a first one in a place of the
-    /// caller (`is_ref_mut`) a copy. What stands in the places of the arguments that it took is not told.
+    /// caller (`is_ref_mut`) a copy. All arguments are used up, whatever the call comes to: `()` stands in their
+    /// places, but in that of a first one that is lent. Without a first argument the others stay.
     ///
     /// Asked: a first argument where there is a mark; and no global modules, whose constants the machine has no
     /// rule of yet (`Plain`). Where there is no first argument the call has none.
@@ -496,6 +511,9 @@ impl<H: Host> Engine<H> {
             (state_of (T.state table.new) global.new (unwrap_or (left_of scope.exit) variables) held) }
         ensures names { (variables : _) → names_in (unwrap_or (left_of scope.exit) variables)
             ≡ names_in (unwrap_or (was_of scope.entry) variables) }
+        ensures rest { rest.new ≡ (if is_some first.entry then replicate (length rest.old) unit else rest.old) }
+        ensures taken { (is_ref_mut || is_method_call) ≡ false →
+            left_by first.exit ≡ option_map (λ v. unit) (was first.entry) }
         ensures caches { _caches.new ≡ _caches.old }
         ensures search { global.new.always_search_scope ≡ global.old.always_search_scope }
     {

@@ -2,19 +2,23 @@
 //! `make_method_call` of `func/call.rs`; the contracts cite specs/Ends.antt and specs/Places.antt, and the
 //! specs/Targets.antt of `rhai_methods`.
 
-ghost use Rattle.std.specs.Prelude.{◌≡◌, Some};
-ghost use Rattle.rhai_places.specs.Targets.{IsFit, is_shared as shows_handle, shown};
+ghost use Rattle.std.specs.Prelude.{◌≡◌, length, replicate, Some};
+ghost use Rattle.rhai_places.specs.Targets.{is_shared as shows_handle, shown};
+ghost use Rattle.rhai_machine.specs.language.Methods.{method_core};
+ghost use Rattle.rhai_machine.specs.language.State.{HasMemory};
+ghost use Rattle.rhai_machine.specs.language.Values.{unit_value as unit};
 ghost use Rattle.rhai_methods.specs.Targets.{on_target, StaysAlike, stands};
 ghost use Rattle.rhai_steps.specs.Marked.{lending, RunsFrom};
 ghost use Rattle.rhai_cycle.specs.States.{under as under_what_is_read};
 ghost use Rattle.rhai_steps.specs.States.{state_of};
 ghost use Rattle.rhai_laws.specs.Kept.{Kept};
-ghost use Rattle.rhai_eval.specs.Ends.{EndsMarked};
+ghost use Rattle.rhai_eval.specs.Ends.{EndsAlone, EndsMarked};
 ghost use Rattle.rhai_eval.specs.Places.{with_place};
 ghost use Rattle.rhai_eval.specs.Plain.{Plain};
 ghost use Rattle.rhai_eval.specs.States.{under};
 
 use crate::engine::Engine;
+use crate::func::arguments::empty;
 use rhai_context::{Context, give_back, take};
 use rhai_cycle::evaluator::Evaluator;
 use rhai_methods::target::put_back;
@@ -41,7 +45,6 @@ fn method_on<H: Host, T: NativeTable<H>>(
     first: Option<Position>,
     pos: Position,
 ) -> Result<(Dynamic<H>, bool), EvalAltResult<H>>
-    requires fit { IsFit target.old.part target.old.at.now }
     ensures same_reference { target.new.at.ghost_name ≡ target.old.at.ghost_name }
     ensures part { StaysAlike target.old.part target.old.at.now target.new.part target.new.at.now }
     ensures runs { (scope : _) (held : _) →
@@ -58,6 +61,19 @@ fn method_on<H: Host, T: NativeTable<H>>(
         (lending held (shown target.old.part target.old.at.now)))
         result (state_of (T.state table.new) run.new.global scope
         (lending held (stands target.new.part target.new.at.now))) }
+    ensures shows { (scope : _) (held : _) → HasMemory result →
+        let rules = under_what_is_read H.name_of evaluator.now T.natives in
+        EndsAlone rules (method_core rules.setting
+        (record {
+          name = name.now;
+          at = pos;
+          first_at = first;
+          was_handle = shows_handle target.old.part target.old.at.now;
+        }) args.old (shown target.old.part target.old.at.now))
+        (state_of (T.state table.old) run.old.global scope
+        (lending held (shown target.old.part target.old.at.now)))
+        (state_of (T.state table.new) run.new.global scope
+        (lending held (shown target.new.part target.new.at.now))) }
 {
     let is_handle = target.is_shared();
     match &mut target.part {
@@ -82,11 +98,12 @@ impl<H: Host> Engine<H> {
     /// handles, a map's own pointer under the name, and else a call by name with what is shown before the
     /// arguments, which is lent, and kept from a native that is not pure where it is a constant. A function of
     /// a script has what is shown as its `this`, in its own place. A part that a native may have changed is put
-    /// back into its place. With the value comes whether a native gave it that is not pure. What stands in the
-    /// places of the arguments afterwards is not told. Ports upstream's `make_method_call`.
+    /// back into its place. With the value comes whether a native gave it that is not pure. The arguments
+    /// are used up, whatever the call comes to: `()` stands in their places. The target shows what the method has made of the value
+    /// that it worked on, also of a part that went back or was refused. Ports upstream's `make_method_call`.
     ///
-    /// Asked: a part that its place has, and no global modules, whose constants the machine has no rule of yet
-    /// (`Plain`).
+    /// A part that its place does not have goes nowhere. Asked: no global modules, whose constants the machine has
+    /// no rule of yet (`Plain`).
     ///
     /// # Errors
     /// At the method: `ErrorDataRace` for an argument that is the handle of a cell which is held, and for
@@ -106,7 +123,6 @@ impl<H: Host> Engine<H> {
         pos: Position,
     ) -> Result<(Dynamic<H>, bool), EvalAltResult<H>>
         requires plain { Plain self.now global.old }
-        requires fit { IsFit target.old.part target.old.at.now }
         ensures ends { (scope : _) (this : _) → let rules = under H.name_of self.now T.natives in
             EndsMarked rules (on_target rules.setting
             (record {
@@ -127,6 +143,20 @@ impl<H: Host> Engine<H> {
             (with_place this (Some (stands target.new.part target.new.at.now)))) }
         ensures same_reference { target.new.at.ghost_name ≡ target.old.at.ghost_name }
         ensures part { StaysAlike target.old.part target.old.at.now target.new.part target.new.at.now }
+        ensures shows { (scope : _) (this : _) → HasMemory result →
+            let rules = under H.name_of self.now T.natives in
+            EndsAlone rules (method_core rules.setting
+            (record {
+              name = fn_name.now;
+              at = pos;
+              first_at = Some first_arg_pos;
+              was_handle = shows_handle target.old.part target.old.at.now;
+            }) call_args.old (shown target.old.part target.old.at.now))
+            (state_of (T.state table.old) global.old scope
+            (with_place this (Some (shown target.old.part target.old.at.now))))
+            (state_of (T.state table.new) global.new scope
+            (with_place this (Some (shown target.new.part target.new.at.now)))) }
+        ensures args { call_args.new ≡ replicate (length call_args.old) unit }
         ensures caches { _caches.new ≡ _caches.old }
         ensures search { global.new.always_search_scope ≡ global.old.always_search_scope }
     {
@@ -140,6 +170,7 @@ impl<H: Host> Engine<H> {
         );
         give_back(run, global, &mut scope);
         drop(scope);
+        empty(call_args);
         result
     }
 }

@@ -63,9 +63,9 @@ impl<H: Host> Engine<H> {
         pos: Position,
     ) -> Result<Dynamic<H>, EvalAltResult<H>>
         ensures charges { OnOk result (run.old.global.num_operations < run.new.global.num_operations) }
-        ensures args { HasMemory result → length def.now.params ≡ length args.old → args.new
-            ≡ args_left (is_entered (limits_of self.now) run.old.global.num_operations
-            run.old.global.level (length (entries_of run.old.scope)) def.now) args.old }
+        ensures args { HasMemory result → args.new ≡ args_left (is_entered (limits_of self.now)
+            run.old.global.num_operations run.old.global.level (length (entries_of run.old.scope)) def.now)
+            (length def.now.params) args.old }
         ensures runs { Runs (under H.name_of self.now T.natives)
             (EnterFunction (entered def.now (option_copied env.entry) OwnThis false rewind_scope args.old
             run.old.global.level pos))
@@ -135,9 +135,9 @@ impl<H: Host> Engine<H> {
             global.old.level pos))
             (state_of (T.state table.old) global.old scope.old (holding (was this.entry))) result
             (state_of (T.state table.new) global.new scope.new (holding (left_by this.exit))) }
-        ensures args { HasMemory result → length def.now.params ≡ length args.old → args.new
-            ≡ args_left (is_entered (limits_of self.now) global.old.num_operations global.old.level
-            (length (entries_of scope.old)) def.now) args.old }
+        ensures args { HasMemory result → args.new ≡ args_left (is_entered (limits_of self.now)
+            global.old.num_operations global.old.level (length (entries_of scope.old)) def.now)
+            (length def.now.params) args.old }
         ensures lib { global.new.lib ≡ global.old.lib }
         ensures imports { global.new.imports ≡ global.old.imports }
         ensures constants { global.new.constants ≡ global.old.constants }

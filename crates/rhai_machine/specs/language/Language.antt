@@ -76,4 +76,4 @@ want pos c = core (Fail (error.ErrorOutOfMemory pos)) c.stack c.local
 
 -- the machine of the language, under its rules
 abbrev pub machine : {S H : Type 0} → Rules S H → Machine S H (Core H)
-machine rules = record { move = move rules.setting; refuse = refuse; want = want; natives = rules.natives }
+machine rules = record { move = move rules.setting; refuse = refuse; want = want; natives = rules.natives; host = rules.setting.host_type }

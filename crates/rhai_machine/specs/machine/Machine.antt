@@ -16,13 +16,14 @@ pub data Move (H Core : Type 0) : Type 0 where
   -- a question whether a native is pure, and the core that goes on from the answer
   AskPure : Purity → (Bool → Core) → Move H Core
 
--- A language over a table of natives: its moves, the core in which a refused charge leaves one, and that in which want of
--- memory does.
+-- A language over a table of natives: its moves, the core that a refused charge leaves and the one that want of memory does,
+-- the table, and the names of the types of host values.
 pub record Machine (S H Core : Type 0) : Type 0 where
   pub move : Core → Move H Core
   pub refuse : Position → Core → Core
   pub want : Position → Core → Core
   pub natives : Natives S H
+  pub host : H → List ℕ
 
 -- Where a run stands: the core, the state of the table, the count of charges, and the calls of natives, newest first.
 pub record Config (S H Core : Type 0) : Type 0 where

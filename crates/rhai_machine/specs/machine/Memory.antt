@@ -1,7 +1,7 @@
 -- Steps on which memory may run out: the form in which a part of an evaluator tells what it did.
 use Rattle.std.specs.Prelude.{◌≡◌, ℕ, Bool, Option}
 use Rattle.rhai_machine.specs.Types.{Dynamic, EvalAltResult, Position}
-use Rattle.rhai_state.specs.Native.{Request, Reply, Faults}
+use Rattle.rhai_state.specs.Native.{MayLeave, Request, Reply, Faults}
 use Rattle.rhai_machine.specs.machine.Machine.{Native, Machine}
 use Rattle.rhai_machine.specs.machine.Unwinding.{Passes}
 use Rattle.rhai_machine.specs.machine.Point.{Point, Reaches, after}
@@ -11,7 +11,7 @@ module _ {S H Core : Type 0} (M : Machine S H Core) where
   abbrev pub out_of_memory : Position → Point S Core → Point S Core
   out_of_memory at p = record p { core = M.want at p.core }
 
-  -- a native that finds no memory counts as one that fails, whatever it did to its first argument and to the table's state
+  -- a native that finds no memory counts as one that fails, with what it left of its first argument and of the table's state
   abbrev pub starved_at : Position → (Reply H → Option (Dynamic H) → Core) → EvalAltResult H → Option (Dynamic H) → S → Point S Core →
       Point S Core
   starved_at at f e first state p = record p { core = M.want at (f (Faults e) first); table = state }
@@ -24,13 +24,15 @@ module _ {S H Core : Type 0} (M : Machine S H Core) (allows : ℕ → Bool) wher
     wanting : {p q : Point S Core} {at : Position} → Leads (out_of_memory M at p) q → Leads p q
     starved : {p q : Point S Core} {call : Request H} {f : Reply H → Option (Dynamic H) → Core} {at : Position} →
         M.move p.core ≡ Native call f →
-        (e : EvalAltResult H) (first : Option (Dynamic H)) (state : S) → Leads (starved_at M at f e first state p) q → Leads p q
+        (e : EvalAltResult H) (first : Option (Dynamic H)) (state : S) → MayLeave M.host M.natives p.table call first state →
+        Leads (starved_at M at f e first state p) q → Leads p q
 
-  -- what a point is once memory has run out there: before its step is done, or within its native
+  -- what a point is once memory has run out there: before its step is done, or within its native, which left only what its law lets it
   pub data OutOfMemory (p : Point S Core) : Point S Core → Type 0 where
     before_step : (at : Position) → OutOfMemory p (out_of_memory M at p)
     in_native : {call : Request H} {f : Reply H → Option (Dynamic H) → Core} → M.move p.core ≡ Native call f →
-        (at : Position) (e : EvalAltResult H) (first : Option (Dynamic H)) (state : S) → OutOfMemory p (starved_at M at f e first state p)
+        (at : Position) (e : EvalAltResult H) (first : Option (Dynamic H)) (state : S) → MayLeave M.host M.natives p.table call first state →
+        OutOfMemory p (starved_at M at f e first state p)
 
   -- The machine by itself comes to a point. There memory runs out, and from there the run only unwinds: it charges nothing and
   -- calls nothing.
@@ -49,7 +51,7 @@ pub ◌⨾◌ : {S H Core : Type 0} {M : Machine S H Core} {allows : ℕ → Boo
 here ⨾ q = q
 next p ⨾ q = next (p ⨾ q)
 wanting p ⨾ q = wanting (p ⨾ q)
-starved is e first state p ⨾ q = starved is e first state (p ⨾ q)
+starved is e first state left p ⨾ q = starved is e first state left (p ⨾ q)
 
 -- what want of memory has left only unwinds, and wants memory still
 pub record Wants {S H Core : Type 0} (M : Machine S H Core) (W : Core → Type 0) : Type 0 where

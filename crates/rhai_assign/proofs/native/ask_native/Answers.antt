@@ -47,4 +47,9 @@ returns-clause-asked g c offer scope held place attempt operand from named only 
     (asked_alike g.H.Host.name_of g.T.NativeTable.natives _ c.as_str.result.now _ c.args.target.now c.is_barred.result _
     (c.as_str.ensures ∙ c.get.ensures ∙ named) c.is_barred.ensures c.if-is_barred.false)
     (reply_of c.call_on.result) c.args.name.now c.args.rest.now
-    (rw (c.as_str-2.ensures, c.get-2.ensures) at c.call_on.ensures.obeys) named only
+    (rw (c.as_str-2.ensures, c.get-2.ensures) at c.call_on.ensures.obeys)
+    (record {
+      no_handle = c.call_on.ensures.plain;
+      leaves = rw (c.as_str-2.ensures, c.get-2.ensures) at c.call_on.ensures.leaves;
+    })
+    named only

@@ -12,7 +12,8 @@ returns-clause-runs g c offer count l same k =
     let operation : Operation = record { name = c.args.name.now; token = c.args.token; at = c.args.pos } in
     fires_alone rules operation c.args.id k (record { table = g.T.NativeTable.state c.args.table.now; count = count; local = l })
     c.args.marks c.is_some-by_number.result (reply_of c.answer_alone-answer.result) (g.T.NativeTable.state c.answer_alone-answer.new.table)
-    c.replied_alone-result.result c.marked.result (rw (← same) at c.answer_alone-answer.ensures)
+    c.replied_alone-result.result c.marked.result (rw (← same) at c.answer_alone-answer.ensures.obeys)
+    (record { no_handle = tt; leaves = rw (← same) at c.answer_alone-answer.ensures.leaves })
     c.is_some-by_number.ensures
     (c.replied_alone-result.ensures.told l.around.cells) c.replied_alone-result.ensures.memory
     (marks_it _ _ _ _ _ _ _ c.lone_changes-changes.ensures c.has_changed-changed.ensures c.marked.ensures)

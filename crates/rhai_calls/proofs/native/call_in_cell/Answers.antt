@@ -15,10 +15,10 @@ returns-in-Err-clause-runs g c offer =
     let there = sym c.in-Some.ensures.value in
     let plain = cell_plain (cells_of c.args.cells.now) c.args.cell.number c.in-Some.lent there c.requires in
     calls_in_cell rules operation c.args.id c.args.passing.guarded c.args.passing.marks c.args.cell c.args.rest.now
-    (cells_of c.args.cells.now) (cells_of c.take.new.self) (cells_of c.set.new.self) c.in-Some.lent c.ask_native-asked.new.first
+    (cells_of c.args.cells.now) (cells_of c.take.new.self) (cells_of c.put_back.new.cells) c.in-Some.lent c.ask_native-asked.new.first
     (g.T.NativeTable.state c.args.table.now) (g.T.NativeTable.state c.ask_native-asked.new.table) _
-    there plain c.take.ensures.held c.set.ensures
-    (calls_barred rules (cells_of c.take.new.self) (cells_of c.set.new.self) operation c.args.id c.args.passing.guarded
+    there plain c.take.ensures.held c.put_back.ensures
+    (calls_barred rules (cells_of c.take.new.self) (cells_of c.put_back.new.cells) operation c.args.id c.args.passing.guarded
     c.args.passing.marks c.in-Some.lent c.args.rest.now (g.T.NativeTable.state c.args.table.now) plain c.in-Err.error
     c.ask_native-asked.new.first (g.T.NativeTable.state c.ask_native-asked.new.table) _ c.in-Err.ensures.barred refl)
 
@@ -31,12 +31,12 @@ returns-in-Ok-clause-runs g c offer =
     let left : c.unwrap-left.result.now ≡ c.ask_native-asked.new.first = comes_back (cells_of c.args.cells.now) (cells_of c.take.new.self)
     c.args.cell.number c.ask_native-asked.new.first c.unwrap-left.result.now
     (in_held (cells_of c.args.cells.now) c.args.cell.number c.in-Some.lent there) c.take.ensures.held
-    (rw c.set.ensures at (ap option_copied (sym c.unwrap-left.ensures) ∙ c.get.ensures)) in
+    (rw c.put_back.ensures at (ap option_copied (sym c.unwrap-left.ensures) ∙ c.get.ensures)) in
     calls_in_cell rules operation c.args.id c.args.passing.guarded c.args.passing.marks c.args.cell c.args.rest.now
-    (cells_of c.args.cells.now) (cells_of c.take.new.self) (cells_of c.set.new.self) c.in-Some.lent c.ask_native-asked.new.first
+    (cells_of c.args.cells.now) (cells_of c.take.new.self) (cells_of c.put_back.new.cells) c.in-Some.lent c.ask_native-asked.new.first
     (g.T.NativeTable.state c.args.table.now) (g.T.NativeTable.state c.ask_native-asked.new.table) c.marked.result
-    there plain c.take.ensures.held c.set.ensures
-    (calls_on rules (cells_of c.take.new.self) (cells_of c.set.new.self) operation c.args.id c.args.passing.guarded
+    there plain c.take.ensures.held c.put_back.ensures
+    (calls_on rules (cells_of c.take.new.self) (cells_of c.put_back.new.cells) operation c.args.id c.args.passing.guarded
     c.args.passing.marks c.in-Some.lent c.args.rest.now (g.T.NativeTable.state c.args.table.now) plain (reply_of c.in-Ok.answer)
     c.ask_native-asked.new.first (g.T.NativeTable.state c.ask_native-asked.new.table) c.in-Ok.changed c.is_some-by_number.result
     c.replied-result.result c.marked.result c.in-Ok.ensures.asked c.is_some-by_number.ensures

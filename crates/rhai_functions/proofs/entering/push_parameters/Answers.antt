@@ -1,8 +1,8 @@
-use Rattle.std.proofs.Common.{◌≡◌, ◌+◌, ◌++◌, ◌∷◌, [], slice_set, suc, ap, ◌∙◌, arith}
+use Rattle.std.proofs.Common.{◌≡◌, ◌+◌, ◌++◌, ◌∷◌, [], slice_set, length, suc, ap, ◌∙◌, arith}
 use Rattle.rhai_values.specs.declared.base.value.AccessMode.TheVariants.{ReadWrite}
 use Rattle.rhai_state.specs.Scope.{entries_of, new_entry}
-use Rattle.rhai_functions.specs.Entering.{unit}
-use Rattle.rhai_functions.proofs.Pushing.{begins_on, pushed_on, set_next, set_whole}
+use Rattle.rhai_functions.specs.Entering.{left_of, unit}
+use Rattle.rhai_functions.proofs.Pushing.{begins_on, pushed_on, set_next}
 use Rattle.rhai_functions.proofs.entering.push_parameters.Goals as goal
 
 pub params-preserved : goal.params-preserved
@@ -23,5 +23,6 @@ params-preserved g c =
     }
 
 pub returns-clause-left : goal.returns-clause-left
-returns-clause-left g c same =
-    set_whole unit c.args.args.now c.params.args c.params.at c.params.invariant.left (omega (arith, same, c.params.invariant.within))
+returns-clause-left g c =
+    let all : c.params.at ≡ length c.args.params.now = omega (arith, c.params.invariant.within) in
+    c.params.invariant.left ∙ ap (λ n. left_of n c.args.args.now) all

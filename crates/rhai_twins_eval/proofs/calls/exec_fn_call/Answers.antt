@@ -1,4 +1,5 @@
-use Rattle.std.proofs.Common.{Some, true, ap, refl, ◌∙◌}
+use Rattle.std.proofs.Common.{Some, true, ap, refl, ◌∙◌, length, replicate, sym}
+use Rattle.rhai_machine.specs.language.Values.{unit_value as unit}
 use Rattle.std.specs.Option.{option_copied}
 use Rattle.rhai_machine.specs.language.Calls.{dispatch_core}
 use Rattle.rhai_machine.specs.language.Frames.{Operation}
@@ -18,3 +19,7 @@ returns-clause-run g c = let one = c.exec_fn_call in let other = c.exec_fn_call-
     ∙ ap (λ x. dispatch_core rules.setting (by_name a.is_method_call true) (on_place operation true (Some a.also_first.now) x)) c.requires.rest)
     (same_start c.requires.table c.requires.global c.requires.scope (ap (λ x. with_place this (Some x)) c.requires.first))
     (one.ensures.lent a.scope.now this refl) (other.ensures.lent a.scope.now this refl)
+
+pub returns-clause-rest : goal.returns-clause-rest
+returns-clause-rest g c = c.exec_fn_call.ensures.rest ∙ ap (λ xs. replicate (length xs) unit) c.requires.rest
+    ∙ sym c.exec_fn_call-2.ensures.rest

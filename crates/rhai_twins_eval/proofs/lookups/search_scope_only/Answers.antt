@@ -9,7 +9,7 @@ use Rattle.rhai_twins_eval.proofs.lookups.search_scope_only.Goals as goal
 pub returns-clause-result : goal.returns-clause-result
 returns-clause-result g c = let one = c.search_scope_only in let other = c.search_scope_only-2 in let a = c.args in
     variable_once _ _ one.result other.result
-    (ap (λ x. searched x.always_search_scope (out-Expr a.expr.now) (cells_of x.cells) (entries_of a.scope.now)) c.requires.global
-    ∙ ap (λ x. searched a.also_global.now.always_search_scope (out-Expr a.expr.now) (cells_of a.also_global.now.cells) (entries_of x))
-    c.requires.scope)
-    (one.ensures.found, (one.ensures.place, one.ensures.missed)) (other.ensures.found, (other.ensures.place, other.ensures.missed))
+    (ap (λ x. searched x.always_search_scope (out-Expr a.expr.now) (cells_of x.cells) x.lib (entries_of a.scope.now)) c.requires.global
+    ∙ ap (λ x. searched a.also_global.now.always_search_scope (out-Expr a.expr.now) (cells_of a.also_global.now.cells)
+    a.also_global.now.lib (entries_of x)) c.requires.scope)
+    (one.ensures.found, one.ensures.missed) (other.ensures.found, other.ensures.missed)

@@ -21,12 +21,12 @@ returns-clause-run g c = let one = c.call_script_fn in let other = c.call_script
     one.ensures.ends other.ensures.ends
 
 pub returns-clause-args : goal.returns-clause-args
-returns-clause-args g c same memory also = let one = c.call_script_fn in let other = c.call_script_fn-2 in let a = c.args in
-    one.ensures.args memory same
+returns-clause-args g c memory also = let one = c.call_script_fn in let other = c.call_script_fn-2 in let a = c.args in
+    one.ensures.args memory
     ∙ ap (λ x. args_left (is_entered (limits_of a.engine.now) x.num_operations x.level (length (entries_of a.scope.now)) a.def.now)
-    a.args.now) c.requires.global
+    (length a.def.now.params) a.args.now) c.requires.global
     ∙ ap (λ x. args_left (is_entered (limits_of a.engine.now) a.also_global.now.num_operations a.also_global.now.level
-    (length (entries_of x)) a.def.now) a.args.now) c.requires.scope
+    (length (entries_of x)) a.def.now) (length a.def.now.params) a.args.now) c.requires.scope
     ∙ ap (λ x. args_left (is_entered (limits_of a.engine.now) a.also_global.now.num_operations a.also_global.now.level
-    (length (entries_of a.also_scope.now)) a.def.now) x) c.requires.args
-    ∙ sym (other.ensures.args also (same ∙ ap length c.requires.args))
+    (length (entries_of a.also_scope.now)) a.def.now) (length a.def.now.params) x) c.requires.args
+    ∙ sym (other.ensures.args also)

@@ -176,6 +176,9 @@ run_chain-run_root-result-requires = chains.run_chain-run_root-result-requires
 pub run_chain-returns-in-Ok-clause-runs : goal.run_chain-returns-in-Ok-clause-runs
 run_chain-returns-in-Ok-clause-runs = chains.run_chain-returns-in-Ok-clause-runs
 
+pub run_chain-returns-in-Ok-clause-asks : goal.run_chain-returns-in-Ok-clause-asks
+run_chain-returns-in-Ok-clause-asks = chains.run_chain-returns-in-Ok-clause-asks
+
 pub run_chain-returns-in-Err-clause-runs : goal.run_chain-returns-in-Err-clause-runs
 run_chain-returns-in-Err-clause-runs = chains.run_chain-returns-in-Err-clause-runs
 
@@ -187,6 +190,9 @@ run_chain-run_root-result-requires-in-Ok-run_link_args = chains.run_chain-run_ro
 
 pub run_chain-returns-in-Ok-run_link_args-clause-runs : goal.run_chain-returns-in-Ok-run_link_args-clause-runs
 run_chain-returns-in-Ok-run_link_args-clause-runs = chains.run_chain-returns-in-Ok-run_link_args-clause-runs
+
+pub run_chain-returns-in-Ok-run_link_args-clause-asks : goal.run_chain-returns-in-Ok-run_link_args-clause-asks
+run_chain-returns-in-Ok-run_link_args-clause-asks = chains.run_chain-returns-in-Ok-run_link_args-clause-asks
 
 pub run_chain-returns-in-Err-run_link_args-clause-runs : goal.run_chain-returns-in-Err-run_link_args-clause-runs
 run_chain-returns-in-Err-run_link_args-clause-runs = chains.run_chain-returns-in-Err-run_link_args-clause-runs

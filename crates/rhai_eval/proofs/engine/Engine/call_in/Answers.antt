@@ -24,4 +24,4 @@ returns-clause-runs g c =
     (rw reads at (c.run_body-result.ensures.runs c.args.run.now.scope (holding c.args.run.now.this) OwnThis false refl refl))
 
 pub returns-clause-args : goal.returns-clause-args
-returns-clause-args g c memory same = rw c.evaluator-evaluator.ensures.limits at (c.run_body-result.ensures.args memory same)
+returns-clause-args g c memory = rw c.evaluator-evaluator.ensures.limits at (c.run_body-result.ensures.args memory)

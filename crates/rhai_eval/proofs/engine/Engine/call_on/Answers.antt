@@ -74,3 +74,8 @@ returns-in-Alone-clause-by_value g c held none =
     (state_of (g.T.NativeTable.state c.call_first-call.new.table) c.call_first-call.new.global c.args.scope.now held)
     (state_of (g.T.NativeTable.state c.call_first-call.new.table) c.call_first-call.new.global c.args.scope.now held)
     c.in-Alone.function c.in-Alone.args c.in-Alone.is (c.call_first-call.ensures.by_value c.args.scope.now held true none)
+
+pub returns-in-OnTarget-clause-taken : goal.returns-in-OnTarget-clause-taken
+returns-in-OnTarget-clause-taken g c none =
+    absurd (no_method c.call_first-call.result c.in-OnTarget.function c.in-OnTarget.args c.in-OnTarget.is
+    (c.call_first-call.ensures.by_itself (none_lends c.args.is_ref_mut c.args.is_method_call none).1))

@@ -101,7 +101,7 @@ returns-in-Some-clause-restores g c = λ rewinds.
     c.args.global.now.level c.args.pos)) (ended c.call_in-result.result) _ _ (adds_none c.args.rewind_scope rewinds) tt (runs_on g c)
 
 pub returns-in-Some-clause-args : goal.returns-in-Some-clause-args
-returns-in-Some-clause-args g c memory same = rw c.take_with-run.ensures.run at (c.call_in-result.ensures.args memory same)
+returns-in-Some-clause-args g c memory = rw c.take_with-run.ensures.run at (c.call_in-result.ensures.args memory)
 
 -- what stands in the place of `this` as its loan ends, were this the place
 abbrev left_free : (g : Over) → goal.After-give_back g → Option (MutBor (Dynamic g.row.H.Denot)) → Option (Dynamic g.row.H.Denot)
@@ -185,4 +185,4 @@ returns-in-None-clause-restores g c = λ rewinds.
     (runs_free g c)
 
 pub returns-in-None-clause-args : goal.returns-in-None-clause-args
-returns-in-None-clause-args g c memory same = rw c.take-run.ensures.run at (c.call_in-result-in-None.ensures.args memory same)
+returns-in-None-clause-args g c memory = rw c.take-run.ensures.run at (c.call_in-result-in-None.ensures.args memory)

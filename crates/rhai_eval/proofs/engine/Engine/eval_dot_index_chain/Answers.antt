@@ -9,9 +9,10 @@ use Rattle.rhai_tree.specs.declared.expr.Expr.{out-Expr}
 use Rattle.rhai_state.specs.Scope.{names_in}
 use Rattle.rhai_machine.specs.language.Links.{first_in}
 use Rattle.rhai_chains.specs.Chains.{new_of}
-use Rattle.rhai_cycle.specs.Chains.{MayWalk, StartsFrom}
-use Rattle.rhai_eval.specs.Chains.{assigned_in, whole_chain}
-use Rattle.rhai_eval.proofs.Chained.{chain_assigns, chain_may_run, over_root}
+use Rattle.rhai_cycle.specs.Chains.{AsksFirst, MayWalk, StartsFrom}
+use Rattle.std.specs.Prelude.{OnOk}
+use Rattle.rhai_eval.specs.Chains.{assigned_in, chain_of, whole_chain}
+use Rattle.rhai_eval.proofs.Chained.{asks_over_root, chain_assigns, chain_may_run, over_root}
 use Rattle.rhai_machine.specs.language.Runs.{Runs}
 use Rattle.rhai_laws.proofs.KeptLaws.{kept, names_stay}
 use Rattle.rhai_eval.proofs.Public.{ends_as, five, handed_free, handed_on, same_rules}
@@ -117,6 +118,27 @@ runs_on g c =
     (was c.args.this) (left_on g c c.args.this) c.in-Some-this.place.now c.give_back_with.new.this (ap was c.in-Some-this.is)
     (this_on g c) c.take_with-run.ensures.run c.give_back_with.ensures.this runs
 
+asks_on : (g : Over) (c : goal.After-give_back_with g) → OnOk c.run_chain-result.result
+    (AsksFirst (under g.H.Host.name_of c.args.self.now g.T.NativeTable.natives) (chain_of c.args.expr.now (assigned_in c.args.new_val))
+    (state_of (g.T.NativeTable.state c.args.table.now) c.args.global.now c.args.scope.now (holding (was c.args.this))))
+asks_on g c =
+    let reads = same_rules g.H.Host.name_of g.T.NativeTable.natives c.args.self.now c.evaluator-evaluator.result
+    c.evaluator-evaluator.ensures.limits c.evaluator-evaluator.ensures.offer in
+    let asks = asks_over_root (under_what_is_read g.H.Host.name_of c.evaluator-evaluator.result g.T.NativeTable.natives) c.args.expr.now
+    c.in-Some.root.now (new_of c.new_value-new.result) (assigned_in c.args.new_val) _ c.run_chain-result.result
+    (sym c.first_of.ensures ∙ ap option_copied c.in-Some.is) c.new_value-new.ensures.same c.run_chain-result.ensures.asks in
+    handed_on reads (λ r old new. OnOk c.run_chain-result.result (AsksFirst r (chain_of c.args.expr.now (assigned_in c.args.new_val)) old))
+    (g.T.NativeTable.state c.args.table.now) (g.T.NativeTable.state c.run_chain-result.new.table) c.take_with-run.result
+    c.run_chain-result.new.run c.args.global.now c.give_back_with.new.global c.give_back_with.ensures.global c.args.scope.now
+    c.give_back_with.new.scope c.give_back_with.ensures.scope
+    (kept (under_what_is_read g.H.Host.name_of c.evaluator-evaluator.result g.T.NativeTable.natives)
+    (whole_chain c.args.expr.now (assigned_in c.args.new_val)) (ended c.run_chain-result.result) _ _ tt
+    (over_root (under_what_is_read g.H.Host.name_of c.evaluator-evaluator.result g.T.NativeTable.natives) c.args.expr.now
+    c.in-Some.root.now (new_of c.new_value-new.result) (assigned_in c.args.new_val) _ c.run_chain-result.result _
+    (sym c.first_of.ensures ∙ ap option_copied c.in-Some.is) c.new_value-new.ensures.same c.run_chain-result.ensures.runs)).bound
+    (was c.args.this) (left_on g c c.args.this) c.in-Some-this.place.now c.give_back_with.new.this (ap was c.in-Some-this.is)
+    (this_on g c) c.take_with-run.ensures.run c.give_back_with.ensures.this asks
+
 pub returns-in-Some-this-clause-ends : goal.returns-in-Some-this-clause-ends
 returns-in-Some-this-clause-ends g c = ends_as (under g.H.Host.name_of c.args.self.now g.T.NativeTable.natives)
     (whole_chain c.args.expr.now (assigned_in c.args.new_val)) _ _ c.run_chain-result.result (runs_on g c)
@@ -131,7 +153,7 @@ returns-in-Some-this-clause-names g c = names_stay (under g.H.Host.name_of c.arg
 
 pub returns-in-Some-this-clause-assigns : goal.returns-in-Some-this-clause-assigns
 returns-in-Some-this-clause-assigns g c = chain_assigns (under g.H.Host.name_of c.args.self.now g.T.NativeTable.natives) c.args.expr.now
-    (assigned_in c.args.new_val) _ _ c.run_chain-result.result (runs_on g c)
+    (assigned_in c.args.new_val) _ _ c.run_chain-result.result (runs_on g c) (asks_on g c)
 
 -- what stands in the place of `this` as its loan ends, were this the place
 abbrev left_free : (g : Over) → goal.After-give_back g → Option (MutBor (Dynamic g.row.H.Denot)) → Option (Dynamic g.row.H.Denot)
@@ -168,6 +190,25 @@ runs_free g c =
     (sym c.first_of.ensures ∙ ap option_copied c.in-Some.is) c.new_value-new.ensures.same c.run_chain-result-in-None.ensures.runs)).bound
     (was c.args.this) (left_free g c c.args.this) (ap was c.in-None.is) (this_free g c) c.take-run.ensures.run runs
 
+asks_free : (g : Over) (c : goal.After-give_back g) → OnOk c.run_chain-result-in-None.result
+    (AsksFirst (under g.H.Host.name_of c.args.self.now g.T.NativeTable.natives) (chain_of c.args.expr.now (assigned_in c.args.new_val))
+    (state_of (g.T.NativeTable.state c.args.table.now) c.args.global.now c.args.scope.now (holding (was c.args.this))))
+asks_free g c =
+    let reads = same_rules g.H.Host.name_of g.T.NativeTable.natives c.args.self.now c.evaluator-evaluator.result
+    c.evaluator-evaluator.ensures.limits c.evaluator-evaluator.ensures.offer in
+    let asks = asks_over_root (under_what_is_read g.H.Host.name_of c.evaluator-evaluator.result g.T.NativeTable.natives) c.args.expr.now
+    c.in-Some.root.now (new_of c.new_value-new.result) (assigned_in c.args.new_val) _ c.run_chain-result-in-None.result
+    (sym c.first_of.ensures ∙ ap option_copied c.in-Some.is) c.new_value-new.ensures.same c.run_chain-result-in-None.ensures.asks in
+    handed_free reads (λ r old new. OnOk c.run_chain-result-in-None.result (AsksFirst r (chain_of c.args.expr.now (assigned_in c.args.new_val)) old)) (g.T.NativeTable.state c.args.table.now)
+    (g.T.NativeTable.state c.run_chain-result-in-None.new.table) c.take-run.result c.run_chain-result-in-None.new.run c.args.global.now
+    c.give_back.new.global c.give_back.ensures.global c.args.scope.now c.give_back.new.scope c.give_back.ensures.scope
+    (kept (under_what_is_read g.H.Host.name_of c.evaluator-evaluator.result g.T.NativeTable.natives)
+    (whole_chain c.args.expr.now (assigned_in c.args.new_val)) (ended c.run_chain-result-in-None.result) _ _ tt
+    (over_root (under_what_is_read g.H.Host.name_of c.evaluator-evaluator.result g.T.NativeTable.natives) c.args.expr.now
+    c.in-Some.root.now (new_of c.new_value-new.result) (assigned_in c.args.new_val) _ c.run_chain-result-in-None.result _
+    (sym c.first_of.ensures ∙ ap option_copied c.in-Some.is) c.new_value-new.ensures.same c.run_chain-result-in-None.ensures.runs)).bound
+    (was c.args.this) (left_free g c c.args.this) (ap was c.in-None.is) (this_free g c) c.take-run.ensures.run asks
+
 pub returns-in-None-clause-ends : goal.returns-in-None-clause-ends
 returns-in-None-clause-ends g c = ends_as (under g.H.Host.name_of c.args.self.now g.T.NativeTable.natives)
     (whole_chain c.args.expr.now (assigned_in c.args.new_val)) _ _ c.run_chain-result-in-None.result (runs_free g c)
@@ -182,4 +223,4 @@ returns-in-None-clause-names g c = names_stay (under g.H.Host.name_of c.args.sel
 
 pub returns-in-None-clause-assigns : goal.returns-in-None-clause-assigns
 returns-in-None-clause-assigns g c = chain_assigns (under g.H.Host.name_of c.args.self.now g.T.NativeTable.natives) c.args.expr.now
-    (assigned_in c.args.new_val) _ _ c.run_chain-result-in-None.result (runs_free g c)
+    (assigned_in c.args.new_val) _ _ c.run_chain-result-in-None.result (runs_free g c) (asks_free g c)

@@ -34,3 +34,7 @@ returns-clause-kept g c scope this =
     assigned_kept rules c.args.root.now new_value c.args.target.now.part c.args.target.now.at.now old new
     c.assign_target-result.result (rw c.limits.ensures at
     (c.assign_target-result.ensures.follows (offer_of c.args.self.now) scope (with_place this None) refl))
+
+pub returns-clause-shows : goal.returns-clause-shows
+returns-clause-shows g c scope this memory = rw c.limits.ensures at
+    (c.assign_target-result.ensures.shows (offer_of c.args.self.now) scope (with_place this None) refl memory)

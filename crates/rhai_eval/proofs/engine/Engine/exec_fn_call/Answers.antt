@@ -1,5 +1,6 @@
-use Rattle.std.proofs.Common.{◌≡◌, ◌||◌, [], Option, Some, None, MutBor, ap, false, refl, subst, sym, true}
-use Rattle.std.specs.Option.{option_copied}
+use Rattle.std.proofs.Common.{◌≡◌, ◌||◌, [], Option, Some, None, MutBor, ap, false, refl, subst, sym, true, ◌∙◌}
+use Rattle.std.specs.Option.{option_copied, option_map}
+use Rattle.rhai_machine.specs.language.Values.{unit_value as unit}
 use Rattle.rhai_values.specs.declared.base.value.Dynamic.{Dynamic}
 use Rattle.rhai_state.specs.declared.scope.Scope.{Scope}
 use Rattle.rhai_state.specs.Native.{left_by, was}
@@ -420,3 +421,57 @@ returns-in-None-scope-2-clause-kept g c variables held =
 pub returns-in-None-scope-2-clause-names : goal.returns-in-None-scope-2-clause-names
 returns-in-None-scope-2-clause-names g c variables =
     names_told variables (was_of c.args.scope) (scope_left_4 g c c.args.scope) None None (ap was_of c.in-None-scope-2.is) (scope_is_4 g c) refl
+
+-- ---- what stands in the places of the arguments
+
+pub returns-in-Some-scope-clause-taken : goal.returns-in-Some-scope-clause-taken
+returns-in-Some-scope-clause-taken g c none =
+    first_is_1 g c ∙ ap Some (c.call_on-outcome.ensures.taken none) ∙ sym (ap (λ place. option_map (λ v. unit) (was place)) c.in-Some.is)
+
+pub returns-in-None-scope-clause-taken : goal.returns-in-None-scope-clause-taken
+returns-in-None-scope-clause-taken g c none =
+    first_is_2 g c ∙ ap Some (c.call_with-outcome.ensures.taken none) ∙ sym (ap (λ place. option_map (λ v. unit) (was place)) c.in-Some.is)
+
+-- what stands in the place of `first` as its loan ends, were this the place
+abbrev first_left_3 : (g : Over) → goal.After-finish_on-in-Some-scope-2 g → Option (MutBor (Dynamic g.row.H.Denot)) → Option
+    (Dynamic g.row.H.Denot)
+first_left_3 g c place =
+    let kinds = ps g.row.H g.row.T g.H.laws g.T.laws g.H.Host-dict g.H.Destruct-dict g.T.NativeTable-dict in
+    let answer = r g.row.H g.row.T g.H.laws g.T.laws g.H.Host-dict g.H.Destruct-dict g.T.NativeTable-dict in
+    let types = xs g.row.H g.row.T g.H.laws g.T.laws g.H.Host-dict g.H.Destruct-dict g.T.NativeTable-dict in
+    let given : Args (ended_of 11 kinds answer).signature c.lifetimes = (c.args.self, (c.args.alloc, (c.args.global, (c.args._caches, (c.args.table, (c.args.scope, (c.args.name, (c.args.op_token, (place, (c.args.rest, (c.args.is_ref_mut, (c.args.is_method_call, (c.args.position, tt))))))))))))) in
+    left_by (at_exit (ended_of 11 kinds answer) c.lifetimes given (lasts_p c.lifetimes 4 kinds types given (c.args.self, (tt, (c.args.global, (c.args._caches, (c.args.table, (Some (record c.in-Some-scope-2.scope { now = c.finish_on-in-Some-scope-2.new.scope }), (c.args.name, (c.args.op_token, (place, (c.args.rest, five (five (five (five (five (five (tt, (tt, (tt, (tt, five (tt, (tt, tt))))))))))))))))))))))).1.1.1.1.1.1.1.1.0
+
+first_is_3 : (g : Over) (c : goal.After-finish_on-in-Some-scope-2 g) → first_left_3 g c c.args.first ≡ None
+first_is_3 g c = subst (λ place. first_left_3 g c place ≡ None) (sym c.in-None.is) refl
+
+pub returns-in-Some-scope-2-clause-taken : goal.returns-in-Some-scope-2-clause-taken
+returns-in-Some-scope-2-clause-taken g c none = first_is_3 g c ∙ sym (ap (λ place. option_map (λ v. unit) (was place)) c.in-None.is)
+
+-- what stands in the place of `first` as its loan ends, were this the place
+abbrev first_left_4 : (g : Over) → goal.After-finish_fresh-in-None-scope-2 g → Option (MutBor (Dynamic g.row.H.Denot)) → Option
+    (Dynamic g.row.H.Denot)
+first_left_4 g c place =
+    let kinds = ps g.row.H g.row.T g.H.laws g.T.laws g.H.Host-dict g.H.Destruct-dict g.T.NativeTable-dict in
+    let answer = r g.row.H g.row.T g.H.laws g.T.laws g.H.Host-dict g.H.Destruct-dict g.T.NativeTable-dict in
+    let types = xs g.row.H g.row.T g.H.laws g.T.laws g.H.Host-dict g.H.Destruct-dict g.T.NativeTable-dict in
+    let given : Args (ended_of 11 kinds answer).signature c.lifetimes = (c.args.self, (c.args.alloc, (c.args.global, (c.args._caches, (c.args.table, (c.args.scope, (c.args.name, (c.args.op_token, (place, (c.args.rest, (c.args.is_ref_mut, (c.args.is_method_call, (c.args.position, tt))))))))))))) in
+    left_by (at_exit (ended_of 11 kinds answer) c.lifetimes given (lasts_p c.lifetimes 4 kinds types given (c.args.self, (tt, (c.args.global, (c.args._caches, (c.args.table, (c.args.scope, (c.args.name, (c.args.op_token, (place, (c.args.rest, five (five (five (five (five (five (tt, (tt, (tt, (tt, five (tt, (tt, tt))))))))))))))))))))))).1.1.1.1.1.1.1.1.0
+
+first_is_4 : (g : Over) (c : goal.After-finish_fresh-in-None-scope-2 g) → first_left_4 g c c.args.first ≡ None
+first_is_4 g c = subst (λ place. first_left_4 g c place ≡ None) (sym c.in-None.is) refl
+
+pub returns-in-None-scope-2-clause-taken : goal.returns-in-None-scope-2-clause-taken
+returns-in-None-scope-2-clause-taken g c none = first_is_4 g c ∙ sym (ap (λ place. option_map (λ v. unit) (was place)) c.in-None.is)
+
+pub returns-in-Some-scope-clause-rest : goal.returns-in-Some-scope-clause-rest
+returns-in-Some-scope-clause-rest g c = rw c.in-Some.is c.call_on-outcome.ensures.rest
+
+pub returns-in-None-scope-clause-rest : goal.returns-in-None-scope-clause-rest
+returns-in-None-scope-clause-rest g c = rw c.in-Some.is c.call_with-outcome.ensures.rest
+
+pub returns-in-Some-scope-2-clause-rest : goal.returns-in-Some-scope-2-clause-rest
+returns-in-Some-scope-2-clause-rest g c = rw c.in-None.is refl
+
+pub returns-in-None-scope-2-clause-rest : goal.returns-in-None-scope-2-clause-rest
+returns-in-None-scope-2-clause-rest g c = rw c.in-None.is refl

@@ -3,11 +3,12 @@ use Rattle.rhai_values.specs.declared.base.value.Dynamic.{Dynamic}
 use Rattle.rhai_state.specs.declared.scope.Scope.{Scope}
 use Rattle.rhai_state.specs.declared.state.GlobalRuntimeState.{GlobalRuntimeState}
 use Rattle.rhai_places.specs.Targets.{is_shared, shown}
-use Rattle.rhai_machine.specs.language.Methods.{Method}
+use Rattle.rhai_machine.specs.language.Methods.{Method, method_core}
 use Rattle.rhai_steps.specs.Marked.{RunsFrom}
 use Rattle.rhai_methods.specs.Targets.{on_target, stands}
 use Rattle.rhai_steps.specs.States.{state_of}
 use Rattle.rhai_context.specs.declared.Context.{Context}
+use Rattle.rhai_eval.specs.Ends.{EndsAlone}
 use Rattle.rhai_eval.specs.Places.{with_place}
 use Rattle.rhai_eval.specs.States.{under}
 use Rattle.rhai_eval.proofs.OnTargets.{target_ends, target_kept}
@@ -16,7 +17,7 @@ use Rattle.rhai_eval.proofs.engine.Engine.make_method_call.Given.{Over}
 use Rattle.rhai_eval.proofs.engine.Engine.make_method_call.Goals as goal
 
 -- the method, as it is called
-abbrev method : (g : Over) → goal.After-drop g → Method
+abbrev method : (g : Over) → goal.After-call_args-2-1 g → Method
 method g c = record {
   name = c.args.fn_name.now;
   at = c.args.pos;
@@ -25,7 +26,7 @@ method g c = record {
 }
 
 -- its run, over what the caller handed in
-method_runs : (g : Over) (c : goal.After-drop g) (scope : Scope g.row.H.Denot) (this : Option (Dynamic g.row.H.Denot)) →
+method_runs : (g : Over) (c : goal.After-call_args-2-1 g) (scope : Scope g.row.H.Denot) (this : Option (Dynamic g.row.H.Denot)) →
     RunsFrom (under g.H.Host.name_of c.args.self.now g.T.NativeTable.natives)
     (on_target (under g.H.Host.name_of c.args.self.now g.T.NativeTable.natives).setting (method g c) c.args.call_args.now
     c.args.target.now.part c.args.target.now.at.now)
@@ -51,6 +52,17 @@ returns-clause-ends g c scope this = target_ends (under g.H.Host.name_of c.args.
 pub returns-clause-kept : goal.returns-clause-kept
 returns-clause-kept g c scope this = target_kept (under g.H.Host.name_of c.args.self.now g.T.NativeTable.natives) (method g c)
     c.args.call_args.now c.args.target.now.part c.args.target.now.at.now _ _ c.method_on-result.result (method_runs g c scope this)
+
+pub returns-clause-shows : goal.returns-clause-shows
+returns-clause-shows g c scope this memory =
+    let reads = same_rules g.H.Host.name_of g.T.NativeTable.natives c.args.self.now c.evaluator-evaluator.result
+    c.evaluator-evaluator.ensures.limits c.evaluator-evaluator.ensures.offer in
+    handed_apart reads (λ rules old new. EndsAlone rules (method_core rules.setting (method g c) c.args.call_args.now
+    (shown c.args.target.now.part c.args.target.now.at.now)) old new) _ _ c.take-run.result c.method_on-result.new.run c.args.global.now
+    c.give_back.new.global c.give_back.ensures.global scope scope
+    (with_place this (Some (shown c.args.target.now.part c.args.target.now.at.now)))
+    (with_place this (Some (shown c.method_on-result.new.target.part c.method_on-result.new.target.at.now)))
+    (ap (λ (run : Context _). run.global) c.take-run.ensures.run) (c.method_on-result.ensures.shows scope (with_place this None) memory)
 
 pub returns-clause-search : goal.returns-clause-search
 returns-clause-search g c = ap (λ (global : GlobalRuntimeState _). global.always_search_scope) c.give_back.ensures.global

@@ -4,7 +4,8 @@ use Rattle.rhai_machine.specs.language.Setting.{Rules}
 use Rattle.rhai_steps.specs.States.{state_of}
 use Rattle.rhai_steps.specs.Marked.{lending}
 use Rattle.rhai_cycle.specs.States.{under}
-use Rattle.rhai_eval.proofs.OnTargets.{part_runs}
+use Rattle.rhai_places.specs.declared.target.Part.TheVariants as part
+use Rattle.rhai_eval.proofs.OnTargets.{alone, answer_memory, part_runs}
 use Rattle.rhai_eval.proofs.func.method.method_on.Goals as goal
 
 pub returns-in-Whole-clause-runs : goal.returns-in-Whole-clause-runs
@@ -26,3 +27,20 @@ returns-in-Of-clause-runs g c scope held =
     (lending held c.run_method-answer.new.focus))
     c.run_method-answer.result c.put_back.result
     (rw (c.is_shared-is_handle.ensures, c.in-Of.is) at (c.run_method-answer.ensures.runs scope held)) c.put_back.ensures.comes)
+
+pub returns-in-Whole-clause-shows : goal.returns-in-Whole-clause-shows
+returns-in-Whole-clause-shows g c scope held memory = rw c.in-Whole.is
+    (alone (under g.H.Host.name_of c.args.evaluator.now g.T.NativeTable.natives) _ _ _ _
+    (rw (c.is_shared-is_handle.ensures, c.in-Whole.is) at (c.run_method.ensures.runs scope held)) memory)
+
+pub returns-in-Temporary-clause-shows : goal.returns-in-Temporary-clause-shows
+returns-in-Temporary-clause-shows g c scope held memory = rw c.in-Temporary.is
+    (alone (under g.H.Host.name_of c.args.evaluator.now g.T.NativeTable.natives) _ _ _ _
+    (rw (c.is_shared-is_handle.ensures, c.in-Temporary.is) at (c.run_method-in-Temporary.ensures.runs scope held)) memory)
+
+pub returns-in-Of-clause-shows : goal.returns-in-Of-clause-shows
+returns-in-Of-clause-shows g c scope held memory = rw (c.in-Of.is, c.put_back.ensures.part)
+    (alone (under g.H.Host.name_of c.args.evaluator.now g.T.NativeTable.natives) _ _ _ _
+    (rw (c.is_shared-is_handle.ensures, c.in-Of.is) at (c.run_method-answer.ensures.runs scope held))
+    (answer_memory g.H.Host.name_of (part.Of c.in-Of.field-0 c.run_method-answer.new.focus) c.args.target.now.at.now c.args.pos
+    c.run_method-answer.result c.put_back.result c.put_back.new.target.at.now c.put_back.ensures.comes memory))

@@ -115,31 +115,31 @@ run_body-returns-in-Some-clause-runs g t c scope held object is_fresh scope_is t
 -- its arguments
 
 pub run_body-returns-in_err-track_operation-clause-args : goal.run_body-returns-in_err-track_operation-clause-args
-run_body-returns-in_err-track_operation-clause-args g t c memory same =
+run_body-returns-in_err-track_operation-clause-args g t c memory =
     rw (entered_never c.args.self.now.limits.now c.args.run.now.global.num_operations c.args.level
     (length (entries_of c.args.run.now.scope)) c.args.def.now c.in_err-track_operation.ensures.full) refl
 
 pub run_body-returns-in_err-open_function-clause-args : goal.run_body-returns-in_err-open_function-clause-args
-run_body-returns-in_err-open_function-clause-args g t c memory same =
+run_body-returns-in_err-open_function-clause-args g t c memory =
     let has = has_memory _ _ (passed _ c.from_residual-in_err-open_function.ensures) memory in
     rw (entered_not c.args.self.now.limits.now c.args.run.now.global.num_operations c.args.level
     (length (entries_of c.args.run.now.scope)) c.args.def.now c.args.pos _
     (rw c.def-def.ensures.value at (c.in_err-open_function.ensures.refused has))) (c.in_err-open_function.ensures.untaken has)
 
 pub run_body-returns-in-None-clause-args : goal.run_body-returns-in-None-clause-args
-run_body-returns-in-None-clause-args g t c memory same =
+run_body-returns-in-None-clause-args g t c memory =
     rw (entered_nothing c.args.self.now.limits.now c.args.run.now.global.num_operations c.args.level
     (length (entries_of c.args.run.now.scope)) c.args.def.now
     (rw (c.in-None.is, c.def-def.ensures.value) at c.in_ok-open_function.ensures.no_body))
     (rw c.in-None.is at c.in_ok-open_function.ensures.same_args)
 
 pub run_body-returns-in-Some-clause-args : goal.run_body-returns-in-Some-clause-args
-run_body-returns-in-Some-clause-args g t c memory same =
+run_body-returns-in-Some-clause-args g t c memory =
     rw (entered_so c.args.self.now.limits.now c.args.run.now.global.num_operations c.args.level
     (length (entries_of c.args.run.now.scope)) c.args.def.now c.in_ok-track_operation.ensures.room
     c.in_ok-open_function.ensures.not_deep (rw c.def-def.ensures.value at c.in_ok-open_function.ensures.not_full)
     (rw (c.in-Some.is, c.def-def.ensures.value) at c.in_ok-open_function.ensures.body))
-    ((rw (c.in-Some.is, c.def-def.ensures.value) at c.in_ok-open_function.ensures.left) same)
+    (rw (c.in-Some.is, c.def-def.ensures.value) at c.in_ok-open_function.ensures.left)
 
 pub enter_captured-returns-clause-runs : goal.enter_captured-returns-clause-runs
 enter_captured-returns-clause-runs g t c held =

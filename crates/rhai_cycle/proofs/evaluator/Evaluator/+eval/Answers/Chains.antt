@@ -1,4 +1,4 @@
-use Rattle.std.proofs.Common.{◌≡◌, ◌∷◌, false, true, length}
+use Rattle.std.proofs.Common.{◌≡◌, [], ◌∷◌, false, true, length}
 use Rattle.std.proofs.Common.{Option, Some, None, Ok, Err, is_none, is_some, refl, sym, ap, subst, ◌∙◌, arith}
 use Rattle.std.specs.Option.{option_copied, option_map}
 use Rattle.rhai_steps.specs.States.{holding}
@@ -28,7 +28,7 @@ use Rattle.rhai_cycle.proofs.ChainLemmas.{has_link, left_chain, link_resolves, m
 use Rattle.rhai_cycle.proofs.ChainLemmas.{RestResolves, root_resolves, target_parts}
 use Rattle.rhai_cycle.proofs.ChainSteps.{arrives_last, arrives_on, asks_further, asks_last, asks_link, begins_chain}
 use Rattle.rhai_cycle.proofs.ChainSteps.{evaluates_root, given_asked, is_given, not_assigned, nothing_there, opens_asking, opens_given}
-use Rattle.rhai_cycle.proofs.ChainSteps.{this_root, variable_root, walks_given}
+use Rattle.rhai_cycle.proofs.ChainSteps.{if_ok, this_root, variable_root, walks_given}
 use Rattle.rhai_cycle.proofs.evaluator.Evaluator.+eval.Goals as goal
 
 -- a chain, its arguments and its root
@@ -67,6 +67,17 @@ run_chain-returns-in-Ok-clause-runs g t c k =
     (opens_given rules chain (out-Expr c.args.chain.now) refl k (state_in (g.T.NativeTable.state c.args.table.now) c.args.run.now)
     c.in-Some.ready (Ok c.in-Ok.values) (rw c.in-Some.is at c.needs_no_step.ensures) c.in-Ok.ensures.given tt
     ⨾ (rw (c.as_mut_slice-args.ensures.value, c.in-Ok.ensures.run) at c.run_root-result.ensures.runs false) k)
+
+pub run_chain-returns-in-Ok-clause-asks : goal.run_chain-returns-in-Ok-clause-asks
+run_chain-returns-in-Ok-clause-asks g t c =
+    let rules = under g.H.Host.name_of c.args.self.now g.T.NativeTable.natives in
+    let chain = chain_on c.args.root.now (out-Expr c.args.chain.now) (new_of c.args.new) in
+    if_ok c.run_root-result.result (
+      c.in-Ok.values,
+      state_in (g.T.NativeTable.state c.args.table.now) c.args.run.now,
+      opens_given rules chain (out-Expr c.args.chain.now) refl [] (state_in (g.T.NativeTable.state c.args.table.now) c.args.run.now)
+          c.in-Some.ready (Ok c.in-Ok.values) (rw c.in-Some.is at c.needs_no_step.ensures) c.in-Ok.ensures.given tt,
+    )
 
 pub run_chain-returns-in-Err-clause-runs : goal.run_chain-returns-in-Err-clause-runs
 unfolding Steps
@@ -120,6 +131,19 @@ run_chain-returns-in-Ok-run_link_args-clause-runs g t c k =
     (opens_asking rules chain (out-Expr c.args.chain.now) refl k _ there.0 there.1 (rw c.in-None.is at c.needs_no_step.ensures)
     ⨾ (rw (c.lend_list-made.ensures.list, c.lend_list-made.ensures.run) at c.in-Ok-run_link_args.ensures.gathers) chain k
     ⨾ (rw c.as_mut_slice-args-in-Ok-run_link_args.ensures.value at c.run_root-result-in-Ok-run_link_args.ensures.runs false) k)
+
+pub run_chain-returns-in-Ok-run_link_args-clause-asks : goal.run_chain-returns-in-Ok-run_link_args-clause-asks
+unfolding Gathers
+run_chain-returns-in-Ok-run_link_args-clause-asks g t c =
+    let rules = under g.H.Host.name_of c.args.self.now g.T.NativeTable.natives in
+    let chain = chain_on c.args.root.now (out-Expr c.args.chain.now) (new_of c.args.new) in
+    let there = has_link (out-Expr c.args.chain.now) (names c.args.run.now) c.requires.behind in
+    if_ok c.run_root-result-in-Ok-run_link_args.result (
+      c.in-Ok-run_link_args.values,
+      state_in (g.T.NativeTable.state c.run_link_args.new.table) c.run_link_args.new.run,
+      opens_asking rules chain (out-Expr c.args.chain.now) refl [] _ there.0 there.1 (rw c.in-None.is at c.needs_no_step.ensures)
+          ⨾ (rw (c.lend_list-made.ensures.list, c.lend_list-made.ensures.run) at c.in-Ok-run_link_args.ensures.gathers) chain [],
+    )
 
 pub run_chain-returns-in-Err-run_link_args-clause-runs : goal.run_chain-returns-in-Err-run_link_args-clause-runs
 unfolding Steps Gathers
