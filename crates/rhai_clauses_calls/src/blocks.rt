@@ -5,7 +5,7 @@ ghost use Rattle.rhai_checked.specs.Names.{Begins};
 ghost use Rattle.rhai_eval.specs.Places.{with_place};
 ghost use Rattle.rhai_eval.specs.Plain.{Plain};
 ghost use Rattle.rhai_eval.specs.States.{under};
-ghost use Rattle.rhai_laws.specs.Kept.{Kept};
+ghost use Rattle.rhai_laws.specs.Kept.{Grown, Kept};
 ghost use Rattle.rhai_methods.specs.Targets.{StaysAlike, stands};
 ghost use Rattle.rhai_state.specs.Scope.{names_in};
 ghost use Rattle.rhai_steps.specs.States.{holding, state_of};
@@ -37,11 +37,12 @@ pub fn eval_stmt_block<H: Host, T: NativeTable<H>>(
 ) -> Result<Dynamic<H>, EvalAltResult<H>>
     requires resolves { IsTrue (all_resolve (map resolves_stmt statements.now) (names_in scope.old)).0 }
     requires plain { Plain engine.now global.old }
-    ensures kept { Kept (under H.name_of engine.now T.natives)
+    ensures kept { Grown (under H.name_of engine.now T.natives)
         (state_of (T.state table.old) global.old scope.old (holding (Some this.old)))
         (state_of (T.state table.new) global.new scope.new (holding (Some this.new))) }
     ensures begins { Begins (names_in scope.old) (names_in scope.new) }
     ensures restores { IsTrue restore_orig_state → names_in scope.new ≡ names_in scope.old }
+    ensures imports { IsTrue restore_orig_state → global.new.imports ≡ global.old.imports }
     ensures variables { length (names_in scope.old) ≤ engine.now.max_variables →
         length (names_in scope.new) ≤ engine.now.max_variables }
 {

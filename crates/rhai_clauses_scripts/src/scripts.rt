@@ -4,7 +4,7 @@ ghost use Rattle.rhai_checked.specs.Names.{Begins};
 ghost use Rattle.rhai_cycle.specs.Memory.{may_ask};
 ghost use Rattle.rhai_eval.specs.Plain.{Plain};
 ghost use Rattle.rhai_eval.specs.States.{under};
-ghost use Rattle.rhai_laws.specs.Kept.{Kept};
+ghost use Rattle.rhai_laws.specs.Kept.{Grown, Kept};
 ghost use Rattle.rhai_state.specs.Errors.{is_out_of_memory};
 ghost use Rattle.rhai_state.specs.Scope.{names_in};
 ghost use Rattle.rhai_steps.specs.States.{holding, state_of};
@@ -34,7 +34,7 @@ pub fn eval_global_statements<H: Host, T: NativeTable<H>>(
 ) -> Result<Dynamic<H>, EvalAltResult<H>>
     requires plain { Plain engine.now global.old }
     ensures memory { IfErr result (λ error. is_out_of_memory error ≡ true → IsTrue (may_ask tree.now.0)) }
-    ensures kept { Kept (under H.name_of engine.now T.natives)
+    ensures kept { Grown (under H.name_of engine.now T.natives)
         (state_of (T.state table.old) global.old scope.old (holding None))
         (state_of (T.state table.new) global.new scope.new (holding None)) }
     ensures begins { Begins (names_in scope.old) (names_in scope.new) }

@@ -28,7 +28,7 @@ use Rattle.rhai_functions.proofs.Pushing.{parameter_names}
 use Rattle.rhai_machine.specs.machine.Machine.{Go}
 use Rattle.rhai_machine.specs.machine.Memory.{here, wanting, ◌⨾◌}
 use Rattle.rhai_machine.specs.language.Setting.{Rules, limit_under}
-use Rattle.rhai_machine.specs.language.State.{Held, Local, State, Surroundings, Answers, deeper}
+use Rattle.rhai_machine.specs.language.State.{Held, Local, State, Answers, deeper}
 use Rattle.rhai_machine.specs.language.Values.{unit_value}
 use Rattle.rhai_machine.specs.language.Activations.{Object, NoObject, OwnThis, TheFocus, Entered, CallExit}
 use Rattle.rhai_machine.specs.language.Bodies.{back_by, called_back, entered_local, exit_of, focus_back, library_name, opened_function, returned}
@@ -39,7 +39,7 @@ use Rattle.rhai_machine.specs.language.Runs.{at, with_core, Goes, Runs, Steps}
 use Rattle.rhai_steps.specs.States.{local_of, state_of, surroundings_of}
 use Rattle.rhai_steps.proofs.Pieces.{step_by, told}
 use Rattle.rhai_bodies.specs.Closing.{outcome_of, taken_back, Ends}
-use Rattle.rhai_laws.proofs.KeptLaws.{kept}
+use Rattle.rhai_laws.proofs.KeptLaws.{grown}
 use Rattle.rhai_bodies.specs.Opening.{enterable, entered_global, entry, exit_seen, is_deep, is_full}
 use Rattle.rhai_bodies.proofs.Calls.{enters, passes, refuses}
 use Rattle.rhai_context.specs.declared.Context.{Context}
@@ -386,8 +386,7 @@ module _ {S H : Type 0} (rules : Rules S H) (e : Entered H) (t : S) (old mid : G
         -- a body does not change where its errors come from
         same_source : run.global.source ≡ mid.source
         same_source =
-            ap (λ (around : Surroundings H). around.source)
-            (kept rules (Enter (statements_of e.def.body) e.restores) (ended outcome) (state_in t opened) (state_in left run) tt runs).around
+            (grown rules (Enter (statements_of e.def.body) e.restores) (ended outcome) (state_in t opened) (state_in left run) tt runs).around.source
             ∙ brings_no_source e.environ e.level mid opened.global opens_as
 
         pub whole_ends : (result : Result (Dynamic H) (EvalAltResult H)) (closed : GlobalRuntimeState H) →

@@ -25,7 +25,7 @@ use Rattle.rhai_machine.specs.language.Unwinding.{not_put, part_changed}
 use Rattle.rhai_laws.specs.Kept.{Kept}
 use Rattle.rhai_laws.proofs.Keeping.{Asked, Keeps, after, calm}
 use Rattle.rhai_laws.proofs.KeptChains.{assign_focus_keeps}
-use Rattle.rhai_laws.proofs.KeptLaws.{kept_from}
+use Rattle.rhai_laws.proofs.KeptLaws.{around_same, kept_from}
 use Rattle.rhai_steps.proofs.Pieces.{step_by}
 use Rattle.rhai_assign.specs.Follows as assign
 use Rattle.rhai_assign.specs.Follows.{Follows}
@@ -165,7 +165,14 @@ module _ {S H : Type 0} (rules : Rules S H) where
 
   -- nothing that was not done is changed
   same_kept : (s : State S H) → Kept rules s s
-  same_kept s = record { counts = omega arith; within = λ le. le; around = refl; scope_level = refl; bound = refl }
+  same_kept s = record {
+    counts = omega arith;
+    within = λ le. le;
+    around = around_same s.local.around;
+    imports = refl;
+    scope_level = refl;
+    bound = refl;
+  }
 
   -- it begins as an assignment to a focus does
   begin_keeps : (a : Asked) (root : Expr) (n : NewValue H) (what : Part H) (place : Dynamic H) (k : List (Frame H)) (l : Local H) →

@@ -105,6 +105,7 @@ module _ {S H : Type 0} (rules : Rules S H) where
     counts = k.counts;
     within = k.within;
     around = k.around;
+    imports = k.imports;
     scope_level = k.scope_level;
     bound = refl;
   }

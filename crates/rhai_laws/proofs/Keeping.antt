@@ -5,9 +5,9 @@ use Rattle.std.proofs.lemmas.List.{take-map, drop-map, length-map, length-append
 use Rattle.std.proofs.Common.{append_assoc}
 use Rattle.std.specs.Option.{option_flatten, unwrap_or}
 use Rattle.std.specs.Prelude.{◌≡◌, ◌≤◌, ◌+◌, ℕ, zero, suc, Bool, true, false, not, ◌&&◌, List, [], ◌∷◌, ◌++◌, map, take, drop, length}
-use Rattle.std.specs.Prelude.{Option, Some, None, Result, Ok, Err, is_some, slice_get, slice_set}
+use Rattle.std.specs.Prelude.{Option, Some, None, Result, Ok, Err, is_some, replicate, slice_get, slice_set}
 use Rattle.rhai_checked.specs.Names.{Name, Begins}
-use Rattle.rhai_tree.specs.declared.expr.Stmt.{Stmt}
+use Rattle.rhai_tree.specs.declared.expr.Stmt.{Stmt, out-Stmt}
 use Rattle.rhai_items.specs.Lookup.{with_entry}
 use Rattle.rhai_values.specs.declared.base.value.Dynamic.{Dynamic}
 use Rattle.rhai_values.specs.declared.base.value.EncapsulatedEnviron.{EncapsulatedEnviron, out-EncapsulatedEnviron}
@@ -30,7 +30,7 @@ use Rattle.rhai_machine.specs.language.Bodies.{variables_after, exit_of, variabl
 use Rattle.rhai_machine.specs.language.Statements.{saved_by, restored_by, deeper, with_constant, with_entry_at}
 use Rattle.rhai_machine.specs.language.Unwinding.{restored}
 use Rattle.rhai_machine.proofs.Places.{put_names}
-use Rattle.rhai_laws.specs.Kept.{forgotten_cell, forgotten_table, forgotten, Stands, Sound, names_of, adds_names}
+use Rattle.rhai_laws.specs.Kept.{declares, forgotten_cell, Stands, Sound, names_of, adds_names}
 
 -- the surroundings, without the values of the cells, and what is restored along with them
 pub record Outline (H : Type 0) : Type 0 where
@@ -57,6 +57,17 @@ pub begins_through : (a b c : List Name) → Begins a b → Begins b c → Begin
 begins_through a b c (xs, e) (ys, f) = (xs ++ ys, f ∙ ap (λ v. v ++ ys) e ∙ append_assoc a xs ys)
 
 module _ {H : Type 0} where
+  -- a table of constants without what it holds
+  abbrev pub forgotten_table : List (List ℕ) × List (Dynamic H) → List (List ℕ) × List (Dynamic H)
+  forgotten_table table = ([], [])
+
+  -- the surroundings without the values of the cells, and without the constants
+  abbrev pub forgotten : Surroundings H → Surroundings H
+  forgotten around = record around {
+    cells = map forgotten_cell around.cells;
+    constant_tables = map forgotten_table around.constant_tables;
+  }
+
   -- the outline of what the rules read and change
   abbrev pub outline : Local H → Outline H
   outline l = record { around = forgotten l.around; scope_level = l.scope_level; bound = is_some l.this }
@@ -94,6 +105,53 @@ module _ {H : Type 0} where
   unwound (RestoreList saved ∷ k) o = unwound k (given_back saved o)
   unwound (StepDown above (ToCell n) ∷ k) o = unwound k (freed n o)
   unwound (_ ∷ k) o = unwound k o
+
+  -- so many new cells, all of them free
+  abbrev pub more : ℕ → Outline H → Outline H
+  more count o = record o { around = record o.around { cells = o.around.cells ++ replicate count (Some unit_value) } }
+
+  -- cells are only added
+  abbrev pub Onto : (old new : Outline H) → Type 0
+  Onto old new = (count : ℕ) × (new ≡ more count old)
+
+  -- free cells and free cells are free cells
+  free_and_free : (m n : ℕ) → replicate m (Some unit_value) ++ replicate n (Some unit_value) ≡ replicate (m + n) (Some (unit_value {H = H}))
+  free_and_free zero n =
+      let same : n ≡ zero + n = omega arith in ap (λ count. replicate count (Some (unit_value {H = H}))) same
+  free_and_free (suc m) n =
+      let same : suc (m + n) ≡ suc m + n = omega arith in
+      ap (λ rest. Some unit_value ∷ rest) (free_and_free m n) ∙ ap (λ count. replicate count (Some (unit_value {H = H}))) same
+
+  pub none_more : (o : Outline H) → more zero o ≡ o
+  none_more o = rw (append-nil o.around.cells) refl
+
+  pub more_and_more : (m n : ℕ) (o : Outline H) → more n (more m o) ≡ more (m + n) o
+  more_and_more m n o =
+      rw (append_assoc o.around.cells (replicate m (Some unit_value)) (replicate n (Some unit_value)), free_and_free m n) refl
+
+  -- a free cell that is freed stays so, and so do new ones
+  free_cells : (count n : ℕ) → slice_set (replicate count (Some unit_value)) n (Some unit_value) ≡ replicate count (Some (unit_value {H = H}))
+  free_cells zero n = refl
+  free_cells (suc count) zero = refl
+  free_cells (suc count) (suc n) = ap (λ rest. Some unit_value ∷ rest) (free_cells count n)
+
+  freed_before : (cells : Cells H) (count n : ℕ) →
+      slice_set (cells ++ replicate count (Some unit_value)) n (Some unit_value)
+      ≡ slice_set cells n (Some unit_value) ++ replicate count (Some unit_value)
+  freed_before [] count n = free_cells count n
+  freed_before (cell ∷ cells) count zero = refl
+  freed_before (cell ∷ cells) count (suc n) = ap (λ rest. cell ∷ rest) (freed_before cells count n)
+
+  freed_more : (n count : ℕ) (o : Outline H) → freed n (more count o) ≡ more count (freed n o)
+  freed_more n count o = rw (freed_before o.around.cells count n) refl
+
+  -- what is added stays through what is taken back
+  pub unwound_more : (k : List (Frame H)) (count : ℕ) (o : Outline H) → unwound k (more count o) ≡ more count (unwound k o)
+  unwound_more [] count o = refl
+  unwound_more (CallEnd exit ∷ k) count o = unwound_more k count (ended_call exit o)
+  unwound_more (RestoreList saved ∷ k) count o = unwound_more k count (given_back saved o)
+  unwound_more (StepDown above (ToCell n) ∷ k) count o = ap (unwound k) (freed_more n count o) ∙ unwound_more k count (freed n o)
+  unwound_more (_ ∷ k) count o = unwound_more k count o
 
   -- a control over a stack that adds no names, and one that may add some
   abbrev pub calm : List (Frame H) → Local H → Core H
@@ -258,11 +316,11 @@ module _ {H : Type 0} where
     TightBy true k n = Free k n
     TightBy false k n = Tight k n
 
-    -- what is asked of them at a control: a statement, the rest of a list and some functions may add some
+    -- what is asked of them at a control: a `let`, the rest of a list and some functions may add some
     abbrev pub TightAt : Control H → List (Frame H) → List Name → Type 0
     TightAt (EnterFunction e) k n = TightBy (adds_names e) k n
-    TightAt (Exec stmt restoring) k n = Free k n
-    TightAt (OpenStmt form restoring) k n = Free k n
+    TightAt (Exec stmt restoring) k n = TightBy (declares (out-Stmt stmt)) k n
+    TightAt (OpenStmt form restoring) k n = TightBy (declares form) k n
     TightAt (Run stmts restoring last) k n = Free k n
     TightAt (Enter stmts false) k n = Free k n
     TightAt _ k n = Tight k n
@@ -274,22 +332,33 @@ module _ {H : Type 0} where
     -- what a move from a sound core keeps
     pub record Keeps (c d : Core H) : Type 0 where
       pub sound : Sound d.control d.local
-      pub around : unwound d.stack (outline d.local) ≡ unwound c.stack (outline c.local)
+      pub around : Onto (unwound c.stack (outline c.local)) (unwound d.stack (outline d.local))
       pub names : Held c → Held d
 
     -- the same outline, names that will do
     pub quiet : {c d : Core H} → Sound d.control d.local → unwound d.stack (outline d.local) ≡ unwound c.stack (outline c.local) →
         (Held c → Held d) → Keeps c d
-    quiet s o n = record { sound = s; around = o; names = n }
+    quiet {c} {d} s o n = record { sound = s; around = (zero, o ∙ sym (none_more (unwound c.stack (outline c.local)))); names = n }
 
     -- one move after another
     pub through : {b c d : Core H} → Keeps b c → Keeps c d → Keeps b d
-    through p q = record { sound = q.sound; around = q.around ∙ p.around; names = λ t. q.names (p.names t) }
+    through {b} {c} {d} p q = record {
+      sound = q.sound;
+      around = (
+        p.around.0 + q.around.0,
+        q.around.1 ∙ ap (more q.around.0) p.around.1 ∙ more_and_more p.around.0 q.around.0 (unwound b.stack (outline b.local)),
+      );
+      names = λ t. q.names (p.names t);
+    }
 
     -- a move by way of another core
     pub after : {b d : Core H} (c : Core H) → unwound c.stack (outline c.local) ≡ unwound b.stack (outline b.local) → (Held b → Held c) →
         Keeps c d → Keeps b d
-    after c o n q = record { sound = q.sound; around = q.around ∙ o; names = λ t. q.names (n t) }
+    after c o n q = record {
+      sound = q.sound;
+      around = (q.around.0, q.around.1 ∙ ap (more q.around.0) o);
+      names = λ t. q.names (n t);
+    }
 
     -- what may add names may add none
     pub held : (k : List (Frame H)) (l : Local H) → Held (eager k l) → Held (calm k l)

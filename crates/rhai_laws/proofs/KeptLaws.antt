@@ -1,20 +1,22 @@
 -- What every run of the language keeps, whatever its end, want of memory included.
-use Rattle.std.proofs.Common.{refl, ap, arith}
-use Rattle.std.proofs.lemmas.List.{length-append, length-take, length-drop}
-use Rattle.std.specs.Prelude.{◌≡◌, ◌≤◌, ◌+◌, ℕ, ⊤, length, take, drop, true, false, List, [], ◌∷◌, ◌++◌}
+use Rattle.std.proofs.Common.{refl, sym, ap, ◌∙◌, arith}
+use Rattle.std.proofs.lemmas.List.{append-nil, length-append, length-drop, length-map, length-take}
+use Rattle.std.specs.Prelude.{◌≡◌, ◌≤◌, ◌+◌, Bool, ℕ, zero, ⊤, length, map, take, drop, true, false, List, [], ◌∷◌, ◌++◌}
 use Rattle.rhai_checked.specs.Names.{Name, Begins}
+use Rattle.rhai_tree.specs.declared.expr.Stmt.{Stmt, out-Stmt}
 use Rattle.rhai_state.specs.declared.error.EvalAltResult.{EvalAltResult}
 use Rattle.rhai_state.specs.declared.error.EvalAltResult.TheVariants as error
 use Rattle.rhai_machine.specs.machine.Machine.{Move, Halt, Go, Charge, Native, AskPure}
 use Rattle.rhai_machine.specs.language.Setting.{Rules, cut, limit_under}
-use Rattle.rhai_machine.specs.language.State.{State}
+use Rattle.rhai_machine.specs.language.State.{Local, State, Surroundings}
 use Rattle.rhai_machine.specs.language.Frames.{Control, Frame, Core, core, Exec, EnterFunction, OpenStmt, Enter, Run, Fail}
 use Rattle.rhai_machine.specs.language.Language.{machine}
 use Rattle.rhai_machine.specs.language.Runs.{at, with_core, Goes, Steps}
-use Rattle.rhai_laws.specs.Kept.{Sound, names_of, adds_names, AddsNone, Kept}
+use Rattle.rhai_laws.specs.Kept.{declares, forgotten_cell, Around, Sound, names_of, adds_names, AddsNone, Restores, Grown, Kept}
 use Rattle.rhai_laws.specs.Steady.{Moves, Steady}
 use Rattle.rhai_laws.proofs.MemoryLaws.{keeps, counts, within}
-use Rattle.rhai_laws.proofs.Keeping.{Outline, Asked, Grows, begins_self, calm, Tight, Free, TightAt, Held, Keeps, quiet, through}
+use Rattle.rhai_laws.proofs.Keeping.{Outline, Onto, outline, forgotten_table, Asked, Grows, begins_self, calm, Tight, Free, TightAt}
+use Rattle.rhai_laws.proofs.Keeping.{Held, Keeps, quiet, through}
 use Rattle.rhai_laws.proofs.Keeping.{started_by, stopped_by}
 use Rattle.rhai_laws.proofs.KeptRules.{move_keeps}
 
@@ -34,8 +36,8 @@ module _ {H : Type 0} (a : Asked) where
   -- at any control no more names may be added
   stopped : (c : Control H) (k : List (Frame H)) (n : List Name) → a.along n → TightAt a c k n → Tight a k n
   stopped (EnterFunction e) k n w t = stopped_by a (adds_names e) k n w t
-  stopped (Exec stmt restoring) k n w t = t n (begins_self n) w
-  stopped (OpenStmt form restoring) k n w t = t n (begins_self n) w
+  stopped (Exec stmt restoring) k n w t = stopped_by a (declares (out-Stmt stmt)) k n w t
+  stopped (OpenStmt form restoring) k n w t = stopped_by a (declares form) k n w t
   stopped (Run stmts restoring last) k n w t = t n (begins_self n) w
   stopped (Enter stmts true) k n w t = t
   stopped (Enter stmts false) k n w t = t n (begins_self n) w
@@ -48,8 +50,8 @@ module _ {H : Type 0} (a : Asked) where
   -- what may add names may be started where any more names will do
   started : (c : Control H) (k : List (Frame H)) (n : List Name) → Tight a k n → Free a k n → TightAt a c k n
   started (EnterFunction e) k n t f = started_by a (adds_names e) k n t f
-  started (Exec stmt restoring) k n t f = f
-  started (OpenStmt form restoring) k n t f = f
+  started (Exec stmt restoring) k n t f = started_by a (declares (out-Stmt stmt)) k n t f
+  started (OpenStmt form restoring) k n t f = started_by a (declares form) k n t f
   started (Run stmts restoring last) k n t f = f
   started (Enter stmts true) k n t f = t
   started (Enter stmts false) k n t f = f
@@ -58,12 +60,49 @@ module _ {H : Type 0} (a : Asked) where
   -- what adds none may be started where these will do
   started_none : (c : Control H) (k : List (Frame H)) (n : List Name) → AddsNone c → Tight a k n → TightAt a c k n
   started_none (EnterFunction e) k n none t = rw none t
-  started_none (Exec stmt restoring) k n none t = absurd none
-  started_none (OpenStmt form restoring) k n none t = absurd none
+  started_none (Exec stmt restoring) k n none t = rw none t
+  started_none (OpenStmt form restoring) k n none t = rw none t
   started_none (Run stmts restoring last) k n none t = absurd none
   started_none (Enter stmts true) k n none t = t
   started_none (Enter stmts false) k n none t = absurd none
   started_none _ k n none t = t
+
+module _ {H : Type 0} where
+  -- what is around has grown as its outline has
+  around_grown : (old new : Local H) → Onto (outline old) (outline new) → Around old.around new.around
+  around_grown old new onto = record {
+    lib = ap (λ (o : Outline H). o.around.lib) onto.1;
+    imports = ([], ap (λ (o : Outline H). o.around.imports) onto.1 ∙ sym (append-nil old.around.imports));
+    constants = ap (λ (o : Outline H). o.around.constants) onto.1;
+    constant_tables = sym (length-map new.around.constant_tables forgotten_table)
+        ∙ (ap (λ (o : Outline H). length o.around.constant_tables) onto.1 ∙ length-map old.around.constant_tables forgotten_table);
+    level = ap (λ (o : Outline H). o.around.level) onto.1;
+    num_modules_loaded = omega (arith, ap (λ (o : Outline H). o.around.num_modules_loaded) onto.1);
+    source = ap (λ (o : Outline H). o.around.source) onto.1;
+    cells = (onto.0, ap (λ (o : Outline H). o.around.cells) onto.1);
+  }
+
+  -- what is around has grown by nothing
+  pub around_same : (s : Surroundings H) → Around s s
+  around_same s = record {
+    lib = refl;
+    imports = ([], sym (append-nil s.imports));
+    constants = refl;
+    constant_tables = refl;
+    level = refl;
+    num_modules_loaded = omega arith;
+    source = refl;
+    cells = (zero, sym (append-nil (map forgotten_cell s.cells)));
+  }
+
+  -- a control that takes back its imports is sound
+  is_sound : (c : Control H) (l : Local H) → Restores c l → Sound c l
+  is_sound (Exec stmt restoring) l h = tt
+  is_sound (OpenStmt form restoring) l h = tt
+  is_sound (Run stmts restoring last) l h = absurd h
+  is_sound (Enter stmts true) l h = h
+  is_sound (Enter stmts false) l h = absurd h
+  is_sound _ l h = h
 
 module _ {S H : Type 0} (rules : Rules S H) where
   module _ (a : Asked) (grows : Grows a rules.setting.limits.max_variables) where
@@ -114,17 +153,41 @@ module _ {S H : Type 0} (rules : Rules S H) where
   unfolding Steps
   counted_within c d old new steps = within (machine rules) (limit_under rules) (steps [])
 
-  -- what every run keeps, want of memory included
-  pub kept : (c d : Control H) (old new : State S H) → Sound c old.local → Steps rules c old d new → Kept rules old new
-  kept c d old new h steps =
-      let same = (run_keeps nothing (any_names _ _) c d old new h steps).around in
+  -- what every run leaves, want of memory included
+  pub grown : (c d : Control H) (old new : State S H) → Sound c old.local → Steps rules c old d new → Grown rules old new
+  grown c d old new h steps =
+      let onto = (run_keeps nothing (any_names _ _) c d old new h steps).around in
       record {
         counts = counted c d old new steps;
         within = counted_within c d old new steps;
-        around = ap (λ (o : Outline H). o.around) same;
-        scope_level = ap (λ (o : Outline H). o.scope_level) same;
-        bound = ap (λ (o : Outline H). o.bound) same;
+        around = around_grown old.local new.local onto;
+        scope_level = ap (λ (o : Outline H). o.scope_level) onto.1;
+        bound = ap (λ (o : Outline H). o.bound) onto.1;
       }
+
+  -- and what it keeps where imports are taken back
+  pub kept : (c d : Control H) (old new : State S H) → Restores c old.local → Steps rules c old d new → Kept rules old new
+  kept c d old new h steps =
+      let sound = is_sound c old.local h in
+      let g = grown c d old new sound steps in
+      record {
+        counts = g.counts;
+        within = g.within;
+        around = g.around;
+        imports = ap (λ (o : Outline H). o.around.imports) (run_keeps nothing (any_names _ _) c d old new sound steps).around.1;
+        scope_level = g.scope_level;
+        bound = g.bound;
+      }
+
+  restores_list : (stmts : List Stmt) (restoring : Bool) (l : Local H) → restoring ≡ true → Restores (Enter stmts restoring) l
+  restores_list stmts true l is = tt
+  restores_list stmts false l is = cc
+
+  -- a list that restores
+  pub kept_restoring : (stmts : List Stmt) (restoring : Bool) (d : Control H) (old new : State S H) → restoring ≡ true →
+      Steps rules (Enter stmts restoring) old d new → Kept rules old new
+  kept_restoring stmts restoring d old new is steps =
+      kept (Enter stmts restoring) d old new (restores_list stmts restoring old.local is) steps
 
   -- at the end the names are these
   abbrev exactly : List Name → Asked
@@ -142,13 +205,14 @@ module _ {S H : Type 0} (rules : Rules S H) where
       (goes : Goes rules (with_core c old) (at d [] new)) where
     pub kept_from : Kept rules old new
     kept_from =
-        let same = (goes_keep nothing (any_names _ _) (calm [] old.local) c d old new (led nothing) goes).around in
+        let onto = (goes_keep nothing (any_names _ _) (calm [] old.local) c d old new (led nothing) goes).around in
         record {
           counts = counts (machine rules) (cut rules) goes;
           within = within (machine rules) (limit_under rules) goes;
-          around = ap (λ (o : Outline H). o.around) same;
-          scope_level = ap (λ (o : Outline H). o.scope_level) same;
-          bound = ap (λ (o : Outline H). o.bound) same;
+          around = around_grown old.local new.local onto;
+          imports = ap (λ (o : Outline H). o.around.imports) onto.1;
+          scope_level = ap (λ (o : Outline H). o.scope_level) onto.1;
+          bound = ap (λ (o : Outline H). o.bound) onto.1;
         }
 
     -- such a core adds no variable, so the names are as they were

@@ -9,7 +9,7 @@ use Rattle.rhai_tree.specs.declared.position.Position.{Position}
 use Rattle.rhai_tree.specs.declared.flags.ASTFlags.{ASTFlags}
 use Rattle.rhai_tree.specs.declared.expr.Ident.{Ident}
 use Rattle.rhai_tree.specs.declared.expr.Expr.{Expr, out-Expr}
-use Rattle.rhai_tree.specs.declared.expr.Stmt.{Stmt}
+use Rattle.rhai_tree.specs.declared.expr.Stmt.{Stmt, out-Stmt}
 use Rattle.rhai_tree.specs.declared.expr.StmtBlock.{StmtBlock}
 use Rattle.rhai_tree.specs.declared.expr.MapEntry.{MapEntry}
 use Rattle.rhai_tree.specs.declared.expr.Expr.TheOpen as layer
@@ -59,10 +59,10 @@ use Rattle.rhai_machine.specs.language.Frames.{MemberLink, MemberGot, MemberOper
 use Rattle.rhai_machine.specs.language.Members.{focus_of, focused_on, lacks_property, lacks_indexer}
 use Rattle.rhai_machine.specs.language.Unwinding.{up_core, down_core, marked_core, topped, operated, looked_at}
 use Rattle.rhai_machine.specs.language.Language.{move_at}
-use Rattle.rhai_laws.specs.Kept.{Sound, names_of, adds_names}
+use Rattle.rhai_laws.specs.Kept.{declares, Sound, names_of, adds_names}
 use Rattle.rhai_laws.specs.Steady.{Moves}
 use Rattle.rhai_laws.proofs.Keeping.{Asked, Grows, Free, Held, begins_through, unwound, Keeps, quiet, through, after, calm, eager, held}
-use Rattle.rhai_laws.proofs.Keeping.{ended_keeps, step_left, call_left, constant_outline, function_entered, stopped_by}
+use Rattle.rhai_laws.proofs.Keeping.{ended_keeps, step_left, call_left, constant_outline, function_entered, started_by, stopped_by}
 use Rattle.rhai_laws.proofs.Keeping.{entered_around, entered_names, left_names}
 use Rattle.rhai_laws.proofs.KeptAssignments.{there_keeps, assignment_keeps, store_keeps, store_this_keeps, barred_keeps}
 use Rattle.rhai_laws.proofs.KeptAssignments.{fire_update_keeps}
@@ -86,7 +86,11 @@ module _ {H : Type 0} (a : Asked) where
       Keeps a (core (Run stmts restoring last) k l) (run_core stmts restoring last k l)
   run_keeps [] restoring last k l = quiet a tt refl (held a k l)
   run_keeps (stmt ∷ stmts) restoring last k l =
-      quiet a tt refl (λ t. (t.0, λ m b q n c r. t.1 n (begins_through (names_of l) m n b c) r))
+      quiet a tt refl (λ t. (
+        t.0,
+        started_by a (declares (out-Stmt stmt)) (RestOfList stmts restoring ∷ k) (names_of l) t.1
+            (λ m b q n c r. t.1 n (begins_through (names_of l) m n b c) r),
+      ))
 
   -- expressions
   argument_keeps : (literal : Option (Dynamic H)) (e : Expr) (k : List (Frame H)) (l : Local H) →
@@ -425,26 +429,26 @@ module _ {H : Type 0} (a : Asked) where
 
       stmt_keeps : (form : StmtLayer) (restoring : Bool) (k : List (Frame H)) (l : Local H) →
           Moves (Keeps a) (core (OpenStmt form restoring) k l) (stmt_move s form restoring k l)
-      stmt_keeps (layer.Noop pos) restoring k l = quiet a tt refl (held a k l)
-      stmt_keeps (layer.Expr value) restoring k l = quiet a tt refl (held a k l)
-      stmt_keeps (layer.Stmt::FnCall call pos) restoring k l = quiet a tt refl (held a k l)
-      stmt_keeps (layer.Block block) restoring k l = quiet a tt refl (held a k l)
+      stmt_keeps (layer.Noop pos) restoring k l = quiet a tt refl (λ t. t)
+      stmt_keeps (layer.Expr value) restoring k l = quiet a tt refl (λ t. t)
+      stmt_keeps (layer.Stmt::FnCall call pos) restoring k l = quiet a tt refl (λ t. t)
+      stmt_keeps (layer.Block block) restoring k l = quiet a tt refl (λ t. t)
       stmt_keeps (layer.Assignment op lhs rhs) restoring k l =
           assignment_keeps a (out-Expr lhs) op rhs (core (OpenStmt (layer.Assignment op lhs rhs) restoring) k l) k l
-          (quiet a tt refl (held a k l))
+          (quiet a tt refl (λ t. t))
       stmt_keeps (layer.Var ident value None options pos) restoring k l =
           there_keeps a (not (is_exported options)) (core (OpenStmt (layer.Var ident value None options pos) restoring) k l) _
           (after a (eager k l) refl (λ t. t)
           (define_keeps (not s.offer.allow_shadowing && is_some (index_of ident.name l.scope))
           (nat_le s.limits.max_variables (length l.scope)) ident value options restoring pos k l refl))
-      stmt_keeps (layer.If test body branch pos) restoring k l = quiet a tt refl (held a k l)
-      stmt_keeps (layer.While test body pos) restoring k l = quiet a tt refl (held a k l)
-      stmt_keeps (layer.Do test body options pos) restoring k l = quiet a tt refl (held a k l)
+      stmt_keeps (layer.If test body branch pos) restoring k l = quiet a tt refl (λ t. t)
+      stmt_keeps (layer.While test body pos) restoring k l = quiet a tt refl (λ t. t)
+      stmt_keeps (layer.Do test body options pos) restoring k l = quiet a tt refl (λ t. t)
       stmt_keeps (layer.BreakLoop value options pos) restoring k l =
-          after a (calm k l) refl (held a k l) (break_keeps value (has_option 2 options) pos k l)
+          after a (calm k l) refl (λ t. t) (break_keeps value (has_option 2 options) pos k l)
       stmt_keeps (layer.Return value options pos) restoring k l =
           return_keeps (has_option 2 options) value pos (core (OpenStmt (layer.Return value options pos) restoring) k l) k l
-          (quiet a tt refl (held a k l))
+          (quiet a tt refl (λ t. t))
       stmt_keeps _ restoring k l = tt
 
       -- each move from a sound core

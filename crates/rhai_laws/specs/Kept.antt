@@ -1,15 +1,29 @@
 -- What every run of the language keeps, whatever its end, want of memory included.
-use Rattle.std.specs.Prelude.{◌≡◌, ◌≤◌, ⊤, ℕ, Bool, true, false, not, ◌&&◌, List, [], map, Option, Some, None, is_some}
+use Rattle.std.specs.Prelude.{◌≡◌, ◌≤◌, ⊤, ℕ, Bool, true, false, not, ◌&&◌, List, ◌++◌, length, map, replicate, Option, Some, None, is_some}
 use Rattle.rhai_checked.specs.Names.{Name}
+use Rattle.rhai_tree.specs.declared.expr.Expr.TheOpen as layer
+use Rattle.rhai_tree.specs.declared.expr.Stmt.{out-Stmt}
+use Rattle.rhai_tree.specs.Layers.{StmtLayer}
 use Rattle.rhai_values.specs.declared.base.value.Dynamic.{Dynamic}
+use Rattle.rhai_values.specs.declared.base.value.Import.{Import}
 use Rattle.rhai_values.specs.Cells.{value_of_cell}
 use Rattle.rhai_state.specs.Scope.{name_of}
 use Rattle.rhai_machine.specs.language.Setting.{Rules, limit_under}
 use Rattle.rhai_machine.specs.language.State.{Surroundings, Local, State}
-use Rattle.rhai_machine.specs.language.Values.{unit_value}
+use Rattle.rhai_machine.specs.language.Values.{Cells, unit_value}
 use Rattle.rhai_machine.specs.language.Places.{Place, InEntry, InCell, InThis, InFocus}
 use Rattle.rhai_machine.specs.language.Activations.{Entered}
 use Rattle.rhai_machine.specs.language.Frames.{Control, Exec, EnterFunction, AskUpdate, QuestionUpdate, FireUpdate, OpenStmt, Enter, Run}
+
+-- a `let` without an index adds its name
+abbrev pub declares : StmtLayer → Bool
+declares (layer.Var ident value None options pos) = true
+declares _ = false
+
+-- an `import` adds one
+abbrev pub is_import : StmtLayer → Bool
+is_import (layer.Import path alias pos) = true
+is_import _ = false
 
 module _ {H : Type 0} where
   -- a cell without its value: it is free, or it is held
@@ -17,20 +31,25 @@ module _ {H : Type 0} where
   forgotten_cell (Some v) = Some unit_value
   forgotten_cell None = None
 
-  -- a table of constants without what it holds
-  abbrev pub forgotten_table : List (List ℕ) × List (Dynamic H) → List (List ℕ) × List (Dynamic H)
-  forgotten_table table = ([], [])
+  -- cells are only added: those that were there are free or held as they were, and so many new ones are free
+  abbrev pub CellsAdded : (old new : Cells H) → Type 0
+  CellsAdded old new = (count : ℕ) × (map forgotten_cell new ≡ map forgotten_cell old ++ replicate count (Some unit_value))
 
-  -- the surroundings without the values of the cells, and without the constants
-  abbrev pub forgotten : Surroundings H → Surroundings H
-  forgotten around = record around {
-    cells = map forgotten_cell around.cells;
-    constant_tables = map forgotten_table around.constant_tables;
-  }
+  -- imports are only added, behind those that were there
+  abbrev pub ImportsAdded : (old new : List (Import H)) → Type 0
+  ImportsAdded old new = (added : List (Import H)) × (new ≡ old ++ added)
 
-  -- what is around stays so: the surroundings are the same but for values of cells and for constants
-  abbrev pub Around : (old new : Surroundings H) → Type 0
-  Around old new = forgotten new ≡ forgotten old
+  -- What is around only grows: cells and imports may be added, and modules loaded. Libraries, the current table of constants, the number of
+  -- these tables, the level and the source's name stay.
+  pub record Around (old new : Surroundings H) : Type 0 where
+    pub lib : new.lib ≡ old.lib
+    pub imports : ImportsAdded old.imports new.imports
+    pub constants : new.constants ≡ old.constants
+    pub constant_tables : length new.constant_tables ≡ length old.constant_tables
+    pub level : new.level ≡ old.level
+    pub num_modules_loaded : old.num_modules_loaded ≤ new.num_modules_loaded
+    pub source : new.source ≡ old.source
+    pub cells : CellsAdded old.cells new.cells
 
   -- a place that may be written to: a cell has to be free
   abbrev pub Stands : Place → Local H → Type 0
@@ -54,20 +73,38 @@ module _ {H : Type 0} where
   abbrev pub adds_names : Entered H → Bool
   adds_names e = not e.restores && not e.is_fresh
 
-  -- a control that leaves no variable behind: any but a statement and the rest of a list, a list that does not restore, or a function that
-  -- may add some
+  -- a control that leaves no variable behind: any but a `let` and the rest of a list, a list that does not restore, or a function that may
+  -- add some
   abbrev pub AddsNone : Control H → Type 0
   AddsNone (EnterFunction e) = adds_names e ≡ false
-  AddsNone (Exec stmt restoring) = ⊥
-  AddsNone (OpenStmt form restoring) = ⊥
+  AddsNone (Exec stmt restoring) = declares (out-Stmt stmt) ≡ false
+  AddsNone (OpenStmt form restoring) = declares form ≡ false
   AddsNone (Run stmts restoring last) = ⊥
   AddsNone (Enter stmts false) = ⊥
   AddsNone _ = ⊤
 
-  -- what stays: the count grows up to the limit, what is around stays so, and `this` stays bound or unbound
+  -- a control that takes back the imports that it adds, any but an `import` and the rest of a list, and a list that does not restore; in
+  -- the midst of an update its place may be written to
+  abbrev pub Restores : Control H → Local H → Type 0
+  Restores (Exec stmt restoring) l = is_import (out-Stmt stmt) ≡ false
+  Restores (OpenStmt form restoring) l = is_import form ≡ false
+  Restores (Run stmts restoring last) l = ⊥
+  Restores (Enter stmts false) l = ⊥
+  Restores c l = Sound c l
+
+  -- what every run leaves: the count grows up to the limit, what is around only grows, and `this` stays bound or unbound
+  pub record Grown {S : Type 0} (rules : Rules S H) (old new : State S H) : Type 0 where
+    pub counts : old.count ≤ new.count
+    pub within : old.count ≤ limit_under rules → new.count ≤ limit_under rules
+    pub around : Around old.local.around new.local.around
+    pub scope_level : new.local.scope_level ≡ old.local.scope_level
+    pub bound : is_some new.local.this ≡ is_some old.local.this
+
+  -- the same where imports are taken back, which stay then
   pub record Kept {S : Type 0} (rules : Rules S H) (old new : State S H) : Type 0 where
     pub counts : old.count ≤ new.count
     pub within : old.count ≤ limit_under rules → new.count ≤ limit_under rules
     pub around : Around old.local.around new.local.around
+    pub imports : new.local.around.imports ≡ old.local.around.imports
     pub scope_level : new.local.scope_level ≡ old.local.scope_level
     pub bound : is_some new.local.this ≡ is_some old.local.this

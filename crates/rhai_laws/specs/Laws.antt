@@ -11,7 +11,7 @@ use Rattle.rhai_machine.specs.language.Language.{machine}
 use Rattle.rhai_machine.specs.machine.Memory.{RunsOut}
 use Rattle.rhai_machine.specs.language.Memory.{IsWanting, UpToMemory}
 use Rattle.rhai_machine.specs.language.Runs.{at, Goes, Steps}
-use Rattle.rhai_laws.specs.Kept.{Sound, names_of, AddsNone, Kept}
+use Rattle.rhai_laws.specs.Kept.{Sound, names_of, AddsNone, Restores, Grown, Kept}
 use Rattle.rhai_laws.specs.Memory.{IsLeft}
 
 module _ {S H : Type 0} (rules : Rules S H) where
@@ -29,9 +29,13 @@ module _ {S H : Type 0} (rules : Rules S H) where
   abbrev pub OutOfMemoryStays : Type 0
   OutOfMemoryStays = (p q : Point S (Core H)) → (o : RunsOut (machine rules) (cut rules) IsWanting p q) → IsLeft o.since q
 
-  -- what steps keep, from a control that is not in the midst of an update, or whose update has a place that stands
+  -- what steps leave, from a control that is not in the midst of an update, or whose update has a place that stands
+  abbrev pub StepsGrow : Type 0
+  StepsGrow = (c d : Control H) (old new : State S H) → Sound c old.local → Steps rules c old d new → Grown rules old new
+
+  -- where imports are taken back they stay
   abbrev pub StepsKeep : Type 0
-  StepsKeep = (c d : Control H) (old new : State S H) → Sound c old.local → Steps rules c old d new → Kept rules old new
+  StepsKeep = (c d : Control H) (old new : State S H) → Restores c old.local → Steps rules c old d new → Kept rules old new
 
   -- what adds no variable leaves the names as they were
   abbrev pub NamesStay : Type 0

@@ -3,7 +3,7 @@
 
 ghost use Rattle.rhai_machine.specs.language.Setting.{Setting, over};
 ghost use Rattle.rhai_laws.specs.Laws.{GoesWithMemory, GoesUpToMemory, OutOfMemoryStays};
-ghost use Rattle.rhai_laws.specs.Laws.{StepsKeep, NamesStay, NamesBegin, VariablesStay};
+ghost use Rattle.rhai_laws.specs.Laws.{StepsGrow, StepsKeep, NamesStay, NamesBegin, VariablesStay};
 ghost use Rattle.rhai_laws.specs.Assigned.{AssignsAtPath, AssignsFromRoot};
 
 use rhai_state::table::NativeTable;
@@ -26,8 +26,13 @@ pub fn script_stays_out_of_memory<H: Host, T: NativeTable<H>>(of: PhantomData<(H
     ensures { (setting : Setting H) → OutOfMemoryStays (over setting T.natives) }
 {}
 
-/// A run adds charges alone, up to the limit. Its surroundings stay as they were but for the values
-/// of cells, and `this` stays bound or unbound.
+/// A run adds charges up to the limit, cells that are free, imports and loaded modules. Whatever else is
+/// around stays but for the values of cells and for constants, and `this` stays bound or unbound.
+pub fn script_grows<H: Host, T: NativeTable<H>>(of: PhantomData<(H, T)>)
+    ensures { (setting : Setting H) → StepsGrow (over setting T.natives) }
+{}
+
+/// The imports stay too, but for those of a statement and of a list that does not restore.
 pub fn script_keeps<H: Host, T: NativeTable<H>>(of: PhantomData<(H, T)>)
     ensures { (setting : Setting H) → StepsKeep (over setting T.natives) }
 {}

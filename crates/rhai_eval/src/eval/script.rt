@@ -8,7 +8,7 @@ ghost use Rattle.rhai_machine.specs.language.Memory.{UpToMemory};
 ghost use Rattle.rhai_machine.specs.language.Script.{EndsAsMachine, AgreesWithHigherLimits, start_of_script};
 ghost use Rattle.rhai_machine.specs.language.Script.{end_of_script};
 ghost use Rattle.rhai_steps.specs.States.{holding, state_of};
-ghost use Rattle.rhai_laws.specs.Kept.{Kept};
+ghost use Rattle.rhai_laws.specs.Kept.{Grown};
 ghost use Rattle.rhai_cycle.specs.Memory.{may_ask};
 ghost use Rattle.rhai_eval.specs.Plain.{Plain};
 ghost use Rattle.rhai_eval.specs.States.{under};
@@ -58,7 +58,7 @@ impl<H: Host> Engine<H> {
             (state_of (T.state table.old) global.old scope.old (holding None)))
             (end_of_script result (state_of (T.state table.new) global.new scope.new (holding None))) }
         ensures memory { IfErr result (λ error. is_out_of_memory error ≡ true → IsTrue (may_ask tree.now.0)) }
-        ensures kept { Kept (under H.name_of self.now T.natives)
+        ensures kept { Grown (under H.name_of self.now T.natives)
             (state_of (T.state table.old) global.old scope.old (holding None))
             (state_of (T.state table.new) global.new scope.new (holding None)) }
         ensures begins { Begins (names_in scope.old) (names_in scope.new) }

@@ -1,7 +1,7 @@
 //! Statements, and assignment to what a target shows. Ports upstream's `eval/stmt.rs`; the contracts
 //! speak of the machine's runs and of specs/Assigned.antt.
 
-ghost use Rattle.std.specs.Prelude.{◌≡◌, ◌≤◌, OnOk, IsTrue, Some, length, map};
+ghost use Rattle.std.specs.Prelude.{◌≡◌, ◌≤◌, OnOk, IsTrue, Some, length, map, false};
 ghost use Rattle.rhai_checked.specs.Frame.{resolves_stmt, all_resolve};
 ghost use Rattle.rhai_checked.specs.Names.{Begins};
 ghost use Rattle.rhai_values.specs.Cells.{IsNoHandle};
@@ -12,7 +12,8 @@ ghost use Rattle.rhai_machine.specs.language.Setting.{rules_of};
 ghost use Rattle.rhai_machine.specs.language.State.{HasMemory};
 ghost use Rattle.rhai_places.specs.Targets.{shown};
 ghost use Rattle.rhai_steps.specs.States.{holding, state_of};
-ghost use Rattle.rhai_laws.specs.Kept.{Kept};
+ghost use Rattle.rhai_tree.specs.declared.expr.Stmt.{out-Stmt};
+ghost use Rattle.rhai_laws.specs.Kept.{Grown, Kept, declares, is_import};
 ghost use Rattle.rhai_steps.specs.Marked.{lending};
 ghost use Rattle.rhai_methods.specs.Targets.{ComesBack, StaysAlike, stands};
 ghost use Rattle.rhai_chains.specs.Chains.{FollowsFrom};
@@ -227,11 +228,13 @@ impl<H: Host> Engine<H> {
         ensures ends { EndsAs (under H.name_of self.now T.natives) (Exec stmt.now rewind_scope)
             (state_of (T.state table.old) global.old scope.old (holding (was this.entry))) result
             (state_of (T.state table.new) global.new scope.new (holding (left_by this.exit))) }
-        ensures kept { Kept (under H.name_of self.now T.natives)
+        ensures kept { Grown (under H.name_of self.now T.natives)
             (state_of (T.state table.old) global.old scope.old (holding (was this.entry)))
             (state_of (T.state table.new) global.new scope.new (holding (left_by this.exit))) }
         ensures begins { Begins (names_in scope.old) (names_in scope.new) }
         ensures names { OnOk result (names_in scope.new ≡ (resolves_stmt stmt.now (names_in scope.old)).1) }
+        ensures stays { declares (out-Stmt stmt.now) ≡ false → names_in scope.new ≡ names_in scope.old }
+        ensures imports { is_import (out-Stmt stmt.now) ≡ false → global.new.imports ≡ global.old.imports }
         ensures variables { length (names_in scope.old) ≤ self.now.max_variables →
             length (names_in scope.new) ≤ self.now.max_variables }
         ensures caches { _caches.new ≡ _caches.old }
@@ -278,11 +281,12 @@ impl<H: Host> Engine<H> {
         ensures ends { EndsAs (under H.name_of self.now T.natives) (Enter statements.now restore_orig_state)
             (state_of (T.state table.old) global.old scope.old (holding (was this.entry))) result
             (state_of (T.state table.new) global.new scope.new (holding (left_by this.exit))) }
-        ensures kept { Kept (under H.name_of self.now T.natives)
+        ensures kept { Grown (under H.name_of self.now T.natives)
             (state_of (T.state table.old) global.old scope.old (holding (was this.entry)))
             (state_of (T.state table.new) global.new scope.new (holding (left_by this.exit))) }
         ensures begins { Begins (names_in scope.old) (names_in scope.new) }
         ensures restores { IsTrue restore_orig_state → names_in scope.new ≡ names_in scope.old }
+        ensures imports { IsTrue restore_orig_state → global.new.imports ≡ global.old.imports }
         ensures variables { length (names_in scope.old) ≤ self.now.max_variables →
             length (names_in scope.new) ≤ self.now.max_variables }
         ensures caches { _caches.new ≡ _caches.old }

@@ -11,3 +11,6 @@ returns-clause-restores g c = c.eval_stmt_block-outcome.ensures.restores
 
 pub returns-clause-variables : goal.returns-clause-variables
 returns-clause-variables g c = c.eval_stmt_block-outcome.ensures.variables
+
+pub returns-clause-imports : goal.returns-clause-imports
+returns-clause-imports g c = c.eval_stmt_block-outcome.ensures.imports

@@ -9,7 +9,6 @@ use Rattle.rhai_eval.proofs.Public.{agrees_above, ends_as, five, handed_free, ha
 use Rattle.rhai_machine.specs.language.Frames.{ended, EnterFunction}
 use Rattle.std.specs.Option.{option_copied}
 use Rattle.rhai_machine.specs.language.Activations.{OwnThis}
-use Rattle.rhai_machine.specs.language.State.{Surroundings}
 use Rattle.rhai_cycle.specs.Bodies.{entered}
 use Rattle.rhai_eval.proofs.Variables.{adds_none}
 use Rattle.rhai_eval.proofs.engine.Engine.call_script_fn.Given.{Over}
@@ -77,16 +76,16 @@ returns-in-Some-clause-two_limits g c = agrees_above (under g.H.Host.name_of c.a
     c.args.global.now.level c.args.pos)) _ _ c.call_in-result.result (runs_on g c)
 
 pub returns-in-Some-clause-lib : goal.returns-in-Some-clause-lib
-returns-in-Some-clause-lib g c = ap (λ (around : Surroundings _). around.lib) (returns-in-Some-clause-kept g c).around
+returns-in-Some-clause-lib g c = (returns-in-Some-clause-kept g c).around.lib
 
 pub returns-in-Some-clause-imports : goal.returns-in-Some-clause-imports
-returns-in-Some-clause-imports g c = ap (λ (around : Surroundings _). around.imports) (returns-in-Some-clause-kept g c).around
+returns-in-Some-clause-imports g c = (returns-in-Some-clause-kept g c).imports
 
 pub returns-in-Some-clause-constants : goal.returns-in-Some-clause-constants
-returns-in-Some-clause-constants g c = ap (λ (around : Surroundings _). around.constants) (returns-in-Some-clause-kept g c).around
+returns-in-Some-clause-constants g c = (returns-in-Some-clause-kept g c).around.constants
 
 pub returns-in-Some-clause-level : goal.returns-in-Some-clause-level
-returns-in-Some-clause-level g c = ap (λ (around : Surroundings _). around.level) (returns-in-Some-clause-kept g c).around
+returns-in-Some-clause-level g c = (returns-in-Some-clause-kept g c).around.level
 
 pub returns-in-Some-clause-scope_level : goal.returns-in-Some-clause-scope_level
 returns-in-Some-clause-scope_level g c = (returns-in-Some-clause-kept g c).scope_level
@@ -160,16 +159,16 @@ returns-in-None-clause-two_limits g c = agrees_above (under g.H.Host.name_of c.a
     c.args.global.now.level c.args.pos)) _ _ c.call_in-result-in-None.result (runs_free g c)
 
 pub returns-in-None-clause-lib : goal.returns-in-None-clause-lib
-returns-in-None-clause-lib g c = ap (λ (around : Surroundings _). around.lib) (returns-in-None-clause-kept g c).around
+returns-in-None-clause-lib g c = (returns-in-None-clause-kept g c).around.lib
 
 pub returns-in-None-clause-imports : goal.returns-in-None-clause-imports
-returns-in-None-clause-imports g c = ap (λ (around : Surroundings _). around.imports) (returns-in-None-clause-kept g c).around
+returns-in-None-clause-imports g c = (returns-in-None-clause-kept g c).imports
 
 pub returns-in-None-clause-constants : goal.returns-in-None-clause-constants
-returns-in-None-clause-constants g c = ap (λ (around : Surroundings _). around.constants) (returns-in-None-clause-kept g c).around
+returns-in-None-clause-constants g c = (returns-in-None-clause-kept g c).around.constants
 
 pub returns-in-None-clause-level : goal.returns-in-None-clause-level
-returns-in-None-clause-level g c = ap (λ (around : Surroundings _). around.level) (returns-in-None-clause-kept g c).around
+returns-in-None-clause-level g c = (returns-in-None-clause-kept g c).around.level
 
 pub returns-in-None-clause-scope_level : goal.returns-in-None-clause-scope_level
 returns-in-None-clause-scope_level g c = (returns-in-None-clause-kept g c).scope_level

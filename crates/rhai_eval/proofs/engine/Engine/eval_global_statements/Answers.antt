@@ -3,7 +3,7 @@ use Rattle.rhai_state.specs.declared.state.GlobalRuntimeState.{GlobalRuntimeStat
 use Rattle.rhai_machine.specs.language.Frames.{ended, Enter}
 use Rattle.rhai_machine.specs.language.Runs.{Runs, Goes}
 use Rattle.rhai_machine.specs.language.Script.{start_of_script, end_of_script}
-use Rattle.rhai_laws.proofs.KeptLaws.{kept, names_begin, variables_stay}
+use Rattle.rhai_laws.proofs.KeptLaws.{grown, names_begin, variables_stay}
 use Rattle.rhai_laws.proofs.WantLaws.{runs_up_to_memory}
 use Rattle.rhai_steps.specs.States.{holding, state_of}
 use Rattle.rhai_cycle.specs.States.{under as under_what_is_read}
@@ -27,7 +27,7 @@ statements_run g c =
     (g.T.NativeTable.state c.args.table.now) (g.T.NativeTable.state c.run_stmt_block-outcome.new.table) c.take-run.result
     c.run_stmt_block-outcome.new.run c.args.global.now c.give_back.new.global c.give_back.ensures.global c.args.scope.now
     c.give_back.new.scope c.give_back.ensures.scope
-    (kept (under_what_is_read g.H.Host.name_of c.evaluator-evaluator.result g.T.NativeTable.natives) (Enter c.args.tree.now.0 false)
+    (grown (under_what_is_read g.H.Host.name_of c.evaluator-evaluator.result g.T.NativeTable.natives) (Enter c.args.tree.now.0 false)
     (ended c.run_stmt_block-outcome.result) _ _ tt runs).bound None None refl refl c.take-run.ensures.run runs
 
 -- and then the script
@@ -55,7 +55,7 @@ pub returns-clause-up_to : goal.returns-clause-up_to
 returns-clause-up_to g c = runs_up_to_memory (under g.H.Host.name_of c.args.self.now g.T.NativeTable.natives) (script_runs g c)
 
 pub returns-clause-kept : goal.returns-clause-kept
-returns-clause-kept g c = kept (under g.H.Host.name_of c.args.self.now g.T.NativeTable.natives) (Enter c.args.tree.now.0 false)
+returns-clause-kept g c = grown (under g.H.Host.name_of c.args.self.now g.T.NativeTable.natives) (Enter c.args.tree.now.0 false)
     (ended c.run_stmt_block-outcome.result) _ _ tt (statements_run g c)
 
 pub returns-clause-begins : goal.returns-clause-begins

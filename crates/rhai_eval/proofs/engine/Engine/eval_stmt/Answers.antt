@@ -5,7 +5,7 @@ use Rattle.rhai_steps.specs.States.{holding, state_of}
 use Rattle.rhai_cycle.specs.States.{under as under_what_is_read}
 use Rattle.rhai_eval.specs.States.{under}
 use Rattle.rhai_machine.specs.language.Runs.{Runs}
-use Rattle.rhai_laws.proofs.KeptLaws.{kept, names_begin, variables_stay}
+use Rattle.rhai_laws.proofs.KeptLaws.{grown, kept, names_begin, names_stay, variables_stay}
 use Rattle.rhai_eval.proofs.Public.{ends_as, five, handed_free, handed_on, same_rules}
 use Rattle.rhai_machine.specs.language.Frames.{ended, Exec}
 use Rattle.rhai_eval.proofs.engine.Engine.eval_stmt.Given.{Over}
@@ -41,7 +41,7 @@ runs_on g c =
     (g.T.NativeTable.state c.args.table.now) (g.T.NativeTable.state c.run_stmt-result.new.table) c.take_with-run.result
     c.run_stmt-result.new.run c.args.global.now c.give_back_with.new.global c.give_back_with.ensures.global c.args.scope.now
     c.give_back_with.new.scope c.give_back_with.ensures.scope
-    (kept (under_what_is_read g.H.Host.name_of c.evaluator-evaluator.result g.T.NativeTable.natives)
+    (grown (under_what_is_read g.H.Host.name_of c.evaluator-evaluator.result g.T.NativeTable.natives)
     (Exec c.args.stmt.now c.args.rewind_scope) (ended c.run_stmt-result.result) _ _ tt c.run_stmt-result.ensures.runs).bound
     (was c.args.this) (left_on g c c.args.this) c.in-Some.place.now c.give_back_with.new.this (ap was c.in-Some.is) (this_on g c)
     c.take_with-run.ensures.run c.give_back_with.ensures.this runs
@@ -51,7 +51,7 @@ returns-in-Some-clause-ends g c = ends_as (under g.H.Host.name_of c.args.self.no
     (Exec c.args.stmt.now c.args.rewind_scope) _ _ c.run_stmt-result.result (runs_on g c)
 
 pub returns-in-Some-clause-kept : goal.returns-in-Some-clause-kept
-returns-in-Some-clause-kept g c = kept (under g.H.Host.name_of c.args.self.now g.T.NativeTable.natives)
+returns-in-Some-clause-kept g c = grown (under g.H.Host.name_of c.args.self.now g.T.NativeTable.natives)
     (Exec c.args.stmt.now c.args.rewind_scope) (ended c.run_stmt-result.result) _ _ tt (runs_on g c)
 
 pub returns-in-Some-clause-begins : goal.returns-in-Some-clause-begins
@@ -87,7 +87,7 @@ runs_free g c =
     handed_free reads (λ r old new. Runs r (Exec c.args.stmt.now c.args.rewind_scope) old c.run_stmt-result-in-None.result new)
     (g.T.NativeTable.state c.args.table.now) (g.T.NativeTable.state c.run_stmt-result-in-None.new.table) c.take-run.result
     c.run_stmt-result-in-None.new.run c.args.global.now c.give_back.new.global c.give_back.ensures.global c.args.scope.now
-    c.give_back.new.scope c.give_back.ensures.scope (kept (under_what_is_read g.H.Host.name_of c.evaluator-evaluator.result
+    c.give_back.new.scope c.give_back.ensures.scope (grown (under_what_is_read g.H.Host.name_of c.evaluator-evaluator.result
     g.T.NativeTable.natives) (Exec c.args.stmt.now c.args.rewind_scope) (ended c.run_stmt-result-in-None.result) _ _ tt
     c.run_stmt-result-in-None.ensures.runs).bound (was c.args.this) (left_free g c c.args.this) (ap was c.in-None.is) (this_free g c)
     c.take-run.ensures.run runs
@@ -97,7 +97,7 @@ returns-in-None-clause-ends g c = ends_as (under g.H.Host.name_of c.args.self.no
     (Exec c.args.stmt.now c.args.rewind_scope) _ _ c.run_stmt-result-in-None.result (runs_free g c)
 
 pub returns-in-None-clause-kept : goal.returns-in-None-clause-kept
-returns-in-None-clause-kept g c = kept (under g.H.Host.name_of c.args.self.now g.T.NativeTable.natives)
+returns-in-None-clause-kept g c = grown (under g.H.Host.name_of c.args.self.now g.T.NativeTable.natives)
     (Exec c.args.stmt.now c.args.rewind_scope) (ended c.run_stmt-result-in-None.result) _ _ tt (runs_free g c)
 
 pub returns-in-None-clause-begins : goal.returns-in-None-clause-begins
@@ -107,3 +107,19 @@ returns-in-None-clause-begins g c = names_begin (under g.H.Host.name_of c.args.s
 pub returns-in-None-clause-variables : goal.returns-in-None-clause-variables
 returns-in-None-clause-variables g c = variables_stay (under g.H.Host.name_of c.args.self.now g.T.NativeTable.natives)
     (Exec c.args.stmt.now c.args.rewind_scope) (ended c.run_stmt-result-in-None.result) _ _ tt (runs_free g c)
+
+pub returns-in-Some-clause-stays : goal.returns-in-Some-clause-stays
+returns-in-Some-clause-stays g c = λ none. names_stay (under g.H.Host.name_of c.args.self.now g.T.NativeTable.natives)
+    (Exec c.args.stmt.now c.args.rewind_scope) (ended c.run_stmt-result.result) _ _ none tt (runs_on g c)
+
+pub returns-in-None-clause-stays : goal.returns-in-None-clause-stays
+returns-in-None-clause-stays g c = λ none. names_stay (under g.H.Host.name_of c.args.self.now g.T.NativeTable.natives)
+    (Exec c.args.stmt.now c.args.rewind_scope) (ended c.run_stmt-result-in-None.result) _ _ none tt (runs_free g c)
+
+pub returns-in-Some-clause-imports : goal.returns-in-Some-clause-imports
+returns-in-Some-clause-imports g c = λ none. (kept (under g.H.Host.name_of c.args.self.now g.T.NativeTable.natives)
+    (Exec c.args.stmt.now c.args.rewind_scope) (ended c.run_stmt-result.result) _ _ none (runs_on g c)).imports
+
+pub returns-in-None-clause-imports : goal.returns-in-None-clause-imports
+returns-in-None-clause-imports g c = λ none. (kept (under g.H.Host.name_of c.args.self.now g.T.NativeTable.natives)
+    (Exec c.args.stmt.now c.args.rewind_scope) (ended c.run_stmt-result-in-None.result) _ _ none (runs_free g c)).imports

@@ -5,7 +5,7 @@ use Rattle.rhai_steps.specs.States.{holding, state_of}
 use Rattle.rhai_cycle.specs.States.{under as under_what_is_read}
 use Rattle.rhai_eval.specs.States.{under}
 use Rattle.rhai_machine.specs.language.Runs.{Runs}
-use Rattle.rhai_laws.proofs.KeptLaws.{kept, names_begin, names_stay, variables_stay}
+use Rattle.rhai_laws.proofs.KeptLaws.{grown, kept_restoring, names_begin, names_stay, variables_stay}
 use Rattle.rhai_eval.proofs.Public.{ends_as, five, handed_free, handed_on, same_rules}
 use Rattle.rhai_machine.specs.language.Frames.{ended, Enter}
 use Rattle.rhai_laws.specs.Kept.{AddsNone}
@@ -43,7 +43,7 @@ runs_on g c =
     (g.T.NativeTable.state c.args.table.now) (g.T.NativeTable.state c.run_stmt_block-result.new.table) c.take_with-run.result
     c.run_stmt_block-result.new.run c.args.global.now c.give_back_with.new.global c.give_back_with.ensures.global c.args.scope.now
     c.give_back_with.new.scope c.give_back_with.ensures.scope
-    (kept (under_what_is_read g.H.Host.name_of c.evaluator-evaluator.result g.T.NativeTable.natives)
+    (grown (under_what_is_read g.H.Host.name_of c.evaluator-evaluator.result g.T.NativeTable.natives)
     (Enter c.args.statements.now c.args.restore_orig_state) (ended c.run_stmt_block-result.result) _ _ tt
     c.run_stmt_block-result.ensures.runs).bound (was c.args.this) (left_on g c c.args.this) c.in-Some.place.now c.give_back_with.new.this
     (ap was c.in-Some.is) (this_on g c) c.take_with-run.ensures.run c.give_back_with.ensures.this runs
@@ -53,7 +53,7 @@ returns-in-Some-clause-ends g c = ends_as (under g.H.Host.name_of c.args.self.no
     (Enter c.args.statements.now c.args.restore_orig_state) _ _ c.run_stmt_block-result.result (runs_on g c)
 
 pub returns-in-Some-clause-kept : goal.returns-in-Some-clause-kept
-returns-in-Some-clause-kept g c = kept (under g.H.Host.name_of c.args.self.now g.T.NativeTable.natives)
+returns-in-Some-clause-kept g c = grown (under g.H.Host.name_of c.args.self.now g.T.NativeTable.natives)
     (Enter c.args.statements.now c.args.restore_orig_state) (ended c.run_stmt_block-result.result) _ _ tt (runs_on g c)
 
 pub returns-in-Some-clause-begins : goal.returns-in-Some-clause-begins
@@ -96,7 +96,7 @@ runs_free g c =
     c.run_stmt_block-result-in-None.result new) (g.T.NativeTable.state c.args.table.now)
     (g.T.NativeTable.state c.run_stmt_block-result-in-None.new.table) c.take-run.result c.run_stmt_block-result-in-None.new.run
     c.args.global.now c.give_back.new.global c.give_back.ensures.global c.args.scope.now c.give_back.new.scope c.give_back.ensures.scope
-    (kept (under_what_is_read g.H.Host.name_of c.evaluator-evaluator.result g.T.NativeTable.natives)
+    (grown (under_what_is_read g.H.Host.name_of c.evaluator-evaluator.result g.T.NativeTable.natives)
     (Enter c.args.statements.now c.args.restore_orig_state) (ended c.run_stmt_block-result-in-None.result) _ _ tt
     c.run_stmt_block-result-in-None.ensures.runs).bound (was c.args.this) (left_free g c c.args.this) (ap was c.in-None.is)
     (this_free g c) c.take-run.ensures.run runs
@@ -106,7 +106,7 @@ returns-in-None-clause-ends g c = ends_as (under g.H.Host.name_of c.args.self.no
     (Enter c.args.statements.now c.args.restore_orig_state) _ _ c.run_stmt_block-result-in-None.result (runs_free g c)
 
 pub returns-in-None-clause-kept : goal.returns-in-None-clause-kept
-returns-in-None-clause-kept g c = kept (under g.H.Host.name_of c.args.self.now g.T.NativeTable.natives)
+returns-in-None-clause-kept g c = grown (under g.H.Host.name_of c.args.self.now g.T.NativeTable.natives)
     (Enter c.args.statements.now c.args.restore_orig_state) (ended c.run_stmt_block-result-in-None.result) _ _ tt (runs_free g c)
 
 pub returns-in-None-clause-begins : goal.returns-in-None-clause-begins
@@ -122,3 +122,13 @@ returns-in-None-clause-restores g c = λ restoring.
     let adds : AddsNone {H = g.row.H.Denot} (Enter c.args.statements.now c.args.restore_orig_state) = rw restoring tt in
     names_stay (under g.H.Host.name_of c.args.self.now g.T.NativeTable.natives) (Enter c.args.statements.now c.args.restore_orig_state)
     (ended c.run_stmt_block-result-in-None.result) _ _ adds tt (runs_free g c)
+
+pub returns-in-Some-clause-imports : goal.returns-in-Some-clause-imports
+returns-in-Some-clause-imports g c = λ restoring.
+    (kept_restoring (under g.H.Host.name_of c.args.self.now g.T.NativeTable.natives) c.args.statements.now c.args.restore_orig_state
+    (ended c.run_stmt_block-result.result) _ _ restoring (runs_on g c)).imports
+
+pub returns-in-None-clause-imports : goal.returns-in-None-clause-imports
+returns-in-None-clause-imports g c = λ restoring.
+    (kept_restoring (under g.H.Host.name_of c.args.self.now g.T.NativeTable.natives) c.args.statements.now c.args.restore_orig_state
+    (ended c.run_stmt_block-result-in-None.result) _ _ restoring (runs_free g c)).imports
