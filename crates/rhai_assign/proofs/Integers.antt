@@ -9,9 +9,9 @@ use Rattle.rhai_tree.specs.declared.expr.Expr.{Expr, out-Expr}
 use Rattle.rhai_tree.specs.declared.expr.Expr.TheOpen as layer
 use Rattle.rhai_tree.specs.declared.expr.Namespace.{Namespace}
 use Rattle.rhai_tree.specs.declared.expr.OpAssignment.{OpAssignment}
-use Rattle.rhai_checked.specs.Forms.{is_unqualified}
-use Rattle.rhai_checked.specs.Frame.{resolves_expr}
-use Rattle.rhai_checked.specs.Names.{Name}
+use Rattle.rhai_tree.specs.Forms.{is_unqualified}
+use Rattle.rhai_tree.specs.Frame.{resolves_expr}
+use Rattle.rhai_tree.specs.Names.{Name}
 use Rattle.rhai_values.specs.declared.base.value.Dynamic.{Dynamic}
 use Rattle.rhai_values.specs.declared.base.value.Module.{Module}
 use Rattle.rhai_values.specs.declared.base.value.Union.{Union}

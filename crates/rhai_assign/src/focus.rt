@@ -19,7 +19,6 @@ ghost use Rattle.rhai_assign.specs.Lending.{placed};
 
 use crate::place::{Update, is_constant};
 use crate::update::{assign_lent, update_by_natives};
-use rhai_items::{Shared, Text};
 use rhai_state::error::EvalAltResult;
 use rhai_state::limits::Limits;
 use rhai_state::state::GlobalRuntimeState;
@@ -28,6 +27,7 @@ use rhai_steps::errors::{assignment_to_constant, data_race};
 use rhai_steps::values::{let_go, unit_value};
 use rhai_tree::expr::{Expr, OpAssignment};
 use rhai_tree::position::Position;
+use rhai_tree::{Shared, Text};
 use rhai_values::base::value::{AccessMode, CellId, Dynamic, Host, Union};
 use rhai_values::cells::{CellStore, put_back};
 use std::alloc::Global;

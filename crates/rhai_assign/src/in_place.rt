@@ -4,8 +4,8 @@
 ghost use Rattle.std.specs.Prelude.{◌≡◌, IsTrue, IfSome, Some, None, Ok, is_some, true, false};
 ghost use Rattle.rhai_tree.specs.declared.expr.Expr.{out-Expr};
 ghost use Rattle.rhai_tree.specs.declared.expr.Expr.TheOpen as layer;
-ghost use Rattle.rhai_checked.specs.Frame.{tests_of, target_resolves, resolves_expr};
-ghost use Rattle.rhai_checked.specs.Names.{is_good};
+ghost use Rattle.rhai_tree.specs.Frame.{tests_of, target_resolves, resolves_expr};
+ghost use Rattle.rhai_tree.specs.Names.{is_good};
 ghost use Rattle.rhai_values.specs.Cells.{cells_of};
 ghost use Rattle.rhai_state.specs.Scope.{entries_of, names_in};
 ghost use Rattle.rhai_machine.specs.language.Frames.{OpenStmt};
@@ -20,7 +20,6 @@ ghost use Rattle.rhai_assign.specs.Keeps.{Keeps};
 
 use crate::place::{Place, find_target, value_at};
 use crate::write::write_outcome;
-use rhai_items::{Shared, Text};
 use rhai_operands::operands::{integer_at, integer_in_place, operand_in_place};
 use rhai_operators::builtin_op_assign;
 use rhai_operators::direct::assign_integers;
@@ -35,6 +34,7 @@ use rhai_steps::variables::place_of_variable;
 use rhai_tree::expr::{Expr, OpAssignment};
 use rhai_tree::position::Position;
 use rhai_tree::token::Token;
+use rhai_tree::{Shared, Text};
 use rhai_values::base::value::{AccessMode, Dynamic, Host};
 use std::alloc::Global;
 use std::num::NonZeroUsize;

@@ -14,7 +14,7 @@ mod update;
 mod write;
 
 ghost use Rattle.std.specs.Prelude.{◌≡◌, ◌≤◌, IsTrue, true};
-ghost use Rattle.rhai_checked.specs.Names.{is_good};
+ghost use Rattle.rhai_tree.specs.Names.{is_good};
 ghost use Rattle.rhai_state.specs.Scope.{names_in};
 ghost use Rattle.rhai_machine.specs.language.Setting.{rules_of};
 ghost use Rattle.rhai_machine.specs.language.Frames.{Assign};
@@ -23,7 +23,6 @@ ghost use Rattle.rhai_steps.specs.States.{state_of};
 
 use crate::place::find_target;
 use crate::update::store;
-use rhai_items::{Shared, Text};
 use rhai_state::error::EvalAltResult;
 use rhai_state::limits::Limits;
 use rhai_state::scope::Scope;
@@ -33,6 +32,7 @@ use rhai_steps::charges::track_operation;
 use rhai_steps::values::let_go;
 use rhai_tree::expr::OpAssignment;
 use rhai_tree::position::Position;
+use rhai_tree::{Shared, Text};
 use rhai_values::base::value::{Dynamic, Host};
 use std::alloc::Global;
 use std::num::NonZeroUsize;

@@ -16,7 +16,6 @@ ghost use Rattle.rhai_assign.specs.Lending.{cells_seen, placed, IsFree, IsLentFr
 ghost use Rattle.rhai_assign.specs.Updates.{is_barred_for, other_fault, update_of};
 
 use crate::place::Update;
-use rhai_items::{Shared, Text};
 use rhai_state::error::EvalAltResult;
 use rhai_state::limits::Limits;
 use rhai_state::state::GlobalRuntimeState;
@@ -27,6 +26,7 @@ use rhai_steps::replies::replied;
 use rhai_steps::values::{is_bare_handle, let_go, unit_value};
 use rhai_tree::position::Position;
 use rhai_tree::token::Token;
+use rhai_tree::{Shared, Text};
 use rhai_values::base::value::{AccessMode, Dynamic, Host};
 use rhai_values::cells::{CellStore, put_back};
 use std::alloc::{AllocError, Global};

@@ -2,7 +2,7 @@
 //! written there.
 
 ghost use Rattle.std.specs.Prelude.{◌≡◌, ◌||◌, Some, IsTrue, false, true};
-ghost use Rattle.rhai_checked.specs.Names.{is_good};
+ghost use Rattle.rhai_tree.specs.Names.{is_good};
 ghost use Rattle.rhai_values.specs.Cells.{cells_of, value_of_cell};
 ghost use Rattle.rhai_state.specs.Scope.{entries_of, names_in};
 ghost use Rattle.rhai_machine.specs.language.Values.{unit_value as unit};
@@ -15,7 +15,6 @@ ghost use Rattle.rhai_assign.specs.Targets.{Finds, IsKnownAt, IsPut, entries_put
 ghost use Rattle.rhai_assign.specs.Targets.{stands_at, there, there_at};
 
 use rhai_functions::named::arity_named;
-use rhai_items::{Shared, Text};
 use rhai_state::error::EvalAltResult;
 use rhai_state::scope::Scope;
 use rhai_state::state::GlobalRuntimeState;
@@ -24,6 +23,7 @@ use rhai_steps::values::{let_go, unit_value};
 use rhai_steps::variables::place_of_variable;
 use rhai_tree::position::Position;
 use rhai_tree::token::Token;
+use rhai_tree::{Shared, Text};
 use rhai_values::base::value::{AccessMode, CellId, Dynamic, Host, Module, Union};
 use rhai_values::cells::{CellStore, put_back};
 use std::num::NonZeroUsize;

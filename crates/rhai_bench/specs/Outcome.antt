@@ -1,6 +1,6 @@
 -- A script's ending: its exit status, and what is said of a refusal.
 use Rattle.std.specs.Prelude.{⊤, ℕ}
-use Rattle.rhai_checked.specs.declared.fault.CheckFault.{CheckFault}
+use Rattle.rhai_tree.specs.declared.fault.CheckFault.{CheckFault}
 use Rattle.rhai_bench.specs.declared.outcome.Ending.{Ending}
 use Rattle.rhai_bench.specs.declared.outcome.Ending.TheVariants.{Refused, Value, Error}
 

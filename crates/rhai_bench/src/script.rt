@@ -1,8 +1,8 @@
 //! Scripts with what is set for their runs.
 
 ghost use Rattle.std.specs.Prelude.{◌≡◌, ◌≢◌, ◌≤◌, [], false, IfOk, length};
-ghost use Rattle.rhai_checked.specs.WellFormed.{IsFormedTree};
-ghost use Rattle.rhai_checked.specs.declared.fault.CheckFault.TheVariants.{NoMemory};
+ghost use Rattle.rhai_tree.specs.WellFormed.{IsFormedTree};
+ghost use Rattle.rhai_tree.specs.declared.fault.CheckFault.TheVariants.{NoMemory};
 ghost use Rattle.rhai_state.specs.Scope.{entries_of, names_in};
 ghost use Rattle.rhai_state.specs.Limits.{limit_of};
 ghost use Rattle.rhai_bench.specs.Outcome.{IfRefused};

@@ -12,11 +12,11 @@ ghost use Rattle.rhai_machine.specs.language.State.{Answers};
 ghost use Rattle.rhai_bodies.specs.Closing.{is_wrapped, outcome_of, source_under, taken_back, wrapped, Ends};
 
 use crate::opening::{CallExit, take_back};
-use rhai_items::{Boxed, Shared, Text};
 use rhai_state::error::{EvalAltResult, FunctionCallError, WayOut};
 use rhai_state::state::GlobalRuntimeState;
 use rhai_tree::function::ScriptFuncDef;
 use rhai_tree::position::Position;
+use rhai_tree::{Boxed, Shared, Text};
 use rhai_values::base::value::{Dynamic, EncapsulatedEnviron, Host};
 use std::alloc::{AllocError, Global};
 

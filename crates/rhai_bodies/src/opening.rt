@@ -15,7 +15,6 @@ ghost use Rattle.rhai_bodies.specs.Opening.{is_deep, is_full as full_with};
 ghost use Rattle.rhai_bodies.specs.Opening.{OnEntered, OnPassed, UnlessEntered};
 
 use rhai_functions::entering::push_parameters;
-use rhai_items::{Items, Shared};
 use rhai_state::error::EvalAltResult;
 use rhai_state::limits::Limits;
 use rhai_state::scope::Scope;
@@ -23,6 +22,7 @@ use rhai_state::state::GlobalRuntimeState;
 use rhai_tree::expr::Stmt;
 use rhai_tree::function::{ScriptFuncDef, ScriptFuncPayload};
 use rhai_tree::position::Position;
+use rhai_tree::{Items, Shared};
 use rhai_values::base::value::{Dynamic, EncapsulatedEnviron, Host, Import, Module};
 use std::alloc::AllocError;
 

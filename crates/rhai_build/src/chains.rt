@@ -9,10 +9,10 @@ ghost use Rattle.rhai_build.specs.Build.{no_options, unqualified};
 use crate::expressions::unit;
 use crate::{Builder, at, no_namespace};
 use bitflags::Flags;
-use rhai_items::{Boxed, Items};
 use rhai_tree::expr::{Expr, FnCallExpr, Namespace};
 use rhai_tree::flags::ASTFlags;
 use rhai_tree::position::Position;
+use rhai_tree::{Boxed, Items};
 
 impl Builder {
     /// A property, which stands behind a dot.

@@ -1,17 +1,17 @@
 //! Expressions.
 
 ghost use Rattle.std.specs.Prelude.{◌≡◌, ◌≢◌, [], ◌∷◌, ◌++◌, false, true};
-ghost use Rattle.rhai_items.specs.Lookup.{with_entry};
+ghost use Rattle.rhai_tree.specs.Lookup.{with_entry};
 ghost use Rattle.rhai_tree.specs.Position.{at as place};
 ghost use Rattle.rhai_tree.specs.declared.expr.Expr.TheVariants as expr;
 ghost use Rattle.rhai_tree.specs.declared.literal.Literal.TheVariants as Literal;
 ghost use Rattle.rhai_build.specs.Build.{IsVariable, Made, call_at, entry_at, operator_at};
 
 use crate::{Builder, at, no_namespace};
-use rhai_items::{Items, Table};
 use rhai_tree::expr::{Expr, FnCallExpr, MapEntry};
 use rhai_tree::literal::Literal;
 use rhai_tree::token::Token;
+use rhai_tree::{Items, Table};
 use std::alloc::Global;
 use std::num::NonZeroUsize;
 

@@ -6,9 +6,9 @@ ghost use Rattle.rhai_tree.specs.declared.function.FnAccess.TheVariants.{Public}
 ghost use Rattle.rhai_build.specs.Build.{Made, function_of};
 
 use crate::{Builder, list, shared};
-use rhai_items::{Items, Shared, Text};
 use rhai_tree::expr::{Stmt, StmtBlock};
 use rhai_tree::function::{FnAccess, ScriptFuncDef, ScriptFuncPayload};
+use rhai_tree::{Items, Shared, Text};
 use std::alloc::{AllocError, Global};
 
 /// The statements of a tree, and the functions beside them.

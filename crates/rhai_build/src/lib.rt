@@ -6,10 +6,10 @@ ghost use Rattle.std.specs.Prelude.{◌≡◌, ◌≢◌, [], IfOk, MatchOption,
 ghost use Rattle.rhai_tree.specs.Position.{at as place};
 ghost use Rattle.rhai_build.specs.Build.{Made, unqualified};
 
-use rhai_items::{Items, Shared, Text};
 use rhai_tree::expr::{Namespace, Stmt};
 use rhai_tree::function::ScriptFuncDef;
 use rhai_tree::position::Position;
+use rhai_tree::{Items, Shared, Text};
 use std::alloc::{AllocError, Global};
 
 pub mod chains;

@@ -9,7 +9,7 @@ ghost use Rattle.rhai_build.specs.Build.{ident_at, Made, negated_option, no_opti
 
 use crate::{Builder, at};
 use bitflags::Flags;
-use rhai_items::Items;
+use rhai_tree::Items;
 use rhai_tree::expr::{Expr, Ident, OpAssignment, Stmt, StmtBlock};
 use rhai_tree::flags::ASTFlags;
 use rhai_tree::position::Position;

@@ -15,7 +15,6 @@ ghost use Rattle.rhai_calls.specs.Natives.{Bars, CallsInCell, CallsOn, cell_in, 
 ghost use Rattle.rhai_calls.specs.Natives.{is_pure_on};
 ghost use Rattle.rhai_calls.specs.Natives.{lends_from, native_call, native_key};
 
-use rhai_items::Items;
 use rhai_state::error::EvalAltResult;
 use rhai_state::limits::Limits;
 use rhai_state::state::GlobalRuntimeState;
@@ -24,6 +23,7 @@ use rhai_steps::charges::track_operation;
 use rhai_steps::errors::{data_race_by, non_pure};
 use rhai_steps::replies::{replied, replied_alone};
 use rhai_steps::values::is_bare_handle;
+use rhai_tree::Items;
 use rhai_tree::literal::NativeId;
 use rhai_tree::position::Position;
 use rhai_tree::token::Token;

@@ -11,7 +11,6 @@ ghost use Rattle.rhai_calls.specs.Operates.{Operates};
 
 use crate::dispatch::{Called, call_all};
 use rhai_functions::function::Offered;
-use rhai_items::Items;
 use rhai_operators::{builtin_binary, builtin_unary};
 use rhai_state::error::EvalAltResult;
 use rhai_state::limits::Limits;
@@ -19,6 +18,7 @@ use rhai_state::state::GlobalRuntimeState;
 use rhai_state::table::NativeTable;
 use rhai_steps::replies::applied;
 use rhai_steps::values::let_go;
+use rhai_tree::Items;
 use rhai_tree::position::Position;
 use rhai_tree::token::Token;
 use rhai_values::base::value::{Dynamic, Host};

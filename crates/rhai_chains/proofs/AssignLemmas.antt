@@ -14,7 +14,7 @@ use Rattle.rhai_places.specs.declared.spot.Spot.{Spot}
 use Rattle.rhai_places.specs.declared.spot.Spot.TheVariants as spot
 use Rattle.rhai_places.specs.Parts.{IsPart, part_of, value_at, value_in, with_value}
 use Rattle.rhai_places.specs.PutBack.{put_back, IsNotPut}
-use Rattle.rhai_paths.specs.Paths.{ToPlace}
+use Rattle.rhai_places.specs.Paths.{ToPlace}
 use Rattle.rhai_machine.specs.machine.Machine.{Go}
 use Rattle.rhai_machine.specs.machine.Memory.{here, wanting, ◌⨾◌}
 use Rattle.rhai_machine.specs.machine.Point.{Point}

@@ -7,8 +7,8 @@ use Rattle.rhai_tree.specs.declared.expr.Expr.{Expr, out-Expr}
 use Rattle.rhai_tree.specs.declared.expr.Expr.TheOpen as layer
 use Rattle.rhai_tree.specs.Layers.{ExprLayer}
 use Rattle.rhai_tree.specs.Positions.{position_of}
-use Rattle.rhai_checked.specs.Links.{left_by, links, links_in}
-use Rattle.rhai_checked.proofs.Links.{links_same}
+use Rattle.rhai_tree.specs.Links.{left_by, links, links_in}
+use Rattle.rhai_tree.proofs.Links.{links_same}
 use Rattle.rhai_machine.specs.language.Links.{Link, LinkForm, asked_by, breaks, dot_form, dot_link, dot_link_with, first_in, index_link}
 use Rattle.rhai_machine.specs.language.Links.{link_of}
 use Rattle.rhai_chains.specs.Chains.{at_end, goes_on, BehindWalks, MayEnd, Walks}

@@ -2,7 +2,7 @@
 use Rattle.std.proofs.Common.{◌≡◌, ◌⊎◌, inl, inr, ℕ, zero, suc, ◌<◌, List, [], ◌∷◌, true, false, Option, Some, None, Result, Ok, Err}
 use Rattle.std.proofs.Common.{refl, sym, ap, ◌∙◌, length, arith}
 use Rattle.std.specs.List.{insert, slice_get, slice_set}
-use Rattle.rhai_items.specs.Lookup.{place_of, put_at, rank, with_entry}
+use Rattle.rhai_tree.specs.Lookup.{place_of, put_at, rank, with_entry}
 use Rattle.rhai_values.specs.declared.base.value.Dynamic.{Dynamic}
 use Rattle.rhai_values.specs.declared.base.value.Union.{out-Union, roll-Union, roll-out-Union}
 use Rattle.rhai_values.specs.declared.base.value.Union.TheVariants as value

@@ -11,7 +11,7 @@ use Rattle.rhai_places.specs.declared.spot.Spot.{Spot}
 use Rattle.rhai_places.specs.declared.spot.Spot.TheVariants as spot
 use Rattle.rhai_places.specs.Parts.{IsThere, value_at}
 use Rattle.rhai_places.specs.PutBack.{put_back, IsNotPut}
-use Rattle.rhai_paths.specs.Paths.{ToPlace}
+use Rattle.rhai_places.specs.Paths.{ToPlace}
 use Rattle.rhai_machine.specs.language.Setting.{Setting, Rules}
 use Rattle.rhai_machine.specs.language.State.{Answers, Local, State}
 use Rattle.rhai_machine.specs.language.Frames.{NewValue, MemberAccess, Frame, Core, core, StepDown, Measured, MemberGot, MemberOperated}

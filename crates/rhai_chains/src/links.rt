@@ -3,7 +3,7 @@
 ghost use Rattle.std.specs.Prelude.{◌≡◌, Some, None, if◌then◌else◌};
 ghost use Rattle.std.specs.Option.{option_copied, option_map};
 ghost use Rattle.rhai_tree.specs.declared.expr.Expr.{out-Expr};
-ghost use Rattle.rhai_checked.specs.Forms.{is_unqualified};
+ghost use Rattle.rhai_tree.specs.Forms.{is_unqualified};
 ghost use Rattle.rhai_machine.specs.language.Links.{AtMethod, breaks as breaks_in, dot_form, first_in};
 ghost use Rattle.rhai_machine.specs.language.Links.{dot_link as dot_link_in, index_link as index_link_in};
 ghost use Rattle.rhai_machine.specs.language.Links.{link_of as link_in, link_with as link_with_in};
@@ -11,10 +11,10 @@ ghost use Rattle.rhai_machine.specs.language.Links.{stops as stops_in};
 ghost use Rattle.rhai_chains.specs.Chains.{form_seen, link_seen};
 
 use bitflags::Flags;
-use rhai_items::{Shared, Text};
 use rhai_tree::expr::{Expr, FnCallExpr};
 use rhai_tree::flags::ASTFlags;
 use rhai_tree::position::Position;
+use rhai_tree::{Shared, Text};
 
 /// What a link is.
 #[derive(Clone, Copy)]

@@ -18,13 +18,13 @@ ghost use Rattle.rhai_steps.specs.Marked.{lending, RunsFrom};
 ghost use Rattle.rhai_chains.specs.Members.{access_of, tried};
 
 use rhai_calls::native::{Passing, marked, pass_native};
-use rhai_items::{Items, Shared, Text};
 use rhai_state::error::EvalAltResult;
 use rhai_state::limits::Limits;
 use rhai_state::state::GlobalRuntimeState;
 use rhai_state::table::NativeTable;
 use rhai_steps::values::{let_go, list_of, text_value, unit_value};
 use rhai_tree::position::Position;
+use rhai_tree::{Items, Shared, Text};
 use rhai_values::base::value::{Dynamic, Host};
 use std::alloc::{AllocError, Global};
 use std::mem::replace;

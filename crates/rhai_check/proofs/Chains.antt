@@ -3,8 +3,8 @@ use Rattle.std.proofs.Common.{◌≡◌, ap, refl, sym, ◌∙◌, subst, Bool, 
 use Rattle.std.proofs.lemmas.List.{append-nil}
 use Rattle.std.specs.Prelude.{Option, Some, None}
 use Rattle.std.specs.Result.{IfErr, OnOk}
-use Rattle.rhai_checked.specs.declared.fault.CheckFault.{CheckFault}
-use Rattle.rhai_checked.specs.declared.fault.CheckFault.TheVariants.{BadChain}
+use Rattle.rhai_tree.specs.declared.fault.CheckFault.{CheckFault}
+use Rattle.rhai_tree.specs.declared.fault.CheckFault.TheVariants.{BadChain}
 use Rattle.rhai_tree.specs.declared.expr.ConditionalExpr.{ConditionalExpr}
 use Rattle.rhai_tree.specs.declared.expr.Expr.{Expr, out-Expr, roll-Expr, roll-out-Expr}
 use Rattle.rhai_tree.specs.declared.expr.Expr.TheVariants.{Dot, Index, rolls-Dot, rolls-Index}
@@ -17,15 +17,15 @@ use Rattle.rhai_tree.specs.declared.expr.StmtBlock.{StmtBlock}
 use Rattle.rhai_tree.specs.declared.flags.ASTFlags.{ASTFlags}
 use Rattle.rhai_tree.specs.declared.position.Position.{Position}
 use Rattle.rhai_tree.specs.Layers.{ExprLayer}
-use Rattle.rhai_checked.specs.Context.{Context}
+use Rattle.rhai_tree.specs.Context.{Context}
 use Rattle.rhai_check.specs.Declares as declares
 use Rattle.rhai_check.specs.Declares.{declares_expr}
-use Rattle.rhai_checked.specs.Frame.{tests_of, resolves_expr, dot_resolves, name_resolves, bracket_resolves}
-use Rattle.rhai_checked.specs.Names.{Name}
-use Rattle.rhai_checked.specs.Reading as walk
-use Rattle.rhai_checked.specs.Reading.{faulty, sound}
+use Rattle.rhai_tree.specs.Frame.{tests_of, resolves_expr, dot_resolves, name_resolves, bracket_resolves}
+use Rattle.rhai_tree.specs.Names.{Name}
+use Rattle.rhai_tree.specs.Reading as walk
+use Rattle.rhai_tree.specs.Reading.{faulty, sound}
 use Rattle.rhai_check.specs.Refusals.{IsFirst, Refuses}
-use Rattle.rhai_checked.specs.WellFormed.{seen_expr, dot_faults, name_faults}
+use Rattle.rhai_tree.specs.WellFormed.{seen_expr, dot_faults, name_faults}
 use Rattle.rhai_check.proofs.Outcome.{ok_then}
 use Rattle.rhai_check.proofs.Refused.{refuses_more, refuses_first, refuses_later}
 use Rattle.rhai_check.proofs.Walk.{expr_declares, declares-expr}

@@ -4,13 +4,13 @@ use Rattle.std.specs.Result.{OnOk}
 use Rattle.rhai_tree.specs.declared.expr.Expr.{Expr, out-Expr}
 use Rattle.rhai_tree.specs.Layers.{ExprLayer}
 use Rattle.rhai_check.specs.Types.{CheckFault}
-use Rattle.rhai_checked.specs.Frame.{resolves_expr}
-use Rattle.rhai_checked.specs.Links.{links_in, most_links, is_counted}
-use Rattle.rhai_checked.specs.Names.{Name}
-use Rattle.rhai_checked.specs.Reading as walk
-use Rattle.rhai_checked.specs.Reading.{sound}
-use Rattle.rhai_checked.proofs.Links.{all_three, counted_at, level}
-use Rattle.rhai_checked.proofs.Walk.{resolves-expr}
+use Rattle.rhai_tree.specs.Frame.{resolves_expr}
+use Rattle.rhai_tree.specs.Links.{links_in, most_links, is_counted}
+use Rattle.rhai_tree.specs.Names.{Name}
+use Rattle.rhai_tree.specs.Reading as walk
+use Rattle.rhai_tree.specs.Reading.{sound}
+use Rattle.rhai_tree.proofs.Links.{all_three, counted_at, level}
+use Rattle.rhai_tree.proofs.Walk.{resolves-expr}
 use Rattle.rhai_check.proofs.Outcome.{ok_then}
 
 -- it may run where its root and what is behind it may

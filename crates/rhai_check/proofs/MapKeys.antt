@@ -1,19 +1,19 @@
 -- A map whose keys are those of its template, and one whose keys are not.
 use Rattle.std.proofs.Common.{◌≡◌, ap, refl, true, false, IsTrue, List, [], ◌∷◌, ◌++◌, map, Result}
 use Rattle.std.specs.Result.{IfErr, OnOk}
-use Rattle.rhai_checked.specs.declared.fault.CheckFault.{CheckFault}
-use Rattle.rhai_checked.specs.declared.fault.CheckFault.TheVariants.{BadMapKey}
+use Rattle.rhai_tree.specs.declared.fault.CheckFault.{CheckFault}
+use Rattle.rhai_tree.specs.declared.fault.CheckFault.TheVariants.{BadMapKey}
 use Rattle.rhai_tree.specs.declared.expr.Expr.TheFolds.{fold_out-MapEntry}
 use Rattle.rhai_tree.specs.declared.expr.MapEntry.{MapEntry}
 use Rattle.rhai_tree.specs.declared.position.Position.{Position}
-use Rattle.rhai_checked.specs.Context.{Context}
-use Rattle.rhai_checked.specs.Frame.{entries_resolve, map_resolves, tests_of_entry}
-use Rattle.rhai_checked.specs.Keys.{are_keys, key_of}
-use Rattle.rhai_checked.specs.Names.{Name}
-use Rattle.rhai_checked.specs.Reading as walk
-use Rattle.rhai_checked.specs.Reading.{faulty, sound}
+use Rattle.rhai_tree.specs.Context.{Context}
+use Rattle.rhai_tree.specs.Frame.{entries_resolve, map_resolves, tests_of_entry}
+use Rattle.rhai_tree.specs.Keys.{are_keys, key_of}
+use Rattle.rhai_tree.specs.Names.{Name}
+use Rattle.rhai_tree.specs.Reading as walk
+use Rattle.rhai_tree.specs.Reading.{faulty, sound}
 use Rattle.rhai_check.specs.Refusals.{IsFirst, Refuses}
-use Rattle.rhai_checked.specs.WellFormed.{faults_in_entries, faults_in_map, seen_entry}
+use Rattle.rhai_tree.specs.WellFormed.{faults_in_entries, faults_in_map, seen_entry}
 use Rattle.rhai_check.proofs.Outcome.{ok_then, err_then}
 
 -- what is seen of an entry has its key

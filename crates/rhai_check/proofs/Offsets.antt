@@ -7,9 +7,9 @@ use Rattle.std.proofs.Math.Seq.{take-suc}
 use Rattle.std.specs.Prelude.{Option, Some, None}
 use Rattle.std.specs.Int.NonZero.{non_zero_usize_get}
 use Rattle.std.specs.declared.num.NonZeroUsize.{NonZeroUsize}
-use Rattle.rhai_checked.specs.Forms.{is_unqualified}
-use Rattle.rhai_checked.specs.Names.{Name, further, offset_of, stands, is_good}
-use Rattle.rhai_checked.specs.Reading.{sound, found_in_variable}
+use Rattle.rhai_tree.specs.Forms.{is_unqualified}
+use Rattle.rhai_tree.specs.Names.{Name, further, offset_of, stands, is_good}
+use Rattle.rhai_tree.specs.Reading.{sound, found_in_variable}
 use Rattle.rhai_tree.specs.declared.position.Position.{Position}
 
 -- the offset after one more name

@@ -2,28 +2,28 @@
 use Rattle.std.proofs.Common.{◌≡◌, ap, sym, ◌∙◌, subst, List, [], ◌∷◌, ◌++◌, Bool, true, false, IsTrue, refl, Result, Ok, Err}
 use Rattle.std.proofs.Common.{append_assoc, if◌then◌else◌}
 use Rattle.std.specs.Result.{IfErr, OnOk}
-use Rattle.rhai_checked.specs.declared.fault.CheckFault.{CheckFault}
-use Rattle.rhai_checked.specs.declared.fault.CheckFault.TheVariants.{BadAssignment, LoopControlOutside, NotYet}
+use Rattle.rhai_tree.specs.declared.fault.CheckFault.{CheckFault}
+use Rattle.rhai_tree.specs.declared.fault.CheckFault.TheVariants.{BadAssignment, LoopControlOutside, NotYet}
 use Rattle.rhai_check.specs.declared.check.place.Place.{Place}
 use Rattle.rhai_tree.specs.declared.expr.Expr.{Expr, out-Expr}
 use Rattle.rhai_tree.specs.declared.expr.Stmt.{Stmt, out-Stmt}
 use Rattle.rhai_tree.specs.declared.flags.ASTFlags.{ASTFlags}
 use Rattle.rhai_tree.specs.declared.position.Position.{Position}
 use Rattle.rhai_tree.specs.Layers.{ExprLayer, StmtLayer}
-use Rattle.rhai_checked.specs.Context.{Context}
+use Rattle.rhai_tree.specs.Context.{Context}
 use Rattle.rhai_check.specs.Around.{around}
 use Rattle.rhai_check.specs.Declares as declares
 use Rattle.rhai_check.specs.Declares.{declares_expr, declares_stmt}
-use Rattle.rhai_checked.specs.Forms.{is_exported}
-use Rattle.rhai_checked.specs.Reading as walk
-use Rattle.rhai_checked.specs.Reading.{faulty, sound}
-use Rattle.rhai_checked.specs.Frame.{tests_of, var_resolves}
-use Rattle.rhai_checked.specs.Names.{Name}
+use Rattle.rhai_tree.specs.Forms.{is_exported}
+use Rattle.rhai_tree.specs.Reading as walk
+use Rattle.rhai_tree.specs.Reading.{faulty, sound}
+use Rattle.rhai_tree.specs.Frame.{tests_of, var_resolves}
+use Rattle.rhai_tree.specs.Names.{Name}
 use Rattle.rhai_check.specs.Refusals.{IsFirst, Refuses}
-use Rattle.rhai_checked.specs.WellFormed.{seen_expr, seen_stmt, target_faults, control_faults, var_faults}
+use Rattle.rhai_tree.specs.WellFormed.{seen_expr, seen_stmt, target_faults, control_faults, var_faults}
 use Rattle.rhai_check.proofs.Walk.{expr_faults, stmt_faults, expr_declares, seen-expr, seen-stmt}
 use Rattle.rhai_check.proofs.Walk.{Seen, SeenStmt, refuses_expr_at}
-use Rattle.rhai_checked.proofs.Walk.{Tests, expr_tests, resolves-expr}
+use Rattle.rhai_tree.proofs.Walk.{Tests, expr_tests, resolves-expr}
 
 -- what always holds holds where a call gives no error
 pub given_ok : {A : Type 0} {P : Type 0} (r : Result A CheckFault) → P → OnOk r P

@@ -5,17 +5,17 @@ use Rattle.std.specs.List.{Contains}
 use Rattle.std.proofs.lemmas.List.Elements.{Contains-append_right}
 use Rattle.std.specs.Result.{IsErr, IsErrAnd, IfErr}
 use Rattle.std.proofs.Math.Seq.{drop-cons}
-use Rattle.rhai_checked.specs.declared.fault.CheckFault.{CheckFault}
-use Rattle.rhai_checked.specs.declared.fault.CheckFault.TheVariants.{BadOffset, BadImportOffset, BadChain, BadAssignment, BadSwitch}
-use Rattle.rhai_checked.specs.declared.fault.CheckFault.TheVariants.{BadMapKey, BadCatch, LoopControlOutside, ExportNotGlobal, EvalCall}
-use Rattle.rhai_checked.specs.declared.fault.CheckFault.TheVariants.{NotAnExpression, QualifiedMethod, NoMemory, NotYet}
+use Rattle.rhai_tree.specs.declared.fault.CheckFault.{CheckFault}
+use Rattle.rhai_tree.specs.declared.fault.CheckFault.TheVariants.{BadOffset, BadImportOffset, BadChain, BadAssignment, BadSwitch}
+use Rattle.rhai_tree.specs.declared.fault.CheckFault.TheVariants.{BadMapKey, BadCatch, LoopControlOutside, ExportNotGlobal, EvalCall}
+use Rattle.rhai_tree.specs.declared.fault.CheckFault.TheVariants.{NotAnExpression, QualifiedMethod, NoMemory, NotYet}
 use Rattle.rhai_tree.specs.declared.expr.Expr.{Expr}
 use Rattle.rhai_tree.specs.declared.expr.Stmt.{Stmt}
-use Rattle.rhai_checked.specs.Context.{Context}
-use Rattle.rhai_checked.specs.Forms.{any_of}
+use Rattle.rhai_tree.specs.Context.{Context}
+use Rattle.rhai_tree.specs.Forms.{any_of}
 use Rattle.rhai_check.specs.Declares.{declares_expr, declares_stmt}
 use Rattle.rhai_check.specs.Refusals.{IsFirst, Refuses}
-use Rattle.rhai_checked.specs.WellFormed.{seen_expr, seen_stmt, faults_in_all, faults_in_list}
+use Rattle.rhai_tree.specs.WellFormed.{seen_expr, seen_stmt, faults_in_all, faults_in_list}
 
 either_left : (a b : Bool) → IsTrue a → IsTrue (a || b)
 either_left true b e = e

@@ -1,6 +1,6 @@
 -- What the folds give at a form, from one level of it.
 use Rattle.std.proofs.Common.{◌≡◌, ap, sym, ◌∙◌, subst, List, Bool}
-use Rattle.rhai_checked.specs.declared.fault.CheckFault.{CheckFault}
+use Rattle.rhai_tree.specs.declared.fault.CheckFault.{CheckFault}
 use Rattle.rhai_tree.specs.declared.expr.ConditionalExpr.{ConditionalExpr}
 use Rattle.rhai_tree.specs.declared.expr.Expr.{Expr, out-Expr}
 use Rattle.rhai_tree.specs.declared.expr.Expr.TheOpen as layer
@@ -9,15 +9,15 @@ use Rattle.rhai_tree.specs.declared.expr.FnCallExpr.{FnCallExpr}
 use Rattle.rhai_tree.specs.declared.expr.MapEntry.{MapEntry}
 use Rattle.rhai_tree.specs.declared.expr.StmtBlock.{StmtBlock}
 use Rattle.rhai_tree.specs.declared.expr.Stmt.{Stmt, out-Stmt}
-use Rattle.rhai_checked.specs.Context.{Context}
+use Rattle.rhai_tree.specs.Context.{Context}
 use Rattle.rhai_check.specs.Declares as declares
-use Rattle.rhai_checked.specs.Forms.{any_of}
+use Rattle.rhai_tree.specs.Forms.{any_of}
 use Rattle.rhai_check.specs.Declares.{declares_expr, declares_call, declares_block, declares_stmt}
-use Rattle.rhai_checked.specs.Reading as walk
-use Rattle.rhai_checked.specs.Reading.{faulty}
+use Rattle.rhai_tree.specs.Reading as walk
+use Rattle.rhai_tree.specs.Reading.{faulty}
 use Rattle.rhai_tree.specs.Layers.{ExprLayer, StmtLayer}
 use Rattle.rhai_check.specs.Refusals.{Refuses}
-use Rattle.rhai_checked.specs.WellFormed.{seen_expr, seen_call, seen_block, seen_entry, seen_stmt}
+use Rattle.rhai_tree.specs.WellFormed.{seen_expr, seen_call, seen_block, seen_entry, seen_stmt}
 
 -- what is seen of forms for their faults
 abbrev pub Seen : Type 0

@@ -1,6 +1,6 @@
 -- Whether a part of a tree declares a variable, makes a map or is a chain: the checker needs memory for names, keys and links alone.
 use Rattle.std.specs.Prelude.{Bool, true, false, ◌||◌, List, [], ◌∷◌, map, Option, Some, None}
-use Rattle.rhai_checked.specs.Forms.{any_of}
+use Rattle.rhai_tree.specs.Forms.{any_of}
 use Rattle.rhai_check.specs.Types.{Expr, FnCallExpr, ScriptFuncDef, Stmt, StmtBlock}
 use Rattle.rhai_tree.specs.declared.expr.Expr.TheOpen as layer
 use Rattle.rhai_tree.specs.declared.expr.Expr.TheFolds.{fold-Expr, fold-FnCallExpr, fold-StmtBlock, fold-Stmt}

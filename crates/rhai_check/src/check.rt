@@ -3,7 +3,7 @@
 ghost use Rattle.std.specs.Prelude.{◌≡◌, ◌≢◌, IsTrue, IfOk, IfErr, OnOk};
 ghost use Rattle.std.specs.List.{Contains};
 ghost use Rattle.rhai_check.specs.Declares.{needs_memory};
-ghost use Rattle.rhai_checked.specs.WellFormed.{Stands, faults_in_function, IsFormedFunction, IsFormedTree};
+ghost use Rattle.rhai_tree.specs.WellFormed.{Stands, faults_in_function, IsFormedFunction, IsFormedTree};
 
 mod chain;
 mod expr;
@@ -16,10 +16,10 @@ mod stmt;
 use crate::check::function::{check_def, check_functions};
 use crate::check::place::Place;
 use crate::check::stmt::check_statements;
-use rhai_checked::checked::{CheckedFn, CheckedTree};
-pub use rhai_checked::fault::CheckFault;
-use rhai_items::Items;
+use rhai_tree::Items;
+use rhai_tree::checked::{CheckedFn, CheckedTree};
 use rhai_tree::expr::Stmt;
+pub use rhai_tree::fault::CheckFault;
 use rhai_tree::function::ScriptFuncDef;
 use std::alloc::Global;
 

@@ -3,7 +3,7 @@
 ghost use Rattle.std.specs.Prelude.{◌≡◌, IfOk, true};
 
 use rhai_build::Builder;
-use rhai_items::Items;
+use rhai_tree::Items;
 use rhai_tree::expr::Stmt;
 use std::alloc::{AllocError, Global};
 

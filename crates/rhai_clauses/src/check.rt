@@ -3,12 +3,12 @@
 ghost use Rattle.std.specs.Prelude.{◌≡◌, ◌≢◌, IsTrue, IfOk, IfErr, OnOk};
 ghost use Rattle.std.specs.List.{Contains};
 ghost use Rattle.rhai_check.specs.Declares.{needs_memory};
-ghost use Rattle.rhai_checked.specs.WellFormed.{Stands, faults_in_function, IsFormedFunction, IsFormedTree};
+ghost use Rattle.rhai_tree.specs.WellFormed.{Stands, faults_in_function, IsFormedFunction, IsFormedTree};
 
-use rhai_checked::checked::{CheckedFn, CheckedTree};
-use rhai_checked::fault::CheckFault;
-use rhai_items::Items;
+use rhai_tree::Items;
+use rhai_tree::checked::{CheckedFn, CheckedTree};
 use rhai_tree::expr::Stmt;
+use rhai_tree::fault::CheckFault;
 use rhai_tree::function::ScriptFuncDef;
 use std::alloc::Global;
 

@@ -4,8 +4,8 @@ ghost use Rattle.std.specs.Prelude.{◌≡◌, ◌++◌, OnErr, OnOk, length, ta
 ghost use Rattle.rhai_functions.specs.Entering.{left_of, parameters};
 ghost use Rattle.rhai_state.specs.Scope.{entries_of};
 
-use rhai_items::{Shared, Text};
 use rhai_state::scope::Scope;
+use rhai_tree::{Shared, Text};
 use rhai_values::base::value::{Dynamic, Host};
 use std::alloc::AllocError;
 

@@ -1,7 +1,7 @@
 //! Blocks and assignments.
 
-ghost use Rattle.rhai_checked.specs.Frame.{all_resolve, resolves_stmt};
-ghost use Rattle.rhai_checked.specs.Names.{Begins};
+ghost use Rattle.rhai_tree.specs.Frame.{all_resolve, resolves_stmt};
+ghost use Rattle.rhai_tree.specs.Names.{Begins};
 ghost use Rattle.rhai_eval.specs.Places.{with_place};
 ghost use Rattle.rhai_eval.specs.Plain.{Plain};
 ghost use Rattle.rhai_eval.specs.States.{under};

@@ -1,6 +1,6 @@
 //! Whole scripts and functions of scripts.
 
-ghost use Rattle.rhai_checked.specs.Names.{Begins};
+ghost use Rattle.rhai_tree.specs.Names.{Begins};
 ghost use Rattle.rhai_cycle.specs.Memory.{may_ask};
 ghost use Rattle.rhai_eval.specs.Plain.{Plain};
 ghost use Rattle.rhai_eval.specs.States.{under};
@@ -10,13 +10,13 @@ ghost use Rattle.rhai_state.specs.Scope.{names_in};
 ghost use Rattle.rhai_steps.specs.States.{holding, state_of};
 ghost use Rattle.std.specs.Prelude.{IfErr, IsTrue, None, Some, length, true, ◌<◌, ◌≡◌, ◌≤◌};
 
-use rhai_checked::checked::{CheckedFn, CheckedTree};
 use rhai_eval::engine::Engine;
 use rhai_state::caches::Caches;
 use rhai_state::error::EvalAltResult;
 use rhai_state::scope::Scope;
 use rhai_state::state::GlobalRuntimeState;
 use rhai_state::table::NativeTable;
+use rhai_tree::checked::{CheckedFn, CheckedTree};
 use rhai_tree::position::Position;
 use rhai_values::base::value::{Dynamic, EncapsulatedEnviron, Host};
 use std::alloc::Global;

@@ -8,10 +8,10 @@ ghost use Rattle.rhai_state.specs.Scope.{entries_of};
 pub mod spare;
 
 use crate::spare::Spare;
-use rhai_items::Items;
 use rhai_state::room::Room;
 use rhai_state::scope::Scope;
 use rhai_state::state::GlobalRuntimeState;
+use rhai_tree::Items;
 use rhai_values::base::value::{Dynamic, Host};
 use rhai_values::cells::CellStore;
 use std::alloc::Global;

@@ -1,8 +1,8 @@
-//! A contract of `rhai_items`.
+//! A contract of `rhai_tree`.
 
 ghost use Rattle.std.specs.Prelude.{◌≡◌, ◌∷◌, ◌++◌, [], is_ok, OnErr, OnOk};
 
-use rhai_items::Items;
+use rhai_tree::Items;
 use std::alloc::AllocError;
 
 /// `Items::push` by its contract.

@@ -32,8 +32,8 @@ use Rattle.rhai_machine.specs.language.Statements.{restored_by, saved_by, deeper
 use Rattle.rhai_machine.specs.language.Unwinding.{down_core, up_core}
 use Rattle.std.specs.declared.num.NonZeroUsize.{NonZeroUsize}
 use Rattle.rhai_tree.specs.declared.expr.Namespace.{Namespace}
-use Rattle.rhai_checked.specs.Forms.{is_exported, is_unqualified}
-use Rattle.rhai_checked.specs.Names.{Name}
+use Rattle.rhai_tree.specs.Forms.{is_exported, is_unqualified}
+use Rattle.rhai_tree.specs.Names.{Name}
 use Rattle.rhai_machine.specs.language.Names.{read}
 use Rattle.rhai_machine.specs.language.Values.{flat, unit_value}
 use Rattle.rhai_machine.specs.language.Runs.{at, Goes, Steps, Runs}

@@ -14,18 +14,18 @@ use Rattle.rhai_tree.specs.declared.flags.ASTFlags.{ASTFlags}
 use Rattle.rhai_tree.specs.declared.position.Position.{Position}
 use Rattle.rhai_tree.specs.Layers.{ExprLayer}
 use Rattle.rhai_tree.specs.Positions.{position_of}
-use Rattle.rhai_checked.specs.Links.{is_counted}
-use Rattle.rhai_checked.specs.Forms.{ends_chain, is_unqualified}
-use Rattle.rhai_checked.specs.Frame.{all_resolve_exprs, resolves_expr, target_resolves, tests_of}
-use Rattle.rhai_checked.specs.Names.{Name}
-use Rattle.rhai_checked.specs.Reading as walk
-use Rattle.rhai_checked.specs.Reading.{sound}
-use Rattle.rhai_checked.proofs.Walk.{expr_tests, resolves-expr}
+use Rattle.rhai_tree.specs.Links.{is_counted}
+use Rattle.rhai_tree.specs.Forms.{ends_chain, is_unqualified}
+use Rattle.rhai_tree.specs.Frame.{all_resolve_exprs, resolves_expr, target_resolves, tests_of}
+use Rattle.rhai_tree.specs.Names.{Name}
+use Rattle.rhai_tree.specs.Reading as walk
+use Rattle.rhai_tree.specs.Reading.{sound}
+use Rattle.rhai_tree.proofs.Walk.{expr_tests, resolves-expr}
 use Rattle.rhai_operands.proofs.Names.{both, holds_then}
 use Rattle.rhai_machine.specs.language.Links.{Link, LinkForm, asked_by, breaks, dot_form, dot_link}
 use Rattle.rhai_machine.specs.language.Links.{dot_link_with, first_in, index_link, link_of}
 use Rattle.rhai_chains.specs.Chains.{at_end, goes_on, MayEnd}
-use Rattle.rhai_checked.specs.Links.{left_by, links}
+use Rattle.rhai_tree.specs.Links.{left_by, links}
 use Rattle.rhai_chains.proofs.LinkLemmas.{fewer_behind}
 use Rattle.rhai_cycle.specs.Chains.{MayWalk, StartsFrom, behind_resolves}
 

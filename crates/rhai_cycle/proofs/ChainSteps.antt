@@ -11,12 +11,12 @@ use Rattle.rhai_tree.specs.declared.expr.OpAssignment.{OpAssignment}
 use Rattle.rhai_tree.specs.declared.position.Position.{Position}
 use Rattle.rhai_tree.specs.Layers.{ExprLayer}
 use Rattle.rhai_tree.specs.Positions.{position_of}
-use Rattle.rhai_checked.specs.Forms.{is_unqualified}
-use Rattle.rhai_checked.specs.Frame.{resolves_expr}
-use Rattle.rhai_checked.specs.Names.{Name}
-use Rattle.rhai_checked.specs.Reading as walk
-use Rattle.rhai_checked.specs.Reading.{sound}
-use Rattle.rhai_checked.proofs.Walk.{expr_tests, resolves-expr}
+use Rattle.rhai_tree.specs.Forms.{is_unqualified}
+use Rattle.rhai_tree.specs.Frame.{resolves_expr}
+use Rattle.rhai_tree.specs.Names.{Name}
+use Rattle.rhai_tree.specs.Reading as walk
+use Rattle.rhai_tree.specs.Reading.{sound}
+use Rattle.rhai_tree.proofs.Walk.{expr_tests, resolves-expr}
 use Rattle.rhai_values.specs.declared.base.value.Dynamic.{Dynamic}
 use Rattle.rhai_state.specs.declared.error.EvalAltResult.{EvalAltResult}
 use Rattle.rhai_state.specs.Errors.{is_out_of_memory}

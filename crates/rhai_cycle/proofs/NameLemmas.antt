@@ -3,25 +3,25 @@ use Rattle.std.proofs.Common.{◌≡◌, ◌<◌, ◌+◌, ℕ, Bool, true, fals
 use Rattle.std.proofs.Common.{take, map, refl, sym, ap, ◌∙◌}
 use Rattle.std.proofs.lemmas.List.{take-append-drop, take-map, length-map}
 use Rattle.std.proofs.Math.Seq.{take-append_seam}
-use Rattle.rhai_checked.specs.Names.{Name, Begins}
+use Rattle.rhai_tree.specs.Names.{Name, Begins}
 use Rattle.rhai_tree.specs.declared.expr.Expr.{Expr}
 use Rattle.rhai_tree.specs.declared.expr.Expr.TheFolds.{fold_out-MapEntry}
 use Rattle.rhai_tree.specs.declared.expr.MapEntry.{MapEntry}
 use Rattle.rhai_tree.specs.declared.literal.Literal.{Literal}
-use Rattle.rhai_checked.specs.Frame.{tests_of, resolves_expr}
-use Rattle.rhai_checked.specs.Reading as walk
-use Rattle.rhai_checked.specs.Reading.{sound}
-use Rattle.rhai_checked.specs.Frame.{all_resolve_exprs, all_resolve, entries_resolve, tests_of_entry}
+use Rattle.rhai_tree.specs.Frame.{tests_of, resolves_expr}
+use Rattle.rhai_tree.specs.Reading as walk
+use Rattle.rhai_tree.specs.Reading.{sound}
+use Rattle.rhai_tree.specs.Frame.{all_resolve_exprs, all_resolve, entries_resolve, tests_of_entry}
 use Rattle.rhai_state.specs.declared.scope.ScopeEntry.{ScopeEntry}
 use Rattle.rhai_state.specs.Scope.{name_of}
-use Rattle.rhai_checked.specs.Forms.{any_of}
+use Rattle.rhai_tree.specs.Forms.{any_of}
 use Rattle.rhai_tree.specs.declared.expr.Stmt.{Stmt, out-Stmt}
 use Rattle.rhai_tree.specs.declared.expr.Expr.TheOpen as layer
 use Rattle.rhai_tree.specs.declared.flags.ASTFlags.{ASTFlags}
 use Rattle.rhai_tree.specs.declared.position.Position.{Position}
-use Rattle.rhai_checked.specs.Forms.{is_exported, is_throw}
-use Rattle.rhai_checked.specs.Frame.{resolves_stmt, target_resolves}
-use Rattle.rhai_checked.proofs.Walk.{resolves-stmt}
+use Rattle.rhai_tree.specs.Forms.{is_exported, is_throw}
+use Rattle.rhai_tree.specs.Frame.{resolves_stmt, target_resolves}
+use Rattle.rhai_tree.proofs.Walk.{resolves-stmt}
 use Rattle.std.proofs.Common.{Option, None, Some}
 use Rattle.rhai_values.specs.declared.base.value.Dynamic.{Dynamic}
 use Rattle.rhai_pointers.specs.Leading.{all_args, this_lent}

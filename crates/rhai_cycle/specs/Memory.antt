@@ -5,7 +5,7 @@ use Rattle.rhai_tree.specs.declared.expr.StmtBlock.{StmtBlock}
 use Rattle.rhai_tree.specs.declared.expr.Stmt.{Stmt}
 use Rattle.rhai_tree.specs.declared.expr.Expr.TheOpen as layer
 use Rattle.rhai_tree.specs.declared.expr.Expr.TheFolds.{fold-Expr, fold-StmtBlock, fold-Stmt}
-use Rattle.rhai_checked.specs.Forms.{any_of}
+use Rattle.rhai_tree.specs.Forms.{any_of}
 
 -- an expression may ask for memory: where its value is wanted, and where it is a condition
 abbrev pub Need : Type 0

@@ -4,7 +4,7 @@
 ghost use Rattle.std.specs.Prelude.{◌≡◌, ◌<◌, ◌≤◌, ◌∷◌, [], IsTrue, Some, OnOk, map};
 ghost use Rattle.std.specs.Prelude.{true, false};
 ghost use Rattle.std.specs.Option.{option_copied};
-ghost use Rattle.rhai_checked.specs.Frame.{all_resolve_exprs, resolves_expr, resolves_call, tests_of};
+ghost use Rattle.rhai_tree.specs.Frame.{all_resolve_exprs, resolves_expr, resolves_call, tests_of};
 ghost use Rattle.rhai_tree.specs.declared.expr.Expr.TheOpen as layer;
 ghost use Rattle.rhai_tree.specs.Positions.{start_of};
 ghost use Rattle.rhai_machine.specs.language.Frames.{Argument, KeywordArgument, OpenExpr};
@@ -23,7 +23,6 @@ use rhai_context::{Context, lend_list};
 use rhai_dispatch::pointer::parts_of;
 use rhai_dispatch::{call_function, call_number};
 use rhai_functions::function::Function;
-use rhai_items::Items;
 use rhai_operands::arguments::literal_arg;
 use rhai_operands::operators::operate_in_place;
 use rhai_pointers::arguments::parted;
@@ -37,6 +36,7 @@ use rhai_pointers::pointers::{
 use rhai_state::error::EvalAltResult;
 use rhai_state::table::NativeTable;
 use rhai_steps::values::{flatten, let_go};
+use rhai_tree::Items;
 use rhai_tree::expr::{Expr, FnCallExpr};
 use rhai_tree::literal::NativeId;
 use rhai_tree::position::Position;

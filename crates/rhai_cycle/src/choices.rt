@@ -2,7 +2,7 @@
 //! `eval/expr.rs`; the contracts speak of the machine's runs.
 
 ghost use Rattle.std.specs.Prelude.{◌≡◌, ◌≤◌, IsTrue, OnOk, true, false, not, map, if◌then◌else◌};
-ghost use Rattle.rhai_checked.specs.Frame.{tests_of, all_resolve_exprs};
+ghost use Rattle.rhai_tree.specs.Frame.{tests_of, all_resolve_exprs};
 ghost use Rattle.rhai_tree.specs.declared.expr.Expr.TheOpen as layer;
 ghost use Rattle.rhai_machine.specs.language.Frames.{OpenExpr};
 ghost use Rattle.rhai_machine.specs.language.Runs.{Runs};

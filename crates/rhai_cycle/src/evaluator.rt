@@ -1,7 +1,7 @@
 //! What a run reads of an engine.
 
-use rhai_items::{Items, Shared, Table};
 use rhai_state::limits::Limits;
+use rhai_tree::{Items, Shared, Table};
 use rhai_values::base::value::{Module, ModuleTable};
 
 /// What a run reads of an engine: its limits and switches, and the modules that it offers.

@@ -3,8 +3,8 @@
 
 ghost use Rattle.std.specs.Prelude.{◌≡◌, ◌<◌, ◌≤◌, OnOk, IsTrue, false};
 ghost use Rattle.std.specs.Option.{option_map};
-ghost use Rattle.rhai_checked.specs.Forms.{is_throw};
-ghost use Rattle.rhai_checked.specs.Frame.{tests_of, option_resolves, resolves_expr, resolves_block};
+ghost use Rattle.rhai_tree.specs.Forms.{is_throw};
+ghost use Rattle.rhai_tree.specs.Frame.{tests_of, option_resolves, resolves_expr, resolves_block};
 ghost use Rattle.rhai_tree.specs.declared.expr.Expr.TheOpen as layer;
 ghost use Rattle.rhai_machine.specs.language.Frames.{OpenStmt, WhileTurn, DoTurn};
 ghost use Rattle.rhai_machine.specs.language.Runs.{Steps, Runs};

@@ -4,7 +4,7 @@
 
 ghost use Rattle.std.specs.Prelude.{◌≡◌, ◌≤◌, IsTrue, Some, None, true, false, is_some, length};
 ghost use Rattle.rhai_tree.specs.declared.expr.Expr.{out-Expr};
-ghost use Rattle.rhai_checked.specs.Names.{is_good};
+ghost use Rattle.rhai_tree.specs.Names.{is_good};
 ghost use Rattle.rhai_machine.specs.language.Chains.{this_root_core};
 ghost use Rattle.rhai_machine.specs.language.Frames.{Back, ReadRoot, RootValue};
 ghost use Rattle.rhai_machine.specs.language.Runs.{Runs};
@@ -18,7 +18,6 @@ use crate::evaluator::Evaluator;
 use rhai_calls::dispatch::is_held;
 use rhai_chains::chain::NewValue;
 use rhai_context::Context;
-use rhai_items::{Shared, Text};
 use rhai_state::error::EvalAltResult;
 use rhai_state::table::NativeTable;
 use rhai_steps::errors::{data_race, data_race_of};
@@ -26,6 +25,7 @@ use rhai_steps::values::{flatten, let_go, unit_value};
 use rhai_steps::variables::{place_of_variable, read_function};
 use rhai_tree::expr::Expr;
 use rhai_tree::position::Position;
+use rhai_tree::{Shared, Text};
 use rhai_values::base::value::{Dynamic, Host};
 use std::alloc::Global;
 use std::mem::replace;

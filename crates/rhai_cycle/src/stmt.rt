@@ -2,9 +2,9 @@
 
 ghost use Rattle.std.specs.Prelude.{◌≡◌, ◌<◌, ◌≤◌, ◌++◌, ◌∷◌, [], ◌&&◌, OnOk, IfErr, IfSome, IsTrue, true, false};
 ghost use Rattle.std.specs.Prelude.{None, is_some, map};
-ghost use Rattle.rhai_checked.specs.Forms.{is_exported};
-ghost use Rattle.rhai_checked.specs.Frame.{tests_of, target_resolves, resolves_expr, resolves_stmt};
-ghost use Rattle.rhai_checked.specs.Frame.{all_resolve};
+ghost use Rattle.rhai_tree.specs.Forms.{is_exported};
+ghost use Rattle.rhai_tree.specs.Frame.{tests_of, target_resolves, resolves_expr, resolves_stmt};
+ghost use Rattle.rhai_tree.specs.Frame.{all_resolve};
 ghost use Rattle.rhai_tree.specs.declared.expr.Expr.{out-Expr};
 ghost use Rattle.rhai_tree.specs.declared.expr.Expr.TheOpen as layer;
 ghost use Rattle.rhai_values.specs.Cells.{cells_of};

@@ -11,12 +11,12 @@ ghost use Rattle.rhai_machine.specs.language.State.{Answers};
 ghost use Rattle.rhai_machine.specs.language.Values.{flat};
 ghost use Rattle.rhai_data.specs.Arrays.{IsMeasured};
 
-use rhai_items::{Boxed, Items};
 use rhai_state::error::EvalAltResult;
 use rhai_state::limits::Limits;
 use rhai_steps::errors::data_too_large;
 use rhai_steps::values::flatten;
 use rhai_tree::position::Position;
+use rhai_tree::{Boxed, Items};
 use rhai_values::base::size::DataSizes;
 use rhai_values::base::value::{Dynamic, Host, Union};
 use rhai_values::cells::CellStore;

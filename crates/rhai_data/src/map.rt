@@ -2,7 +2,7 @@
 //! `eval/expr.rs`.
 
 ghost use Rattle.std.specs.Prelude.{◌≡◌, List, [], ◌∷◌, ◌++◌, IfErr, IfOk, OnOk, Ok, Err, false, map};
-ghost use Rattle.rhai_checked.specs.Keys.{key_of};
+ghost use Rattle.rhai_tree.specs.Keys.{key_of};
 ghost use Rattle.rhai_values.specs.Cells.{cells_of};
 ghost use Rattle.rhai_values.specs.declared.base.value.Dynamic.{Dynamic};
 ghost use Rattle.rhai_state.specs.Errors.{is_out_of_memory};
@@ -11,13 +11,13 @@ ghost use Rattle.rhai_machine.specs.language.State.{Answers};
 ghost use Rattle.rhai_machine.specs.language.Values.{flat};
 ghost use Rattle.rhai_data.specs.Maps.{IsCounted};
 
-use rhai_items::{Boxed, Items, Table};
 use rhai_state::error::EvalAltResult;
 use rhai_state::limits::Limits;
 use rhai_steps::errors::data_too_large;
 use rhai_steps::values::flatten;
 use rhai_tree::expr::MapEntry;
 use rhai_tree::position::Position;
+use rhai_tree::{Boxed, Items, Table};
 use rhai_values::base::size::DataSizes;
 use rhai_values::base::value::{Dynamic, Host, Union};
 use rhai_values::cells::CellStore;

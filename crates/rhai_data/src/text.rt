@@ -15,7 +15,6 @@ ghost use Rattle.rhai_data.specs.Texts.{text_in as text_of_value, print_of, Prin
 ghost use Rattle.rhai_data.specs.Texts.{Joins, JoinsFlat};
 
 use rhai_calls::native::call_native;
-use rhai_items::{Items, Shared, Text};
 use rhai_state::error::EvalAltResult;
 use rhai_state::limits::Limits;
 use rhai_state::state::GlobalRuntimeState;
@@ -23,6 +22,7 @@ use rhai_state::table::NativeTable;
 use rhai_steps::errors::{data_too_large, shared_text};
 use rhai_steps::values::{copy, flatten, is_bare_handle};
 use rhai_tree::position::Position;
+use rhai_tree::{Items, Shared, Text};
 use rhai_values::base::size::DataSizes;
 use rhai_values::base::value::{Dynamic, Host, Union};
 use std::alloc::Global;

@@ -6,9 +6,9 @@ ghost use Rattle.rhai_state.specs.Errors.{is_out_of_memory};
 ghost use Rattle.rhai_machine.specs.language.Arguments.{taken as taken_as};
 ghost use Rattle.rhai_dispatch.specs.Kept.{HasKept};
 
-use rhai_items::Items;
 use rhai_pointers::arguments::{keep_argument, taken};
 use rhai_state::error::EvalAltResult;
+use rhai_tree::Items;
 use rhai_tree::position::Position;
 use rhai_values::base::value::{Dynamic, Host};
 use rhai_values::cells::CellStore;

@@ -4,8 +4,8 @@ ghost use Rattle.std.specs.Prelude.{◌≡◌};
 ghost use Rattle.rhai_values.specs.declared.base.value.FnPtr.{out-FnPtr};
 ghost use Rattle.rhai_dispatch.specs.Pointers.{number_in};
 
-use rhai_items::{Items, Shared, Text};
 use rhai_tree::literal::NativeId;
+use rhai_tree::{Items, Shared, Text};
 use rhai_values::base::value::{Dynamic, FnPtr, FnPtrKind, Host};
 
 /// The number of a native that a pointer leads to, None for any other.

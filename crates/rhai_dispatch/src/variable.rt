@@ -1,7 +1,7 @@
 //! A call by name whose first argument is a variable, which is read last.
 
 ghost use Rattle.std.specs.Prelude.{◌≡◌, ◌≤◌, ◌<◌, ◌∷◌, IsTrue, None, Some, length, not, true};
-ghost use Rattle.rhai_checked.specs.Names.{is_good};
+ghost use Rattle.rhai_tree.specs.Names.{is_good};
 ghost use Rattle.rhai_values.specs.Cells.{cells_of};
 ghost use Rattle.rhai_values.specs.Copy.{copy_of};
 ghost use Rattle.rhai_state.specs.Scope.{entries_of, index_of, names_in, value_in};
@@ -22,7 +22,6 @@ ghost use Rattle.rhai_dispatch.specs.Variables.{is_lendable as lendable};
 use rhai_calls::dispatch::{Called, Dispatched, Seeks, is_held, pass_call};
 use rhai_calls::native::{Passing, unmarked};
 use rhai_functions::function::{Function, Offered};
-use rhai_items::{Items, Shared, Text};
 use rhai_state::error::EvalAltResult;
 use rhai_state::limits::Limits;
 use rhai_state::scope::Scope;
@@ -33,6 +32,7 @@ use rhai_steps::values::{copy, flatten, is_bare_handle, let_go, unit_value};
 use rhai_steps::variables::{place_of_variable, read_function};
 use rhai_tree::position::Position;
 use rhai_tree::token::Token;
+use rhai_tree::{Items, Shared, Text};
 use rhai_values::base::value::{AccessMode, Dynamic, Host};
 use rhai_values::cells::CellStore;
 use std::alloc::Global;

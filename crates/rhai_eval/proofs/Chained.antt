@@ -3,8 +3,8 @@ use Rattle.std.proofs.Common.{◌≡◌, Bool, true, false, IsTrue, List, [], Op
 use Rattle.std.specs.Prelude.{IfSome, OnOk, unwrap_or}
 use Rattle.rhai_tree.specs.declared.expr.Expr.{Expr, out-Expr}
 use Rattle.rhai_tree.specs.Layers.{ExprLayer}
-use Rattle.rhai_checked.specs.Frame.{resolves_expr}
-use Rattle.rhai_checked.specs.Names.{Name}
+use Rattle.rhai_tree.specs.Frame.{resolves_expr}
+use Rattle.rhai_tree.specs.Names.{Name}
 use Rattle.rhai_values.specs.declared.base.value.Dynamic.{Dynamic}
 use Rattle.rhai_state.specs.declared.error.EvalAltResult.{EvalAltResult}
 use Rattle.rhai_machine.specs.machine.Point.{Reaches}

@@ -7,12 +7,12 @@ ghost use Rattle.rhai_cycle.specs.States.{offer_of as offered};
 ghost use Rattle.rhai_eval.specs.States.{limits_of, offer_of, unlimited};
 
 use rhai_cycle::evaluator::Evaluator;
-use rhai_items::{Items, Shared, Table};
 use rhai_state::error::EvalAltResult;
 use rhai_state::limits::Limits;
 use rhai_state::state::GlobalRuntimeState;
 use rhai_steps::charges;
 use rhai_tree::position::Position;
+use rhai_tree::{Items, Shared, Table};
 use rhai_values::base::value::{Host, Module, ModuleTable};
 use std::alloc::Global;
 

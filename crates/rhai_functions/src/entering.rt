@@ -5,8 +5,8 @@ ghost use Rattle.std.specs.Option.{unwrap_or};
 ghost use Rattle.rhai_state.specs.Scope.{entries_of};
 ghost use Rattle.rhai_functions.specs.Entering.{left_of, parameters, unit};
 
-use rhai_items::{Shared, Text};
 use rhai_state::scope::Scope;
+use rhai_tree::{Shared, Text};
 use rhai_values::base::value::{AccessMode, Dynamic, Host, Union};
 use std::alloc::AllocError;
 use std::mem::replace;

@@ -8,8 +8,8 @@ ghost use Rattle.rhai_functions.specs.Keys.{key_seen};
 
 use crate::key::FnKey;
 use crate::lookup::find_function;
-use rhai_checked::checked::CheckedFn;
-use rhai_items::Shared;
+use rhai_tree::Shared;
+use rhai_tree::checked::CheckedFn;
 use rhai_values::base::value::{EncapsulatedEnviron, Import, Module, ModuleFn};
 use std::alloc::AllocError;
 

@@ -5,8 +5,8 @@ ghost use Rattle.std.specs.Option.{option_copied};
 ghost use Rattle.rhai_functions.specs.Functions.{has_key as has_key_in, is_type as is_type_in};
 ghost use Rattle.rhai_functions.specs.Keys.{key_seen};
 
-use rhai_items::{Shared, Text};
 use rhai_tree::function::ScriptFuncDef;
+use rhai_tree::{Shared, Text};
 
 /// What a function is looked for by: its name, how many parameters it has, and the type that its `this` must
 /// have, if any. Stands for upstream's hash of a function.

@@ -7,7 +7,7 @@ ghost use Rattle.rhai_functions.specs.Functions.{is_public as is_public_in, is_s
 ghost use Rattle.rhai_functions.specs.Keys.{key_seen};
 
 use crate::key::{FnKey, has_key};
-use rhai_items::Shared;
+use rhai_tree::Shared;
 use rhai_tree::function::FnAccess;
 use rhai_values::base::value::{Import, Module, ModuleFn};
 

@@ -3,7 +3,7 @@
 ghost use Rattle.std.specs.Prelude.{◌≡◌};
 ghost use Rattle.rhai_functions.specs.Functions.{arity_by as arity_by_in, first_named as first_named_in, named_in};
 
-use rhai_items::Shared;
+use rhai_tree::Shared;
 use rhai_values::base::value::{Module, ModuleFn};
 
 /// How many parameters a function has, where it is of the name.

@@ -12,7 +12,6 @@ ghost use Rattle.rhai_index.specs.Calls.{Asked, Leaves};
 ghost use Rattle.rhai_index.specs.Indexers.{by_itself, called, indexer_result, reading};
 ghost use Rattle.rhai_index.specs.Indexers.{is_barred as is_barred_from, is_pure_on as is_pure_at};
 
-use rhai_items::Items;
 use rhai_places::errors::indexing_error;
 use rhai_places::spot::{Access, Refusal};
 use rhai_state::error::EvalAltResult;
@@ -21,6 +20,7 @@ use rhai_state::table::{Answer, NativeTable};
 use rhai_steps::errors::non_pure;
 use rhai_steps::replies::{placed, sized};
 use rhai_steps::values::{let_go, list_of, unit_value};
+use rhai_tree::Items;
 use rhai_tree::position::Position;
 use rhai_values::base::value::{AccessMode, Dynamic, Host};
 use rhai_values::cells::CellStore;

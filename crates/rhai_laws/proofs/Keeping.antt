@@ -6,14 +6,14 @@ use Rattle.std.proofs.Common.{append_assoc}
 use Rattle.std.specs.Option.{option_flatten, unwrap_or}
 use Rattle.std.specs.Prelude.{◌≡◌, ◌≤◌, ◌+◌, ℕ, zero, suc, Bool, true, false, not, ◌&&◌, List, [], ◌∷◌, ◌++◌, map, take, drop, length}
 use Rattle.std.specs.Prelude.{Option, Some, None, Result, Ok, Err, is_some, replicate, slice_get, slice_set}
-use Rattle.rhai_checked.specs.Names.{Name, Begins}
+use Rattle.rhai_tree.specs.Names.{Name, Begins}
 use Rattle.rhai_tree.specs.declared.expr.Stmt.{Stmt, out-Stmt}
-use Rattle.rhai_items.specs.Lookup.{with_entry}
+use Rattle.rhai_tree.specs.Lookup.{with_entry}
 use Rattle.rhai_values.specs.declared.base.value.Dynamic.{Dynamic}
 use Rattle.rhai_values.specs.declared.base.value.EncapsulatedEnviron.{EncapsulatedEnviron, out-EncapsulatedEnviron}
 use Rattle.rhai_values.specs.Cells.{value_of_cell, with_held, with_value}
 use Rattle.rhai_values.specs.Copy.{copy_of}
-use Rattle.rhai_paths.specs.Paths.{Step, ToPlace, ToCell}
+use Rattle.rhai_places.specs.Paths.{Step, ToPlace, ToCell}
 use Rattle.rhai_state.specs.declared.error.EvalAltResult.{EvalAltResult}
 use Rattle.rhai_state.specs.declared.scope.ScopeEntry.{ScopeEntry}
 use Rattle.rhai_state.specs.Scope.{name_of}

@@ -7,8 +7,8 @@ use Rattle.std.proofs.lemmas.Slice.Eq.{bytes_eq-Decides}
 use Rattle.std.specs.List.{insert, slice_get, slice_set, position_or_len}
 use Rattle.std.specs.Prelude.{nat_lt, option_and_then, get_or}
 use Rattle.std.specs.Str.{bytes_eq}
-use Rattle.rhai_items.proofs.LookupLemmas.{rank-le}
-use Rattle.rhai_items.specs.Lookup.{place_of, put_at, rank, value_of, with_entry}
+use Rattle.rhai_tree.proofs.LookupLemmas.{rank-le}
+use Rattle.rhai_tree.specs.Lookup.{place_of, put_at, rank, value_of, with_entry}
 
 -- ---- lists
 

@@ -4,7 +4,7 @@ use Rattle.std.proofs.Common.{refl, sym, ap, subst, ◌∙◌, length, ok_or, ru
 use Rattle.std.specs.List.{slice_get, slice_set}
 use Rattle.std.specs.Option.{option_and_then, option_map}
 use Rattle.std.specs.Prelude.{ℤ}
-use Rattle.rhai_items.specs.Lookup.{place_of, rank, value_of, with_entry}
+use Rattle.rhai_tree.specs.Lookup.{place_of, rank, value_of, with_entry}
 use Rattle.rhai_values.specs.declared.base.value.Dynamic.{Dynamic}
 use Rattle.rhai_values.specs.declared.base.value.Union.{Union, out-Union}
 use Rattle.rhai_values.specs.declared.base.value.Union.TheVariants as value

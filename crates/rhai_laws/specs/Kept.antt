@@ -1,6 +1,6 @@
 -- What every run of the language keeps, whatever its end, want of memory included.
 use Rattle.std.specs.Prelude.{◌≡◌, ◌≤◌, ⊤, ℕ, Bool, true, false, not, ◌&&◌, List, ◌++◌, length, map, replicate, Option, Some, None, is_some}
-use Rattle.rhai_checked.specs.Names.{Name}
+use Rattle.rhai_tree.specs.Names.{Name}
 use Rattle.rhai_tree.specs.declared.expr.Expr.TheOpen as layer
 use Rattle.rhai_tree.specs.declared.expr.Stmt.{out-Stmt}
 use Rattle.rhai_tree.specs.Layers.{StmtLayer}

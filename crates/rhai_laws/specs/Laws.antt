@@ -1,6 +1,6 @@
 -- What holds of every run of the language, want of memory included.
 use Rattle.std.specs.Prelude.{◌≡◌, ◌≤◌, [], length, Result}
-use Rattle.rhai_checked.specs.Names.{Begins}
+use Rattle.rhai_tree.specs.Names.{Begins}
 use Rattle.rhai_values.specs.declared.base.value.Dynamic.{Dynamic}
 use Rattle.rhai_state.specs.declared.error.EvalAltResult.{EvalAltResult}
 use Rattle.rhai_machine.specs.machine.Point.{Point, Reaches}

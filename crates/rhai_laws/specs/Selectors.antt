@@ -1,6 +1,6 @@
 -- Paths as a script writes them: from a value to an item of it or to the value of one of its keys, and on from there.
 use Rattle.std.specs.Prelude.{◌≡◌, ◌⊎◌, ℕ, List, [], ◌∷◌, Option, Some, None, slice_get}
-use Rattle.rhai_items.specs.Lookup.{value_of}
+use Rattle.rhai_tree.specs.Lookup.{value_of}
 use Rattle.rhai_values.specs.declared.base.value.Dynamic.{Dynamic}
 use Rattle.rhai_values.specs.declared.base.value.FnPtrKind.TheOpen as layer
 use Rattle.rhai_values.specs.Layers.{UnionLayer, layer_of}

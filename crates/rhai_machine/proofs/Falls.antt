@@ -15,8 +15,8 @@ use Rattle.rhai_tree.specs.declared.expr.OpAssignment.{OpAssignment}
 use Rattle.rhai_tree.specs.declared.expr.Expr.TheOpen as layer
 use Rattle.rhai_tree.specs.Layers.{ExprLayer, StmtLayer}
 use Rattle.rhai_tree.specs.Positions.{position_of}
-use Rattle.rhai_checked.specs.Forms.{is_unqualified, is_exported}
-use Rattle.rhai_checked.specs.Keys.{key_of}
+use Rattle.rhai_tree.specs.Forms.{is_unqualified, is_exported}
+use Rattle.rhai_tree.specs.Keys.{key_of}
 use Rattle.rhai_values.specs.declared.base.value.Dynamic.{Dynamic}
 use Rattle.rhai_values.specs.declared.base.value.Union.{Union}
 use Rattle.rhai_values.specs.declared.base.value.Union.TheVariants as value

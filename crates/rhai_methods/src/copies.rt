@@ -14,12 +14,12 @@ ghost use Rattle.rhai_machine.specs.language.Values.{mismatch as mismatched, thr
 ghost use Rattle.rhai_methods.specs.Copies.{copy_seen, curried_seen, own_copy};
 
 use rhai_dispatch::arguments::joined;
-use rhai_items::Items;
 use rhai_pointers::arguments::keep_argument;
 use rhai_pointers::pointers::with_curried;
 use rhai_state::error::EvalAltResult;
 use rhai_steps::errors::{data_race, mismatch};
 use rhai_steps::values::{copy, unit_value};
+use rhai_tree::Items;
 use rhai_tree::position::Position;
 use rhai_values::base::value::{Dynamic, FnPtr, Host, Union};
 use rhai_values::cells::CellStore;

@@ -4,7 +4,7 @@ ghost use Rattle.std.specs.Prelude.{◌≡◌, IfOk};
 ghost use Rattle.rhai_values.specs.declared.base.value.Union.TheVariants as value;
 ghost use Rattle.rhai_natives.specs.Numbers.{items_of};
 
-use rhai_items::{Boxed, Items};
+use rhai_tree::{Boxed, Items};
 use rhai_values::base::value::{Dynamic, Union};
 use std::alloc::{AllocError, Global};
 use std::marker::Model;

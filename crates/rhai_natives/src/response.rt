@@ -7,7 +7,7 @@ ghost use Rattle.rhai_natives.specs.declared.response.Fault.TheVariants as fault
 ghost use Rattle.rhai_natives.specs.declared.response.Response.TheVariants as response;
 
 use crate::integers::Integers;
-use rhai_items::{Shared, Text};
+use rhai_tree::{Shared, Text};
 use rhai_values::base::value::Union;
 use std::alloc::{AllocError, Global};
 

@@ -7,12 +7,12 @@ use Rattle.rhai_tree.specs.declared.expr.Expr.TheFolds.{fold_out-FnCallExpr}
 use Rattle.rhai_tree.specs.declared.expr.FnCallExpr.{FnCallExpr}
 use Rattle.rhai_tree.specs.declared.expr.Namespace.{Namespace}
 use Rattle.rhai_tree.specs.declared.position.Position.{Position}
-use Rattle.rhai_checked.specs.Forms.{is_unqualified}
-use Rattle.rhai_checked.specs.Frame.{tests_of, resolves_expr, resolves_call, all_resolve_exprs, target_resolves}
-use Rattle.rhai_checked.specs.Names.{Name, is_good}
-use Rattle.rhai_checked.specs.Reading as walk
-use Rattle.rhai_checked.specs.Reading.{sound}
-use Rattle.rhai_checked.proofs.Walk.{resolves-expr}
+use Rattle.rhai_tree.specs.Forms.{is_unqualified}
+use Rattle.rhai_tree.specs.Frame.{tests_of, resolves_expr, resolves_call, all_resolve_exprs, target_resolves}
+use Rattle.rhai_tree.specs.Names.{Name, is_good}
+use Rattle.rhai_tree.specs.Reading as walk
+use Rattle.rhai_tree.specs.Reading.{sound}
+use Rattle.rhai_tree.proofs.Walk.{resolves-expr}
 
 pub both : (a b : Bool) → IsTrue (a && b) → IsTrue a × IsTrue b
 both true true h = (refl, refl)

@@ -3,7 +3,7 @@
 ghost use Rattle.std.specs.Prelude.{◌≡◌, IsTrue, Some};
 ghost use Rattle.std.specs.Option.{option_map};
 ghost use Rattle.rhai_tree.specs.declared.expr.Expr.{out-Expr};
-ghost use Rattle.rhai_checked.specs.Frame.{resolves_expr};
+ghost use Rattle.rhai_tree.specs.Frame.{resolves_expr};
 ghost use Rattle.rhai_state.specs.Scope.{entries_of, names_in};
 ghost use Rattle.rhai_operators.specs.Direct.{integer_in};
 ghost use Rattle.rhai_operands.specs.Standing.{integer_of, standing, two_in, value_of};

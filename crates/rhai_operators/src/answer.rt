@@ -8,9 +8,9 @@ ghost use Rattle.rhai_operators.specs.Answers as spec;
 ghost use Rattle.rhai_operators.specs.Answers.{IsAnswer};
 
 use crate::integers::ArithmeticFault;
-use rhai_items::{Shared, Text};
 use rhai_state::error::EvalAltResult;
 use rhai_tree::position::Position;
+use rhai_tree::{Shared, Text};
 use rhai_values::base::value::{Dynamic, Host, Union};
 use std::alloc::{AllocError, Global};
 

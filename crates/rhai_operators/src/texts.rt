@@ -10,10 +10,10 @@ ghost use Rattle.rhai_values.specs.declared.base.value.Union.TheVariants as valu
 use crate::answer::answer;
 use crate::compare::{comparison_of_order, comparison_of_types};
 use crate::rows::if_compares;
-use rhai_items::{Shared, Text};
 use rhai_state::error::EvalAltResult;
 use rhai_tree::position::Position;
 use rhai_tree::token::Token;
+use rhai_tree::{Shared, Text};
 use rhai_values::base::value::{Dynamic, Host, Union};
 use std::alloc::{AllocError, Global};
 

@@ -5,7 +5,7 @@ use Rattle.std.specs.Option.{option_map}
 use Rattle.std.proofs.lemmas.List.Edits.{length-insert}
 use Rattle.std.proofs.lemmas.List.Quantifiers.{position-Some}
 use Rattle.std.proofs.lemmas.List.Sums.{prefix_len-le-length}
-use Rattle.rhai_items.specs.Lookup.{place_of, rank, put_at, with_entry}
+use Rattle.rhai_tree.specs.Lookup.{place_of, rank, put_at, with_entry}
 use Rattle.rhai_values.specs.declared.base.value.FnPtrKind.TheOpen as layer
 use Rattle.rhai_values.specs.Layers.{UnionLayer}
 use Rattle.rhai_places.specs.declared.spot.Refusal.{Refusal}

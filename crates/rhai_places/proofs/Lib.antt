@@ -3,4 +3,5 @@ pub mod CharLemmas
 pub mod FieldLemmas
 pub mod FoundLemmas
 pub mod PartLemmas
+pub mod PathLemmas
 pub mod PlaceLemmas

@@ -1,6 +1,6 @@
 -- What an index gives: the spot where it leads once a missing key is inserted, or the error.
 use Rattle.std.specs.Prelude.{◌≡◌, ℕ, ⊤, Bool, true, false, if◌then◌else◌, ◌||◌, List, [], Option, Some, None, Result, Ok, Err}
-use Rattle.rhai_items.specs.Lookup.{place_of, rank, with_entry}
+use Rattle.rhai_tree.specs.Lookup.{place_of, rank, with_entry}
 use Rattle.rhai_values.specs.Cells.{value_of_cell}
 use Rattle.rhai_values.specs.Copy.{plain}
 use Rattle.rhai_state.specs.Errors.{is_out_of_memory}

@@ -3,7 +3,7 @@ use Rattle.std.specs.Prelude.{ℕ, suc, ◌+◌, ◌-◌, min, max, ℤ, pos, ne
 use Rattle.std.specs.Prelude.{None, option_map, Result, Ok, Err, ok_or}
 use Rattle.std.specs.Ordering.{int_eq}
 use Rattle.std.specs.Str.{chars}
-use Rattle.rhai_items.specs.Lookup.{place_of}
+use Rattle.rhai_tree.specs.Lookup.{place_of}
 use Rattle.rhai_state.specs.declared.error.Bounds.{Bounds}
 use Rattle.rhai_values.specs.declared.base.value.FnPtrKind.TheOpen as layer
 use Rattle.rhai_values.specs.Layers.{UnionLayer}

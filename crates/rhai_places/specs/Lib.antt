@@ -5,6 +5,8 @@ pub mod Indexing
 pub mod Laws
 pub mod Lends
 pub mod Parts
+pub mod PathLaws
+pub mod Paths
 pub mod PutBack
 pub mod Refusals
 pub mod Targets

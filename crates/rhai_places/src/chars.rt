@@ -5,7 +5,7 @@ ghost use Rattle.std.specs.Prelude.{◌≡◌, ◌<◌, ◌≤◌, length, take,
 ghost use Rattle.std.specs.Str.{chars, encode_utf8_all, IsCharBoundary};
 ghost use Rattle.rhai_places.specs.Characters as spec;
 
-use rhai_items::Text;
+use rhai_tree::Text;
 use std::alloc::{AllocError, Global};
 
 /// How many characters a text has.

@@ -8,9 +8,9 @@ ghost use Rattle.rhai_places.specs.Refusals as spec;
 ghost use Rattle.rhai_places.specs.Refusals.{IsTold, refused};
 
 use crate::spot::{Access, Refusal};
-use rhai_items::{Boxed, Shared, Text};
 use rhai_state::error::{EvalAltResult, TypeMismatch};
 use rhai_tree::position::Position;
+use rhai_tree::{Boxed, Shared, Text};
 use rhai_values::base::value::{Dynamic, Host};
 use rhai_values::cells::CellStore;
 use std::alloc::{AllocError, Global};

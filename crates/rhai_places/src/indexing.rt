@@ -5,7 +5,7 @@ ghost use Rattle.std.specs.Prelude.{◌≡◌, ◌<◌, length, Ok, Some, None, 
 ghost use Rattle.std.specs.Prelude.{MatchResult, true};
 ghost use Rattle.std.specs.Borrow.{sem};
 ghost use Rattle.std.specs.Option.{option_copied};
-ghost use Rattle.rhai_items.specs.Lookup.{place_of, rank, with_entry};
+ghost use Rattle.rhai_tree.specs.Lookup.{place_of, rank, with_entry};
 ghost use Rattle.rhai_values.specs.Cells.{cells_of};
 ghost use Rattle.rhai_values.specs.Copy.{plain};
 ghost use Rattle.rhai_state.specs.Errors.{is_out_of_memory};
@@ -27,8 +27,8 @@ use crate::part::read_part;
 use crate::place::place_mut;
 use crate::spot::{Access, Spot};
 use crate::target::{Part, Target};
-use rhai_items::{Shared, Table, Text};
 use rhai_state::error::EvalAltResult;
+use rhai_tree::{Shared, Table, Text};
 use rhai_values::base::value::{Dynamic, Host, Union};
 use rhai_values::cells::CellStore;
 use std::alloc::{AllocError, Global};

@@ -12,8 +12,8 @@ ghost use Rattle.rhai_values.specs.declared.base.value.Union.{out-Union};
 
 use crate::chars::char_count;
 use crate::spot::{Refusal, Spot};
-use rhai_items::Table;
 use rhai_state::error::Bounds;
+use rhai_tree::Table;
 use rhai_values::base::value::{Dynamic, Union};
 
 /// Where an index leads in a value, or why it leads nowhere. A negative index counts from the end.

@@ -8,7 +8,7 @@ ghost use Rattle.rhai_places.specs.Parts.{IsPart, part_of, is_slice};
 use crate::bits::{bit, field};
 use crate::chars::{char_at, char_count, slice};
 use crate::spot::Spot;
-use rhai_items::{Items, Shared};
+use rhai_tree::{Items, Shared};
 use rhai_values::base::value::{Dynamic, Union};
 use std::alloc::{AllocError, Global};
 

@@ -10,12 +10,12 @@ ghost use Rattle.rhai_machine.specs.language.Arguments.{taken as taken_as, this_
 ghost use Rattle.rhai_machine.specs.language.State.{Answers};
 ghost use Rattle.rhai_pointers.specs.Leading.{all_args, by_value, first_in, leading, lent_first, seen, this_lent};
 
-use rhai_items::{Items, Shared, Text};
 use rhai_state::error::EvalAltResult;
 use rhai_state::scope::Scope;
 use rhai_steps::values::{flatten, is_bare_handle};
 use rhai_tree::expr::Expr;
 use rhai_tree::position::Position;
+use rhai_tree::{Items, Shared, Text};
 use rhai_values::base::value::{Dynamic, Host};
 use rhai_values::cells::CellStore;
 use std::alloc::Global;

@@ -5,11 +5,11 @@ ghost use Rattle.rhai_values.specs.declared.base.value.FnPtr.{out-FnPtr};
 ghost use Rattle.rhai_machine.specs.language.Arguments.{linked, linked_to};
 ghost use Rattle.rhai_machine.specs.language.Functions.{in_libraries, key_by};
 
-use rhai_checked::checked::CheckedFn;
 use rhai_functions::function::{Function, share_function};
 use rhai_functions::key::FnKey;
 use rhai_functions::lookup::find_in_modules;
-use rhai_items::Shared;
+use rhai_tree::Shared;
+use rhai_tree::checked::CheckedFn;
 use rhai_values::base::value::{EncapsulatedEnviron, FnPtr, FnPtrKind, Module};
 use std::alloc::AllocError;
 

@@ -18,12 +18,12 @@ ghost use Rattle.rhai_machine.specs.language.State.{Answers};
 ghost use Rattle.rhai_machine.specs.language.Values.{bool_value as truth_of, is_handle};
 
 use crate::names::is_pointer_name;
-use rhai_items::{Boxed, Items, Shared, Text};
 use rhai_state::error::EvalAltResult;
 use rhai_state::scope::Scope;
 use rhai_steps::errors::{data_race, mismatch};
 use rhai_steps::values::{bool_value, flatten, is_bare_handle};
 use rhai_tree::position::Position;
+use rhai_tree::{Boxed, Items, Shared, Text};
 use rhai_values::base::value::{Dynamic, FnPtr, FnPtrKind, Host, Union};
 use rhai_values::cells::CellStore;
 use std::alloc::{AllocError, Global};

@@ -6,7 +6,7 @@ use crate::data::ones;
 use rhai_build::expressions::{MapParts, character, int, unit};
 use rhai_build::statements::{assign, while_stmt};
 use rhai_build::{Builder, at};
-use rhai_items::Items;
+use rhai_tree::Items;
 use rhai_tree::expr::{Expr, Stmt};
 use rhai_tree::token::Token;
 use std::alloc::{AllocError, Global};

@@ -2,7 +2,7 @@
 
 use rhai_build::expressions::{MapParts, character, int};
 use rhai_build::{Builder, at};
-use rhai_items::Items;
+use rhai_tree::Items;
 use rhai_tree::expr::{Expr, Stmt};
 use rhai_tree::token::Token;
 use std::alloc::{AllocError, Global};

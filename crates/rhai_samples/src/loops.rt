@@ -6,7 +6,7 @@ use rhai_build::statements::{
     assign, break_stmt, continue_stmt, do_until, if_stmt, loop_stmt, no_block, return_stmt,
     while_stmt,
 };
-use rhai_items::Items;
+use rhai_tree::Items;
 use rhai_tree::expr::{Expr, Stmt};
 use rhai_tree::token::Token;
 use std::alloc::{AllocError, Global};

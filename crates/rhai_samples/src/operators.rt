@@ -3,7 +3,7 @@
 use rhai_build::Builder;
 use rhai_build::expressions::{int, truth, unit};
 use rhai_build::statements::{if_stmt, no_block};
-use rhai_items::Items;
+use rhai_tree::Items;
 use rhai_tree::expr::Stmt;
 use rhai_tree::token::Token;
 use std::alloc::{AllocError, Global};

@@ -2,7 +2,7 @@
 
 use rhai_build::Builder;
 use rhai_build::expressions::{MapParts, int, truth};
-use rhai_items::Items;
+use rhai_tree::Items;
 use rhai_tree::expr::Stmt;
 use std::alloc::{AllocError, Global};
 

@@ -5,7 +5,7 @@ ghost use Rattle.std.specs.Prelude.{◌≢◌, ◌≤◌};
 use rhai_build::Builder;
 use rhai_build::expressions::{MapParts, int};
 use rhai_build::statements::assign;
-use rhai_items::Items;
+use rhai_tree::Items;
 use rhai_tree::expr::{Expr, Stmt};
 use rhai_tree::token::Token;
 use std::alloc::{AllocError, Global};

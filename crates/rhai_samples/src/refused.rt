@@ -3,7 +3,7 @@
 use rhai_build::Builder;
 use rhai_build::expressions::int;
 use rhai_build::statements::assign;
-use rhai_items::Items;
+use rhai_tree::Items;
 use rhai_tree::expr::Stmt;
 use rhai_tree::flags::ASTFlags;
 use std::alloc::{AllocError, Global};

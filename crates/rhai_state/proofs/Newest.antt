@@ -7,7 +7,7 @@ use Rattle.std.proofs.lemmas.List.{length-map}
 use Rattle.std.specs.Int.NonZero.{non_zero_usize_get}
 use Rattle.std.specs.Str.{bytes_eq}
 use Rattle.std.specs.declared.num.NonZeroUsize.{NonZeroUsize}
-use Rattle.rhai_checked.specs.Names.{further, offset_of, stands, is_good}
+use Rattle.rhai_tree.specs.Names.{further, offset_of, stands, is_good}
 use Rattle.rhai_state.specs.Newest.{newest, or_here}
 use Rattle.rhai_state.specs.Scope.{name_of as entry_name, index_of, place_of, in_use, Fits}
 use Rattle.rhai_state.specs.declared.scope.ScopeEntry.{ScopeEntry}

@@ -3,7 +3,7 @@
 ghost use Rattle.std.specs.Prelude.{◌≡◌, true, false, min, IsOk, OnOk, OnErr};
 ghost use Rattle.rhai_state.specs.Caches.{depth_after_push, depth_of, is_on};
 
-use rhai_items::Items;
+use rhai_tree::Items;
 use std::alloc::{AllocError, Global};
 use std::marker::PhantomData;
 

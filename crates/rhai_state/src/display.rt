@@ -2,8 +2,8 @@
 //! what is written, and nothing is allocated.
 
 use crate::error::{Bounds, EvalAltResult, FunctionCallError, TypeMismatch};
-use rhai_items::{Shared, Text};
 use rhai_tree::position::Position;
+use rhai_tree::{Shared, Text};
 use rhai_values::base::value::{Dynamic, Host, Union};
 use std::error::Error;
 use std::fmt;

@@ -4,8 +4,8 @@ ghost use Rattle.std.specs.Prelude.{◌≡◌};
 ghost use Rattle.rhai_state.specs.Errors.{at_position, error_name, error_of, is_catchable, is_pseudo, is_system};
 ghost use Rattle.rhai_state.specs.Errors.{position_of, way_out_of};
 
-use rhai_items::{Boxed, Shared, Text};
 use rhai_tree::position::Position;
+use rhai_tree::{Boxed, Shared, Text};
 use rhai_values::base::value::Dynamic;
 
 /// Why a run stopped, or how it left its place. Ports upstream's `EvalAltResult`.

@@ -2,7 +2,7 @@
 
 ghost use Rattle.std.specs.Prelude.{◌≡◌, []};
 
-use rhai_items::Items;
+use rhai_tree::Items;
 use rhai_values::base::value::Dynamic;
 use std::alloc::{AllocError, Global};
 use std::marker::Model;

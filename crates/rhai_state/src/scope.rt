@@ -11,7 +11,7 @@ ghost use Rattle.rhai_state.specs.Scope.{entries_of, index_of, new_entry, place_
 ghost use Rattle.rhai_state.specs.Scope.{Fits};
 
 use crate::slot::Slot;
-use rhai_items::{Items, Shared, Text};
+use rhai_tree::{Items, Shared, Text};
 use rhai_values::base::value::{AccessMode, Dynamic};
 use std::alloc::{AllocError, Global};
 use std::mem::replace;

@@ -5,7 +5,7 @@ ghost use Rattle.rhai_state.specs.Scope.{in_use};
 ghost use Rattle.rhai_state.specs.State.{import_as, import_of, with_imports, IsFresh};
 
 use crate::room::Room;
-use rhai_items::{Items, Shared, Table, Text};
+use rhai_tree::{Items, Shared, Table, Text};
 use rhai_values::base::value::{Dynamic, Import, Module};
 use rhai_values::cells::CellStore;
 use std::alloc::{AllocError, Global};

@@ -11,11 +11,11 @@ ghost use Rattle.rhai_steps.specs.States.{local_of};
 
 use crate::values::copy;
 use bitflags::Flags;
-use rhai_items::{Shared, Text};
 use rhai_state::error::EvalAltResult;
 use rhai_state::state::GlobalRuntimeState;
 use rhai_tree::flags::ASTFlags;
 use rhai_tree::position::Position;
+use rhai_tree::{Shared, Text};
 use rhai_values::base::value::{Dynamic, Host, Module};
 use std::alloc::Global;
 

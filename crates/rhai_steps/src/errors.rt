@@ -7,9 +7,9 @@ ghost use Rattle.rhai_values.specs.DataSize.{fault_text};
 ghost use Rattle.rhai_state.specs.declared.error.EvalAltResult.TheVariants as error;
 ghost use Rattle.rhai_machine.specs.language.Values.{mismatch as mismatched};
 
-use rhai_items::{Boxed, Shared, Text};
 use rhai_state::error::{EvalAltResult, TypeMismatch};
 use rhai_tree::position::Position;
+use rhai_tree::{Boxed, Shared, Text};
 use rhai_values::base::size::SizeFault;
 use rhai_values::base::value::{Dynamic, Host};
 use std::alloc::{AllocError, Global};

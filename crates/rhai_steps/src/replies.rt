@@ -19,7 +19,6 @@ ghost use Rattle.rhai_values.specs.TypeNames.{type_name_of};
 ghost use Rattle.std.specs.Option.{option_copied};
 
 use crate::errors::{data_too_large, shared_text};
-use rhai_items::{Items, Shared, Text};
 use rhai_operators::{builtin_binary, builtin_unary};
 use rhai_places::errors::indexing_text;
 use rhai_state::error::EvalAltResult;
@@ -27,6 +26,7 @@ use rhai_state::limits::Limits;
 use rhai_state::table::Answer;
 use rhai_tree::position::Position;
 use rhai_tree::token::Token;
+use rhai_tree::{Items, Shared, Text};
 use rhai_values::base::value::{Dynamic, Host};
 use rhai_values::cells::CellStore;
 use std::alloc::{AllocError, Global};

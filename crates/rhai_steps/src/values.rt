@@ -12,10 +12,10 @@ ghost use Rattle.rhai_machine.specs.language.Values.{unit_value as unit, used};
 ghost use Rattle.rhai_steps.specs.Values.{unit_seen};
 
 use crate::errors::{data_race, mismatch};
-use rhai_items::{Items, Shared, Text};
 use rhai_state::error::EvalAltResult;
 use rhai_tree::literal::Literal;
 use rhai_tree::position::Position;
+use rhai_tree::{Items, Shared, Text};
 use rhai_values::base::literal::literal_value;
 use rhai_values::base::value::{CellId, Dynamic, Host, Union};
 use rhai_values::cells::CellStore;

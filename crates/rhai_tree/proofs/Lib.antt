@@ -1,1 +1,4 @@
 mod Joins
+pub mod Links
+pub mod LookupLemmas
+pub mod Walk

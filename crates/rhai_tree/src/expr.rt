@@ -7,7 +7,7 @@ use crate::flags::ASTFlags;
 use crate::literal::Literal;
 use crate::position::Position;
 use crate::token::Token;
-use rhai_items::{Boxed, Items, Shared, Table, Text};
+use crate::{Boxed, Items, Shared, Table, Text};
 use std::num::NonZeroUsize;
 
 /// A name with its position.

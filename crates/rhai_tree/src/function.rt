@@ -7,7 +7,7 @@ ghost use Rattle.rhai_tree.specs.Signatures.{empty_body, signature_text};
 use crate::expr::StmtBlock;
 use crate::position::Position;
 use crate::signature::write_signature;
-use rhai_items::{Items, Shared, Text};
+use crate::{Items, Shared, Text};
 use std::alloc::{AllocError, Global};
 use std::fmt;
 use std::fmt::{Display, Formatter, Write};

@@ -1,6 +1,6 @@
 //! Constants of the tree.
 
-use rhai_items::{Items, Shared, Table, Text};
+use crate::{Items, Shared, Table, Text};
 
 /// The number of a native in the caller's table.
 #[derive(Clone, Copy, Debug, PartialEq, Eq)]

@@ -8,7 +8,7 @@ ghost use Rattle.std.specs.Fmt.{comma_space, DisplaysOnOk, WritesOnOk};
 ghost use Rattle.rhai_tree.specs.Signatures.{access_text, params_text, signature_text, this_text};
 
 use crate::function::FnAccess;
-use rhai_items::{Shared, Text};
+use crate::{Shared, Text};
 use std::fmt;
 use std::fmt::{Formatter, Write};
 

@@ -6,7 +6,6 @@ ghost use Rattle.rhai_steps.specs.States.{holding, state_of};
 ghost use Rattle.rhai_eval.specs.Plain.{Plain};
 ghost use Rattle.rhai_twins_eval.specs.Same.{Same};
 
-use rhai_checked::checked::{CheckedFn, CheckedTree};
 use rhai_eval::engine::Engine;
 use rhai_functions::key::FnKey;
 use rhai_state::caches::Caches;
@@ -14,6 +13,7 @@ use rhai_state::error::EvalAltResult;
 use rhai_state::scope::Scope;
 use rhai_state::state::GlobalRuntimeState;
 use rhai_state::table::NativeTable;
+use rhai_tree::checked::{CheckedFn, CheckedTree};
 use rhai_tree::position::Position;
 use rhai_values::base::value::{Dynamic, EncapsulatedEnviron, Host};
 use std::alloc::Global;

@@ -8,7 +8,6 @@ ghost use Rattle.rhai_places.specs.Found.{IsKeyless, IsText};
 ghost use Rattle.rhai_places.specs.Parts.{IsPart, IsPlace};
 ghost use Rattle.rhai_twins_places.specs.Ends.{Told, Same, SameTarget, EndsOnce};
 
-use rhai_items::{Shared, Text};
 use rhai_places::errors::{data_race, indexing_error, indexing_text, mismatch, property_not_found};
 use rhai_places::indexing::{add_key, get_indexed_mut, missing_key, value_of_index};
 use rhai_places::locate::locate;
@@ -19,6 +18,7 @@ use rhai_places::spot::{Access, Refusal, Spot};
 use rhai_places::target::Target;
 use rhai_state::error::EvalAltResult;
 use rhai_tree::position::Position;
+use rhai_tree::{Shared, Text};
 use rhai_values::base::value::{Dynamic, Host, Union};
 use rhai_values::cells::CellStore;
 use std::alloc::{AllocError, Global};

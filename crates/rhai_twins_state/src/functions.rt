@@ -12,10 +12,10 @@ use rhai_functions::key::{FnKey, has_key};
 use rhai_functions::lookup::{find_function, find_in_module, find_in_modules};
 use rhai_functions::metadata::{ScriptFnMetadata, metadata_of};
 use rhai_functions::named::arity_named;
-use rhai_items::{Shared, Text};
 use rhai_state::scope::Scope;
 use rhai_state::state::GlobalRuntimeState;
 use rhai_tree::function::ScriptFuncDef;
+use rhai_tree::{Shared, Text};
 use rhai_values::base::value::{Dynamic, EncapsulatedEnviron, Host, Import, Module, ModuleFn};
 use std::alloc::{AllocError, Global};
 

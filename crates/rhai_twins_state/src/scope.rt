@@ -4,9 +4,9 @@ ghost use Rattle.std.specs.Prelude.{◌≡◌, ◌<◌, is_ok, length, string_by
 ghost use Rattle.std.specs.Option.{option_map};
 ghost use Rattle.rhai_state.specs.Scope.{entries_of, shown, Fits};
 
-use rhai_items::{Shared, Text};
 use rhai_state::scope::{Scope, ScopeEntry};
 use rhai_state::slot::Slot;
+use rhai_tree::{Shared, Text};
 use rhai_values::base::value::{AccessMode, Dynamic};
 use std::alloc::{AllocError, Global};
 use std::num::NonZeroUsize;

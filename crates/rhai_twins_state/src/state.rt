@@ -2,9 +2,9 @@
 
 ghost use Rattle.std.specs.Prelude.{◌≡◌, is_ok, string_bytes};
 
-use rhai_items::{Items, Shared};
 use rhai_state::room::Room;
 use rhai_state::state::GlobalRuntimeState;
+use rhai_tree::{Items, Shared};
 use rhai_values::base::value::{Dynamic, Module};
 use std::alloc::{AllocError, Global};
 use std::num::NonZeroUsize;

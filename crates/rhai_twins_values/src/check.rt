@@ -1,17 +1,17 @@
 //! The checker, and what it passed.
 
 ghost use Rattle.std.specs.Prelude.{◌≡◌, is_ok, IfOk};
-ghost use Rattle.rhai_checked.specs.Frame.{Resolves, ResolvesFunction};
-ghost use Rattle.rhai_checked.specs.WellFormed.{IsFormed, IsFormedFunction, AreFormed};
+ghost use Rattle.rhai_tree.specs.Frame.{Resolves, ResolvesFunction};
+ghost use Rattle.rhai_tree.specs.WellFormed.{IsFormed, IsFormedFunction, AreFormed};
 ghost use Rattle.rhai_twins_values.specs.Checks.{wants_memory};
 
 use rhai_check::check::{check_function, check_tree};
-use rhai_checked::checked::{CheckedFn, CheckedTree};
-use rhai_checked::fault::CheckFault;
-use rhai_items::{Items, Shared};
+use rhai_tree::checked::{CheckedFn, CheckedTree};
 use rhai_tree::expr::Stmt;
+use rhai_tree::fault::CheckFault;
 use rhai_tree::function::ScriptFuncDef;
 use rhai_tree::position::Position;
+use rhai_tree::{Items, Shared};
 use std::alloc::Global;
 
 /// Of `check::check_tree`: which trees pass, and what they are then; which of several faults is told is open.

@@ -2,12 +2,12 @@
 
 ghost use Rattle.std.specs.Prelude.{◌≡◌, ◌≢◌, is_ok};
 
-use rhai_items::{Shared, Text};
 use rhai_tree::expr::{Expr, Stmt};
 use rhai_tree::function::{ScriptFuncDef, ScriptFuncPayload};
 use rhai_tree::position::Position;
 use rhai_tree::signature::ParamName;
 use rhai_tree::token::Token;
+use rhai_tree::{Shared, Text};
 use std::alloc::{AllocError, Global};
 
 /// Of `Expr::position`.

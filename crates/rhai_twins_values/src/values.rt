@@ -2,7 +2,7 @@
 
 ghost use Rattle.std.specs.Prelude.{◌≡◌, is_ok};
 
-use rhai_items::Shared;
+use rhai_tree::Shared;
 use rhai_tree::literal::Literal;
 use rhai_values::base::hashable::literal_equals;
 use rhai_values::base::literal::literal_value;

@@ -2,8 +2,8 @@
 use Rattle.std.proofs.Common.{◌≡◌, ℕ, List, [], ◌∷◌, map, refl, sym, ap, ◌∙◌}
 use mathlib.Core.Former.{this, arity}
 use denote.Hole.Carrier.{hidden, roll}
-use Rattle.rhai_items.specs.formers.items.Items as items
-use Rattle.rhai_items.specs.formers.table.Table as table
+use Rattle.rhai_tree.specs.formers.items.Items as items
+use Rattle.rhai_tree.specs.formers.table.Table as table
 use Rattle.rhai_values.specs.declared.base.value.AccessMode.TheVariants.{ReadWrite}
 use Rattle.rhai_values.specs.declared.base.value.Dynamic.{Dynamic}
 use Rattle.rhai_values.specs.declared.base.value.FnPtr.{FnPtr, FnPtr' as Pointer', out-FnPtr, roll-FnPtr, roll-out-FnPtr}

@@ -6,7 +6,7 @@ ghost use Rattle.rhai_values.specs.Cells.{cells_of, value_of_cell, with_held, wi
 ghost use Rattle.rhai_values.specs.Cells.{IsNoHandle};
 
 use crate::base::value::{CellId, Dynamic};
-use rhai_items::Items;
+use rhai_tree::Items;
 use std::alloc::{AllocError, Global};
 
 /// The shared cells of a run, by their numbers. A cell that is held has its value elsewhere.

@@ -17,7 +17,7 @@ use Rattle.rhai_places.specs.declared.spot.Spot.TheVariants as spot
 use Rattle.rhai_places.specs.Found.{found, found_by, settled, through}
 use Rattle.rhai_places.specs.Indexing.{located}
 use Rattle.rhai_places.specs.Parts.{IsPart, IsPlace, IsThere, part_of, value_at, with_value}
-use Rattle.rhai_paths.specs.Paths.{ToPlace}
+use Rattle.rhai_places.specs.Paths.{ToPlace}
 use Rattle.rhai_machine.specs.machine.Point.{after}
 use Rattle.rhai_machine.specs.machine.Memory.{here, next, wanting, ◌⨾◌}
 use Rattle.rhai_machine.specs.language.Setting.{Setting, Rules}

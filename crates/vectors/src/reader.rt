@@ -2,8 +2,8 @@
 
 mod literals;
 
-use rhai_items::{Boxed, Items, Shared, Text};
 use rhai_tree::position::Position;
+use rhai_tree::{Boxed, Items, Shared, Text};
 use std::alloc::{AllocError, Global};
 
 /// Why a line has no answer.

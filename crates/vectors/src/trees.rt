@@ -3,11 +3,11 @@
 use crate::reader::Reader;
 use crate::shown::Sheet;
 use rhai_check::check::{CheckFault, check_tree};
-use rhai_items::Items;
 use rhai_samples::refused::{
     dot_that_ends_and_goes_on, integer_assigned, integer_behind_a_dot, method_assigned,
     method_of_a_module, property_alone,
 };
+use rhai_tree::Items;
 use rhai_tree::expr::Stmt;
 use std::alloc::{AllocError, Global};
 

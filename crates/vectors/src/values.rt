@@ -3,8 +3,8 @@
 use crate::host::Stone;
 use crate::reader::{Reader, shared};
 use crate::shown::Sheet;
-use rhai_items::Boxed;
 use rhai_state::error::{EvalAltResult, FunctionCallError};
+use rhai_tree::Boxed;
 use rhai_tree::position::Position;
 use rhai_values::base::value::Dynamic;
 use std::alloc::{AllocError, Global};

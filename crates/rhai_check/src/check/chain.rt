@@ -3,23 +3,23 @@
 ghost use Rattle.std.specs.Prelude.{◌≡◌, ◌≤◌, ◌+◌, ◌++◌, [], IsTrue, IfErr, OnOk, List, length};
 ghost use Rattle.rhai_check.specs.Around.{around};
 ghost use Rattle.rhai_check.specs.Declares.{declares_expr, declares_call};
-ghost use Rattle.rhai_checked.specs.Forms.{ends_chain};
-ghost use Rattle.rhai_checked.specs.Frame.{tests_of, resolves_method, dot_resolves, name_resolves};
-ghost use Rattle.rhai_checked.specs.Frame.{bracket_resolves, tested_root, tested_end};
-ghost use Rattle.rhai_checked.specs.Links.{links_in, most_links};
-ghost use Rattle.rhai_checked.specs.Names.{Name};
+ghost use Rattle.rhai_tree.specs.Forms.{ends_chain};
+ghost use Rattle.rhai_tree.specs.Frame.{tests_of, resolves_method, dot_resolves, name_resolves};
+ghost use Rattle.rhai_tree.specs.Frame.{bracket_resolves, tested_root, tested_end};
+ghost use Rattle.rhai_tree.specs.Links.{links_in, most_links};
+ghost use Rattle.rhai_tree.specs.Names.{Name};
 ghost use Rattle.rhai_check.specs.Refusals.{Refuses};
-ghost use Rattle.rhai_checked.specs.WellFormed.{seen_expr, seen_call, dot_faults, name_faults};
-ghost use Rattle.rhai_checked.specs.WellFormed.{seen_root, seen_end};
+ghost use Rattle.rhai_tree.specs.WellFormed.{seen_expr, seen_call, dot_faults, name_faults};
+ghost use Rattle.rhai_tree.specs.WellFormed.{seen_root, seen_end};
 
 use crate::check::CheckFault;
 use crate::check::expr::{check_expr, check_exprs, is_unqualified};
 use crate::check::place::Place;
 use bitflags::Flags;
-use rhai_items::{Items, Shared, Text};
 use rhai_tree::expr::{Expr, FnCallExpr};
 use rhai_tree::flags::ASTFlags;
 use rhai_tree::position::Position;
+use rhai_tree::{Items, Shared, Text};
 use std::alloc::Global;
 
 /// Whether an operator of a chain ends it: the chain stands in brackets of its own.

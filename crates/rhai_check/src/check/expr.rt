@@ -2,16 +2,16 @@
 
 ghost use Rattle.std.specs.Prelude.{◌≡◌, ◌++◌, [], IsTrue, IfErr, OnOk, map, length, List, option_map, true};
 ghost use Rattle.rhai_check.specs.Around.{around};
-ghost use Rattle.rhai_checked.specs.Forms.{any_of};
+ghost use Rattle.rhai_tree.specs.Forms.{any_of};
 ghost use Rattle.rhai_check.specs.Declares.{in_option, declares_expr, declares_call};
-ghost use Rattle.rhai_checked.specs.Forms.{is_eval_call, is_unqualified};
-ghost use Rattle.rhai_checked.specs.Frame.{tests_of, resolves_expr, resolves_call, target_resolves};
-ghost use Rattle.rhai_checked.specs.Frame.{option_resolves, all_resolve_exprs, entries_resolve, map_resolves};
-ghost use Rattle.rhai_checked.specs.Frame.{tests_of_entry};
-ghost use Rattle.rhai_checked.specs.Names.{Name, is_good};
+ghost use Rattle.rhai_tree.specs.Forms.{is_eval_call, is_unqualified};
+ghost use Rattle.rhai_tree.specs.Frame.{tests_of, resolves_expr, resolves_call, target_resolves};
+ghost use Rattle.rhai_tree.specs.Frame.{option_resolves, all_resolve_exprs, entries_resolve, map_resolves};
+ghost use Rattle.rhai_tree.specs.Frame.{tests_of_entry};
+ghost use Rattle.rhai_tree.specs.Names.{Name, is_good};
 ghost use Rattle.rhai_check.specs.Refusals.{Refuses};
-ghost use Rattle.rhai_checked.specs.WellFormed.{seen_expr, seen_call, target_faults, faults_in_option};
-ghost use Rattle.rhai_checked.specs.WellFormed.{faults_in_all, faults_in_entries, faults_in_map, seen_entry};
+ghost use Rattle.rhai_tree.specs.WellFormed.{seen_expr, seen_call, target_faults, faults_in_option};
+ghost use Rattle.rhai_tree.specs.WellFormed.{faults_in_all, faults_in_entries, faults_in_map, seen_entry};
 
 use crate::check::CheckFault;
 use crate::check::chain::{
@@ -21,10 +21,10 @@ use crate::check::keys::has_keys;
 use crate::check::names::is_good;
 use crate::check::place::Place;
 use crate::check::stmt::check_block;
-use rhai_items::{Items, Shared, Table, Text};
 use rhai_tree::expr::{Expr, FnCallExpr, MapEntry};
 use rhai_tree::literal::Literal;
 use rhai_tree::position::Position;
+use rhai_tree::{Items, Shared, Table, Text};
 
 /// Passes an expression, or answers one of its faults.
 #[cycle(check)]

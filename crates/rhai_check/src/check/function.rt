@@ -2,18 +2,18 @@
 
 ghost use Rattle.std.specs.Prelude.{◌≡◌, ◌++◌, [], ◌∷◌, true, IfErr, OnOk, IfOk};
 ghost use Rattle.rhai_check.specs.Declares.{has_functions};
-ghost use Rattle.rhai_checked.specs.Frame.{ResolvesFunction};
+ghost use Rattle.rhai_tree.specs.Frame.{ResolvesFunction};
 ghost use Rattle.rhai_check.specs.Refusals.{Refuses};
-ghost use Rattle.rhai_checked.specs.WellFormed.{faults_in_function, faults_in_functions, IsFormedFunction};
-ghost use Rattle.rhai_checked.specs.WellFormed.{AreFormed};
+ghost use Rattle.rhai_tree.specs.WellFormed.{faults_in_function, faults_in_functions, IsFormedFunction};
+ghost use Rattle.rhai_tree.specs.WellFormed.{AreFormed};
 
 use crate::check::CheckFault;
 use crate::check::names::declare;
 use crate::check::place::Place;
 use crate::check::stmt::check_block;
-use rhai_checked::checked::CheckedFn;
-use rhai_items::{Items, Shared};
+use rhai_tree::checked::CheckedFn;
 use rhai_tree::function::{ScriptFuncDef, ScriptFuncPayload};
+use rhai_tree::{Items, Shared};
 use std::alloc::Global;
 
 /// Passes a function, or answers one of its faults.

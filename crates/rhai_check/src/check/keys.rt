@@ -1,9 +1,9 @@
 //! The keys of maps.
 
 ghost use Rattle.std.specs.Prelude.{◌≡◌, IfOk, map};
-ghost use Rattle.rhai_checked.specs.Keys.{are_keys, key_of};
+ghost use Rattle.rhai_tree.specs.Keys.{are_keys, key_of};
 
-use rhai_items::Table;
+use rhai_tree::Table;
 use rhai_tree::expr::MapEntry;
 use rhai_tree::literal::Literal;
 use std::alloc::{AllocError, Global};

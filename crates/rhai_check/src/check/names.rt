@@ -2,10 +2,10 @@
 
 ghost use Rattle.std.specs.Prelude.{◌≡◌, ◌++◌, ◌∷◌, [], IfErr, OnOk};
 ghost use Rattle.std.specs.Int.NonZero.{non_zero_usize_get};
-ghost use Rattle.rhai_checked.specs.Names.{offset_of, is_good};
+ghost use Rattle.rhai_tree.specs.Names.{offset_of, is_good};
 
 use crate::check::CheckFault;
-use rhai_items::{Items, Shared, Text};
+use rhai_tree::{Items, Shared, Text};
 use std::num::NonZeroUsize;
 
 /// Where the newest of a name stands, counted from the end; zero where there is none.

@@ -3,24 +3,24 @@
 ghost use Rattle.std.specs.Prelude.{◌≡◌, ◌++◌, [], ◌∷◌, true, IsTrue, IfErr, OnOk, map, List, None};
 ghost use Rattle.std.specs.Prelude.{option_map};
 ghost use Rattle.rhai_check.specs.Around.{around};
-ghost use Rattle.rhai_checked.specs.Forms.{any_of};
+ghost use Rattle.rhai_tree.specs.Forms.{any_of};
 ghost use Rattle.rhai_check.specs.Declares.{in_option, declares_stmt, declares_block, declares_expr};
-ghost use Rattle.rhai_checked.specs.Frame.{tests_of, resolves_stmt, resolves_block, all_resolve};
-ghost use Rattle.rhai_checked.specs.Frame.{option_resolves, var_resolves};
-ghost use Rattle.rhai_checked.specs.Names.{Name, Begins};
+ghost use Rattle.rhai_tree.specs.Frame.{tests_of, resolves_stmt, resolves_block, all_resolve};
+ghost use Rattle.rhai_tree.specs.Frame.{option_resolves, var_resolves};
+ghost use Rattle.rhai_tree.specs.Names.{Name, Begins};
 ghost use Rattle.rhai_check.specs.Refusals.{Refuses};
-ghost use Rattle.rhai_checked.specs.WellFormed.{seen_expr, seen_stmt, seen_block, faults_in_list};
-ghost use Rattle.rhai_checked.specs.WellFormed.{faults_in_option, control_faults, var_faults};
+ghost use Rattle.rhai_tree.specs.WellFormed.{seen_expr, seen_stmt, seen_block, faults_in_list};
+ghost use Rattle.rhai_tree.specs.WellFormed.{faults_in_option, control_faults, var_faults};
 
 use crate::check::CheckFault;
 use crate::check::expr::{check_call, check_expr, check_option, check_target};
 use crate::check::names::declare;
 use crate::check::place::Place;
 use bitflags::Flags;
-use rhai_items::{Items, Shared, Text};
 use rhai_tree::expr::{Expr, Stmt, StmtBlock};
 use rhai_tree::flags::ASTFlags;
 use rhai_tree::position::Position;
+use rhai_tree::{Items, Shared, Text};
 
 /// Passes a block, or answers one of its faults. The names that it declares end with it.
 #[cycle(check)]

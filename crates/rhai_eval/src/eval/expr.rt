@@ -1,7 +1,7 @@
 //! Expressions. Ports upstream's `eval/expr.rs`; the contracts speak of the machine's runs.
 
 ghost use Rattle.std.specs.Prelude.{◌≡◌, length, IfOk, IfErr, IsTrue, true, false, Some, Ok, Err};
-ghost use Rattle.rhai_checked.specs.Frame.{resolves_expr};
+ghost use Rattle.rhai_tree.specs.Frame.{resolves_expr};
 ghost use Rattle.rhai_tree.specs.declared.expr.Expr.{out-Expr};
 ghost use Rattle.rhai_values.specs.Cells.{cells_of};
 ghost use Rattle.rhai_state.specs.Errors.{is_out_of_memory};

@@ -1,7 +1,7 @@
 //! Whole scripts. Ports upstream's `eval_global_statements`.
 
 ghost use Rattle.std.specs.Prelude.{◌≡◌, ◌≤◌, length, true, None, IfErr, IsTrue};
-ghost use Rattle.rhai_checked.specs.Names.{Begins};
+ghost use Rattle.rhai_tree.specs.Names.{Begins};
 ghost use Rattle.rhai_state.specs.Errors.{is_out_of_memory};
 ghost use Rattle.rhai_state.specs.Scope.{names_in};
 ghost use Rattle.rhai_machine.specs.language.Memory.{UpToMemory};
@@ -14,7 +14,6 @@ ghost use Rattle.rhai_eval.specs.Plain.{Plain};
 ghost use Rattle.rhai_eval.specs.States.{under};
 
 use crate::engine::Engine;
-use rhai_checked::checked::CheckedTree;
 use rhai_context::{give_back, take};
 use rhai_state::caches::Caches;
 use rhai_state::error::EvalAltResult;
@@ -22,6 +21,7 @@ use rhai_state::scope::Scope;
 use rhai_state::state::GlobalRuntimeState;
 use rhai_state::table::NativeTable;
 use rhai_steps::outcome::top;
+use rhai_tree::checked::CheckedTree;
 use rhai_values::base::value::{Dynamic, Host};
 use std::alloc::Global;
 

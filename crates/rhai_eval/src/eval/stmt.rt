@@ -2,8 +2,8 @@
 //! speak of the machine's runs and of specs/Assigned.antt.
 
 ghost use Rattle.std.specs.Prelude.{◌≡◌, ◌≤◌, OnOk, IsTrue, Some, length, map, false};
-ghost use Rattle.rhai_checked.specs.Frame.{resolves_stmt, all_resolve};
-ghost use Rattle.rhai_checked.specs.Names.{Begins};
+ghost use Rattle.rhai_tree.specs.Frame.{resolves_stmt, all_resolve};
+ghost use Rattle.rhai_tree.specs.Names.{Begins};
 ghost use Rattle.rhai_values.specs.Cells.{IsNoHandle};
 ghost use Rattle.rhai_state.specs.Native.{left_by, was};
 ghost use Rattle.rhai_state.specs.Scope.{names_in};

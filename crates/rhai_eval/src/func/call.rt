@@ -3,7 +3,7 @@
 
 ghost use Rattle.std.specs.Prelude.{◌≡◌, IsTrue, IfOk, map};
 ghost use Rattle.std.specs.Option.{option_copied};
-ghost use Rattle.rhai_checked.specs.Frame.{all_resolve_exprs, resolves_expr, resolves_call, tests_of};
+ghost use Rattle.rhai_tree.specs.Frame.{all_resolve_exprs, resolves_expr, resolves_call, tests_of};
 ghost use Rattle.rhai_tree.specs.declared.expr.Expr.TheOpen as layer;
 ghost use Rattle.rhai_tree.specs.Positions.{start_of};
 ghost use Rattle.rhai_machine.specs.language.Frames.{Argument, OpenExpr};

@@ -4,7 +4,7 @@
 ghost use Rattle.std.specs.Prelude.{◌≡◌, ◌<◌, ◌≤◌, ◌+◌, ◌++◌, IsTrue, OnOk, drop, false, is_some, length, take};
 ghost use Rattle.std.specs.Prelude.{true};
 ghost use Rattle.std.specs.Option.{option_copied};
-ghost use Rattle.rhai_checked.specs.Names.{Begins};
+ghost use Rattle.rhai_tree.specs.Names.{Begins};
 ghost use Rattle.rhai_functions.specs.Functions.{found_in};
 ghost use Rattle.rhai_functions.specs.Keys.{key_seen};
 ghost use Rattle.rhai_machine.specs.language.Activations.{OwnThis};
@@ -23,7 +23,6 @@ ghost use Rattle.rhai_eval.specs.States.{limits_of, under};
 
 use crate::engine::Engine;
 use crate::this::{give_back_with, take_with};
-use rhai_checked::checked::CheckedFn;
 use rhai_context::{Context, give_back, take};
 use rhai_functions::key::FnKey;
 use rhai_functions::lookup::find_function;
@@ -32,6 +31,7 @@ use rhai_state::error::EvalAltResult;
 use rhai_state::scope::Scope;
 use rhai_state::state::GlobalRuntimeState;
 use rhai_state::table::NativeTable;
+use rhai_tree::checked::CheckedFn;
 use rhai_tree::position::Position;
 use rhai_values::base::value::{Dynamic, EncapsulatedEnviron, Host};
 use std::alloc::Global;

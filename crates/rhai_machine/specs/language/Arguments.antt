@@ -10,7 +10,7 @@ use Rattle.rhai_tree.specs.declared.expr.FnCallExpr.{FnCallExpr}
 use Rattle.rhai_tree.specs.declared.expr.Expr.TheOpen as layer
 use Rattle.rhai_tree.specs.Layers.{ExprLayer}
 use Rattle.rhai_tree.specs.Positions.{position_of, start_of}
-use Rattle.rhai_checked.specs.Forms.{is_unqualified}
+use Rattle.rhai_tree.specs.Forms.{is_unqualified}
 use Rattle.rhai_values.specs.declared.base.value.FnPtr.{out-FnPtr, roll-FnPtr}
 use Rattle.rhai_values.specs.declared.base.value.FnPtrKind.{FnPtrKind, out-FnPtrKind}
 use Rattle.rhai_values.specs.declared.base.value.FnPtrKind.TheOpen as union

@@ -7,7 +7,7 @@ use Rattle.rhai_tree.specs.Layers.{ExprLayer}
 use Rattle.rhai_tree.specs.Positions.{position_of}
 use Rattle.rhai_tree.specs.Tokens.{syntax_of}
 use Rattle.rhai_values.specs.declared.base.value.AccessMode.TheVariants.{ReadWrite}
-use Rattle.rhai_checked.specs.Forms.{is_unqualified}
+use Rattle.rhai_tree.specs.Forms.{is_unqualified}
 use Rattle.rhai_values.specs.declared.base.value.Union.TheVariants as value
 use Rattle.rhai_state.specs.declared.error.EvalAltResult.TheVariants as error
 use Rattle.rhai_values.specs.Modes.{with_mode}

@@ -6,7 +6,7 @@ use Rattle.rhai_tree.specs.declared.expr.Expr.TheOpen as layer
 use Rattle.rhai_tree.specs.Layers.{ExprLayer}
 use Rattle.rhai_tree.specs.Position.{none}
 use Rattle.rhai_tree.specs.Positions.{position_of, start_of}
-use Rattle.rhai_checked.specs.Forms.{is_unqualified}
+use Rattle.rhai_tree.specs.Forms.{is_unqualified}
 use Rattle.rhai_values.specs.declared.base.value.Union.TheVariants as value
 use Rattle.rhai_values.specs.Copy.{copy_of}
 use Rattle.rhai_values.specs.Layers.{layer_of}
@@ -15,7 +15,7 @@ use Rattle.rhai_state.specs.Scope.{index_of}
 use Rattle.rhai_places.specs.declared.spot.Spot.{Spot}
 use Rattle.rhai_places.specs.declared.spot.Spot.TheVariants as spot
 use Rattle.rhai_places.specs.Parts.{part_of, value_at}
-use Rattle.rhai_paths.specs.Paths.{ToPlace}
+use Rattle.rhai_places.specs.Paths.{ToPlace}
 use Rattle.rhai_machine.specs.machine.Machine.{Move, Halt, Go, Charge}
 use Rattle.rhai_machine.specs.language.Setting.{Setting}
 use Rattle.rhai_machine.specs.language.State.{Local}

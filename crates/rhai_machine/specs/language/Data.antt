@@ -3,7 +3,7 @@ use Rattle.std.specs.Prelude.{ℕ, Bool, true, false, List, [], ◌∷◌, ◌++
 use Rattle.rhai_machine.specs.Types.{Dynamic, EvalAltResult, Expr, Limits, Position, Union}
 use Rattle.rhai_tree.specs.declared.expr.MapEntry.{MapEntry}
 use Rattle.rhai_tree.specs.Positions.{position_of}
-use Rattle.rhai_items.specs.Lookup.{with_entry}
+use Rattle.rhai_tree.specs.Lookup.{with_entry}
 use Rattle.rhai_values.specs.declared.base.size.DataSizes.{DataSizes}
 use Rattle.rhai_values.specs.DataSize.{plus, saturated, sizes, total, total_of}
 use Rattle.rhai_values.specs.declared.base.value.Union.TheVariants as value

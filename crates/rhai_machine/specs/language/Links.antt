@@ -5,7 +5,7 @@ use Rattle.rhai_machine.specs.Types.{ASTFlags, Expr, out-Expr, Position}
 use Rattle.rhai_tree.specs.declared.expr.Expr.TheOpen as layer
 use Rattle.rhai_tree.specs.Layers.{ExprLayer}
 use Rattle.rhai_tree.specs.Positions.{position_of, start_of}
-use Rattle.rhai_checked.specs.Forms.{is_unqualified}
+use Rattle.rhai_tree.specs.Forms.{is_unqualified}
 
 -- what a link is: an index, a property, or a method with its arguments
 pub data LinkForm : Type 0 where

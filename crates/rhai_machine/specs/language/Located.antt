@@ -2,7 +2,7 @@
 use Rattle.std.specs.Prelude.{Bool, true, false, not, ◌&&◌, List, [], ◌∷◌, drop, length, Result, is_some}
 use Rattle.std.specs.Option.{unwrap_or}
 use Rattle.rhai_machine.specs.Types.{Dynamic, EvalAltResult, Union}
-use Rattle.rhai_items.specs.Lookup.{place_of}
+use Rattle.rhai_tree.specs.Lookup.{place_of}
 use Rattle.rhai_values.specs.declared.base.value.Union.TheVariants as value
 use Rattle.rhai_values.specs.declared.base.value.FnPtrKind.TheOpen as union
 use Rattle.rhai_values.specs.Copy.{plain}

@@ -6,8 +6,8 @@ use Rattle.rhai_machine.specs.Types.{ASTFlags, AccessMode, Dynamic, out-Expr, Ex
 use Rattle.rhai_tree.specs.declared.expr.Expr.TheOpen as layer
 use Rattle.rhai_tree.specs.Layers.{StmtLayer}
 use Rattle.rhai_tree.specs.Positions.{position_of}
-use Rattle.rhai_checked.specs.Forms.{is_exported}
-use Rattle.rhai_items.specs.Lookup.{with_entry}
+use Rattle.rhai_tree.specs.Forms.{is_exported}
+use Rattle.rhai_tree.specs.Lookup.{with_entry}
 use Rattle.rhai_values.specs.Copy.{copy_of}
 use Rattle.rhai_values.specs.declared.base.value.AccessMode.TheVariants.{ReadWrite, ReadOnly}
 use Rattle.rhai_state.specs.declared.error.EvalAltResult.TheVariants as error

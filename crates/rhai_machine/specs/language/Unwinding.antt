@@ -8,7 +8,7 @@ use Rattle.rhai_values.specs.Cells.{value_of_cell}
 use Rattle.rhai_values.specs.TypeNames.{own_type_name}
 use Rattle.rhai_places.specs.declared.spot.Spot.{Spot}
 use Rattle.rhai_places.specs.PutBack.{put_back, wanted}
-use Rattle.rhai_paths.specs.Paths.{Rooted, gone_back}
+use Rattle.rhai_places.specs.Paths.{Rooted, gone_back}
 use Rattle.rhai_state.specs.declared.error.EvalAltResult.TheVariants as error
 use Rattle.rhai_state.specs.Errors.{is_system}
 use Rattle.rhai_machine.specs.language.Setting.{Setting}

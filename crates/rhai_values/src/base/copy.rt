@@ -5,7 +5,7 @@ ghost use Rattle.rhai_values.specs.Copy.{copy_of, copy_union as copy_of_union};
 ghost use Rattle.rhai_values.specs.Copy.{copy_pointer as copy_of_pointer};
 
 use crate::base::value::{AccessMode, Dynamic, FnPtr, FnPtrKind, Host, Union};
-use rhai_items::{Boxed, Items, Table};
+use rhai_tree::{Boxed, Items, Table};
 use std::alloc::{AllocError, Global};
 
 impl<H: Host> Dynamic<H> {

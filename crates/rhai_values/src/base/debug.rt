@@ -1,7 +1,7 @@
 //! Values and pointers as a reader of a log sees them. No clause says what is printed.
 
 use crate::base::value::{Dynamic, FnPtr, Host, Union};
-use rhai_items::Table;
+use rhai_tree::Table;
 use std::fmt;
 use std::fmt::{Debug, Formatter, Write};
 

@@ -5,7 +5,7 @@ ghost use Rattle.std.specs.Prelude.{◌≡◌, IfOk};
 ghost use Rattle.rhai_values.specs.Modules.{environ_with};
 
 use crate::base::value::{EncapsulatedEnviron, Import, Module};
-use rhai_items::{Items, Shared};
+use rhai_tree::{Items, Shared};
 use std::alloc::{AllocError, Global};
 
 impl<H: Drop> EncapsulatedEnviron<H> {

@@ -6,8 +6,8 @@ ghost use Rattle.rhai_values.specs.Hashable.{all_of, is_hashable};
 ghost use Rattle.rhai_values.specs.LiteralEquals.{equals, each};
 
 use crate::base::value::{Dynamic, Union};
-use rhai_items::{Shared, Text};
 use rhai_tree::literal::Literal;
+use rhai_tree::{Shared, Text};
 
 impl<H> Dynamic<H> {
     /// Whether the value can be a case of a `switch`: `()`, truth values, integers, characters,

@@ -4,8 +4,8 @@ ghost use Rattle.std.specs.Prelude.{◌≡◌, IfOk, map};
 ghost use Rattle.rhai_values.specs.Literals.{leads_to, pointer_of_literal, value_of_literal};
 
 use crate::base::value::{Dynamic, FnPtr, FnPtrKind, Union};
-use rhai_items::{Boxed, Items, Table};
 use rhai_tree::literal::{Literal, LiteralFnPtr, LiteralFnPtrKind};
+use rhai_tree::{Boxed, Items, Table};
 use std::alloc::{AllocError, Global};
 
 /// The value of a constant, read-write throughout. Texts are shared.

@@ -4,9 +4,9 @@ ghost use Rattle.std.specs.Prelude.{◌≡◌, List, [], ℕ, IfOk};
 ghost use Rattle.rhai_values.specs.Copy.{plain};
 ghost use Rattle.rhai_values.specs.Modules.{empty_module};
 
-use rhai_checked::checked::CheckedFn;
-use rhai_items::{Boxed, Items, Shared, Table, Text};
+use rhai_tree::checked::CheckedFn;
 use rhai_tree::literal::NativeId;
+use rhai_tree::{Boxed, Items, Shared, Table, Text};
 use std::alloc::{AllocError, Global};
 
 /// Whether a value may be written.

@@ -5,11 +5,11 @@ use Rattle.rhai_tree.specs.declared.expr.Expr.TheVariants.{outs-BoolConstant, ou
 use Rattle.rhai_tree.specs.declared.expr.Expr.TheVariants.{outs-StringConstant, outs-Unit, outs-ThisPtr}
 use Rattle.rhai_tree.specs.declared.expr.Stmt.TheVariants.{outs-If, outs-Noop, outs-While, outs-Assignment}
 use Rattle.rhai_check.specs.Around.{around}
-use Rattle.rhai_checked.specs.Frame.{tests_of, resolves_expr, dot_resolves, name_resolves, bracket_resolves}
-use Rattle.rhai_checked.specs.Forms.{ends_chain}
-use Rattle.rhai_checked.specs.Reading.{faulty, sound}
-use Rattle.rhai_checked.specs.WellFormed.{seen_expr, dot_faults}
-use Rattle.rhai_checked.specs.Names.{is_good}
+use Rattle.rhai_tree.specs.Frame.{tests_of, resolves_expr, dot_resolves, name_resolves, bracket_resolves}
+use Rattle.rhai_tree.specs.Forms.{ends_chain}
+use Rattle.rhai_tree.specs.Reading.{faulty, sound}
+use Rattle.rhai_tree.specs.WellFormed.{seen_expr, dot_faults}
+use Rattle.rhai_tree.specs.Names.{is_good}
 use Rattle.std.proofs.lemmas.Grind.{common_steps}
 use Rattle.std.proofs.lemmas.List.{append-nil}
 use Rattle.rhai_check.proofs.Chains.{bracket_same, bracket_last, bracket_apart, bracket_runs, named_alone, named_apart, and_true}
@@ -22,7 +22,7 @@ use Rattle.rhai_check.proofs.Refused.{refused, refuses_expr, refuses_stmt, refus
 use Rattle.rhai_check.proofs.Refused.{refuses_front, refuses_behind, refuses_memory}
 use Rattle.rhai_check.proofs.Counted.{counted_runs}
 use Rattle.rhai_check.proofs.Walk.{refuses_expr_at, refuses_stmt_at, declares-expr}
-use Rattle.rhai_checked.proofs.Walk.{resolves-expr, resolves-stmt}
+use Rattle.rhai_tree.proofs.Walk.{resolves-expr, resolves-stmt}
 use Rattle.rhai_check.proofs.MapKeys.{map_passes, map_runs, map_refused, keys_refused}
 use Rattle.rhai_check.proofs.check.+check.Goals as goal
 

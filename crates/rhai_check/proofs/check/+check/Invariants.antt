@@ -1,10 +1,10 @@
 use Rattle.std.specs.Prelude.{◌≡◌, ◌++◌, map, drop, List, IsTrue}
 use Rattle.rhai_check.specs.Around.{around}
-use Rattle.rhai_checked.specs.Forms.{any_of}
+use Rattle.rhai_tree.specs.Forms.{any_of}
 use Rattle.rhai_check.specs.Declares.{declares_expr, declares_stmt}
-use Rattle.rhai_checked.specs.Frame.{tests_of, resolves_stmt, all_resolve_exprs, all_resolve, entries_resolve, tests_of_entry}
-use Rattle.rhai_checked.specs.Names.{Name, Begins}
-use Rattle.rhai_checked.specs.WellFormed.{seen_expr, seen_stmt, seen_entry, faults_in_all, faults_in_entries, faults_in_list}
+use Rattle.rhai_tree.specs.Frame.{tests_of, resolves_stmt, all_resolve_exprs, all_resolve, entries_resolve, tests_of_entry}
+use Rattle.rhai_tree.specs.Names.{Name, Begins}
+use Rattle.rhai_tree.specs.WellFormed.{seen_expr, seen_stmt, seen_entry, faults_in_all, faults_in_entries, faults_in_list}
 use Rattle.rhai_check.proofs.check.+check.Given as goal
 
 abbrev pub invariant-expr::check_exprs-each : goal.invariant-expr::check_exprs-each

@@ -1,7 +1,7 @@
 use Rattle.std.proofs.Common.{ap, sym, ◌∙◌, map}
 use Rattle.std.proofs.lemmas.List.{append-nil}
-use Rattle.rhai_checked.specs.Frame.{all_resolve, resolves_stmt}
-use Rattle.rhai_checked.specs.WellFormed.{faults_in_statements, faults_in_functions}
+use Rattle.rhai_tree.specs.Frame.{all_resolve, resolves_stmt}
+use Rattle.rhai_tree.specs.WellFormed.{faults_in_statements, faults_in_functions}
 use Rattle.rhai_check.proofs.Refused.{later_stands}
 use Rattle.rhai_check.proofs.check.check_tree.Goals as goal
 

@@ -1,6 +1,6 @@
 use Rattle.std.specs.Prelude.{◌≡◌, [], drop, map}
 use Rattle.std.specs.Vec.Iter.{into_iter_items}
-use Rattle.rhai_checked.specs.Keys.{key_of}
+use Rattle.rhai_tree.specs.Keys.{key_of}
 use Rattle.rhai_machine.specs.language.Data.{filled}
 use Rattle.rhai_data.proofs.map.filled.Given as goal
 

@@ -1,5 +1,5 @@
 use Rattle.std.specs.Prelude.{◌≡◌, [], drop, map}
-use Rattle.rhai_checked.specs.Keys.{all_stand, filled, key_of}
+use Rattle.rhai_tree.specs.Keys.{all_stand, filled, key_of}
 use Rattle.rhai_check.proofs.check.keys.has_keys.Given as goal
 
 abbrev pub invariant-each : goal.invariant-each

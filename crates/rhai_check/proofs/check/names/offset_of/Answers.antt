@@ -1,6 +1,6 @@
 use Rattle.std.proofs.Common.{◌≡◌, false, sym, ap, ◌∙◌, arith, take}
 use Rattle.std.specs.Str.{bytes_eq}
-use Rattle.rhai_checked.specs.Names.{offset_of}
+use Rattle.rhai_tree.specs.Names.{offset_of}
 use Rattle.rhai_check.proofs.Offsets.{moved, offset-next, moved_up, moved_none}
 use Rattle.rhai_check.proofs.check.names.offset_of.Goals as goal
 use Rattle.rhai_check.proofs.check.names.offset_of.Goals.{then-eq, else-eq+then-offset-gt0, else-eq+else-offset-gt0}

@@ -1,5 +1,5 @@
 use Rattle.std.specs.Prelude.{◌≡◌, ◌≤◌, take}
-use Rattle.rhai_checked.specs.Names.{offset_of}
+use Rattle.rhai_tree.specs.Names.{offset_of}
 use Rattle.rhai_check.proofs.check.names.offset_of.Given as goal
 
 abbrev pub invariant-each : goal.invariant-each

@@ -1,9 +1,9 @@
 use Rattle.std.specs.Prelude.{◌≡◌, ◌≤◌, ◌+◌, ◌*◌, ◌-◌, ◌^◌, ℕ, List, [], drop, length, map, Option, Some}
 use Rattle.std.specs.Option.{option_copied, option_map}
 use Rattle.std.specs.String.{string_bytes}
-use Rattle.rhai_checked.specs.Frame.{resolves_stmt, all_resolve}
-use Rattle.rhai_checked.specs.Keys.{key_of}
-use Rattle.rhai_checked.specs.Links.{left_by}
+use Rattle.rhai_tree.specs.Frame.{resolves_stmt, all_resolve}
+use Rattle.rhai_tree.specs.Keys.{key_of}
+use Rattle.rhai_tree.specs.Links.{left_by}
 use Rattle.rhai_chains.specs.declared.links.Link.{Link}
 use Rattle.rhai_tree.specs.Layers.{ExprLayer}
 use Rattle.rhai_tree.specs.declared.expr.Expr.{out-Expr}

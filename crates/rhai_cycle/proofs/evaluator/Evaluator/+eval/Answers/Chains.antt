@@ -21,7 +21,7 @@ use Rattle.rhai_context.specs.declared.Context.{Context}
 use Rattle.rhai_cycle.specs.Calls.{Collects, RunsUnder, StartsAs}
 use Rattle.rhai_cycle.specs.Chains.{Gathers}
 use Rattle.rhai_cycle.specs.States.{names, state_in, under}
-use Rattle.rhai_checked.proofs.Links.{few_links}
+use Rattle.rhai_tree.proofs.Links.{few_links}
 use Rattle.rhai_cycle.proofs.Chain.{begins, flat_fails}
 use Rattle.rhai_cycle.proofs.CallSteps.{charged_on, refused_on}
 use Rattle.rhai_cycle.proofs.ChainLemmas.{has_link, left_chain, link_resolves, may_walk, no_name}

@@ -1,6 +1,6 @@
 use Rattle.std.proofs.Common.{◌∷◌, map, refl, ◌∙◌, arith}
 use Rattle.rhai_steps.specs.States.{holding}
-use Rattle.rhai_checked.specs.Keys.{key_of}
+use Rattle.rhai_tree.specs.Keys.{key_of}
 use Rattle.rhai_machine.specs.machine.Point.{after}
 use Rattle.rhai_machine.specs.machine.Memory.{here, next, ◌⨾◌}
 use Rattle.rhai_machine.specs.language.Frames.{ArrayItem, EntryValue, TextPart}

@@ -8,7 +8,7 @@ use Rattle.rhai_steps.specs.Marked.{lending}
 use Rattle.rhai_chains.specs.Chains.{chain_at, link_seen, new_of, Does}
 use Rattle.rhai_chains.specs.Members.{access_of}
 use Rattle.rhai_walk.proofs.Inside.{member_ends, member_goes}
-use Rattle.rhai_checked.specs.Links.{left_by}
+use Rattle.rhai_tree.specs.Links.{left_by}
 use Rattle.rhai_walk.proofs.OnTemporaries.{got_fails, got_goes, goes_back}
 use Rattle.rhai_cycle.proofs.evaluator.Evaluator.+eval.Goals as goal
 

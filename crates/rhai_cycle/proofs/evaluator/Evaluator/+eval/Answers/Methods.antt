@@ -4,7 +4,7 @@ use Rattle.rhai_tree.specs.declared.expr.Expr.{out-Expr}
 use Rattle.rhai_cycle.specs.States.{under}
 use Rattle.rhai_steps.specs.States.{state_of}
 use Rattle.rhai_chains.specs.Chains.{chain_at, link_seen}
-use Rattle.rhai_checked.specs.Links.{left_by}
+use Rattle.rhai_tree.specs.Links.{left_by}
 use Rattle.rhai_walk.proofs.OnTemporaries.{fails_behind, goes_behind, nothing_behind}
 use Rattle.rhai_walk.proofs.OnTemporaries.{on_temporary}
 use Rattle.rhai_cycle.proofs.evaluator.Evaluator.+eval.Goals as goal

@@ -17,7 +17,7 @@ use Rattle.rhai_chains.specs.Spots.{way_through}
 use Rattle.rhai_walk.proofs.Inside.{spot_by}
 use Rattle.rhai_walk.proofs.Descending.{found_missing, found_none, found_part, found_place, goes_down, part_goes, part_method}
 use Rattle.rhai_chains.proofs.LinkLemmas.{fewer_behind}
-use Rattle.rhai_checked.specs.Links.{left_by}
+use Rattle.rhai_tree.specs.Links.{left_by}
 use Rattle.rhai_walk.proofs.OnTemporaries.{called_on_part, goes_back, method_goes, on_temporary, wants_back, working}
 use Rattle.rhai_walk.proofs.PartCalls.{part_called}
 use Rattle.rhai_walk.proofs.Walked.{link_walks, method_behind, method_there, method_walks}

@@ -9,7 +9,7 @@ use Rattle.rhai_tree.specs.declared.expr.Expr.TheOpen as layer
 use Rattle.rhai_tree.specs.declared.expr.Expr.TheVariants as exprs
 use Rattle.rhai_tree.specs.declared.expr.Stmt.TheVariants as stmts
 use Rattle.rhai_tree.specs.declared.expr.Expr.TheViews.{the_lemmas}
-use Rattle.rhai_checked.specs.Frame.{resolves_stmt}
+use Rattle.rhai_tree.specs.Frame.{resolves_stmt}
 use Rattle.rhai_state.specs.declared.state.GlobalRuntimeState.{GlobalRuntimeState}
 use Rattle.rhai_machine.specs.machine.Point.{after}
 use Rattle.rhai_machine.specs.machine.Memory.{here, next, ◌⨾◌}
@@ -23,7 +23,7 @@ use Rattle.rhai_cycle.specs.States.{names, offer_of, under}
 use Rattle.rhai_operands.specs.Tests.{Tests}
 use Rattle.rhai_operands.proofs.Names.{good_target, plain_target}
 use Rattle.rhai_assign.proofs.Prepared.{begins_assignment}
-use Rattle.rhai_checked.proofs.Links.{few_in_target}
+use Rattle.rhai_tree.proofs.Links.{few_in_target}
 use Rattle.rhai_cycle.proofs.Conditions.{chooses}
 use Rattle.rhai_cycle.proofs.NameLemmas.{plain_return, plain_var, names_restored, rest_resolves, sides_resolve, any_item}
 use Rattle.rhai_cycle.proofs.Chain.{flat_fails, on_ok_given, drop_item, drop_all, begins_stmt, on_ok, opens_stmt}

@@ -1,4 +1,0 @@
-use Rattle.rhai_checked.proofs.checked.CheckedTree.statements.Goals as goal
-
-pub returns-clause-value : goal.returns-clause-value
-returns-clause-value c = cc

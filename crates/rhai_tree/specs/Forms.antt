@@ -1,0 +1,33 @@
+-- Which forms of the tree are there.
+use Rattle.std.specs.Prelude.{ℕ, Bool, true, false, ◌&&◌, ◌||◌, ◌==◌, List, [], ◌∷◌, codes}
+use Rattle.std.specs.Int.RustNames.{bit_and}
+use Rattle.std.specs.Str.{bytes_eq}
+use Rattle.rhai_tree.specs.declared.expr.Namespace.{Namespace}
+use Rattle.rhai_tree.specs.Types.{ASTFlags}
+use Rattle.rhai_tree.specs.Names.{Name}
+
+-- a name without a path
+abbrev pub is_unqualified : List Name → Bool
+is_unqualified [] = true
+is_unqualified (root ∷ path) = false
+
+-- a call of `eval` by its name, with one argument, operator or not
+abbrev pub is_eval_call : Namespace → Name → ℕ → Bool
+is_eval_call namespace name count = is_unqualified namespace.path && bytes_eq name (codes "eval") && count == 1
+
+-- a variable that is exported
+abbrev pub is_exported : ASTFlags → Bool
+is_exported options = bit_and options.0 8 == 8
+
+-- a `throw`, which is marked as a `return` with `BREAK`
+abbrev pub is_throw : ASTFlags → Bool
+is_throw options = bit_and options.0 2 == 2
+
+-- an operator of a chain that ends it: the chain stands in brackets of its own
+abbrev pub ends_chain : ASTFlags → Bool
+ends_chain options = bit_and options.0 2 == 2
+
+-- one of several parts
+abbrev pub any_of : List Bool → Bool
+any_of [] = false
+any_of (part ∷ parts) = part || any_of parts

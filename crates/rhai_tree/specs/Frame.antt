@@ -1,0 +1,84 @@
+-- What a run may rely on in a part of a checked tree: it has forms that are there alone, a list counts the links of each chain, and each
+-- offset is that of the newest variable of its name in the scope, whose names are taken oldest first.
+use Rattle.std.specs.Prelude.{Bool, false, IsTrue, List, [], ◌∷◌, ◌++◌, map, Option}
+use Rattle.rhai_tree.specs.Types.{ASTFlags, Expr, FnCallExpr, MapEntry, Position, ScriptFuncDef, ScriptFuncPayload, Stmt, StmtBlock}
+use Rattle.rhai_tree.specs.declared.function.ScriptFuncPayload.TheVariants.{Statements}
+use Rattle.rhai_tree.specs.Names.{Name}
+use Rattle.rhai_tree.specs.Reading as walk
+use Rattle.rhai_tree.specs.Reading.{sound}
+
+-- of an expression whether it may run above some names, and whether it may be assigned to; of a statement also the names after it
+abbrev pub tests_of : Expr → walk.Seen sound
+tests_of = walk.seen_expr sound
+
+abbrev pub resolves_expr : Expr → walk.Finds sound
+resolves_expr e = (tests_of e).value
+
+abbrev pub resolves_call : FnCallExpr → Position → walk.Finds sound
+resolves_call call = (walk.seen_call sound call).value
+
+abbrev pub resolves_method : FnCallExpr → Position → walk.Finds sound
+resolves_method call = (walk.seen_call sound call).method
+
+abbrev pub resolves_block : StmtBlock → walk.Finds sound
+resolves_block block = (walk.seen_block sound block).value
+
+abbrev pub resolves_stmt : Stmt → walk.SeenStmt sound
+resolves_stmt = walk.seen_stmt sound
+
+-- the same of a left side, of an expression that may be left out, and of expressions and statements in a row
+abbrev pub target_resolves : walk.Seen sound → walk.Finds sound
+target_resolves = walk.found_in_target sound
+
+abbrev pub option_resolves : Option (walk.Seen sound) → walk.Finds sound
+option_resolves = walk.found_in_option sound
+
+abbrev pub all_resolve_exprs : List (walk.Seen sound) → walk.Finds sound
+all_resolve_exprs = walk.found_in_all sound
+
+abbrev pub all_resolve : List (walk.SeenStmt sound) → walk.SeenStmt sound
+all_resolve = walk.found_in_list sound
+
+-- of an entry of a map, and of a map
+abbrev pub tests_of_entry : MapEntry → walk.SeenEntry sound
+tests_of_entry = walk.seen_entry sound
+
+abbrev pub entries_resolve : List (walk.SeenEntry sound) → walk.Finds sound
+entries_resolve = walk.found_in_entries sound
+
+abbrev pub map_resolves : List (walk.SeenEntry sound) → List Name → Position → walk.Finds sound
+map_resolves = walk.found_in_map sound
+
+-- of what stands behind a dot, and of a property or a method that begins there
+abbrev pub dot_resolves : Bool → walk.Link sound → Position → walk.Finds sound
+dot_resolves = walk.found_behind_dot sound
+
+abbrev pub name_resolves : walk.Link sound → Position → walk.Finds sound
+name_resolves link = walk.found_from_name sound (walk.named_in sound link) (walk.nothing sound)
+
+-- of what stands behind a bracket
+abbrev pub bracket_resolves : Bool → walk.Seen sound → walk.Finds sound
+bracket_resolves ends seen = walk.found_behind_bracket sound ends seen.link seen.value
+
+-- and of a variable, which stands after the names before it
+abbrev pub var_resolves : walk.Seen sound → ASTFlags → Position → Name → walk.SeenStmt sound
+var_resolves expr options pos name names = (walk.found_in_var sound expr options pos names, names ++ name ∷ [])
+
+-- whether a chain that starts here may be assigned to, and whether one that goes on ends in a method
+abbrev pub tested_root : walk.Seen sound → Bool
+tested_root root = walk.is_root sound root.is_place root.link
+
+abbrev pub tested_end : walk.Link sound → Bool
+tested_end = walk.index_ends sound false
+
+-- whether a function's body may run above some names
+abbrev pub resolves_body : ScriptFuncPayload → walk.Finds sound
+resolves_body (Statements block) = resolves_block block
+
+-- the statements of a tree may run above any names that the caller's scope has
+abbrev pub Resolves : List Stmt → Type 0
+Resolves statements = (base : List Name) → IsTrue (all_resolve (map resolves_stmt statements) base).0
+
+-- a function's body may run with its parameters above any names
+abbrev pub ResolvesFunction : ScriptFuncDef → Type 0
+ResolvesFunction def = (base : List Name) → IsTrue (resolves_body def.body (base ++ def.params))

@@ -1,0 +1,101 @@
+-- Well-formed trees: the faults that stand in a tree, each with its position, in the order of the tree.
+use Rattle.std.specs.Prelude.{◌≡◌, Bool, false, List, [], ◌∷◌, ◌++◌, map, Option}
+use Rattle.std.specs.List.{Contains}
+use Rattle.rhai_tree.specs.Types.{ASTFlags, CheckFault, Expr, FnCallExpr, MapEntry, Position, ScriptFuncDef, ScriptFuncPayload, Stmt}
+use Rattle.rhai_tree.specs.Types.{StmtBlock}
+use Rattle.rhai_tree.specs.Names.{Name}
+use Rattle.rhai_tree.specs.declared.function.ScriptFuncPayload.TheVariants.{Statements}
+use Rattle.rhai_tree.specs.Context.{top, body_with}
+use Rattle.rhai_tree.specs.Reading as walk
+use Rattle.rhai_tree.specs.Reading.{faulty}
+
+-- what is seen of an expression, of a call, of a block and of a statement, for its faults
+abbrev pub seen_expr : Expr → walk.Seen faulty
+seen_expr = walk.seen_expr faulty
+
+abbrev pub seen_call : FnCallExpr → walk.SeenCall faulty
+seen_call = walk.seen_call faulty
+
+abbrev pub seen_block : StmtBlock → walk.Seen faulty
+seen_block = walk.seen_block faulty
+
+abbrev pub seen_stmt : Stmt → walk.SeenStmt faulty
+seen_stmt = walk.seen_stmt faulty
+
+-- the faults of expressions and of statements in a row, of an expression that may be left out, and of the parts of some forms
+abbrev pub faults_in_all : List (walk.Seen faulty) → walk.Finds faulty
+faults_in_all = walk.found_in_all faulty
+
+abbrev pub seen_entry : MapEntry → walk.SeenEntry faulty
+seen_entry = walk.seen_entry faulty
+
+abbrev pub faults_in_entries : List (walk.SeenEntry faulty) → walk.Finds faulty
+faults_in_entries = walk.found_in_entries faulty
+
+abbrev pub faults_in_map : List (walk.SeenEntry faulty) → List Name → Position → walk.Finds faulty
+faults_in_map = walk.found_in_map faulty
+
+abbrev pub faults_in_list : List (walk.SeenStmt faulty) → walk.SeenStmt faulty
+faults_in_list = walk.found_in_list faulty
+
+abbrev pub faults_in_option : Option (walk.Seen faulty) → walk.Finds faulty
+faults_in_option = walk.found_in_option faulty
+
+abbrev pub target_faults : walk.Seen faulty → walk.Finds faulty
+target_faults = walk.found_in_target faulty
+
+abbrev pub control_faults : Position → walk.Finds faulty
+control_faults = walk.found_in_control faulty
+
+abbrev pub var_faults : walk.Seen faulty → ASTFlags → Position → walk.Finds faulty
+var_faults = walk.found_in_var faulty
+
+-- the faults of what stands behind a dot, and of a property or a method that begins there
+abbrev pub dot_faults : Bool → walk.Link faulty → Position → walk.Finds faulty
+dot_faults = walk.found_behind_dot faulty
+
+abbrev pub name_faults : walk.Link faulty → Position → walk.Finds faulty
+name_faults link = walk.found_from_name faulty (walk.named_in faulty link) (walk.nothing faulty)
+
+-- whether a chain that starts here may be assigned to, and whether one that goes on ends in a method
+abbrev pub seen_root : walk.Seen faulty → Bool
+seen_root root = walk.is_root faulty root.is_place root.link
+
+abbrev pub seen_end : walk.Link faulty → Bool
+seen_end = walk.index_ends faulty false
+
+-- the faults of the statements of a tree
+abbrev pub faults_in_statements : List Stmt → List CheckFault
+faults_in_statements statements = (faults_in_list (map seen_stmt statements) top).0
+
+-- the faults of a function's body
+abbrev pub faults_in_body : ScriptFuncPayload → walk.Finds faulty
+faults_in_body (Statements block) = (seen_block block).value
+
+abbrev pub faults_in_function : ScriptFuncDef → List CheckFault
+faults_in_function def = faults_in_body def.body (body_with def.params)
+
+abbrev pub faults_in_functions : List ScriptFuncDef → List CheckFault
+faults_in_functions [] = []
+faults_in_functions (def ∷ defs) = faults_in_function def ++ faults_in_functions defs
+
+-- the faults of a tree and of the functions that stand beside it
+abbrev pub faults_in_tree : List Stmt → List ScriptFuncDef → List CheckFault
+faults_in_tree statements functions = faults_in_statements statements ++ faults_in_functions functions
+
+-- a fault stands somewhere in a tree or its functions
+abbrev pub Stands : CheckFault → List Stmt → List ScriptFuncDef → Type 0
+Stands fault statements functions = Contains (faults_in_tree statements functions) fault
+
+-- well formed: no fault stands
+abbrev pub IsFormed : List Stmt → Type 0
+IsFormed statements = faults_in_statements statements ≡ []
+
+abbrev pub IsFormedFunction : ScriptFuncDef → Type 0
+IsFormedFunction def = faults_in_function def ≡ []
+
+abbrev pub AreFormed : List ScriptFuncDef → Type 0
+AreFormed functions = faults_in_functions functions ≡ []
+
+abbrev pub IsFormedTree : List Stmt → List ScriptFuncDef → Type 0
+IsFormedTree statements functions = faults_in_tree statements functions ≡ []

@@ -1,0 +1,205 @@
+//! A list.
+
+ghost use Rattle.std.specs.Prelude.{◌≡◌, ◌<◌, ◌≤◌, is_ok, length, IfOk, IfErr};
+ghost use Rattle.std.specs.Option.{option_copied};
+
+use rhai_tree::Items;
+use std::alloc::{AllocError, AllocFailed, Global};
+
+/// Of `Items::new`.
+pub fn new<T>(alloc: Global) -> (Items<T>, Items<T>)
+    ensures { result.0 ≡ result.1 }
+{
+    (Items::new(alloc), Items::new(alloc))
+}
+
+/// Of `Items::from_vec`.
+pub fn from_vec<T>(items: Vec<T>, also_items: Vec<T>) -> (Items<T>, Items<T>)
+    requires { items.items ≡ also_items.items }
+    ensures { result.0 ≡ result.1 }
+{
+    (Items::from_vec(items), Items::from_vec(also_items))
+}
+
+/// Of `Items::into_vec`.
+pub fn into_vec<T>(one: Items<T>, other: Items<T>) -> (Vec<T>, Vec<T>)
+    requires { one ≡ other }
+    ensures { result.0.items ≡ result.1.items }
+{
+    (one.into_vec(), other.into_vec())
+}
+
+/// Of `Items::as_slice`.
+pub fn as_slice<'a, T>(one: &'a Items<T>, other: &'a Items<T>) -> (&'a [T], &'a [T])
+    requires { one.now ≡ other.now }
+    ensures { result.0.now ≡ result.1.now }
+{
+    (one.as_slice(), other.as_slice())
+}
+
+/// Of `Items::as_mut_slice`, whatever is written to an item of it.
+pub fn as_mut_slice<T: Drop>(
+    one: &mut Items<T>,
+    other: &mut Items<T>,
+    at: usize,
+    item: T,
+    also_item: T,
+)
+    requires same { one.old ≡ other.old }
+    requires item { item ≡ also_item }
+    requires within { at < length one.old }
+    ensures { one.new ≡ other.new }
+{
+    one.as_mut_slice()[at] = item;
+    other.as_mut_slice()[at] = also_item;
+}
+
+/// Of `Items::at_mut`, whatever is written.
+pub fn at_mut<T: Drop>(one: &mut Items<T>, other: &mut Items<T>, at: usize, item: T, also_item: T)
+    requires same { one.old ≡ other.old }
+    requires item { item ≡ also_item }
+    requires within { at < length one.old }
+    ensures { one.new ≡ other.new }
+{
+    *one.at_mut(at) = item;
+    *other.at_mut(at) = also_item;
+}
+
+/// Of `Items::len`.
+pub fn len<T>(one: &Items<T>, other: &Items<T>) -> (usize, usize)
+    requires { one.now ≡ other.now }
+    ensures { result.0 ≡ result.1 }
+{
+    (one.len(), other.len())
+}
+
+/// Of `Items::is_empty`.
+pub fn is_empty<T>(one: &Items<T>, other: &Items<T>) -> (bool, bool)
+    requires { one.now ≡ other.now }
+    ensures { result.0 ≡ result.1 }
+{
+    (one.is_empty(), other.is_empty())
+}
+
+/// Of `Items::get`.
+pub fn get<'a, T>(
+    one: &'a Items<T>,
+    other: &'a Items<T>,
+    at: usize,
+) -> (Option<&'a T>, Option<&'a T>)
+    requires { one.now ≡ other.now }
+    ensures { option_copied result.0 ≡ option_copied result.1 }
+{
+    (one.get(at), other.get(at))
+}
+
+/// Of `Items::try_push`.
+pub fn try_push<T>(
+    one: &mut Items<T>,
+    other: &mut Items<T>,
+    item: T,
+    also_item: T,
+) -> (Result<(), AllocFailed<T>>, Result<(), AllocFailed<T>>)
+    requires same { one.old ≡ other.old }
+    requires item { item ≡ also_item }
+    ensures left { is_ok result.0 ≡ is_ok result.1 → one.new ≡ other.new }
+    ensures returned { IfErr result.0 (λ e. IfErr result.1 (λ f. e.value ≡ f.value)) }
+{
+    (one.try_push(item), other.try_push(also_item))
+}
+
+/// Of `Items::pop`.
+pub fn pop<T>(one: &mut Items<T>, other: &mut Items<T>) -> (Option<T>, Option<T>)
+    requires { one.old ≡ other.old }
+    ensures result { result.0 ≡ result.1 }
+    ensures left { one.new ≡ other.new }
+{
+    (one.pop(), other.pop())
+}
+
+/// Of `Items::remove`.
+pub fn remove<T>(one: &mut Items<T>, other: &mut Items<T>, at: usize) -> (T, T)
+    requires same { one.old ≡ other.old }
+    requires within { at < length one.old }
+    ensures result { result.0 ≡ result.1 }
+    ensures left { one.new ≡ other.new }
+{
+    (one.remove(at), other.remove(at))
+}
+
+/// Of `Items::push`.
+pub fn push<T: Drop>(
+    one: &mut Items<T>,
+    other: &mut Items<T>,
+    item: T,
+    also_item: T,
+) -> (Result<(), AllocError>, Result<(), AllocError>)
+    requires same { one.old ≡ other.old }
+    requires item { item ≡ also_item }
+    ensures { is_ok result.0 ≡ is_ok result.1 → one.new ≡ other.new }
+{
+    (one.push(item), other.push(also_item))
+}
+
+/// Of `Items::insert`.
+pub fn insert<T: Drop>(
+    one: &mut Items<T>,
+    other: &mut Items<T>,
+    at: usize,
+    item: T,
+    also_item: T,
+) -> (Result<(), AllocError>, Result<(), AllocError>)
+    requires same { one.old ≡ other.old }
+    requires item { item ≡ also_item }
+    requires within { at ≤ length one.old }
+    ensures { is_ok result.0 ≡ is_ok result.1 → one.new ≡ other.new }
+{
+    (one.insert(at, item), other.insert(at, also_item))
+}
+
+/// Of `Items::truncate`.
+pub fn truncate<T: Drop>(one: &mut Items<T>, other: &mut Items<T>, count: usize)
+    requires { one.old ≡ other.old }
+    ensures { one.new ≡ other.new }
+{
+    one.truncate(count);
+    other.truncate(count);
+}
+
+/// Of `Items::set`.
+pub fn set<T: Drop>(one: &mut Items<T>, other: &mut Items<T>, at: usize, item: T, also_item: T)
+    requires same { one.old ≡ other.old }
+    requires item { item ≡ also_item }
+    requires within { at < length one.old }
+    ensures { one.new ≡ other.new }
+{
+    one.set(at, item);
+    other.set(at, also_item);
+}
+
+/// Of `Items::append`.
+pub fn append<T: Drop>(
+    one: &mut Items<T>,
+    other: &mut Items<T>,
+    more: Items<T>,
+    also_more: Items<T>,
+) -> (Result<(), AllocError>, Result<(), AllocError>)
+    requires same { one.old ≡ other.old }
+    requires more { more ≡ also_more }
+    ensures { is_ok result.0 ≡ is_ok result.1 → one.new ≡ other.new }
+{
+    (one.append(more), other.append(also_more))
+}
+
+/// Of `Items::from_slice`.
+pub fn from_slice<T: Copy>(
+    alloc: Global,
+    items: &[T],
+) -> (Result<Items<T>, AllocError>, Result<Items<T>, AllocError>)
+    ensures { is_ok result.0 ≡ is_ok result.1 → result.0 ≡ result.1 }
+{
+    (
+        Items::from_slice(alloc, items),
+        Items::from_slice(alloc, items),
+    )
+}

@@ -1,0 +1,147 @@
+//! A map.
+
+ghost use Rattle.std.specs.Prelude.{◌≡◌, ◌<◌, is_ok, length};
+ghost use Rattle.std.specs.Option.{option_copied};
+
+use rhai_tree::{Items, Shared, Table, Text};
+use std::alloc::{AllocError, Global};
+
+/// Of `Table::new`.
+pub fn new<T>(alloc: Global) -> (Table<T>, Table<T>)
+    ensures { result.0 ≡ result.1 }
+{
+    (Table::new(alloc), Table::new(alloc))
+}
+
+/// Of `Table::len`.
+pub fn len<T>(one: &Table<T>, other: &Table<T>) -> (usize, usize)
+    requires { one.now ≡ other.now }
+    ensures { result.0 ≡ result.1 }
+{
+    (one.len(), other.len())
+}
+
+/// Of `Table::keys`.
+pub fn keys<'a, T>(
+    one: &'a Table<T>,
+    other: &'a Table<T>,
+) -> (&'a [Shared<Text>], &'a [Shared<Text>])
+    requires { one.now ≡ other.now }
+    ensures { result.0.now ≡ result.1.now }
+{
+    (one.keys(), other.keys())
+}
+
+/// Of `Table::values`.
+pub fn values<'a, T>(one: &'a Table<T>, other: &'a Table<T>) -> (&'a [T], &'a [T])
+    requires { one.now ≡ other.now }
+    ensures { result.0.now ≡ result.1.now }
+{
+    (one.values(), other.values())
+}
+
+/// Of `Table::values_mut`, whatever is written to a value of it.
+pub fn values_mut<T: Drop>(
+    one: &mut Table<T>,
+    other: &mut Table<T>,
+    at: usize,
+    value: T,
+    also_value: T,
+)
+    requires same { one.old ≡ other.old }
+    requires value { value ≡ also_value }
+    requires within { at < length one.old.1 }
+    ensures { one.new ≡ other.new }
+{
+    one.values_mut()[at] = value;
+    other.values_mut()[at] = also_value;
+}
+
+/// Of `Table::with_values`.
+pub fn with_values<T, U: Drop>(
+    one: &Table<T>,
+    other: &Table<T>,
+    alloc: Global,
+    values: Items<U>,
+    also_values: Items<U>,
+) -> (Result<Table<U>, AllocError>, Result<Table<U>, AllocError>)
+    requires same { one.now ≡ other.now }
+    requires values { values ≡ also_values }
+    requires many { length values ≡ length one.now.0 }
+    ensures { is_ok result.0 ≡ is_ok result.1 → result.0 ≡ result.1 }
+{
+    (
+        one.with_values(alloc, values),
+        other.with_values(alloc, also_values),
+    )
+}
+
+/// Of `Table::value_at`.
+pub fn value_at<'a, T>(
+    one: &'a Table<T>,
+    other: &'a Table<T>,
+    at: usize,
+) -> (Option<&'a T>, Option<&'a T>)
+    requires { one.now ≡ other.now }
+    ensures { option_copied result.0 ≡ option_copied result.1 }
+{
+    (one.value_at(at), other.value_at(at))
+}
+
+/// Of `Table::find`.
+pub fn find<T>(
+    one: &Table<T>,
+    other: &Table<T>,
+    key: &str,
+) -> (Result<usize, usize>, Result<usize, usize>)
+    requires { one.now ≡ other.now }
+    ensures { result.0 ≡ result.1 }
+{
+    (one.find(key), other.find(key))
+}
+
+/// Of `Table::get`.
+pub fn get<'a, T>(
+    one: &'a Table<T>,
+    other: &'a Table<T>,
+    key: &str,
+) -> (Option<&'a T>, Option<&'a T>)
+    requires { one.now ≡ other.now }
+    ensures { option_copied result.0 ≡ option_copied result.1 }
+{
+    (one.get(key), other.get(key))
+}
+
+/// Of `Table::value_mut`, whatever is written.
+pub fn value_mut<T: Drop>(
+    one: &mut Table<T>,
+    other: &mut Table<T>,
+    at: usize,
+    value: T,
+    also_value: T,
+)
+    requires same { one.old ≡ other.old }
+    requires value { value ≡ also_value }
+    requires within { at < length one.old.1 }
+    ensures { one.new ≡ other.new }
+{
+    *one.value_mut(at) = value;
+    *other.value_mut(at) = also_value;
+}
+
+/// Of `Table::insert`.
+pub fn insert<T: Drop>(
+    one: &mut Table<T>,
+    other: &mut Table<T>,
+    key: Shared<Text>,
+    also_key: Shared<Text>,
+    value: T,
+    also_value: T,
+) -> (Result<(), AllocError>, Result<(), AllocError>)
+    requires same { one.old ≡ other.old }
+    requires key { key ≡ also_key }
+    requires value { value ≡ also_value }
+    ensures { is_ok result.0 ≡ is_ok result.1 → one.new ≡ other.new }
+{
+    (one.insert(key, value), other.insert(also_key, also_value))
+}
