@@ -6,6 +6,10 @@
 //! - `natives`: so many calls of natives of one argument, and of two, in loops that count down
 //! - `item`: so many additions to the last item of an array of a thousand items, and of a hundred thousand
 //! - `fib`: a function that calls itself twice, with that number
+//! - `range`: a `for` over a range of so many integers
+//! - `walk`: a `for` over an array of so many literals
+//! - `switch`: so many turns with a `switch` of ten cases
+//! - `throw`: so many turns with a value that is thrown and caught
 #![tactic(auto)]
 
 mod work;
@@ -23,7 +27,9 @@ fn main(rt: HostRuntime) -> io::Result<ExitCode> {
             Ok(ExitCode::SUCCESS)
         }
         None => {
-            eprintln!(&rt; "usage: bench loop|array|natives|item|fib [NUMBER]")?;
+            eprintln!(&rt;
+                "usage: bench loop|array|natives|item|fib|range|walk|switch|throw [NUMBER]"
+            )?;
             Ok(ExitCode::from(WRONG_ARGUMENTS))
         }
     }

@@ -1,9 +1,12 @@
 //! The works that are timed.
 
+use rhai_bench::rows::caught::thrown_in_turn;
 use rhai_bench::rows::chains::item_increased_in_turn;
+use rhai_bench::rows::choices::chosen_in_turn;
 use rhai_bench::rows::data::long_array;
 use rhai_bench::rows::functions::fibonacci_number;
 use rhai_bench::rows::loops::{called_in_turn, called_in_turn_with_two, counted_down};
+use rhai_bench::rows::walks::{array_walked, range_walked};
 use rhai_bench::timing::time_run;
 use std::io;
 
@@ -15,6 +18,10 @@ pub enum Work {
     Natives,
     Item,
     Fib,
+    Range,
+    Walk,
+    Switch,
+    Throw,
 }
 
 impl Work {
@@ -26,6 +33,10 @@ impl Work {
             "natives" => Some(Work::Natives),
             "item" => Some(Work::Item),
             "fib" => Some(Work::Fib),
+            "range" => Some(Work::Range),
+            "walk" => Some(Work::Walk),
+            "switch" => Some(Work::Switch),
+            "throw" => Some(Work::Throw),
             _ => None,
         }
     }
@@ -34,6 +45,7 @@ impl Work {
     pub fn usual(self) -> u32 {
         match self {
             Work::Loop | Work::Natives | Work::Item => 1_000_000,
+            Work::Range | Work::Walk | Work::Switch | Work::Throw => 1_000_000,
             Work::Array => 100_000,
             Work::Fib => 28,
         }
@@ -47,6 +59,10 @@ impl Work {
             Work::Natives => time_natives(rt, number),
             Work::Item => time_items(rt, number),
             Work::Fib => time_fib(rt, number),
+            Work::Range => time_range(rt, number),
+            Work::Walk => time_walk(rt, number),
+            Work::Switch => time_switch(rt, number),
+            Work::Throw => time_throw(rt, number),
         }
     }
 }
@@ -80,4 +96,24 @@ fn time_items(rt: &HostRuntime, turns: u32) -> io::Result<()> {
 fn time_fib(rt: &HostRuntime, number: u32) -> io::Result<()> {
     let script = fibonacci_number(rt.alloc(), i64::from(number))?;
     time_run(rt, "the function", script)
+}
+
+fn time_range(rt: &HostRuntime, turns: u32) -> io::Result<()> {
+    let script = range_walked(rt.alloc(), i64::from(turns))?;
+    time_run(rt, "the range", script)
+}
+
+fn time_walk(rt: &HostRuntime, length: u32) -> io::Result<()> {
+    let script = array_walked(rt.alloc(), length)?;
+    time_run(rt, "the array", script)
+}
+
+fn time_switch(rt: &HostRuntime, turns: u32) -> io::Result<()> {
+    let script = chosen_in_turn(rt.alloc(), i64::from(turns))?;
+    time_run(rt, "the choices", script)
+}
+
+fn time_throw(rt: &HostRuntime, turns: u32) -> io::Result<()> {
+    let script = thrown_in_turn(rt.alloc(), i64::from(turns))?;
+    time_run(rt, "the throws", script)
 }

@@ -3,10 +3,14 @@
 use crate::refuser;
 use rhai_bench::outcome::Ending;
 use rhai_bench::print::write_ending;
+use rhai_bench::rows::caught::caught_or_not;
+use rhai_bench::rows::cells::shared_cells;
 use rhai_bench::rows::chains::left_in_place;
+use rhai_bench::rows::choices::conditions;
 use rhai_bench::rows::functions::{fibonacci_number, in_no_row};
 use rhai_bench::rows::order::evaluated_in_order;
-use rhai_bench::rows::scripts;
+use rhai_bench::rows::walks::turns;
+use rhai_bench::rows::{scope_for, scripts};
 use rhai_bench::script::{Script, add_library};
 use rhai_bench::settings::{Settings, Way};
 use rhai_build::Builder;
@@ -26,7 +30,7 @@ use std::io;
 use std::io::Write;
 
 /// The lists of scripts that are run: the rows up to 46, and from 47 on those that no row has.
-pub const LISTS: u32 = 50;
+pub const LISTS: u32 = 54;
 
 /// A script by its list and its place there, and a way to run it.
 #[derive(Clone, Copy, Debug)]
@@ -59,6 +63,10 @@ pub fn scripts_of(alloc: Global, list: u32) -> Result<Option<Items<Script>>, All
         48 => evaluated_in_order(alloc),
         49 => left_in_place(alloc),
         50 => only(alloc, variable_of_a_block(alloc)),
+        51 => turns(alloc),
+        52 => conditions(alloc),
+        53 => caught_or_not(alloc),
+        54 => shared_cells(alloc),
         _ => {
             let row = format!(in alloc; "{list}")?;
             return scripts(alloc, row.as_str());
@@ -87,17 +95,27 @@ fn variable_of_a_block(alloc: Global) -> Result<Script, AllocError> {
 impl Part {
     /// Makes the script and runs it. None where the script or the state of its run could not be made.
     pub fn run(self, alloc: Global) -> io::Result<Option<Report>> {
-        let (Some(script), Ok(global)) = (self.script(alloc), GlobalRuntimeState::new(alloc)) else {
+        let (Some(script), Ok(global), Ok(scope)) = (
+            self.script(alloc),
+            GlobalRuntimeState::new(alloc),
+            self.variables(alloc),
+        ) else {
             return Ok(None);
         };
         let mut run = Run {
             global,
             caches: self.way.caches(alloc),
             table: Counting::table(alloc),
-            scope: Scope::new(alloc),
+            scope,
         };
         run.global.always_search_scope = self.way.always_search_scope;
         run.report(alloc, script)
+    }
+
+    /// The variables above which the script runs.
+    fn variables(self, alloc: Global) -> Result<Scope<Pair>, AllocError> {
+        let row = format!(in alloc; "{}", self.list)?;
+        scope_for(alloc, row.as_str())
     }
 
     fn script(self, alloc: Global) -> Option<Script> {

@@ -13,6 +13,7 @@ pub use no_host::NoHost;
 pub use no_natives::{NoNative, NoNatives};
 
 // Trees, and how they are built.
+pub use rhai_build::choices::{result_always, result_if, throw_stmt, try_catching, try_stmt};
 pub use rhai_build::expressions::{MapParts, character, int, this, truth, unit};
 pub use rhai_build::functions::{TreeParts, script_function};
 pub use rhai_build::statements::{

@@ -24,9 +24,12 @@ usual = record {
   map_exit_to_return_value = false;
 }
 
--- but for the limit of operations, of an array's items, or of how deep calls are
+-- but for the limit of operations, of variables, of an array's items, or of how deep calls are
 abbrev pub under_operations : (count : ℕ) → Settings
 under_operations count = record usual { limits = record usual_limits { max_operations = count } }
+
+abbrev pub under_variables : (count : ℕ) → Settings
+under_variables count = record usual { limits = record usual_limits { max_variables = count } }
 
 abbrev pub under_array_size : (size : ℕ) → Settings
 under_array_size size = record usual { limits = record usual_limits { max_array_size = size } }

@@ -5,7 +5,7 @@ ghost use Rattle.rhai_bench.specs.Arguments.{IsCall};
 
 use crate::outcome::Ending;
 use crate::print::write_line;
-use crate::rows::scripts;
+use crate::rows::{scope_for, scripts};
 use crate::script::Script;
 use crate::settings::Way;
 use rhai_eval::base::{Dynamic, Items, Shared, Text, Union};
@@ -60,7 +60,7 @@ fn run_row<W: Write>(alloc: Global, row: &str, out: &mut W) -> io::Result<u8>
         return show_function(alloc, out);
     }
     match scripts(alloc, row)? {
-        Some(scripts) => run_scripts(alloc, scripts, out),
+        Some(scripts) => run_scripts(alloc, row, scripts, out),
         None => print_usage(out),
     }
 }
@@ -85,20 +85,26 @@ fn function_text(alloc: Global) -> Result<Dynamic<Pair>, AllocError> {
     Ok(Dynamic::new(Union::Str(text)))
 }
 
-fn run_scripts<W: Write>(alloc: Global, scripts: Items<Script>, out: &mut W) -> io::Result<u8>
+fn run_scripts<W: Write>(
+    alloc: Global,
+    row: &str,
+    scripts: Items<Script>,
+    out: &mut W,
+) -> io::Result<u8>
     ensures { IfOk result (λ s. s ≤ 2) }
 {
     let mut status = 0;
     for script in scripts.into_vec() {
-        status = run_script(alloc, script, out)?;
+        status = run_script(alloc, row, script, out)?;
     }
     Ok(status)
 }
 
-fn run_script<W: Write>(alloc: Global, script: Script, out: &mut W) -> io::Result<u8>
+fn run_script<W: Write>(alloc: Global, row: &str, script: Script, out: &mut W) -> io::Result<u8>
     ensures { IfOk result (λ s. s ≤ 2) }
 {
-    let outcome = script.run(alloc, Way::USUAL)?;
+    let scope = scope_for(alloc, row)?;
+    let outcome = script.run_above(alloc, Way::USUAL, scope)?;
     let wrote = write_line(out, &outcome.ending);
     let status = outcome.ending.status();
     drop(outcome);

@@ -4,6 +4,7 @@ ghost use Rattle.std.specs.Prelude.{◌≡◌};
 ghost use Rattle.rhai_bench.specs.Outcome.{status_of};
 
 use rhai_eval::base::{EvalAltResult, Scope};
+use rhai_eval::cells::CellStore;
 use rhai_eval::check::CheckFault;
 use rhai_tables::host::Pair;
 use rhai_values::base::value::Dynamic;
@@ -36,6 +37,8 @@ pub struct Outcome {
     pub ending: Ending,
     /// The operations that were charged.
     pub num_operations: u64,
+    /// The cells that variables and values share.
+    pub cells: CellStore<Pair>,
     /// The variables that were left.
     pub scope: Scope<Pair>,
 }

@@ -2,33 +2,50 @@
 
 use crate::script::Script;
 use rhai_build::functions::TreeParts;
-use rhai_eval::base::{Items, Stmt};
+use rhai_eval::base::{Items, Scope, Stmt};
+use rhai_tables::host::Pair;
 use std::alloc::{AllocError, Global};
 
+mod around;
 mod calls;
+pub mod caught;
+pub mod cells;
 pub mod chains;
+pub mod checked;
+pub mod choices;
 pub mod data;
 pub mod functions;
 pub mod loops;
 mod operators;
 pub mod order;
 mod variables;
+pub mod walks;
 
 /// The scripts of a row in their order, None where no row has the number. A number is written in
 /// decimal digits, without zeros in front.
 pub fn scripts(alloc: Global, row: &str) -> Result<Option<Items<Script>>, AllocError> {
     let scripts = match row {
         "1" => operators::sum_under_limits(alloc),
+        "2" => caught::endless(alloc),
         "3" => functions::called_by_itself(alloc),
         "4" => chains::items(alloc),
         "5" => chains::bits(alloc),
         "6" => chains::slices(alloc),
         "7" => chains::value_before_index(alloc),
+        "8" => caught::key_inserted(alloc),
+        "9" => caught::object_changed(alloc),
+        "10" => caught::thrown_values(alloc),
         "11" => loops::continued(alloc),
+        "12" => choices::cases(alloc),
+        "13" => cells::closures(alloc),
         "14" => chains::new_key_of_a_constant(alloc),
+        "15" => caught::found_by_a_pointer(alloc),
+        "16" => checked::offsets_and_limits(alloc),
         "17" => chains::item_under_a_limit(alloc),
         "18" => chains::absent(alloc),
+        "19" => walks::items(alloc),
         "20" => variables::hidden_and_constant(alloc),
+        "21" => caught::thrown_out(alloc),
         "22" => data::too_large(alloc),
         "23" => chains::slices_past_the_ends(alloc),
         "24" => calls::refused_by_the_checker(alloc),
@@ -43,9 +60,20 @@ pub fn scripts(alloc: Global, row: &str) -> Result<Option<Items<Script>>, AllocE
         "34" => chains::refused_by_natives(alloc),
         "35" => functions::changes(alloc),
         "36" => functions::found_and_too_deep(alloc),
+        "37" => caught::breaks_and_caught_errors(alloc),
+        "38" => walks::ends_of_walks(alloc),
         _ => return Ok(None),
     };
     scripts.map(Some)
+}
+
+/// The variables above which the scripts of a row run: of most rows none.
+pub fn scope_for(alloc: Global, row: &str) -> Result<Scope<Pair>, AllocError> {
+    if row == "15" {
+        around::pointer_with_a_library(alloc)
+    } else {
+        Ok(Scope::new(alloc))
+    }
 }
 
 /// The scripts of a row as they are made. Where memory runs out it goes on, without those that could
@@ -110,12 +138,38 @@ impl Row {
         }
     }
 
+    /// Adds a script under a limit of variables.
+    fn add_with_max_variables(&mut self, tree: Result<Items<Stmt>, AllocError>, count: usize) {
+        match tree {
+            Ok(statements) => {
+                self.push(Script::with_max_variables(self.alloc, statements, count));
+            }
+            Err(AllocError) => self.has_memory = false,
+        }
+    }
+
     /// Adds a script under a limit of an array's items.
     fn add_with_max_array_size(&mut self, tree: Result<Items<Stmt>, AllocError>, size: usize) {
         match tree {
             Ok(statements) => {
                 self.push(Script::with_max_array_size(self.alloc, statements, size));
             }
+            Err(AllocError) => self.has_memory = false,
+        }
+    }
+
+    /// Adds a script with functions under a limit of an array's items.
+    fn add_parts_with_max_array_size(&mut self, tree: Result<TreeParts, AllocError>, size: usize) {
+        match tree {
+            Ok(parts) => self.push(Script::of_parts_with_max_array_size(parts, size)),
+            Err(AllocError) => self.has_memory = false,
+        }
+    }
+
+    /// Adds a script to which a key that a map does not have is an error.
+    fn add_failing_on_missing_keys(&mut self, tree: Result<Items<Stmt>, AllocError>) {
+        match tree {
+            Ok(statements) => self.push(Script::failing_on_missing_keys(self.alloc, statements)),
             Err(AllocError) => self.has_memory = false,
         }
     }

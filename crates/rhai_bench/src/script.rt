@@ -1,18 +1,20 @@
 //! Scripts with what is set for their runs.
 
-ghost use Rattle.std.specs.Prelude.{◌≡◌, ◌≢◌, ◌≤◌, [], false, IfOk, length};
+ghost use Rattle.std.specs.Prelude.{◌≡◌, ◌≢◌, ◌≤◌, [], false, true, IfOk, length};
 ghost use Rattle.rhai_tree.specs.WellFormed.{IsFormedTree};
 ghost use Rattle.rhai_tree.specs.declared.fault.CheckFault.TheVariants.{NoMemory};
 ghost use Rattle.rhai_state.specs.Scope.{entries_of, names_in};
 ghost use Rattle.rhai_state.specs.Limits.{limit_of};
 ghost use Rattle.rhai_bench.specs.Outcome.{IfRefused};
-ghost use Rattle.rhai_bench.specs.Settings.{under_array_size, under_call_levels, under_operations, usual};
+ghost use Rattle.rhai_bench.specs.Settings.{under_array_size, under_call_levels, under_operations};
+ghost use Rattle.rhai_bench.specs.Settings.{under_variables, usual};
 
 use crate::outcome::{Ending, Outcome};
 use crate::settings::{Settings, Way};
 use rhai::library_of;
 use rhai_build::functions::TreeParts;
 use rhai_eval::base::{Items, Scope, Shared, Stmt};
+use rhai_eval::cells::CellStore;
 use rhai_eval::check::{CheckedTree, check_tree};
 use rhai_eval::engine::Engine;
 use rhai_eval::script::ScriptFuncDef;
@@ -20,6 +22,7 @@ use rhai_eval::state::GlobalRuntimeState;
 use rhai_tables::host::Pair;
 use rhai_tables::tables::counting::Counting;
 use std::alloc::{AllocError, Global};
+use std::mem::replace;
 
 /// The tree of a script, and what is set for its run.
 #[derive(Drop)]
@@ -63,6 +66,15 @@ impl Script {
         Script::with_settings(alloc, statements, Settings::with_max_operations(count))
     }
 
+    /// A script without functions, under a limit of variables.
+    pub fn with_max_variables(alloc: Global, statements: Items<Stmt>, count: usize) -> Script
+        ensures statements { result.statements ≡ statements }
+        ensures functions { result.functions ≡ [] }
+        ensures settings { result.settings ≡ under_variables count }
+    {
+        Script::with_settings(alloc, statements, Settings::with_max_variables(count))
+    }
+
     /// A script without functions, under a limit of an array's items.
     pub fn with_max_array_size(alloc: Global, statements: Items<Stmt>, size: usize) -> Script
         ensures statements { result.statements ≡ statements }
@@ -90,6 +102,15 @@ impl Script {
         Script::with_settings(alloc, statements, Settings::without_shadowing())
     }
 
+    /// A script without functions, to which a key that a map does not have is an error.
+    pub fn failing_on_missing_keys(alloc: Global, statements: Items<Stmt>) -> Script
+        ensures statements { result.statements ≡ statements }
+        ensures functions { result.functions ≡ [] }
+        ensures settings { result.settings ≡ record usual { fail_on_invalid_map_property = true } }
+    {
+        Script::with_settings(alloc, statements, Settings::failing_on_missing_keys())
+    }
+
     /// A script with functions, under the usual settings.
     pub fn of_parts(parts: TreeParts) -> Script
         ensures statements { result.statements ≡ parts.statements }
@@ -106,6 +127,15 @@ impl Script {
         ensures settings { result.settings ≡ under_call_levels levels }
     {
         Script::of_parts_with(parts, Settings::with_max_call_levels(levels))
+    }
+
+    /// A script with functions, under a limit of an array's items.
+    pub fn of_parts_with_max_array_size(parts: TreeParts, size: usize) -> Script
+        ensures statements { result.statements ≡ parts.statements }
+        ensures functions { result.functions ≡ parts.functions }
+        ensures settings { result.settings ≡ under_array_size size }
+    {
+        Script::of_parts_with(parts, Settings::with_max_array_size(size))
     }
 
     fn of_parts_with(parts: TreeParts, settings: Settings) -> Script
@@ -194,6 +224,7 @@ impl Script {
         Ok(Outcome {
             ending,
             num_operations: global.num_operations,
+            cells: replace(&mut global.cells, CellStore::new(alloc)),
             scope,
         })
     }

@@ -1,9 +1,10 @@
 //! What is set for a run.
 
-ghost use Rattle.std.specs.Prelude.{◌≡◌, [], false};
+ghost use Rattle.std.specs.Prelude.{◌≡◌, [], false, true};
 ghost use Rattle.rhai_state.specs.Caches.{depth_of, is_on};
 ghost use Rattle.rhai_eval.specs.States.{limits_of};
-ghost use Rattle.rhai_bench.specs.Settings.{under_array_size, under_call_levels, under_operations, usual};
+ghost use Rattle.rhai_bench.specs.Settings.{under_array_size, under_call_levels, under_operations};
+ghost use Rattle.rhai_bench.specs.Settings.{under_variables, usual};
 
 use rhai_eval::engine::Engine;
 use rhai_eval::state::{Caches, Limits};
@@ -47,6 +48,15 @@ impl Settings {
         settings
     }
 
+    /// The usual settings, but for the limit of variables.
+    pub fn with_max_variables(count: usize) -> Settings
+        ensures { result ≡ under_variables count }
+    {
+        let mut settings = Settings::USUAL;
+        settings.limits.max_variables = count;
+        settings
+    }
+
     /// The usual settings, but for the limit of an array's items.
     pub fn with_max_array_size(size: usize) -> Settings
         ensures { result ≡ under_array_size size }
@@ -80,6 +90,15 @@ impl Settings {
     {
         let mut settings = Settings::USUAL;
         settings.allow_shadowing = false;
+        settings
+    }
+
+    /// The usual settings, but a key that a map does not have is an error.
+    pub fn failing_on_missing_keys() -> Settings
+        ensures { result ≡ record usual { fail_on_invalid_map_property = true } }
+    {
+        let mut settings = Settings::USUAL;
+        settings.fail_on_invalid_map_property = true;
         settings
     }
 

@@ -6,14 +6,20 @@ use Rattle.rhai_build.specs.declared.Builder.{Builder}
 use Rattle.rhai_tree.specs.Position.{at, none}
 use Rattle.rhai_tree.specs.declared.flags.ASTFlags.{ASTFlags}
 use Rattle.rhai_tree.specs.declared.token.Token.{Token}
+use Rattle.rhai_tree.specs.declared.expr.ConditionalExpr.{ConditionalExpr}
 use Rattle.rhai_tree.specs.declared.expr.Ident.{Ident}
 use Rattle.rhai_tree.specs.declared.expr.MapEntry.{MapEntry}
 use Rattle.rhai_tree.specs.declared.expr.Namespace.{Namespace}
 use Rattle.rhai_tree.specs.declared.expr.OpAssignment.{OpAssignment}
+use Rattle.rhai_tree.specs.declared.expr.SharedVariable.{SharedVariable}
 use Rattle.rhai_tree.specs.declared.expr.StmtBlock.{StmtBlock}
+use Rattle.rhai_tree.specs.declared.expr.SwitchCase.{SwitchCase}
 use Rattle.rhai_tree.specs.declared.expr.Expr.{Expr}
 use Rattle.rhai_tree.specs.declared.expr.Expr.TheVariants as expr
 use Rattle.rhai_tree.specs.declared.expr.Stmt.{Stmt}
+use Rattle.rhai_tree.specs.declared.literal.Literal.{Literal}
+use Rattle.rhai_tree.specs.declared.literal.Literal.TheVariants as constant
+use Rattle.rhai_tree.specs.declared.literal.LiteralFnPtrKind.TheVariants.{Arity}
 use Rattle.rhai_tree.specs.declared.function.FnAccess.{FnAccess}
 use Rattle.rhai_tree.specs.declared.function.ScriptFuncDef.{ScriptFuncDef}
 use Rattle.rhai_tree.specs.declared.function.ScriptFuncPayload.TheVariants.{Statements}
@@ -89,7 +95,7 @@ no_options = record { 0 = 0 }
 abbrev pub negated_option : ASTFlags
 negated_option = record { 0 = 1 }
 
--- the option of a `break`
+-- the option of a `break`, and of a `throw`
 abbrev pub break_option : ASTFlags
 break_option = record { 0 = 2 }
 
@@ -100,6 +106,24 @@ end_option = record { 0 = 2 }
 -- the option of a constant
 abbrev pub constant_option : ASTFlags
 constant_option = record { 0 = 4 }
+
+-- a result of a `switch` under a condition
+abbrev pub result_under : (condition : Expr) → Expr → ConditionalExpr
+result_under condition value = record { condition = condition; expr = value }
+
+-- a case of a `switch`: a value with the numbers of its results
+abbrev pub case_of : Literal → List ℕ → SwitchCase
+case_of value results = record { value = value; blocks = results }
+
+-- a variable that closures share, with an offset from the end of the scope, where zero is none
+abbrev pub IsSharedVariable : List ℕ → ℕ → ℕ → SharedVariable → Type 0
+IsSharedVariable name n column v =
+    (offset : Option NonZeroUsize) × IsOffset n offset × (v ≡ record { ident = ident_at name column; offset = offset })
+
+-- a constant pointer to the library function of a name with so many parameters
+abbrev pub pointer_at : List ℕ → (count : ℕ) → ℕ → Expr
+pointer_at name count column =
+    expr.DynamicConstant (constant.FnPtr (record { name = name; curry = []; kind = Arity count })) (at 1 column)
 
 -- a function of statements, with the type that its `this` must have, if any
 abbrev pub function_of : FnAccess → Option (List ℕ) → (name : List ℕ) → (params : List (List ℕ)) → StmtBlock → ScriptFuncDef

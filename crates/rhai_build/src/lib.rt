@@ -4,17 +4,19 @@
 
 ghost use Rattle.std.specs.Prelude.{◌≡◌, ◌≢◌, [], IfOk, MatchOption, false, true};
 ghost use Rattle.rhai_tree.specs.Position.{at as place};
-ghost use Rattle.rhai_build.specs.Build.{Made, unqualified};
+ghost use Rattle.rhai_build.specs.Build.{Made, ident_at, unqualified};
 
-use rhai_tree::expr::{Namespace, Stmt};
+use rhai_tree::expr::{Ident, Namespace, Stmt};
 use rhai_tree::function::ScriptFuncDef;
 use rhai_tree::position::Position;
 use rhai_tree::{Items, Shared, Text};
 use std::alloc::{AllocError, Global};
 
 pub mod chains;
+pub mod choices;
 pub mod expressions;
 pub mod functions;
+pub mod sharing;
 pub mod statements;
 
 /// The place at a column.
@@ -99,6 +101,21 @@ impl Builder {
                 self.has_memory = false;
                 Items::new(self.alloc)
             }
+        }
+    }
+
+    /// A name at a column, None where there was no memory for it.
+    fn ident(&mut self, name: &str, column: u16) -> Option<Ident>
+        requires { column ≢ 0 }
+        ensures { MatchOption result (self.new.has_memory ≡ false)
+            (λ ident. (ident ≡ ident_at name.now column) × (self.new.has_memory ≡ self.old.has_memory)) }
+    {
+        match self.name(name) {
+            Some(name) => Some(Ident {
+                name,
+                pos: at(column),
+            }),
+            None => None,
         }
     }
 

@@ -10,7 +10,7 @@ ghost use Rattle.rhai_build.specs.Build.{ident_at, Made, negated_option, no_opti
 use crate::{Builder, at};
 use bitflags::Flags;
 use rhai_tree::Items;
-use rhai_tree::expr::{Expr, Ident, OpAssignment, Stmt, StmtBlock};
+use rhai_tree::expr::{Expr, OpAssignment, Stmt, StmtBlock};
 use rhai_tree::flags::ASTFlags;
 use rhai_tree::position::Position;
 use rhai_tree::token::Token;
@@ -68,14 +68,8 @@ impl Builder {
         ensures { Made self.old self.new
             (result ≡ stmt.Var (ident_at name.now at_name) value None options (place 1 column)) }
     {
-        match self.name(name) {
-            Some(name) => {
-                let name = Ident {
-                    name,
-                    pos: at(at_name),
-                };
-                Stmt::Var(name, value, None, options, at(column))
-            }
+        match self.ident(name, at_name) {
+            Some(name) => Stmt::Var(name, value, None, options, at(column)),
             None => Stmt::Noop(at(column)),
         }
     }

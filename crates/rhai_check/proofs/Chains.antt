@@ -32,22 +32,22 @@ use Rattle.rhai_check.proofs.Walk.{expr_declares, declares-expr}
 
 module _ (r : walk.Reading) where
   -- what is seen of the parts of one level
-  abbrev pub parts : ExprLayer → layer.Expr-F (walk.Seen r) (walk.SeenStmt r) (Unit {0}) (walk.SeenCall r) (walk.SeenEntry r) (walk.Seen r)
-  parts = map-Expr Expr Stmt ConditionalExpr FnCallExpr MapEntry StmtBlock (walk.Seen r) (walk.SeenStmt r) (Unit {0}) (walk.SeenCall r)
-      (walk.SeenEntry r) (walk.Seen r) (walk.seen_expr r) (walk.seen_stmt r) (λ conditional. tt) (walk.seen_call r) (walk.seen_entry r)
+  abbrev pub parts : ExprLayer → layer.Expr-F (walk.Seen r) (walk.SeenStmt r) (walk.SeenConditional r) (walk.SeenCall r) (walk.SeenEntry r) (walk.Seen r)
+  parts = map-Expr Expr Stmt ConditionalExpr FnCallExpr MapEntry StmtBlock (walk.Seen r) (walk.SeenStmt r) (walk.SeenConditional r) (walk.SeenCall r)
+      (walk.SeenEntry r) (walk.Seen r) (walk.seen_expr r) (walk.seen_stmt r) (walk.seen_conditional r) (walk.seen_call r) (walk.seen_entry r)
       (walk.seen_block r)
 
   abbrev pub level : ExprLayer → walk.Seen r
   level l = walk.expr_step r (parts l)
 
   seen_level : (e : Expr) → walk.seen_expr r e ≡ level (out-Expr e)
-  seen_level e = fold_out-Expr (walk.Seen r) (walk.SeenStmt r) (Unit {0}) (walk.SeenCall r) (walk.SeenEntry r) (walk.Seen r)
-      (walk.expr_step r) (walk.stmt_step r) (λ conditional. tt) (walk.call_step r) (walk.entry_step r) (walk.block_step r) e
+  seen_level e = fold_out-Expr (walk.Seen r) (walk.SeenStmt r) (walk.SeenConditional r) (walk.SeenCall r) (walk.SeenEntry r) (walk.Seen r)
+      (walk.expr_step r) (walk.stmt_step r) (walk.conditional_step r) (walk.call_step r) (walk.entry_step r) (walk.block_step r) e
 
   -- a block is no chain
   block_apart : (block : StmtBlock) → (walk.seen_block r block).link ≡ walk.IndexAlone
-  block_apart block = ap (λ (s : walk.Seen r). s.link) (fold_out-StmtBlock (walk.Seen r) (walk.SeenStmt r) (Unit {0}) (walk.SeenCall r)
-      (walk.SeenEntry r) (walk.Seen r) (walk.expr_step r) (walk.stmt_step r) (λ conditional. tt) (walk.call_step r) (walk.entry_step r)
+  block_apart block = ap (λ (s : walk.Seen r). s.link) (fold_out-StmtBlock (walk.Seen r) (walk.SeenStmt r) (walk.SeenConditional r) (walk.SeenCall r)
+      (walk.SeenEntry r) (walk.Seen r) (walk.expr_step r) (walk.stmt_step r) (walk.conditional_step r) (walk.call_step r) (walk.entry_step r)
       (walk.block_step r) block)
 
   -- where a chain ends at a bracket, what is behind it is an expression by itself
@@ -228,7 +228,7 @@ module _ (e first rest : Expr) (l : ExprLayer) (ends : Bool) (behind : walk.Find
     chain_passes r none h =
         ok_then r (λ other. whole ∙ name_passes (walk.named_in faulty (seen_expr first).link) behind pos c none other) h
 
-    module _ (declared : declares.expr_step (expr_declares l) ≡ true) (fault : CheckFault) where
+    module _ (declared : declares.form_step (expr_declares l) ≡ true) (fault : CheckFault) where
       refuses_whole : Refuses (first_faults first behind pos c) (declares_expr first || declares_expr rest) fault
           → Refuses (dot_faults ends (seen_expr e).link pos c) (declares_expr e) fault
       refuses_whole h = refuses_more _ _ _ _ fault (λ k. subst (λ (fs : List CheckFault). IsFirst fs fault) (sym whole) k)

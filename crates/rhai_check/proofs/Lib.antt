@@ -4,4 +4,7 @@ pub mod MapKeys
 pub mod Offsets
 pub mod Outcome
 pub mod Refused
+pub mod Scopes
+pub mod Shared
+pub mod Switches
 pub mod Walk

@@ -65,7 +65,7 @@ pub stands_above : (base : List Name) (name : Name) (k : ℕ) (names : List Name
 stands_above base name zero names e = cc
 stands_above base name (suc k) names e = eq-eqb _ _ (above base name names k (eqb-true _ _ e))
 
-good_above : (base : List Name) (offset : Option NonZeroUsize) (name : Name) (names : List Name) → is_good offset name names ≡ true →
+pub good_above : (base : List Name) (offset : Option NonZeroUsize) (name : Name) (names : List Name) → is_good offset name names ≡ true →
     is_good offset name (base ++ names) ≡ true
 good_above base None name names e = refl
 good_above base (Some offset) name names e = stands_above base name (non_zero_usize_get offset) names e

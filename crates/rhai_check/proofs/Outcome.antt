@@ -1,6 +1,6 @@
 -- What a call's result says of a form, from one level of the form.
 use Rattle.std.proofs.Common.{◌≡◌, ap, sym, ◌∙◌, subst, List, [], ◌∷◌, ◌++◌, Bool, true, false, IsTrue, refl, Result, Ok, Err}
-use Rattle.std.proofs.Common.{append_assoc, if◌then◌else◌}
+use Rattle.std.proofs.Common.{append_assoc, if◌then◌else◌, ◌&&◌}
 use Rattle.std.specs.Result.{IfErr, OnOk}
 use Rattle.rhai_tree.specs.declared.fault.CheckFault.{CheckFault}
 use Rattle.rhai_tree.specs.declared.fault.CheckFault.TheVariants.{BadAssignment, LoopControlOutside, NotYet}
@@ -17,13 +17,13 @@ use Rattle.rhai_check.specs.Declares.{declares_expr, declares_stmt}
 use Rattle.rhai_tree.specs.Forms.{is_exported}
 use Rattle.rhai_tree.specs.Reading as walk
 use Rattle.rhai_tree.specs.Reading.{faulty, sound}
-use Rattle.rhai_tree.specs.Frame.{tests_of, var_resolves}
+use Rattle.rhai_tree.specs.Frame.{tests_of, resolves_stmt, var_resolves}
 use Rattle.rhai_tree.specs.Names.{Name}
 use Rattle.rhai_check.specs.Refusals.{IsFirst, Refuses}
 use Rattle.rhai_tree.specs.WellFormed.{seen_expr, seen_stmt, target_faults, control_faults, var_faults}
 use Rattle.rhai_check.proofs.Walk.{expr_faults, stmt_faults, expr_declares, seen-expr, seen-stmt}
 use Rattle.rhai_check.proofs.Walk.{Seen, SeenStmt, refuses_expr_at}
-use Rattle.rhai_tree.proofs.Walk.{Tests, expr_tests, resolves-expr}
+use Rattle.rhai_tree.proofs.Walk.{Tests, expr_tests, stmt_tests, resolves-expr, resolves-stmt}
 
 -- what always holds holds where a call gives no error
 pub given_ok : {A : Type 0} {P : Type 0} (r : Result A CheckFault) → P → OnOk r P
@@ -55,13 +55,30 @@ pub resolved_expr_at : {A : Type 0} (r : Result A CheckFault) (e : Expr) (l : Ex
 resolved_expr_at r e l names is h =
     subst (λ (s : Tests). OnOk r ((base : List Name) → IsTrue (s.value (base ++ names)))) (sym (resolves-expr e l is)) h
 
+-- a statement that declares nothing may run where what it stands on may
+pub runs_stmt_at : {A : Type 0} (r : Result A CheckFault) (s : Stmt) (l : StmtLayer) (value : walk.Finds sound) (names new : List Name)
+    → out-Stmt s ≡ l → ((ns : List Name) → walk.stmt_step sound (stmt_tests l) ns ≡ (value ns, ns))
+    → OnOk r ((base : List Name) → IsTrue (value (base ++ names))) → OnOk r (new ≡ names)
+    → OnOk r ((base : List Name) → resolves_stmt s (base ++ names) ≡ (true, base ++ new))
+runs_stmt_at (Ok x) s l value names new is whole h same = λ base.
+    ap (λ (f : walk.SeenStmt sound). f (base ++ names)) (resolves-stmt s l is) ∙ whole (base ++ names)
+    ∙ (λ i. (h base i, base ++ sym same i))
+runs_stmt_at (Err e) s l value names new is whole h same = tt
+
+-- two parts that may run
+pub both_run : {A : Type 0} (r : Result A CheckFault) (f g : walk.Finds sound) (names : List Name)
+    → ((base : List Name) → IsTrue (f (base ++ names))) → OnOk r ((base : List Name) → IsTrue (g (base ++ names)))
+    → OnOk r ((base : List Name) → IsTrue (f (base ++ names) && g (base ++ names)))
+both_run (Ok x) f g names one other = λ base. ap (λ (b : Bool). b && g (base ++ names)) (one base) ∙ other base
+both_run (Err e) f g names one other = tt
+
 -- a form that may always run
 pub runs_at : (e : Expr) (l : ExprLayer) (names : List Name) → out-Expr e ≡ l → IsTrue ((walk.expr_step sound (expr_tests l)).value names)
     → IsTrue ((tests_of e).value names)
 runs_at e l names is h = ap (λ (s : Tests). s.value names) (resolves-expr e l is) ∙ h
 
 pub refused_expr_at : {A : Type 0} (r : Result A CheckFault) (e : Expr) (l : ExprLayer) (c : Context) → out-Expr e ≡ l
-    → IfErr r (λ fault. Refuses ((walk.expr_step faulty (expr_faults l)).value c) (declares.expr_step (expr_declares l)) fault)
+    → IfErr r (λ fault. Refuses ((walk.expr_step faulty (expr_faults l)).value c) (declares.form_step (expr_declares l)) fault)
     → IfErr r (λ fault. Refuses ((seen_expr e).value c) (declares_expr e) fault)
 refused_expr_at r e l c is h = err_then r (λ fault. refuses_expr_at e l c fault is) h
 

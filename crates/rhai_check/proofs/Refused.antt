@@ -13,7 +13,7 @@ use Rattle.rhai_tree.specs.declared.expr.Expr.{Expr}
 use Rattle.rhai_tree.specs.declared.expr.Stmt.{Stmt}
 use Rattle.rhai_tree.specs.Context.{Context}
 use Rattle.rhai_tree.specs.Forms.{any_of}
-use Rattle.rhai_check.specs.Declares.{declares_expr, declares_stmt}
+use Rattle.rhai_check.specs.Declares.{any_need, needs_of, declares_expr, declares_stmt}
 use Rattle.rhai_check.specs.Refusals.{IsFirst, Refuses}
 use Rattle.rhai_tree.specs.WellFormed.{seen_expr, seen_stmt, faults_in_all, faults_in_list}
 
@@ -72,17 +72,17 @@ refused (Err y) faults declares e (is, and) h = subst (λ (z : CheckFault). Refu
 -- an error of the expression at an index is one of the list
 pub refuses_expr : (exprs : List Expr) (i : ℕ) (x : Expr) (c : Context) (e : CheckFault) → i < length exprs → x ≡ get_or exprs i x
     → faults_in_all (map seen_expr exprs) c ≡ faults_in_all (map seen_expr (drop i exprs)) c
-    → (IsTrue (any_of (map declares_expr (drop i exprs))) → IsTrue (any_of (map declares_expr exprs)))
+    → (IsTrue (any_need (map needs_of (drop i exprs))) → IsTrue (any_need (map needs_of exprs)))
     → Refuses ((seen_expr x).value c) (declares_expr x) e
-    → Refuses (faults_in_all (map seen_expr exprs) c) (any_of (map declares_expr exprs)) e
+    → Refuses (faults_in_all (map seen_expr exprs) c) (any_need (map needs_of exprs)) e
 refuses_expr exprs i x c e lt is same declares h =
     let here : drop i exprs ≡ x ∷ drop (suc i) exprs = drop-cons exprs i x lt ∙ ap (λ y. y ∷ drop (suc i) exprs) (sym is) in
     let rest = λ (fs : List Expr). faults_in_all (map seen_expr fs) c in
     let whole : faults_in_all (map seen_expr exprs) c ≡ (seen_expr x).value c ++ faults_in_all (map seen_expr (drop (suc i) exprs)) c =
     same ∙ ap rest here in
     let first = refuses_first ((seen_expr x).value c) (faults_in_all (map seen_expr (drop (suc i) exprs)) c) (declares_expr x)
-    (any_of (map declares_expr (drop (suc i) exprs))) e h in
-    refuses_more _ _ (any_of (map declares_expr (drop i exprs))) _ e (λ k. k) declares (rw (whole, here) first)
+    (any_need (map needs_of (drop (suc i) exprs))) e h in
+    refuses_more _ _ (any_need (map needs_of (drop i exprs))) _ e (λ k. k) declares (rw (whole, here) first)
 
 pub refuses_stmt : (stmts : List Stmt) (i : ℕ) (x : Stmt) (c d : Context) (e : CheckFault) → i < length stmts → x ≡ get_or stmts i x
     → faults_in_list (map seen_stmt stmts) c ≡ faults_in_list (map seen_stmt (drop i stmts)) d

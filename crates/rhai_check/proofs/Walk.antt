@@ -11,13 +11,13 @@ use Rattle.rhai_tree.specs.declared.expr.StmtBlock.{StmtBlock}
 use Rattle.rhai_tree.specs.declared.expr.Stmt.{Stmt, out-Stmt}
 use Rattle.rhai_tree.specs.Context.{Context}
 use Rattle.rhai_check.specs.Declares as declares
-use Rattle.rhai_tree.specs.Forms.{any_of}
-use Rattle.rhai_check.specs.Declares.{declares_expr, declares_call, declares_block, declares_stmt}
+use Rattle.rhai_check.specs.Declares.{Needs, needs_of, names_a_catch, declares_expr, declares_call, declares_conditional, declares_block, declares_stmt}
+use Rattle.rhai_tree.specs.Forms.{catch_name}
 use Rattle.rhai_tree.specs.Reading as walk
 use Rattle.rhai_tree.specs.Reading.{faulty}
 use Rattle.rhai_tree.specs.Layers.{ExprLayer, StmtLayer}
 use Rattle.rhai_check.specs.Refusals.{Refuses}
-use Rattle.rhai_tree.specs.WellFormed.{seen_expr, seen_call, seen_block, seen_entry, seen_stmt}
+use Rattle.rhai_tree.specs.WellFormed.{seen_expr, seen_call, seen_conditional, seen_block, seen_entry, seen_stmt}
 
 -- what is seen of forms for their faults
 abbrev pub Seen : Type 0
@@ -32,49 +32,56 @@ SeenEntry = walk.SeenEntry faulty
 abbrev pub SeenStmt : Type 0
 SeenStmt = walk.SeenStmt faulty
 
--- the faults of the parts of one level
-abbrev pub expr_faults : ExprLayer → layer.Expr-F Seen SeenStmt (Unit {0}) SeenCall SeenEntry Seen
-expr_faults = map-Expr Expr Stmt ConditionalExpr FnCallExpr MapEntry StmtBlock Seen SeenStmt (Unit {0}) SeenCall SeenEntry Seen
-    seen_expr seen_stmt (λ conditional. tt) seen_call seen_entry seen_block
+abbrev pub SeenConditional : Type 0
+SeenConditional = walk.SeenConditional faulty
 
-abbrev pub stmt_faults : StmtLayer → layer.Stmt-F Seen SeenStmt (Unit {0}) SeenCall SeenEntry Seen
-stmt_faults = map-Stmt Expr Stmt ConditionalExpr FnCallExpr MapEntry StmtBlock Seen SeenStmt (Unit {0}) SeenCall SeenEntry Seen
-    seen_expr seen_stmt (λ conditional. tt) seen_call seen_entry seen_block
+-- the faults of the parts of one level
+abbrev pub expr_faults : ExprLayer → layer.Expr-F Seen SeenStmt SeenConditional SeenCall SeenEntry Seen
+expr_faults = map-Expr Expr Stmt ConditionalExpr FnCallExpr MapEntry StmtBlock Seen SeenStmt SeenConditional SeenCall SeenEntry Seen
+    seen_expr seen_stmt seen_conditional seen_call seen_entry seen_block
+
+abbrev pub stmt_faults : StmtLayer → layer.Stmt-F Seen SeenStmt SeenConditional SeenCall SeenEntry Seen
+stmt_faults = map-Stmt Expr Stmt ConditionalExpr FnCallExpr MapEntry StmtBlock Seen SeenStmt SeenConditional SeenCall SeenEntry Seen
+    seen_expr seen_stmt seen_conditional seen_call seen_entry seen_block
 
 -- whether the parts of one level declare
-abbrev pub expr_declares : ExprLayer → layer.Expr-F Bool Bool (Unit {0}) Bool (Unit {0}) Bool
-expr_declares = map-Expr Expr Stmt ConditionalExpr FnCallExpr MapEntry StmtBlock Bool Bool (Unit {0}) Bool (Unit {0}) Bool
-    declares_expr declares_stmt (λ conditional. tt) declares_call (λ entry. tt) declares_block
+abbrev pub expr_declares : ExprLayer → layer.Expr-F Needs Bool Bool Bool (Unit {0}) Bool
+expr_declares = map-Expr Expr Stmt ConditionalExpr FnCallExpr MapEntry StmtBlock Needs Bool Bool Bool (Unit {0}) Bool
+    needs_of declares_stmt declares_conditional declares_call (λ entry. tt) declares_block
 
-abbrev pub stmt_declares : StmtLayer → layer.Stmt-F Bool Bool (Unit {0}) Bool (Unit {0}) Bool
-stmt_declares = map-Stmt Expr Stmt ConditionalExpr FnCallExpr MapEntry StmtBlock Bool Bool (Unit {0}) Bool (Unit {0}) Bool
-    declares_expr declares_stmt (λ conditional. tt) declares_call (λ entry. tt) declares_block
+abbrev pub stmt_declares : StmtLayer → layer.Stmt-F Needs Bool Bool Bool (Unit {0}) Bool
+stmt_declares = map-Stmt Expr Stmt ConditionalExpr FnCallExpr MapEntry StmtBlock Needs Bool Bool Bool (Unit {0}) Bool
+    needs_of declares_stmt declares_conditional declares_call (λ entry. tt) declares_block
 
 pub seen-expr : (e : Expr) (l : ExprLayer) → out-Expr e ≡ l → seen_expr e ≡ walk.expr_step faulty (expr_faults l)
-seen-expr e l is = fold_out-Expr Seen SeenStmt (Unit {0}) SeenCall SeenEntry Seen
-    (walk.expr_step faulty) (walk.stmt_step faulty) (λ conditional. tt) (walk.call_step faulty) (walk.entry_step faulty)
+seen-expr e l is = fold_out-Expr Seen SeenStmt SeenConditional SeenCall SeenEntry Seen
+    (walk.expr_step faulty) (walk.stmt_step faulty) (walk.conditional_step faulty) (walk.call_step faulty) (walk.entry_step faulty)
     (walk.block_step faulty) e
     ∙ ap (λ (k : ExprLayer). walk.expr_step faulty (expr_faults k)) is
 
 pub seen-stmt : (s : Stmt) (l : StmtLayer) → out-Stmt s ≡ l → seen_stmt s ≡ walk.stmt_step faulty (stmt_faults l)
-seen-stmt s l is = fold_out-Stmt Seen SeenStmt (Unit {0}) SeenCall SeenEntry Seen
-    (walk.expr_step faulty) (walk.stmt_step faulty) (λ conditional. tt) (walk.call_step faulty) (walk.entry_step faulty)
+seen-stmt s l is = fold_out-Stmt Seen SeenStmt SeenConditional SeenCall SeenEntry Seen
+    (walk.expr_step faulty) (walk.stmt_step faulty) (walk.conditional_step faulty) (walk.call_step faulty) (walk.entry_step faulty)
     (walk.block_step faulty) s
     ∙ ap (λ (k : StmtLayer). walk.stmt_step faulty (stmt_faults k)) is
 
-pub declares-expr : (e : Expr) (l : ExprLayer) → out-Expr e ≡ l → declares_expr e ≡ declares.expr_step (expr_declares l)
-declares-expr e l is = fold_out-Expr Bool Bool (Unit {0}) Bool (Unit {0}) Bool
-    declares.expr_step declares.stmt_step (λ conditional. tt) (λ call. any_of call.args) (λ entry. tt) (λ block. any_of block.statements) e
-    ∙ ap (λ (k : ExprLayer). declares.expr_step (expr_declares k)) is
+pub declares-expr : (e : Expr) (l : ExprLayer) → out-Expr e ≡ l → declares_expr e ≡ declares.form_step (expr_declares l)
+declares-expr e l is = ap (λ (n : Needs). n.declares) (fold_out-Expr Needs Bool Bool Bool (Unit {0}) Bool declares.expr_step
+    declares.stmt_step declares.conditional_step declares.call_step (λ entry. tt) declares.block_step e)
+    ∙ ap (λ (k : ExprLayer). declares.form_step (expr_declares k)) is
+
+pub in-catch : (e : Expr) → (needs_of e).in_catch ≡ names_a_catch (catch_name (expr_declares (out-Expr e)))
+in-catch e = ap (λ (n : Needs). n.in_catch) (fold_out-Expr Needs Bool Bool Bool (Unit {0}) Bool declares.expr_step
+    declares.stmt_step declares.conditional_step declares.call_step (λ entry. tt) declares.block_step e)
 
 declares-stmt : (s : Stmt) (l : StmtLayer) → out-Stmt s ≡ l → declares_stmt s ≡ declares.stmt_step (stmt_declares l)
-declares-stmt s l is = fold_out-Stmt Bool Bool (Unit {0}) Bool (Unit {0}) Bool
-    declares.expr_step declares.stmt_step (λ conditional. tt) (λ call. any_of call.args) (λ entry. tt) (λ block. any_of block.statements) s
+declares-stmt s l is = fold_out-Stmt Needs Bool Bool Bool (Unit {0}) Bool declares.expr_step declares.stmt_step declares.conditional_step
+    declares.call_step (λ entry. tt) declares.block_step s
     ∙ ap (λ (k : StmtLayer). declares.stmt_step (stmt_declares k)) is
 
 -- what refuses one level refuses the form
 pub refuses_expr_at : (e : Expr) (l : ExprLayer) (c : Context) (fault : CheckFault) → out-Expr e ≡ l
-    → Refuses ((walk.expr_step faulty (expr_faults l)).value c) (declares.expr_step (expr_declares l)) fault
+    → Refuses ((walk.expr_step faulty (expr_faults l)).value c) (declares.form_step (expr_declares l)) fault
     → Refuses ((seen_expr e).value c) (declares_expr e) fault
 refuses_expr_at e l c fault is h =
     let faults : (seen_expr e).value c ≡ (walk.expr_step faulty (expr_faults l)).value c =

@@ -1,58 +1,100 @@
 -- Whether a part of a tree declares a variable, makes a map or is a chain: the checker needs memory for names, keys and links alone.
 use Rattle.std.specs.Prelude.{Bool, true, false, ◌||◌, List, [], ◌∷◌, map, Option, Some, None}
-use Rattle.rhai_tree.specs.Forms.{any_of}
-use Rattle.rhai_check.specs.Types.{Expr, FnCallExpr, ScriptFuncDef, Stmt, StmtBlock}
+use Rattle.rhai_tree.specs.Forms.{any_of, catch_name, catch_of}
+use Rattle.rhai_tree.specs.Names.{Name}
+use Rattle.rhai_check.specs.Types.{ConditionalExpr, Expr, FnCallExpr, ScriptFuncDef, Stmt, StmtBlock}
 use Rattle.rhai_tree.specs.declared.expr.Expr.TheOpen as layer
-use Rattle.rhai_tree.specs.declared.expr.Expr.TheFolds.{fold-Expr, fold-FnCallExpr, fold-StmtBlock, fold-Stmt}
+use Rattle.rhai_tree.specs.declared.expr.Expr.TheFolds.{fold-Expr, fold-ConditionalExpr, fold-FnCallExpr, fold-StmtBlock, fold-Stmt}
 
--- a part that may be left out
-abbrev pub in_option : Option Bool → Bool
+-- what an expression asks for: whether it declares, and whether it would as a catch variable
+pub record Needs : Type 0 where
+  pub declares : Bool
+  pub in_catch : Bool
+
+-- one of several expressions
+abbrev pub any_need : List Needs → Bool
+any_need [] = false
+any_need (part ∷ parts) = part.declares || any_need parts
+
+-- an expression that may be left out
+abbrev pub in_option : Option Needs → Bool
 in_option None = false
-in_option (Some part) = part
+in_option (Some part) = part.declares
+
+-- a catch variable that is a name declares it
+abbrev pub names_a_catch : Option (Option Name) → Bool
+names_a_catch (Some (Some name)) = true
+names_a_catch _ = false
+
+abbrev pub form_step : layer.Expr-F Needs Bool Bool Bool (Unit {0}) Bool → Bool
+form_step (layer.InterpolatedString parts pos) = any_need parts
+form_step (layer.Array items pos) = any_need items
+form_step (layer.Map entries template pos) = true
+form_step (layer.Expr::FnCall call pos) = call
+form_step (layer.Stmt block) = block
+form_step (layer.MethodCall call pos) = call
+form_step (layer.Dot lhs rhs options pos) = true
+form_step (layer.Index lhs rhs options pos) = true
+form_step (layer.And parts pos) = any_need parts
+form_step (layer.Or parts pos) = any_need parts
+form_step (layer.Coalesce parts pos) = any_need parts
+form_step _ = false
+
+abbrev pub expr_step : layer.Expr-F Needs Bool Bool Bool (Unit {0}) Bool → Needs
+expr_step form = record { declares = form_step form; in_catch = names_a_catch (catch_name form) }
+
+abbrev pub call_step : layer.FnCallExpr-F Needs Bool Bool Bool (Unit {0}) Bool → Bool
+call_step call = any_need call.args
+
+-- a condition of a `switch` and its result
+abbrev pub conditional_step : layer.ConditionalExpr-F Needs Bool Bool Bool (Unit {0}) Bool → Bool
+conditional_step conditional = conditional.condition.declares || conditional.expr.declares
+
+abbrev pub block_step : layer.StmtBlock-F Needs Bool Bool Bool (Unit {0}) Bool → Bool
+block_step block = any_of block.statements
 
 -- a form that is not there yet is refused without a look inside
-abbrev pub expr_step : layer.Expr-F Bool Bool (Unit {0}) Bool (Unit {0}) Bool → Bool
-expr_step (layer.InterpolatedString parts pos) = any_of parts
-expr_step (layer.Array items pos) = any_of items
-expr_step (layer.Map entries template pos) = true
-expr_step (layer.Expr::FnCall call pos) = call
-expr_step (layer.Stmt block) = block
-expr_step (layer.MethodCall call pos) = call
-expr_step (layer.Dot lhs rhs options pos) = true
-expr_step (layer.Index lhs rhs options pos) = true
-expr_step (layer.And parts pos) = any_of parts
-expr_step (layer.Or parts pos) = any_of parts
-expr_step (layer.Coalesce parts pos) = any_of parts
-expr_step _ = false
-
-abbrev pub stmt_step : layer.Stmt-F Bool Bool (Unit {0}) Bool (Unit {0}) Bool → Bool
-stmt_step (layer.Expr expr) = expr
+abbrev pub stmt_step : layer.Stmt-F Needs Bool Bool Bool (Unit {0}) Bool → Bool
+stmt_step (layer.Noop pos) = false
+stmt_step (layer.Expr expr) = expr.declares
 stmt_step (layer.Stmt::FnCall call pos) = call
 stmt_step (layer.Block block) = block
-stmt_step (layer.Assignment op lhs rhs) = lhs || rhs
+stmt_step (layer.Assignment op lhs rhs) = lhs.declares || rhs.declares
 stmt_step (layer.Var ident expr index options pos) = true
-stmt_step (layer.If expr body branch pos) = expr || (body || branch)
-stmt_step (layer.While expr body pos) = expr || body
-stmt_step (layer.Do expr body options pos) = expr || body
+stmt_step (layer.If expr body branch pos) = expr.declares || (body || branch)
+stmt_step (layer.Switch expr expressions cases ranges def_case pos) = expr.declares || any_of expressions
+stmt_step (layer.While expr body pos) = expr.declares || body
+stmt_step (layer.Do expr body options pos) = expr.declares || body
+stmt_step (layer.For name counter expr body pos) = true
 stmt_step (layer.BreakLoop expr options pos) = in_option expr
+stmt_step (layer.TryCatch body variable branch pos) = body || (variable.in_catch || branch)
 stmt_step (layer.Return expr options pos) = in_option expr
-stmt_step _ = false
+stmt_step (layer.Import expr alias pos) = false
+stmt_step (layer.Export name alias pos) = false
+stmt_step (layer.Share variables) = false
+
+abbrev pub needs_of : Expr → Needs
+needs_of = fold-Expr Needs Bool Bool Bool (Unit {0}) Bool expr_step stmt_step conditional_step call_step (λ entry. tt) block_step
 
 abbrev pub declares_expr : Expr → Bool
-declares_expr = fold-Expr Bool Bool (Unit {0}) Bool (Unit {0}) Bool expr_step stmt_step (λ conditional. tt) (λ call. any_of call.args)
-    (λ entry. tt) (λ block. any_of block.statements)
+declares_expr e = (needs_of e).declares
 
 abbrev pub declares_call : FnCallExpr → Bool
-declares_call = fold-FnCallExpr Bool Bool (Unit {0}) Bool (Unit {0}) Bool expr_step stmt_step (λ conditional. tt)
-    (λ call. any_of call.args) (λ entry. tt) (λ block. any_of block.statements)
+declares_call = fold-FnCallExpr Needs Bool Bool Bool (Unit {0}) Bool expr_step stmt_step conditional_step call_step (λ entry. tt) block_step
+
+abbrev pub declares_conditional : ConditionalExpr → Bool
+declares_conditional = fold-ConditionalExpr Needs Bool Bool Bool (Unit {0}) Bool expr_step stmt_step conditional_step call_step
+    (λ entry. tt) block_step
 
 abbrev pub declares_block : StmtBlock → Bool
-declares_block = fold-StmtBlock Bool Bool (Unit {0}) Bool (Unit {0}) Bool expr_step stmt_step (λ conditional. tt)
-    (λ call. any_of call.args) (λ entry. tt) (λ block. any_of block.statements)
+declares_block = fold-StmtBlock Needs Bool Bool Bool (Unit {0}) Bool expr_step stmt_step conditional_step call_step (λ entry. tt) block_step
 
 abbrev pub declares_stmt : Stmt → Bool
-declares_stmt = fold-Stmt Bool Bool (Unit {0}) Bool (Unit {0}) Bool expr_step stmt_step (λ conditional. tt) (λ call. any_of call.args)
-    (λ entry. tt) (λ block. any_of block.statements)
+declares_stmt = fold-Stmt Needs Bool Bool Bool (Unit {0}) Bool expr_step stmt_step conditional_step call_step (λ entry. tt) block_step
+
+-- a branch behind its catch variable
+abbrev pub declares_catch : (variable : Expr) → (branch : StmtBlock) → Bool
+declares_catch variable branch = names_a_catch (catch_of variable) || declares_block branch
 
 -- the check of functions may need memory where there are some
 abbrev pub has_functions : List ScriptFuncDef → Bool

@@ -1,5 +1,6 @@
 -- The types that the definitions here speak of, from one place.
 pub use Rattle.rhai_tree.specs.declared.fault.CheckFault.{CheckFault}
+pub use Rattle.rhai_tree.specs.declared.expr.ConditionalExpr.{ConditionalExpr}
 pub use Rattle.rhai_tree.specs.declared.expr.Expr.{Expr}
 pub use Rattle.rhai_tree.specs.declared.expr.FnCallExpr.{FnCallExpr}
 pub use Rattle.rhai_tree.specs.declared.expr.Stmt.{Stmt}

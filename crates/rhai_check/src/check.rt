@@ -5,6 +5,7 @@ ghost use Rattle.std.specs.List.{Contains};
 ghost use Rattle.rhai_check.specs.Declares.{needs_memory};
 ghost use Rattle.rhai_tree.specs.WellFormed.{Stands, faults_in_function, IsFormedFunction, IsFormedTree};
 
+mod cases;
 mod chain;
 mod expr;
 mod function;

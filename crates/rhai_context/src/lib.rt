@@ -4,26 +4,33 @@
 
 ghost use Rattle.std.specs.Prelude.{◌≡◌, [], None};
 ghost use Rattle.rhai_state.specs.Scope.{entries_of};
+ghost use Rattle.rhai_context.specs.Ends.{unit};
 
+pub mod ends;
 pub mod spare;
 
 use crate::spare::Spare;
+use rhai_state::error::EvalAltResult;
 use rhai_state::room::Room;
 use rhai_state::scope::Scope;
 use rhai_state::state::GlobalRuntimeState;
 use rhai_tree::Items;
-use rhai_values::base::value::{Dynamic, Host};
+use rhai_values::base::value::{Dynamic, Host, Union};
 use rhai_values::cells::CellStore;
 use std::alloc::Global;
 use std::mem::replace;
 
-/// The state of a run: what stays beside the variables, the variables and `this`. Besides it has lists
-/// that hold arguments while calls collect them.
+/// The state of a run: what stays beside the variables, the variables and `this`. Besides it has what the
+/// last part came to or stopped with, and lists that hold arguments while calls collect them.
 #[derive(Drop)]
 pub struct Context<H> {
     pub global: GlobalRuntimeState<H>,
     pub scope: Scope<H>,
     pub this: Option<Dynamic<H>>,
+    /// What the last part that went well came to.
+    pub value: Dynamic<H>,
+    /// Why a part stopped the run.
+    pub error: Option<EvalAltResult<H>>,
     pub spare: Spare<H>,
 }
 
@@ -54,7 +61,7 @@ pub fn take<H: Host>(
     global: &mut GlobalRuntimeState<H>,
     scope: &mut Scope<H>,
 ) -> Context<H>
-    ensures run { result ≡ record { global = global.old; scope = scope.old; this = None; spare = tt } }
+    ensures run { result ≡ record { global = global.old; scope = scope.old; this = None; value = unit; error = None; spare = tt } }
     ensures search { global.new.always_search_scope ≡ global.old.always_search_scope }
 {
     let empty = nothing(alloc, global.always_search_scope);
@@ -63,6 +70,8 @@ pub fn take<H: Host>(
         global: replace(global, empty),
         scope: replace(scope, Scope::new(alloc)),
         this: None,
+        value: Dynamic::new(Union::Unit),
+        error: None,
         spare,
     }
 }

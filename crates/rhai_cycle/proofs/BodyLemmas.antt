@@ -3,7 +3,7 @@ use Rattle.std.proofs.Common.{◌≡◌, ◌≢◌, ◌<◌, ◌≤◌, ◌+◌,
 use Rattle.std.proofs.Common.{refl, sym, ap, subst, ◌∙◌, arith, length, map, take, drop, IsTrue}
 use Rattle.std.proofs.Math.Seq.{take-append_seam, take-length}
 use Rattle.std.proofs.lemmas.List.{append-nil, length-append, map-append}
-use Rattle.rhai_tree.specs.Frame.{all_resolve, resolves_block, resolves_body, resolves_stmt, ResolvesFunction}
+use Rattle.rhai_tree.specs.Frame.{all_resolve, resolves_body, resolves_stmt, ResolvesFunction}
 use Rattle.rhai_tree.specs.Names.{Name}
 use Rattle.rhai_tree.specs.Reading as walk
 use Rattle.rhai_tree.specs.Reading.{sound}
@@ -49,6 +49,7 @@ use Rattle.rhai_functions.specs.declared.function.Function.{Function}
 use Rattle.rhai_machine.specs.language.Calls.{entry_of}
 use Rattle.rhai_cycle.specs.States.{state_in}
 use Rattle.rhai_cycle.proofs.CallSteps.{charged_on, refused_on}
+use Rattle.rhai_cycle.proofs.FormNames.{block_value}
 
 -- where a body may be entered neither calls are too deep nor is the scope too full
 pub not_deep : {H : Type 0} (deep full : Bool) (pos : Position) → enterable {H = H} deep full pos ≡ Ok tt → deep ≡ false
@@ -72,13 +73,6 @@ nothing_behind xs n = dropped_all xs (length xs + n) (omega arith)
 
 dropped : {A : Type 0} (xs ys : List A) (n : ℕ) → length ys ≤ n → drop (length xs + n) (xs ++ ys) ≡ []
 dropped xs ys n few = dropped_all (xs ++ ys) (length xs + n) (omega (arith, few, length-append xs ys))
-
--- a block may run where its statements may
-block_value : (block : StmtBlock) (names : List Name) →
-    resolves_block block names ≡ (all_resolve (map resolves_stmt block.statements) names).0
-block_value block names = ap (λ (seen : walk.Seen sound). seen.value names) (fold_out-StmtBlock (walk.Seen sound) (walk.SeenStmt sound)
-    (Unit {0}) (walk.SeenCall sound) (walk.SeenEntry sound) (walk.Seen sound) (walk.expr_step sound) (walk.stmt_step sound)
-    (λ conditional. tt) (walk.call_step sound) (walk.entry_step sound) (walk.block_step sound) block)
 
 body_value : (body : ScriptFuncPayload) (names : List Name) → IsTrue (resolves_body body names) →
     IsTrue (all_resolve (map resolves_stmt (statements_of body)) names).0

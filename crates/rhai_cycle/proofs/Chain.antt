@@ -3,7 +3,7 @@ use Rattle.std.proofs.Common.{◌≡◌, ◌≢◌, ◌<◌, ◌≤◌, ◌+◌,
 use Rattle.std.proofs.Common.{drop-cons, add-one, Option, Some, None, Result, Ok, Err, refl, sym, ap, is_some, rules}
 use Rattle.std.proofs.lemmas.Bool.{lt-ltb, le-ltb, true≢false}
 use Rattle.std.proofs.lemmas.List as Lemmas
-use Rattle.std.specs.Prelude.{OnOk}
+use Rattle.std.specs.Prelude.{IsTrue, OnOk}
 use Rattle.rhai_tree.specs.declared.position.Position.{Position}
 use Rattle.rhai_tree.specs.declared.expr.Expr.{Expr, out-Expr}
 use Rattle.rhai_tree.specs.declared.expr.Stmt.{Stmt, out-Stmt}
@@ -23,7 +23,7 @@ use Rattle.rhai_state.specs.Errors.{is_out_of_memory}
 use Rattle.rhai_machine.specs.language.Frames.{StatementValue, RightOperand, AssignChain, AssignThisValue, AssignValue}
 use Rattle.rhai_machine.specs.language.Frames.{ReturnValue, Frame, Core, core, ended, UnaryOperand, LeftOperand}
 use Rattle.rhai_machine.specs.language.Frames.{DefineValue, Eval, Exec, Argument, OpenExpr, OpenStmt, Enter, Run, Back, Fail, RestoreList}
-use Rattle.rhai_machine.specs.language.Frames.{Saved}
+use Rattle.rhai_machine.specs.language.Frames.{ForItems, Saved, SwitchValue, ThrowValue}
 use Rattle.rhai_machine.specs.language.Calls.{operation_at}
 use Rattle.rhai_tree.specs.declared.expr.Expr.TheOpen as layer
 use Rattle.rhai_tree.specs.declared.expr.FnCallExpr.{FnCallExpr}
@@ -163,6 +163,9 @@ module _ {S H : Type 0} (rules : Rules S H) where
   flattens (AssignValue assignment value_at) = Some value_at
   flattens (AssignThisValue op pos value_at) = Some value_at
   flattens (ReturnValue value_at pos) = Some value_at
+  flattens (ThrowValue value_at pos) = Some value_at
+  flattens (SwitchValue value_at choice) = Some value_at
+  flattens (ForItems loop) = Some (position_of loop.items)
   flattens (AssignChain root chain op value_at) = Some value_at
   flattens _ = None
 
@@ -177,6 +180,9 @@ module _ {S H : Type 0} (rules : Rules S H) where
     flat_core (AssignValue assignment value_at) is told = let same : value_at ≡ pos = cc in rw (same, ← told) refl
     flat_core (AssignThisValue op this_at value_at) is told = let same : value_at ≡ pos = cc in rw (same, ← told) refl
     flat_core (ReturnValue value_at at) is told = let same : value_at ≡ pos = cc in rw (same, ← told) refl
+    flat_core (ThrowValue value_at at) is told = let same : value_at ≡ pos = cc in rw (same, ← told) refl
+    flat_core (SwitchValue value_at choice) is told = let same : value_at ≡ pos = cc in rw (same, ← told) refl
+    flat_core (ForItems loop) is told = let same : position_of loop.items ≡ pos = cc in rw (same, ← told) refl
     flat_core (AssignChain root chain op value_at) is told = let same : value_at ≡ pos = cc in rw (same, ← told) refl
     flat_core _ is told = cc
 
@@ -190,6 +196,9 @@ module _ {S H : Type 0} (rules : Rules S H) where
     flat_passes (AssignValue assignment value_at) is x = refl
     flat_passes (AssignThisValue op this_at value_at) is x = refl
     flat_passes (ReturnValue value_at at) is x = refl
+    flat_passes (ThrowValue value_at at) is x = refl
+    flat_passes (SwitchValue value_at choice) is x = refl
+    flat_passes (ForItems loop) is x = refl
     flat_passes (AssignChain root chain op value_at) is x = refl
     flat_passes _ is x = cc
 
@@ -254,3 +263,8 @@ on_ok_given B P (Err e) p = tt
 pub on_ok : {A E P : Type 0} (r : Result A E) → P → OnOk r P
 on_ok (Ok v) p = p
 on_ok (Err e) p = tt
+
+-- what holds where a part went well holds of the result that tells it
+pub on_done : {A E P : Type 0} (r : Result A E) (done : Bool) → OnOk r (done ≡ true) → (IsTrue done → P) → OnOk r P
+on_done (Ok v) done is holds = holds (rw is refl)
+on_done (Err e) done is holds = tt

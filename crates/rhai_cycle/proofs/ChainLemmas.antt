@@ -35,13 +35,13 @@ level l = walk.expr_step sound (expr_tests l)
 
 -- a block is no chain, and no place
 block_apart : (block : StmtBlock) → (walk.seen_block sound block).link ≡ walk.IndexAlone
-block_apart block = ap (λ (s : walk.Seen sound). s.link) (fold_out-StmtBlock (walk.Seen sound) (walk.SeenStmt sound) (Unit {0})
-    (walk.SeenCall sound) (walk.SeenEntry sound) (walk.Seen sound) (walk.expr_step sound) (walk.stmt_step sound) (λ conditional. tt)
+block_apart block = ap (λ (s : walk.Seen sound). s.link) (fold_out-StmtBlock (walk.Seen sound) (walk.SeenStmt sound) (walk.SeenConditional sound)
+    (walk.SeenCall sound) (walk.SeenEntry sound) (walk.Seen sound) (walk.expr_step sound) (walk.stmt_step sound) (walk.conditional_step sound)
     (walk.call_step sound) (walk.entry_step sound) (walk.block_step sound) block)
 
 block_no_place : (block : StmtBlock) → (walk.seen_block sound block).is_place ≡ false
-block_no_place block = ap (λ (s : walk.Seen sound). s.is_place) (fold_out-StmtBlock (walk.Seen sound) (walk.SeenStmt sound) (Unit {0})
-    (walk.SeenCall sound) (walk.SeenEntry sound) (walk.Seen sound) (walk.expr_step sound) (walk.stmt_step sound) (λ conditional. tt)
+block_no_place block = ap (λ (s : walk.Seen sound). s.is_place) (fold_out-StmtBlock (walk.Seen sound) (walk.SeenStmt sound) (walk.SeenConditional sound)
+    (walk.SeenCall sound) (walk.SeenEntry sound) (walk.Seen sound) (walk.expr_step sound) (walk.stmt_step sound) (walk.conditional_step sound)
     (walk.call_step sound) (walk.entry_step sound) (walk.block_step sound) block)
 
 -- ---- the root
@@ -128,8 +128,8 @@ method_resolves : (call : FnCallExpr) (pos at : Position) (names : List Name) �
 method_resolves call pos at names h =
     let parts = holds_then (is_unqualified call.namespace.path) (all_resolve_exprs (map tests_of call.args) names)
     (subst (λ (s : walk.SeenCall sound). IsTrue (s.method at names)) (fold_out-FnCallExpr (walk.Seen sound) (walk.SeenStmt sound)
-    (Unit {0}) (walk.SeenCall sound) (walk.SeenEntry sound) (walk.Seen sound) (walk.expr_step sound) (walk.stmt_step sound)
-    (λ conditional. tt) (walk.call_step sound) (walk.entry_step sound) (walk.block_step sound) call) h) in
+    (walk.SeenConditional sound) (walk.SeenCall sound) (walk.SeenEntry sound) (walk.Seen sound) (walk.expr_step sound) (walk.stmt_step sound)
+    (walk.conditional_step sound) (walk.call_step sound) (walk.entry_step sound) (walk.block_step sound) call) h) in
     rw parts.0 parts.1
 
 -- behind a dot stands a property or a method, and a chain goes on from one

@@ -16,7 +16,7 @@ use Rattle.rhai_machine.specs.language.Statements.{chosen_core}
 use Rattle.rhai_machine.specs.language.Loops.{goes_on, if_goes_on}
 use Rattle.rhai_machine.specs.language.Unwinding.{up_core}
 use Rattle.rhai_machine.specs.language.Frames.{Control, Frame, core, Eval, Enter, Back, Fail, IfCondition, AndPart, OrPart}
-use Rattle.rhai_machine.specs.language.Frames.{WhileCondition, DoCondition}
+use Rattle.rhai_machine.specs.language.Frames.{DoCondition, SwitchCondition, WhileCondition}
 use Rattle.rhai_machine.specs.language.Runs.{at, with_core, Goes, Runs, Steps}
 use Rattle.rhai_steps.proofs.Pieces.{step_by}
 use Rattle.rhai_steps.specs.Loops.{after_test, after_turn}
@@ -35,6 +35,8 @@ module _ {S H : Type 0} (rules : Rules S H) where
     truth_core e (OrPart part_at rest) is told = let same : part_at ≡ pos = cc in rw (same, ← told) refl
     truth_core e (WhileCondition test body) is told = let same : position_of test ≡ pos = cc in rw (same, ← told) refl
     truth_core e (DoCondition test body options) is told = let same : position_of test ≡ pos = cc in rw (same, ← told) refl
+    truth_core e (SwitchCondition candidate rest default) is told = let same : position_of candidate.condition ≡ pos = cc in
+        rw (same, ← told) refl
     truth_core e _ is told = cc
 
     holds_core : (holds : Bool) (f : Frame H) → asks_truth f ≡ Some pos → Ok holds ≡ truth rules.setting.host_type l.local.around.cells
@@ -45,6 +47,8 @@ module _ {S H : Type 0} (rules : Rules S H) where
     holds_core holds (OrPart part_at rest) is told = let same : part_at ≡ pos = cc in rw (same, ← told) refl
     holds_core holds (WhileCondition test body) is told = let same : position_of test ≡ pos = cc in rw (same, ← told) refl
     holds_core holds (DoCondition test body options) is told = let same : position_of test ≡ pos = cc in rw (same, ← told) refl
+    holds_core holds (SwitchCondition candidate rest default) is told = let same : position_of candidate.condition ≡ pos = cc in
+        rw (same, ← told) refl
     holds_core holds _ is told = cc
 
     truth_told : (r : Result Bool (EvalAltResult H)) (f : Frame H) → asks_truth f ≡ Some pos →

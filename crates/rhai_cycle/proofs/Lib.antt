@@ -1,6 +1,7 @@
 mod ArgsLeft
 pub mod BodyLemmas
 mod CallSteps
+mod CandidateLemmas
 pub mod Chain
 pub mod ChainLemmas
 mod ChainSteps
@@ -8,9 +9,13 @@ mod ChoiceSteps
 mod Conditions
 mod DataSteps
 pub mod FocusSteps
+mod ForSteps
+mod FormNames
 mod LoopSteps
 mod NameLemmas
 mod RootLemmas
+mod SwitchSteps
 mod ThisSteps
+mod TrySteps
 mod Turns
 mod VariableSteps

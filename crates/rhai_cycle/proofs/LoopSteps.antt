@@ -7,7 +7,6 @@ use Rattle.rhai_tree.specs.declared.position.Position.{Position}
 use Rattle.rhai_tree.specs.declared.expr.Expr.{Expr, out-Expr}
 use Rattle.rhai_tree.specs.declared.expr.Stmt.{Stmt}
 use Rattle.rhai_tree.specs.declared.expr.Expr.TheOpen as layer
-use Rattle.rhai_tree.specs.Forms.{is_throw}
 use Rattle.rhai_tree.specs.Positions.{position_of}
 use Rattle.rhai_tree.specs.declared.expr.StmtBlock.{StmtBlock}
 use Rattle.rhai_tree.specs.declared.flags.ASTFlags.{ASTFlags}
@@ -23,16 +22,18 @@ use Rattle.rhai_machine.specs.machine.Memory.{Leads, here, next, wanting, starve
 use Rattle.rhai_machine.specs.language.Setting.{Rules, limit_under}
 use Rattle.rhai_machine.specs.language.State.{Held, State, Local}
 use Rattle.rhai_machine.specs.language.Frames.{Control, Frame, Core, core, ended, OpenStmt, Eval, Enter, WhileTurn, DoTurn, Back, Fail}
-use Rattle.rhai_machine.specs.language.Frames.{WhileCondition, WhileBody, DoBody, DoCondition, BreakValue, ReturnValue}
+use Rattle.rhai_machine.specs.language.Frames.{WhileCondition, WhileBody, DoBody, DoCondition, BreakValue, ReturnValue, ThrowValue}
 use Rattle.rhai_machine.specs.language.Loops.{is_endless, while_move}
 use Rattle.rhai_machine.specs.language.Statements.{has_option, return_move}
-use Rattle.rhai_machine.specs.language.Values.{unit_value}
+use Rattle.rhai_machine.specs.language.Values.{flat, unit_value}
 use Rattle.rhai_machine.specs.language.Runs.{at, Goes, Steps}
 use Rattle.rhai_steps.specs.declared.loops.BodyEnd.{BodyEnd}
 use Rattle.rhai_steps.specs.declared.loops.BodyEnd.TheVariants.{Done, Continue, Break}
 use Rattle.rhai_steps.specs.Loops.{turn_in, after_body, after_turn}
 use Rattle.rhai_steps.specs.States.{state_of}
 use Rattle.rhai_steps.proofs.Pieces.{or_wants, passed, step_by}
+use Rattle.rhai_cycle.specs.Ends.{left_with}
+use Rattle.rhai_cycle.proofs.Chain.{flattens}
 
 module _ {S H C : Type 0} (M : Machine S H C) (limit : ℕ) where
   full_step : (v : Move H C) (p : Point S C) → limit ≤ p.count → (moved M (below limit) v p).count ≡ p.count
@@ -139,15 +140,51 @@ module _ {S H : Type 0} (rules : Rules S H) where
   unfolding after
   breaks_value value options pos restoring k l = next here
 
-  -- a `return` without a value, and one with a value
-  pub returns_unit : (options : _) (pos : Position) (restoring : Bool) (k : List (Frame H)) (l : State S H) → is_throw options ≡ false →
-      Goes rules (at (OpenStmt (layer.Return None options pos) restoring) k l) (at (Fail (error.Return unit_value pos)) k l)
-  returns_unit options pos restoring k l plain = step_by rules _ _ (return_move false None pos k l.local)
-      (ap (λ (throws : Bool). return_move throws None pos k l.local) plain) here
+  -- ---- a `return` or a `throw`, without a value and with one
 
-  pub returns_value : (value : Expr) (options : _) (pos : Position) (restoring : Bool) (k : List (Frame H)) (l : State S H) →
-      is_throw options ≡ false →
+  left_unit : (throws : Bool) (pos : Position) (k : List (Frame H)) (l : Local H) →
+      return_move throws None pos k l ≡ Go (core (Fail (left_with throws unit_value pos)) k l)
+  left_unit true pos k l = refl
+  left_unit false pos k l = refl
+
+  pub returns_unit : (options : ASTFlags) (pos : Position) (restoring : Bool) (k : List (Frame H)) (l : State S H) →
+      Goes rules (at (OpenStmt (layer.Return None options pos) restoring) k l)
+      (at (Fail (left_with (has_option 2 options) unit_value pos)) k l)
+  returns_unit options pos restoring k l =
+      step_by rules _ _ (Go (core (Fail (left_with (has_option 2 options) unit_value pos)) k l.local))
+      (left_unit (has_option 2 options) pos k l.local) here
+
+  -- the frame that waits for its value
+  abbrev pub leaving : (throws : Bool) → (value_at left_at : Position) → Frame H
+  leaving true value_at left_at = ThrowValue value_at left_at
+  leaving false value_at left_at = ReturnValue value_at left_at
+
+  pub leaving_flattens : (throws : Bool) (value_at left_at : Position) → flattens rules (leaving throws value_at left_at) ≡ Some value_at
+  leaving_flattens true value_at left_at = refl
+  leaving_flattens false value_at left_at = refl
+
+  pub leaving_passes : (throws : Bool) (value_at left_at : Position) (e : EvalAltResult H) (k : List (Frame H)) (l : State S H) →
+      Goes rules (at (Fail e) (leaving throws value_at left_at ∷ k) l) (at (Fail e) k l)
+  unfolding after
+  leaving_passes true value_at left_at e k l = next here
+  leaving_passes false value_at left_at e k l = next here
+
+  left_value : (throws : Bool) (value : Expr) (pos : Position) (k : List (Frame H)) (l : Local H) →
+      return_move throws (Some value) pos k l ≡ Go (core (Eval value) (leaving throws (position_of value) pos ∷ k) l)
+  left_value true value pos k l = refl
+  left_value false value pos k l = refl
+
+  pub returns_value : (value : Expr) (options : ASTFlags) (pos : Position) (restoring : Bool) (k : List (Frame H)) (l : State S H) →
       Goes rules (at (OpenStmt (layer.Return (Some value) options pos) restoring) k l)
-      (at (Eval value) (ReturnValue (position_of value) pos ∷ k) l)
-  returns_value value options pos restoring k l plain = step_by rules _ _ (return_move false (Some value) pos k l.local)
-      (ap (λ (throws : Bool). return_move throws (Some value) pos k l.local) plain) here
+      (at (Eval value) (leaving (has_option 2 options) (position_of value) pos ∷ k) l)
+  returns_value value options pos restoring k l =
+      step_by rules _ _ (Go (core (Eval value) (leaving (has_option 2 options) (position_of value) pos ∷ k) l.local))
+      (left_value (has_option 2 options) value pos k l.local) here
+
+  -- its value is there
+  pub leaves : (throws : Bool) (v x : Dynamic H) (value_at left_at : Position) (k : List (Frame H)) (l : State S H) →
+      Ok x ≡ flat l.local.around.cells v value_at →
+      Goes rules (at (Back v) (leaving throws value_at left_at ∷ k) l) (at (Fail (left_with throws x left_at)) k l)
+  unfolding after
+  leaves true v x value_at left_at k l is = next (rw (← is) here)
+  leaves false v x value_at left_at k l is = next (rw (← is) here)

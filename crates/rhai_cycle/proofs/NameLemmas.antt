@@ -19,9 +19,10 @@ use Rattle.rhai_tree.specs.declared.expr.Stmt.{Stmt, out-Stmt}
 use Rattle.rhai_tree.specs.declared.expr.Expr.TheOpen as layer
 use Rattle.rhai_tree.specs.declared.flags.ASTFlags.{ASTFlags}
 use Rattle.rhai_tree.specs.declared.position.Position.{Position}
-use Rattle.rhai_tree.specs.Forms.{is_exported, is_throw}
+use Rattle.rhai_tree.specs.Forms.{is_exported}
 use Rattle.rhai_tree.specs.Frame.{resolves_stmt, target_resolves}
-use Rattle.rhai_tree.proofs.Walk.{resolves-stmt}
+use Rattle.rhai_tree.specs.Layers.{StmtLayer}
+use Rattle.rhai_tree.proofs.Walk.{resolves-stmt, stmt_tests}
 use Rattle.std.proofs.Common.{Option, None, Some}
 use Rattle.rhai_values.specs.declared.base.value.Dynamic.{Dynamic}
 use Rattle.rhai_pointers.specs.Leading.{all_args, this_lent}
@@ -74,8 +75,8 @@ this_resolves false (Some arg) rest this at names found h = (first_resolves (arg
 entry_resolves : (entry : MapEntry) (names : List Name) → IsTrue ((tests_of_entry entry).value names) →
     IsTrue (resolves_expr entry.value names)
 entry_resolves entry names h = subst (λ (s : walk.SeenEntry sound). IsTrue (s.value names)) (fold_out-MapEntry (walk.Seen sound)
-    (walk.SeenStmt sound) (Unit {0}) (walk.SeenCall sound) (walk.SeenEntry sound) (walk.Seen sound) (walk.expr_step sound)
-    (walk.stmt_step sound) (λ conditional. tt) (walk.call_step sound) (walk.entry_step sound) (walk.block_step sound) entry) h
+    (walk.SeenStmt sound) (walk.SeenConditional sound) (walk.SeenCall sound) (walk.SeenEntry sound) (walk.Seen sound) (walk.expr_step sound)
+    (walk.stmt_step sound) (walk.conditional_step sound) (walk.call_step sound) (walk.entry_step sound) (walk.block_step sound) entry) h
 
 later_entries : (before after : List MapEntry) (names : List Name) → IsTrue (entries_resolve (map tests_of_entry (before ++ after)) names) →
     IsTrue (entries_resolve (map tests_of_entry after) names)
@@ -134,9 +135,7 @@ pub sides_resolve : (stmt : Stmt) (op : OpAssignment) (lhs rhs : Expr) (names : 
 sides_resolve stmt op lhs rhs names is h = both (target_resolves (tests_of lhs) names) (resolves_expr rhs names)
     (rw (resolves-stmt stmt (layer.Assignment op lhs rhs) is) at h)
 
--- a `return` that resolves does not throw
-pub plain_return : (stmt : Stmt) (value : Option Expr) (options : ASTFlags) (pos : Position) (names : List Name) →
-    out-Stmt stmt ≡ layer.Return value options pos →
-    IsTrue (resolves_stmt stmt names).0 → is_throw options ≡ false
-plain_return stmt value options pos names is h = (fails_then (is_throw options) _
-    (rw (resolves-stmt stmt (layer.Return value options pos) is) at h)).0
+-- a statement that adds no name leaves the names
+pub names_left : (stmt : Stmt) (l : StmtLayer) (names : List Name) → out-Stmt stmt ≡ l →
+    (walk.stmt_step sound (stmt_tests l) names).1 ≡ names → (resolves_stmt stmt names).1 ≡ names
+names_left stmt l names is e = ap (λ (f : walk.SeenStmt sound). (f names).1) (resolves-stmt stmt l is) ∙ e

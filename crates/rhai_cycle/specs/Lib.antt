@@ -3,3 +3,4 @@ pub mod Calls
 pub mod Chains
 pub mod Memory
 pub mod States
+pub mod Ends

@@ -14,4 +14,7 @@ pub mod expr;
 mod loops;
 mod roots;
 pub mod stmt;
+mod switch;
+mod tries;
 mod walk;
+mod walks;

@@ -3,12 +3,15 @@
 
 ghost use Rattle.std.specs.Prelude.{◌≡◌, ◌<◌, ◌≤◌, OnOk, IsTrue, false};
 ghost use Rattle.std.specs.Option.{option_map};
-ghost use Rattle.rhai_tree.specs.Forms.{is_throw};
 ghost use Rattle.rhai_tree.specs.Frame.{tests_of, option_resolves, resolves_expr, resolves_block};
 ghost use Rattle.rhai_tree.specs.declared.expr.Expr.TheOpen as layer;
 ghost use Rattle.rhai_machine.specs.language.Frames.{OpenStmt, WhileTurn, DoTurn};
 ghost use Rattle.rhai_machine.specs.language.Runs.{Steps, Runs};
+ghost use Rattle.rhai_machine.specs.language.Statements.{has_option};
+ghost use Rattle.rhai_state.specs.Errors.{is_out_of_memory};
+ghost use Rattle.rhai_state.specs.declared.error.EvalAltResult.TheVariants as error;
 ghost use Rattle.rhai_steps.specs.Loops.{after_turn};
+ghost use Rattle.rhai_cycle.specs.Ends.{left_with};
 ghost use Rattle.rhai_cycle.specs.States.{names, state_in, under};
 
 use crate::evaluator::Evaluator;
@@ -19,11 +22,38 @@ use rhai_steps::charges::track_operation;
 use rhai_steps::errors::{loop_break, returned};
 use rhai_steps::loops::{BodyEnd, body_end, breaks, do_next, is_endless, while_next};
 use rhai_steps::values::{flatten, unit_value};
+use rhai_tree::Boxed;
 use rhai_tree::expr::{Expr, StmtBlock};
 use rhai_tree::flags::ASTFlags;
 use rhai_tree::position::Position;
 use rhai_values::base::value::{Dynamic, Host};
 use std::alloc::Global;
+
+/// The error of a value that is thrown.
+fn thrown<H: Host>(alloc: Global, value: Dynamic<H>, pos: Position) -> EvalAltResult<H>
+    ensures { is_out_of_memory result ≡ false → result ≡ error.ErrorRuntime value pos }
+{
+    match Boxed::new(alloc, value) {
+        Ok(value) => EvalAltResult::ErrorRuntime(value, pos),
+        Err(_) => EvalAltResult::ErrorOutOfMemory(pos),
+    }
+}
+
+/// The error that a `return` or a `throw` ends by.
+fn left_by<H: Host>(
+    alloc: Global,
+    value: Dynamic<H>,
+    options: ASTFlags,
+    pos: Position,
+) -> EvalAltResult<H>
+    ensures { is_out_of_memory result ≡ false → result ≡ left_with (has_option 2 options) value pos }
+{
+    if breaks(options) {
+        thrown(alloc, value, pos)
+    } else {
+        returned(alloc, value, pos)
+    }
+}
 
 impl<'e, H: Host> Evaluator<'e, H> {
     /// A `while`, turn by turn.
@@ -170,7 +200,8 @@ impl<'e, H: Host> Evaluator<'e, H> {
         }
     }
 
-    /// A `return`: an error on its way to the end of its function or script.
+    /// A `return`: an error on its way to the end of its function or script. A `throw`: one on its way to a
+    /// `try`.
     #[cycle(eval)]
     pub(crate) fn run_return<T: NativeTable<H>>(
         &self,
@@ -178,23 +209,23 @@ impl<'e, H: Host> Evaluator<'e, H> {
         run: &mut Context<H>,
         table: &mut T,
         value: &Option<Expr>,
+        options: ASTFlags,
         pos: Position,
     ) -> Result<Dynamic<H>, EvalAltResult<H>>
         requires resolves { IsTrue (option_resolves (option_map tests_of value.now) (names run.old)) }
         ensures counts { OnOk result (run.old.global.num_operations ≤ run.new.global.num_operations) }
         ensures names { OnOk result (names run.new ≡ names run.old) }
-        ensures runs { (options : _) (restoring : _) → is_throw options ≡ false →
-            Runs (under H.name_of self.now T.natives) (OpenStmt (layer.Return value.now options pos)
-            restoring)
+        ensures runs { (restoring : _) → Runs (under H.name_of self.now T.natives)
+            (OpenStmt (layer.Return value.now options pos) restoring)
             (state_in (T.state table.old) run.old) result (state_in (T.state table.new) run.new) }
     {
         match value {
-            None => Err(returned(alloc, unit_value(), pos)),
+            None => Err(left_by(alloc, unit_value(), options, pos)),
             Some(value) => {
                 let place = value.position();
                 let value = self.run_expr(alloc, run, table, value)?;
                 let value = flatten(alloc, &run.global.cells, value, place)?;
-                Err(returned(alloc, value, pos))
+                Err(left_by(alloc, value, options, pos))
             }
         }
     }

@@ -24,7 +24,10 @@ use crate::evaluator::Evaluator;
 use rhai_assign::assign_variable;
 use rhai_assign::in_place::assign_in_place;
 use rhai_assign::this::assign_this;
+use rhai_choices::SwitchParts;
 use rhai_context::Context;
+use rhai_context::ends::finish;
+use rhai_sharing::share_variables;
 use rhai_state::error::EvalAltResult;
 use rhai_state::limits::Limits;
 use rhai_state::scope::Scope;
@@ -39,6 +42,7 @@ use rhai_tree::expr::{Expr, Ident, OpAssignment, Stmt, StmtBlock};
 use rhai_tree::flags::ASTFlags;
 use rhai_tree::position::Position;
 use rhai_values::base::value::{Dynamic, Host};
+use rhai_walks::parts::ForParts;
 use std::alloc::Global;
 
 /// An assignment that is done in place: under fast operators, one by an operator to a variable, where its
@@ -124,7 +128,51 @@ impl<'e, H: Host> Evaluator<'e, H> {
             Stmt::BreakLoop(value, options, pos) => {
                 self.run_break(alloc, run, table, value, *options, *pos)
             }
-            Stmt::Return(value, _, pos) => self.run_return(alloc, run, table, value, *pos),
+            Stmt::Return(value, options, pos) => {
+                self.run_return(alloc, run, table, value, *options, *pos)
+            }
+            Stmt::Switch {
+                expr,
+                expressions,
+                cases,
+                ranges,
+                def_case,
+                ..
+            } => {
+                let parts = SwitchParts {
+                    value: expr,
+                    results: expressions.as_slice(),
+                    cases: cases.as_slice(),
+                    ranges: ranges.as_slice(),
+                    default: *def_case,
+                };
+                let done = self.run_switch(alloc, run, table, parts);
+                finish(done, &mut run.value, &mut run.error)
+            }
+            Stmt::For {
+                name,
+                counter,
+                expr,
+                body,
+                ..
+            } => {
+                let parts = ForParts {
+                    variable: name,
+                    counter,
+                    items: expr,
+                    body,
+                };
+                let done = self.run_for(alloc, run, table, parts);
+                finish(done, &mut run.value, &mut run.error)
+            }
+            Stmt::TryCatch(body, variable, branch, _) => {
+                let done = self.run_try(alloc, run, table, body, variable, branch);
+                finish(done, &mut run.value, &mut run.error)
+            }
+            Stmt::Share(variables) => {
+                let (global, scope) = (&mut run.global, &mut run.scope);
+                share_variables(self.limits, global, &*table, scope, variables.as_slice())
+            }
             _ => unreachable!(),
         }
     }

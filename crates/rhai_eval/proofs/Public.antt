@@ -50,20 +50,20 @@ module _ {S H : Type 0} {read rules : Rules S H} (reads : read ≡ rules) (P : R
   module _ (scope names : Scope H) (variables : names ≡ left.scope) where
     -- whatever it has in hand
     pub handed_held : (this : Option (Dynamic H)) (held still : Held H) →
-        taken ≡ record { global = global; scope = scope; this = this; spare = tt } →
+        taken ≡ record { global = global; scope = scope; this = this; value = unit; error = None; spare = tt } →
         P read (state_of t taken.global taken.scope held) (state_of u left.global left.scope still) →
         P rules (state_of t global scope held) (state_of u after names still)
     handed_held this held still is holds = rw (gives, variables) (rw (reads, is) at holds)
 
     module _ (bound : is_some left.this ≡ is_some taken.this) where
-      handed : (this ends : Option (Dynamic H)) → taken ≡ record { global = global; scope = scope; this = this; spare = tt } →
+      handed : (this ends : Option (Dynamic H)) → taken ≡ record { global = global; scope = scope; this = this; value = unit; error = None; spare = tt } →
           left.this ≡ ends → P read (state_in t taken) (state_in u left) →
           P rules (state_of t global scope (holding this)) (state_of u after names (holding ends))
       handed this ends is there holds = rw (gives, variables) (rw (reads, is, there) at holds)
 
       -- where he has no `this`
       pub handed_free : (this ends : Option (Dynamic H)) → this ≡ None → ends ≡ None →
-          taken ≡ record { global = global; scope = scope; this = None; spare = tt } → P read (state_in t taken) (state_in u left) →
+          taken ≡ record { global = global; scope = scope; this = None; value = unit; error = None; spare = tt } → P read (state_in t taken) (state_in u left) →
           P rules (state_of t global scope (holding this)) (state_of u after names (holding ends))
       handed_free this ends none still is holds =
           let there = still_none left.this (bound ∙ ap (λ (run : Context H). is_some run.this) is) in
@@ -71,7 +71,7 @@ module _ {S H : Type 0} {read rules : Rules S H} (reads : read ≡ rules) (P : R
 
       -- and where he has one in a place of his
       pub handed_on : (this ends : Option (Dynamic H)) (v w : Dynamic H) → this ≡ Some v → ends ≡ Some w →
-          taken ≡ record { global = global; scope = scope; this = Some v; spare = tt } → IfSome left.this (λ x. w ≡ x) →
+          taken ≡ record { global = global; scope = scope; this = Some v; value = unit; error = None; spare = tt } → IfSome left.this (λ x. w ≡ x) →
           P read (state_in t taken) (state_in u left) →
           P rules (state_of t global scope (holding this)) (state_of u after names (holding ends))
       handed_on this ends v w some stands is back holds =

@@ -7,6 +7,7 @@ use Rattle.std.specs.Option.{option_flatten, unwrap_or}
 use Rattle.std.specs.Prelude.{◌≡◌, ◌≤◌, ◌+◌, ℕ, zero, suc, Bool, true, false, not, ◌&&◌, List, [], ◌∷◌, ◌++◌, map, take, drop, length}
 use Rattle.std.specs.Prelude.{Option, Some, None, Result, Ok, Err, is_some, replicate, slice_get, slice_set}
 use Rattle.rhai_tree.specs.Names.{Name, Begins}
+use Rattle.rhai_tree.specs.declared.expr.Ident.{Ident}
 use Rattle.rhai_tree.specs.declared.expr.Stmt.{Stmt, out-Stmt}
 use Rattle.rhai_tree.specs.Lookup.{with_entry}
 use Rattle.rhai_values.specs.declared.base.value.Dynamic.{Dynamic}
@@ -22,8 +23,9 @@ use Rattle.rhai_machine.specs.language.Values.{Cells, unit_value}
 use Rattle.rhai_machine.specs.language.Places.{Place, InEntry, InCell, InThis, InFocus, rebound, put}
 use Rattle.rhai_machine.specs.language.Activations.{Object, NoObject, OwnThis, TheFocus, Entered, Variables, Caller, UpTo, Without}
 use Rattle.rhai_machine.specs.language.Activations.{CallExit}
+use Rattle.rhai_machine.specs.language.Turns.{ForLoop}
 use Rattle.rhai_machine.specs.language.Frames.{Saved, Control, Frame, Core, core, ended, Exec, OpenStmt, Enter, Run, Back, DefineValue}
-use Rattle.rhai_machine.specs.language.Frames.{RestOfList, RestoreList, StepDown, EnterFunction, CallEnd}
+use Rattle.rhai_machine.specs.language.Frames.{RestOfList, RestoreList, StepDown, EnterFunction, CallEnd, ForItems, RestoreScope}
 use Rattle.rhai_functions.specs.Entering.{parameters}
 use Rattle.rhai_machine.specs.language.Bodies.{back_by, variables_before, this_by, with_environ, entered_local}
 use Rattle.rhai_machine.specs.language.Bodies.{variables_after, exit_of, variables_back, called_back}
@@ -55,6 +57,14 @@ begins_self n = ([], sym (append-nil n))
 -- what begins a beginning begins the whole
 pub begins_through : (a b c : List Name) → Begins a b → Begins b c → Begins a c
 begins_through a b c (xs, e) (ys, f) = (xs ++ ys, f ∙ ap (λ v. v ++ ys) e ∙ append_assoc a xs ys)
+
+-- the names of the variables of a `for`
+abbrev pub counter_names : Option Ident → List Name
+counter_names None = []
+counter_names (Some counter) = counter.name ∷ []
+
+abbrev pub loop_names : ForLoop → List Name
+loop_names loop = counter_names loop.counter ++ loop.variable.name ∷ []
 
 module _ {H : Type 0} where
   -- a table of constants without what it holds
@@ -298,11 +308,14 @@ module _ {H : Type 0} where
   put_stands InFocus v l is = tt
 
   module _ (a : Asked) where
-    -- what is asked of the names n over a stack: under the rest of a list, and under a `let`, there may be more of them
+    -- what is asked of the names n over a stack: under the rest of a list, and under a `let`, there may be more of them; under the value of
+    -- a `for` its own come then
     abbrev pub Tight : List (Frame H) → List Name → Type 0
     Tight [] n = a.last n
     Tight (RestoreList saved ∷ k) n = a.along (take saved.scope_length n) × Tight k (take saved.scope_length n)
     Tight (RestOfList rest restoring ∷ k) n = (m : List Name) → Begins n m → a.along m → Tight k m
+    Tight (RestoreScope length ∷ k) n = a.along (take length n) × Tight k (take length n)
+    Tight (ForItems loop ∷ k) n = a.along (n ++ loop_names loop) × Tight k n
     Tight (CallEnd exit ∷ k) n = a.along (names_back exit.variables n) × Tight k (names_back exit.variables n)
     Tight (DefineValue ident options restoring value_at ∷ k) n =
         a.along (n ++ ident.name ∷ []) × ((m : List Name) → Begins n m → a.along m → Tight k m)
@@ -377,6 +390,18 @@ module _ {H : Type 0} where
     pub left_names : (saved : Saved) (k : List (Frame H)) (l : Local H) → Held (calm (RestoreList saved ∷ k) l) →
         Held (calm k (restored_by saved l))
     left_names saved k l t = rw (← take-map name_of saved.scope_length l.scope) t.1
+
+    -- the variables that are newer than so many are gone
+    pub scope_left : (length : ℕ) (k : List (Frame H)) (l : Local H) → Held (calm (RestoreScope length ∷ k) l) →
+        Held (calm k (record l { scope = take length l.scope }))
+    scope_left length k l t = rw (← take-map name_of length l.scope) t.1
+
+    -- variables that are newer than those that are there, over the frame that takes them back
+    pub newer_held : (entries : List (ScopeEntry H)) (k : List (Frame H)) (l : Local H) →
+        a.along (names_of l ++ map name_of entries) → Held (calm k l) →
+        Held (calm (RestoreScope (length l.scope) ∷ k) (record l { scope = l.scope ++ entries }))
+    newer_held entries k l w t = rw
+        (map-append name_of l.scope entries, taken l (names_of l ++ map name_of entries) (map name_of entries, refl)) (w, t)
 
     -- a control that may add names, or may not, adds none
     pub stopped_by : (adds : Bool) (k : List (Frame H)) (n : List Name) → a.along n → TightBy adds k n → Tight k n

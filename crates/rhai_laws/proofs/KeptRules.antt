@@ -1,10 +1,9 @@
 -- What each rule keeps.
 use Rattle.std.proofs.Common.{refl, ap, arith}
 use Rattle.std.proofs.lemmas.Bool.Decides.{nat_tests}
-use Rattle.std.proofs.lemmas.List.{length-append, length-map, map-append}
-use Rattle.std.specs.Prelude.{◌≡◌, ◌≤◌, ◌<◌, ◌+◌, ℕ, nat_le, nat_lt, length, not, ◌&&◌, Bool, true, false, List, [], ◌∷◌, ◌++◌, map}
+use Rattle.std.proofs.lemmas.List.{length-map, map-append}
+use Rattle.std.specs.Prelude.{◌≡◌, ◌≤◌, ◌+◌, ℕ, nat_le, nat_lt, length, not, ◌&&◌, Bool, true, false, List, [], ◌∷◌, ◌++◌, map}
 use Rattle.std.specs.Prelude.{Option, Some, None, Result, Ok, Err, is_some}
-use Rattle.rhai_tree.specs.Names.{Name}
 use Rattle.rhai_tree.specs.declared.position.Position.{Position}
 use Rattle.rhai_tree.specs.declared.flags.ASTFlags.{ASTFlags}
 use Rattle.rhai_tree.specs.declared.expr.Ident.{Ident}
@@ -23,8 +22,7 @@ use Rattle.rhai_values.specs.declared.base.value.Union.{Union}
 use Rattle.rhai_values.specs.declared.base.value.Union.TheVariants as value
 use Rattle.rhai_state.specs.declared.error.EvalAltResult.{EvalAltResult}
 use Rattle.rhai_state.specs.declared.error.EvalAltResult.TheVariants as error
-use Rattle.rhai_state.specs.Errors.{is_system}
-use Rattle.rhai_state.specs.declared.scope.ScopeEntry.{ScopeEntry}
+use Rattle.rhai_state.specs.Errors.{is_catchable, is_system}
 use Rattle.rhai_state.specs.Scope.{name_of, index_of, new_entry}
 use Rattle.rhai_places.specs.PutBack.{put_back}
 use Rattle.rhai_machine.specs.language.Setting.{Setting}
@@ -39,7 +37,8 @@ use Rattle.rhai_machine.specs.language.Frames.{DoTurn, Back, Changed, Fail, Stat
 use Rattle.rhai_machine.specs.language.Frames.{RestoreList, Top, UnaryOperand, LeftOperand, RightOperand, AndPart, OrPart, CoalescePart, AssignValue}
 use Rattle.rhai_machine.specs.language.Frames.{WhileCondition, WhileBody, DoCondition, DoBody, BreakValue, ReturnValue}
 use Rattle.rhai_machine.specs.language.Frames.{ArrayItem, EntryValue, TextPart, PrintedPart, CallNamed, CallArgument, KeywordArgument}
-use Rattle.rhai_machine.specs.language.Frames.{EnterFunction, EnterOnFocus, AssignThis, AssignThisValue, CallEnd}
+use Rattle.rhai_machine.specs.language.Frames.{EnterFunction, EnterOnFocus, AssignThis, AssignThisValue, CallEnd, Choose, ForTurn, ForItem, Share}
+use Rattle.rhai_machine.specs.language.Frames.{SwitchValue, SwitchCondition, ForItems, ForBody, RestoreScope, TryBody, ThrowValue}
 use Rattle.rhai_machine.specs.language.Bodies.{statements_of, variables_before, body_core, unless_deep, called_back, returned}
 use Rattle.rhai_machine.specs.language.Data.{with_item, with_value, with_part, items_core, entries_core, parts_core, part_core}
 use Rattle.rhai_machine.specs.language.Data.{joined_core, printed, unprinted_core}
@@ -51,7 +50,10 @@ use Rattle.rhai_machine.specs.language.Calls.{builtin_of, call_of, sized}
 use Rattle.rhai_machine.specs.language.Arguments.{flattens, taken}
 use Rattle.rhai_machine.specs.language.Statements.{has_option, mode_of, enter_core, run_core, chosen_core, defined_core, define_core}
 use Rattle.rhai_machine.specs.language.Statements.{added, constant_core, enters}
-use Rattle.rhai_machine.specs.language.Statements.{stmt_move, break_core, return_move}
+use Rattle.rhai_machine.specs.language.Statements.{loop_of, stmt_move, break_core, return_move}
+use Rattle.rhai_machine.specs.language.Turns.{next_turn}
+use Rattle.rhai_machine.specs.language.Walks.{has_no_room}
+use Rattle.rhai_machine.specs.language.Tries.{catch_variable}
 use Rattle.rhai_machine.specs.language.Links.{link_of}
 use Rattle.rhai_machine.specs.language.Frames.{AssignChain, AssignedChain, OpenChain, ChainArguments, ChainRoot, ReadRoot, Walk, Locate}
 use Rattle.rhai_machine.specs.language.Frames.{RootValue, ChainEnd, StepDown, Temporary, PartMethod, PartAssigned, Measured, MethodLink}
@@ -63,11 +65,13 @@ use Rattle.rhai_laws.specs.Kept.{declares, Sound, names_of, adds_names}
 use Rattle.rhai_laws.specs.Steady.{Moves}
 use Rattle.rhai_laws.proofs.Keeping.{Asked, Grows, Free, Held, begins_through, unwound, Keeps, quiet, through, after, calm, eager, held}
 use Rattle.rhai_laws.proofs.Keeping.{ended_keeps, step_left, call_left, constant_outline, function_entered, started_by, stopped_by}
-use Rattle.rhai_laws.proofs.Keeping.{entered_around, entered_names, left_names}
+use Rattle.rhai_laws.proofs.Keeping.{entered_around, entered_names, left_names, scope_left}
 use Rattle.rhai_laws.proofs.KeptAssignments.{there_keeps, assignment_keeps, store_keeps, store_this_keeps, barred_keeps}
 use Rattle.rhai_laws.proofs.KeptAssignments.{fire_update_keeps}
 use Rattle.rhai_laws.proofs.KeptCalls.{on_keeps, call_keeps, fire_keeps, question_keeps, operator_keeps, arguments_keep, named_keeps}
 use Rattle.rhai_laws.proofs.KeptCalls.{keyword_keeps}
+use Rattle.rhai_laws.proofs.KeptForms.{choose_keeps, met_keeps, walked_keeps, for_keeps, for_turn_keeps, item_keeps, tried_keeps, share_keeps}
+use Rattle.rhai_laws.proofs.KeptForms.{room}
 use Rattle.rhai_laws.proofs.KeptMethods.{focus_keeps}
 use Rattle.rhai_laws.proofs.KeptChains.{open_keeps, asked_keeps, root_keeps, read_root_keeps, walk_keeps, locate_keeps, chain_left}
 use Rattle.rhai_laws.proofs.KeptChains.{assign_focus_keeps, operated_on_keeps, part_assigned_keeps, part_changed_keeps, temporary_keeps}
@@ -205,7 +209,8 @@ module _ {H : Type 0} (a : Asked) where
   return_keeps : (throws : Bool) (value : Option Expr) (pos : Position) (c : Core H) (k : List (Frame H)) (l : Local H) →
       Keeps a c (calm k l) →
       Moves (Keeps a) c (return_move throws value pos k l)
-  return_keeps true value pos c k l h = tt
+  return_keeps true None pos c k l h = through a h (quiet a tt refl (λ t. t))
+  return_keeps true (Some value) pos c k l h = through a h (quiet a tt refl (λ t. t))
   return_keeps false None pos c k l h = through a h (quiet a tt refl (λ t. t))
   return_keeps false (Some value) pos c k l h = through a h (quiet a tt refl (λ t. t))
 
@@ -262,7 +267,7 @@ module _ {H : Type 0} (a : Asked) where
     unprinted_keeps true e text type at rest k l = quiet a tt refl (λ t. t)
     unprinted_keeps false e text type at rest k l = part_keeps text type at rest k l
 
-    -- a value comes up, an error comes down
+    -- a value comes up
     up_keeps : (frame : Frame H) (v : Dynamic H) (k : List (Frame H)) (l : Local H) →
         Keeps a (core (Back v) (frame ∷ k) l) (up_core s frame v k l)
     up_keeps (StatementValue pos) v k l = after a (calm k l) refl (λ t. t) (ended_keeps a (flat l.around.cells v pos) k l)
@@ -321,6 +326,15 @@ module _ {H : Type 0} (a : Asked) where
         (do_keeps (truth s.host_type l.around.cells v (position_of test)) (has_option 1 options) (DoTurn test body options) k l
         (quiet a tt refl (λ t. t)))
     up_keeps (DoBody test body options) v k l = quiet a tt refl (λ t. t)
+    up_keeps (SwitchValue value_at choice) v k l =
+        after a (calm k l) refl (λ t. t) (on_keeps a (flat l.around.cells v value_at) _ k l (λ x. quiet a tt refl (λ t. t)))
+    up_keeps (SwitchCondition candidate rest default) v k l =
+        after a (calm k l) refl (λ t. t) (on_keeps a (truth s.host_type l.around.cells v (position_of candidate.condition)) _ k l
+        (λ holds. met_keeps a holds candidate rest default k l))
+    up_keeps (ForItems loop) v k l = walked_keeps a (flat l.around.cells v (position_of loop.items)) loop v k l
+    up_keeps (RestoreScope length) v k l = quiet a tt refl (scope_left a length k l)
+    up_keeps (ThrowValue value_at pos) v k l =
+        after a (calm k l) refl (λ t. t) (on_keeps a (flat l.around.cells v value_at) _ k l (λ x. quiet a tt refl (λ t. t)))
     up_keeps (BreakValue is_break pos) v k l = quiet a tt refl (λ t. t)
     up_keeps (ReturnValue value_at pos) v k l =
         after a (calm k l) refl (λ t. t) (on_keeps a (flat l.around.cells v value_at) _ k l (λ x. quiet a tt refl (λ t. t)))
@@ -347,34 +361,6 @@ module _ {H : Type 0} (a : Asked) where
     up_keeps (MemberSet value) v k l = quiet a tt refl (λ t. t)
     up_keeps _ v k l = quiet a tt refl (λ t. t)
 
-    down_keeps : (frame : Frame H) (e : EvalAltResult H) (k : List (Frame H)) (l : Local H) →
-        Keeps a (core (Fail e) (frame ∷ k) l) (down_core s frame e k l)
-    down_keeps (Top map_exit) e k l = after a (calm k l) refl (λ t. t) (ended_keeps a (topped map_exit e) k l)
-    down_keeps (WhileBody test body) e k l =
-        after a (calm k l) refl (λ t. t) (caught_keeps (WhileTurn test body) e k l (quiet a tt refl (λ t. t)))
-    down_keeps (DoBody test body options) e k l =
-        after a (calm k l) refl (λ t. t) (caught_keeps (DoTurn test body options) e k l (quiet a tt refl (λ t. t)))
-    down_keeps (PrintedPart text type part_at rest) e k l =
-        after a (calm k l) refl (λ t. t) (unprinted_keeps (is_system e) e text type part_at rest k l)
-    down_keeps (RestOfList rest restoring) e k l = quiet a tt refl (held a k l)
-    down_keeps (CallEnd exit) e k l = after a (calm (CallEnd exit ∷ k) l) refl (λ t. t)
-        (through a (call_left a exit k l) (ended_keeps a (returned exit e) k (called_back exit l)))
-    down_keeps (DefineValue ident options restoring value_at) e k l = quiet a tt refl (λ t. held a k l (t.0, t.1.1))
-    down_keeps (RestoreList saved) e k l = quiet a tt refl (left_names a saved k l)
-    down_keeps (ChainEnd lender outer) e k l = after a (calm (ChainEnd lender outer ∷ k) l) refl (λ t. t)
-        (through a (chain_left a lender outer k l) (quiet a tt refl (λ t. t)))
-    down_keeps (StepDown above step) e k l = after a (calm (StepDown above step ∷ k) l) refl (λ t. t)
-        (through a (step_left a above step k l) (quiet a tt refl (λ t. t)))
-    down_keeps (MemberGot access root new) e k l =
-        after a (calm k l) refl (λ t. t) (got_none_keeps a s (lacks_indexer e) access.member e access new k l)
-    down_keeps (GetterTried access name) e k l =
-        after a (calm k l) refl (λ t. t) (getter_missing_keeps a (lacks_property e) e access name k l)
-    down_keeps (SetterTried access name v ignores) e k l =
-        after a (calm k l) refl (λ t. t) (setter_missing_keeps a (lacks_property e) e access name v ignores k l)
-    down_keeps (IndexerTried otherwise) e k l =
-        after a (calm k l) refl (λ t. t) (indexer_missing_keeps a (lacks_indexer e) e otherwise k l)
-    down_keeps _ e k l = quiet a tt refl (λ t. t)
-
     -- a value comes up that is marked
     marked_keeps : (frame : Frame H) (v : Dynamic H) (k : List (Frame H)) (l : Local H) →
         Keeps a (core (Changed v) (frame ∷ k) l) (marked_core s frame v k l)
@@ -390,12 +376,40 @@ module _ {H : Type 0} (a : Asked) where
     marked_keeps _ v k l = quiet a tt refl (λ t. t)
 
     module _ (grows : Grows a s.limits.max_variables) where
-      -- where there is room for one more, one more fits
-      room : (n : List Name) (name : Name) (scope : List (ScopeEntry H)) → length n ≡ length scope →
-          nat_le s.limits.max_variables (length scope) ≡ false → length (n ++ name ∷ []) ≤ s.limits.max_variables
-      room n name scope same is =
-          let less : length scope < s.limits.max_variables = grind (arith, nat_tests) in
-          omega (arith, less, same, length-append n (name ∷ []))
+      -- an error comes down; only where there is room a `catch` gets its variable
+      down_keeps : (frame : Frame H) (e : EvalAltResult H) (k : List (Frame H)) (l : Local H) →
+          Keeps a (core (Fail e) (frame ∷ k) l) (down_core s frame e k l)
+      down_keeps (Top map_exit) e k l = after a (calm k l) refl (λ t. t) (ended_keeps a (topped map_exit e) k l)
+      down_keeps (WhileBody test body) e k l =
+          after a (calm k l) refl (λ t. t) (caught_keeps (WhileTurn test body) e k l (quiet a tt refl (λ t. t)))
+      down_keeps (DoBody test body options) e k l =
+          after a (calm k l) refl (λ t. t) (caught_keeps (DoTurn test body options) e k l (quiet a tt refl (λ t. t)))
+      down_keeps (ForBody loop rest turn base) e k l =
+          after a (calm k l) refl (λ t. t) (caught_keeps (ForTurn loop rest (turn + 1) base) e k l (quiet a tt refl (λ t. t)))
+      down_keeps (ForItems loop) e k l = quiet a tt refl (λ t. (t.0, t.1.1))
+      down_keeps (RestoreScope length) e k l = quiet a tt refl (scope_left a length k l)
+      down_keeps (TryBody variable branch) e k l =
+          after a (calm k l) refl (λ t. t) (tried_keeps a s grows (is_catchable e) (catch_variable (out-Expr variable)) e branch k l)
+      down_keeps (PrintedPart text type part_at rest) e k l =
+          after a (calm k l) refl (λ t. t) (unprinted_keeps (is_system e) e text type part_at rest k l)
+      down_keeps (RestOfList rest restoring) e k l = quiet a tt refl (held a k l)
+      down_keeps (CallEnd exit) e k l = after a (calm (CallEnd exit ∷ k) l) refl (λ t. t)
+          (through a (call_left a exit k l) (ended_keeps a (returned exit e) k (called_back exit l)))
+      down_keeps (DefineValue ident options restoring value_at) e k l = quiet a tt refl (λ t. held a k l (t.0, t.1.1))
+      down_keeps (RestoreList saved) e k l = quiet a tt refl (left_names a saved k l)
+      down_keeps (ChainEnd lender outer) e k l = after a (calm (ChainEnd lender outer ∷ k) l) refl (λ t. t)
+          (through a (chain_left a lender outer k l) (quiet a tt refl (λ t. t)))
+      down_keeps (StepDown above step) e k l = after a (calm (StepDown above step ∷ k) l) refl (λ t. t)
+          (through a (step_left a above step k l) (quiet a tt refl (λ t. t)))
+      down_keeps (MemberGot access root new) e k l =
+          after a (calm k l) refl (λ t. t) (got_none_keeps a s (lacks_indexer e) access.member e access new k l)
+      down_keeps (GetterTried access name) e k l =
+          after a (calm k l) refl (λ t. t) (getter_missing_keeps a (lacks_property e) e access name k l)
+      down_keeps (SetterTried access name v ignores) e k l =
+          after a (calm k l) refl (λ t. t) (setter_missing_keeps a (lacks_property e) e access name v ignores k l)
+      down_keeps (IndexerTried otherwise) e k l =
+          after a (calm k l) refl (λ t. t) (indexer_missing_keeps a (lacks_indexer e) e otherwise k l)
+      down_keeps _ e k l = quiet a tt refl (λ t. t)
 
       -- a `let` is tried only where there is room for one more variable
       define_keeps : (shadows full : Bool) (ident : Ident) (value : Expr) (options : ASTFlags) (restoring : Bool) (pos : Position)
@@ -408,7 +422,7 @@ module _ {H : Type 0} (a : Asked) where
         t.0,
         (
           grows.fits _
-              (room (names_of l) ident.name l.scope (length-map l.scope name_of) is),
+              (room s.limits.max_variables (length l.scope) (names_of l) ident.name (length-map l.scope name_of) is),
           t.1,
         ),
       ))
@@ -442,6 +456,11 @@ module _ {H : Type 0} (a : Asked) where
           (define_keeps (not s.offer.allow_shadowing && is_some (index_of ident.name l.scope))
           (nat_le s.limits.max_variables (length l.scope)) ident value options restoring pos k l refl))
       stmt_keeps (layer.If test body branch pos) restoring k l = quiet a tt refl (λ t. t)
+      stmt_keeps (layer.Switch value results cases ranges default pos) restoring k l = quiet a tt refl (λ t. t)
+      stmt_keeps (layer.For variable counter items body pos) restoring k l = after a (calm k l) refl (λ t. t)
+          (for_keeps a s grows (has_no_room s.limits (loop_of variable counter items body) l) (loop_of variable counter items body) k l refl)
+      stmt_keeps (layer.TryCatch body variable branch pos) restoring k l = quiet a tt refl (λ t. t)
+      stmt_keeps (layer.Share variables) restoring k l = quiet a tt refl (λ t. t)
       stmt_keeps (layer.While test body pos) restoring k l = quiet a tt refl (λ t. t)
       stmt_keeps (layer.Do test body options pos) restoring k l = quiet a tt refl (λ t. t)
       stmt_keeps (layer.BreakLoop value options pos) restoring k l =
@@ -479,6 +498,10 @@ module _ {H : Type 0} (a : Asked) where
       move_keeps (StoreThis op pos v) k l h = after a (calm k l) refl (λ t. t) (store_this_keeps a s op pos v k l)
       move_keeps (WhileTurn test body) k l h = while_keeps (is_endless (out-Expr test)) body.statements test body k l
       move_keeps (DoTurn test body options) k l h = quiet a tt refl (λ t. t)
+      move_keeps (Choose candidates default) k l h = after a (calm k l) refl (λ t. t) (choose_keeps a candidates default k l)
+      move_keeps (ForTurn loop left turn base) k l h = for_turn_keeps a (next_turn left) loop.body.statements loop left turn base k l
+      move_keeps (ForItem loop item rest turn base) k l h = after a (calm k l) refl (λ t. t) (item_keeps a loop item rest turn base k l)
+      move_keeps (Share variables) k l h = after a (calm k l) refl (λ t. t) (share_keeps a variables k l)
       move_keeps (OpenChain chain) k l h = open_keeps a (link_of chain.rest) chain k l
       move_keeps (ChainArguments chain rest made) k l h = asked_keeps a s (link_of rest) chain rest made k l
       move_keeps (ChainRoot chain) k l h = root_keeps a (out-Expr chain.root) chain k l

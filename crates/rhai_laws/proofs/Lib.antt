@@ -4,6 +4,7 @@ pub mod Keeping
 pub mod KeptAssignments
 pub mod KeptCalls
 pub mod KeptMethods
+pub mod KeptForms
 pub mod KeptChains
 pub mod KeptRules
 pub mod KeptLaws

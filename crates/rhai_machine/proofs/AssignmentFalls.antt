@@ -22,48 +22,48 @@ use Rattle.rhai_machine.proofs.Sizes.{control_size, stack_size, size}
 module _ {H : Type 0} where
   module _ (s : Setting H) where
     written_falls : (r : Result (Dynamic H) (EvalAltResult H)) (place : Place) (k : List (Frame H)) (l : Local H) →
-        size (written_core r place k l) < 11 + stack_size k
+        size (written_core r place k l) < 12 + stack_size k
     written_falls (Ok v) place k l = omega arith
     written_falls (Err e) place k l = omega arith
 
-    done_size : (r : Result (Dynamic H) (EvalAltResult H)) → control_size (done r) ≤ 10
+    done_size : (r : Result (Dynamic H) (EvalAltResult H)) → control_size (done r) ≤ 11
     done_size (Ok v) = omega arith
     done_size (Err e) = omega arith
 
     update_falls : (answer : Answer H) (u : Update H) (k : List (Frame H)) (l : Local H) →
-        size (update_core s answer u k l) < 11 + stack_size k
+        size (update_core s answer u k l) < 12 + stack_size k
     update_falls (Some r) u k l = written_falls (applied s.limits r u.at) u.place k l
     update_falls None u k l = omega arith
 
     pub assign_falls : (op : Option Token) (assignment : Assignment) (target : Target H) (v : Dynamic H) (k : List (Frame H))
         (l : Local H) →
-        size (assign_core s op assignment target v k l) < 11 + stack_size k
+        size (assign_core s op assignment target v k l) < 12 + stack_size k
     assign_falls None assignment target v k l = omega arith
     assign_falls (Some token) assignment target v k l = update_falls (if_fast s.offer.fast_operators (op_assign_of token target.value v))
         _ k l
 
     pub store_falls : (r : Result (Target H) (EvalAltResult H)) (assignment : Assignment) (v : Dynamic H) (k : List (Frame H))
-        (l : Local H) → size (store_core s r assignment v k l) < 11 + stack_size k
+        (l : Local H) → size (store_core s r assignment v k l) < 12 + stack_size k
     store_falls (Ok target) assignment v k l = assign_falls assignment.op.op assignment target v k l
     store_falls (Err e) assignment v k l = omega arith
 
     changed_falls : (r : Result (Dynamic H) (EvalAltResult H)) (u : Update H) (k : List (Frame H)) (l : Local H) →
-        size (changed_core s r u k l) < 11 + stack_size k
+        size (changed_core s r u k l) < 12 + stack_size k
     changed_falls (Ok v) u k l = omega (arith, done_size (sized s.limits u.target u.target_at))
     changed_falls (Err e) u k l = omega arith
 
     fault_falls : (missing : Bool) (e : EvalAltResult H) (u : Update H) (k : List (Frame H)) (l : Local H) →
-        size (fault_core s missing e u k l) < 11 + stack_size k
+        size (fault_core s missing e u k l) < 12 + stack_size k
     fault_falls true e u k l = omega arith
     fault_falls false e u k l = omega arith
 
     value_falls : (r : Result (Dynamic H) (EvalAltResult H)) (u : Update H) (k : List (Frame H)) (l : Local H) →
-        size (value_core s r u k l) < 11 + stack_size k
+        size (value_core s r u k l) < 12 + stack_size k
     value_falls (Ok v) u k l = omega (arith, done_size (sized s.limits v u.target_at))
     value_falls (Err e) u k l = omega arith
 
     answered_falls : (attempt : Attempt) (reply : Reply H) (u : Update H) (k : List (Frame H)) (l : Local H) →
-        size (answered_core s attempt reply u k l) < 11 + stack_size k
+        size (answered_core s attempt reply u k l) < 12 + stack_size k
     answered_falls InPlace Missing u k l = update_falls (op_assign_of u.operator u.target u.operand) (record u { attempt = AsValue }) k l
     answered_falls InPlace (Gives v) u k l = changed_falls (sized s.limits v u.at) u k l
     answered_falls InPlace (Faults e) u k l = fault_falls (says_missing (native_of InPlace u.operator) e) (placed_if_none u.at e) u k l
@@ -75,7 +75,7 @@ module _ {H : Type 0} where
         (put u.place (left_in u left) l)
 
     pub barred_falls : (barred : Bool) (u : Update H) (k : List (Frame H)) (l : Local H) →
-        size (barred_core s barred u k l) < 12 + stack_size k
+        size (barred_core s barred u k l) < 13 + stack_size k
     barred_falls true u k l = omega arith
     barred_falls false u k l = omega arith
 

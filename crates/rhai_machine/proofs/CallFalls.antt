@@ -37,7 +37,7 @@ module _ {H : Type 0} where
         (l : Local H) →
         Falls size (core (Fire call) k l) (call_native s call from first rest k l)
     native_falls call from first rest k l reply left = reply_falls call.marks reply
-        (replied s.limits s.host_type reply left rest call.operation (is_some call.number) (put_left from left l).around.cells) (11 + stack_size k)
+        (replied s.limits s.host_type reply left rest call.operation (is_some call.number) (put_left from left l).around.cells) (12 + stack_size k)
         (stack_size k) (omega arith)
 
     fire_first_falls : (call : Call H) (rest : List (Dynamic H)) (r : Result (First H) (EvalAltResult H)) (k : List (Frame H))
@@ -52,7 +52,7 @@ module _ {H : Type 0} where
     fire_falls call (x ∷ rest) k l = fire_first_falls call rest (first_of l.around.cells call x) k l
 
     barred_call_falls : (barred pure : Bool) (call : Call H) (k : List (Frame H)) (l : Local H) →
-        size (barred_call s barred pure call k l) < 12 + stack_size k
+        size (barred_call s barred pure call k l) < 13 + stack_size k
     barred_call_falls true pure call k l = omega arith
     barred_call_falls false pure call k l = omega arith
 
@@ -69,8 +69,8 @@ module _ {H : Type 0} where
     question_falls call (x ∷ rest) k l = question_first_falls call rest (first_of l.around.cells call x) k l
 
     dispatch_falls : (how : Dispatch) (call : Call H) (k : List (Frame H)) (l : Local H) →
-        size (dispatch_core s how call k l) < 13 + stack_size k
-    dispatch_falls how call k l = dispatch_ends k l (λ c. size c < 13 + stack_size k) how.of_method (record {
+        size (dispatch_core s how call k l) < 14 + stack_size k
+    dispatch_falls how call k l = dispatch_ends k l (λ c. size c < 14 + stack_size k) how.of_method (record {
       fails = λ e. omega arith;
       backs = λ v. omega arith;
       asks = λ call. omega arith;
@@ -79,8 +79,8 @@ module _ {H : Type 0} where
     }) s how refl call
 
     plain_falls : (call : Call H) (k : List (Frame H)) (l : Local H) →
-        size (dispatch_core s (plainly false false) call k l) < 11 + stack_size k
-    plain_falls call k l = dispatch_ends k l (λ c. size c < 11 + stack_size k) false (record {
+        size (dispatch_core s (plainly false false) call k l) < 12 + stack_size k
+    plain_falls call k l = dispatch_ends k l (λ c. size c < 12 + stack_size k) false (record {
       fails = λ e. omega arith;
       backs = λ v. omega arith;
       asks = λ call. omega arith;
@@ -89,29 +89,29 @@ module _ {H : Type 0} where
     }) s (plainly false false) refl call
 
     pub operator_falls : (builtin : Option (Result (Dynamic H) (EvalAltResult H))) (call : Call H) (k : List (Frame H)) (l : Local H) →
-        size (operator_core s builtin call k l) < 11 + stack_size k
-    operator_falls (Some r) call k l = result_falls (applied s.limits r call.operation.at) (11 + stack_size k) (stack_size k) (omega arith)
+        size (operator_core s builtin call k l) < 12 + stack_size k
+    operator_falls (Some r) call k l = result_falls (applied s.limits r call.operation.at) (12 + stack_size k) (stack_size k) (omega arith)
     operator_falls None call k l = plain_falls call k l
 
     -- the arguments of a call, and what is done once they are there
-    numbered_falls : (call : Call H) (k : List (Frame H)) (l : Local H) → size (numbered_core call k l) < 13 + stack_size k
-    numbered_falls call k l = if_falls (races l.around.cells call.args) _ _ (13 + stack_size k) (omega arith) (omega arith)
+    numbered_falls : (call : Call H) (k : List (Frame H)) (l : Local H) → size (numbered_core call k l) < 14 + stack_size k
+    numbered_falls call k l = if_falls (races l.around.cells call.args) _ _ (14 + stack_size k) (omega arith) (omega arith)
 
     linked_falls : (function : Function H) (at : Position) (args : List (Dynamic H)) (k : List (Frame H)) (l : Local H) →
-        size (linked_core function at args k l) < 13 + stack_size k
-    linked_falls function at args k l = if_falls (races l.around.cells args) _ _ (13 + stack_size k) (omega arith) (omega arith)
+        size (linked_core function at args k l) < 14 + stack_size k
+    linked_falls function at args k l = if_falls (races l.around.cells args) _ _ (14 + stack_size k) (omega arith) (omega arith)
 
     there_size : (purpose : Purpose H) (args : List (Dynamic H)) (k : List (Frame H)) (l : Local H) →
-        size (arguments_there s purpose args k l) < 13 + (purpose_size purpose + stack_size k)
+        size (arguments_there s purpose args k l) < 14 + (purpose_size purpose + stack_size k)
     there_size (ToCall operation curried how) args k l = omega (arith, dispatch_falls how (call_of operation (curried ++ args)) k l)
     there_size (ToCallOn operation variable variable_at how) args k l = omega (
       arith,
       on_below (call_on l.around.cells l.around.lib l.scope operation variable variable_at args) (λ call. dispatch_core s how call k l) k l
-          (13 + stack_size k) (omega arith) (λ call. dispatch_falls how call k l),
+          (14 + stack_size k) (omega arith) (λ call. dispatch_falls how call k l),
     )
     there_size (ToCallOnThis operation this_at how) args k l = omega (
       arith,
-      on_below (bound_this this_at l.this) (λ v. dispatch_core s how (lent_this operation args v) k l) k l (13 + stack_size k)
+      on_below (bound_this this_at l.this) (λ v. dispatch_core s how (lent_this operation args v) k l) k l (14 + stack_size k)
           (omega arith) (λ v. dispatch_falls how (lent_this operation args v) k l),
     )
     there_size (ToCallFunction function at curried) args k l = omega (arith, linked_falls function at (curried ++ args) k l)
@@ -122,7 +122,7 @@ module _ {H : Type 0} where
     there_size (ToChain chain None) args k l = omega arith
 
     pub arguments_fall : (purpose : Purpose H) (made : List (Dynamic H)) (args : List Expr) (k : List (Frame H)) (l : Local H) →
-        size (arguments_core s purpose made args k l) < 13 + (purpose_size purpose + stack_size k)
+        size (arguments_core s purpose made args k l) < 14 + (purpose_size purpose + stack_size k)
     arguments_fall purpose made [] k l = there_size purpose made k l
     arguments_fall purpose made (arg ∷ args) k l = omega arith
 
@@ -162,7 +162,7 @@ module _ {H : Type 0} where
     -- the first argument of a keyword
     unlinked_falls : (of : FnPtrKind H) (pointer : FnPtr H) (at : Position) (args : List Expr) (captures : Bool) (k : List (Frame H))
         (l : Local H) →
-        size (unlinked_core s of pointer at args captures k l) < 15 + stack_size k
+        size (unlinked_core s of pointer at args captures k l) < 16 + stack_size k
     unlinked_falls (kind.Native id) pointer at args captures k l = omega (
       arith,
       arguments_fall (ToCallNumber id.number (operation_named (codes "call") at) (out-FnPtr H pointer).curry) [] args k l,
@@ -171,19 +171,19 @@ module _ {H : Type 0} where
 
     pointer_falls : (function : Option (Function H)) (pointer : FnPtr H) (at : Position) (args : List Expr) (captures : Bool)
         (k : List (Frame H)) (l : Local H) →
-        size (pointer_core s function pointer at args captures k l) < 15 + stack_size k
+        size (pointer_core s function pointer at args captures k l) < 16 + stack_size k
     pointer_falls (Some f) pointer at args captures k l =
         omega (arith, arguments_fall (ToCallFunction f at (out-FnPtr H pointer).curry) [] args k l)
     pointer_falls None pointer at args captures k l = unlinked_falls (out-FnPtr H pointer).kind pointer at args captures k l
 
     pub keyword_falls : (keyword : Keyword) (at start : Position) (args : List Expr) (captures : Bool) (v : Dynamic H) (k : List (Frame H))
         (l : Local H) →
-        size (keyword_core s keyword at start args captures v k l) < 15 + stack_size k
+        size (keyword_core s keyword at start args captures v k l) < 16 + stack_size k
     keyword_falls CallPointer at start args captures v k l = wider_falls (pointer_wanted s.host_type l.around.cells v start) _ k l
         (λ pointer. pointer_falls (linked_to pointer (length (out-FnPtr H pointer).curry + length args) l.around.lib) pointer at args
         captures k l)
     keyword_falls MakePointer at start args captures v k l = wider_falls (text_wanted s.host_type l.around.cells v start) _ k l
-        (λ name. result_falls (pointer_of name start) (15 + stack_size k) (stack_size k) (omega arith))
+        (λ name. result_falls (pointer_of name start) (16 + stack_size k) (stack_size k) (omega arith))
     keyword_falls Curry at start args captures v k l = wider_falls (pointer_wanted s.host_type l.around.cells v start) _ k l
         (λ pointer. omega (arith, arguments_fall (ToCurry pointer) [] args k l))
     keyword_falls IsShared at start args captures v k l = omega arith
@@ -192,8 +192,8 @@ module _ {H : Type 0} where
 
     -- a method on the focus leads at most to the question whether a native is pure
     pub method_falls : (method : Method) (args : List (Dynamic H)) (focus : Dynamic H) (k : List (Frame H)) (l : Local H) →
-        size (method_core s method args focus k l) ≤ 12 + stack_size k
-    method_falls method args focus k l = method_ends s k l (λ c. size c ≤ 12 + stack_size k) (record {
+        size (method_core s method args focus k l) ≤ 13 + stack_size k
+    method_falls method args focus k l = method_ends s k l (λ c. size c ≤ 13 + stack_size k) (record {
       dispatched = λ of_method. record {
         fails = λ e. omega arith;
         backs = λ v. omega arith;
@@ -206,8 +206,8 @@ module _ {H : Type 0} where
 
     -- a function that is entered on the focus
     pub focus_falls : (f : Function H) (is_fresh : Bool) (args : List (Dynamic H)) (at : Position) (k : List (Frame H)) (l : Local H) →
-        size (focus_core f is_fresh args at k l) < 12 + stack_size k
-    focus_falls f is_fresh args at k l = focus_ends k l (λ c. size c < 12 + stack_size k) (record {
+        size (focus_core f is_fresh args at k l) < 13 + stack_size k
+    focus_falls f is_fresh args at k l = focus_ends k l (λ c. size c < 13 + stack_size k) (record {
       fails = λ e. omega arith;
       enters = λ f is_fresh args at. omega arith;
       fails_inside = λ n inner e free. omega arith;

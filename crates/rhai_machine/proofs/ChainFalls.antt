@@ -70,17 +70,17 @@ module _ {H : Type 0} where
 
   -- a native that was tried leads to the indexer, or fails
   pub getter_falls : (lacks : Bool) (e : EvalAltResult H) (access : MemberAccess H) (name : List ℕ) (k : List (Frame H)) (l : Local H) →
-      size (getter_missing lacks e access name k l) ≤ 10 + stack_size k
+      size (getter_missing lacks e access name k l) ≤ 11 + stack_size k
   getter_falls true e access name k l = omega arith
   getter_falls false e access name k l = omega arith
 
   pub setter_falls : (lacks : Bool) (e : EvalAltResult H) (access : MemberAccess H) (name : List ℕ) (v : Dynamic H) (ignores : Bool)
-      (k : List (Frame H)) (l : Local H) → size (setter_missing lacks e access name v ignores k l) ≤ 10 + stack_size k
+      (k : List (Frame H)) (l : Local H) → size (setter_missing lacks e access name v ignores k l) ≤ 11 + stack_size k
   setter_falls true e access name v ignores k l = omega arith
   setter_falls false e access name v ignores k l = omega arith
 
   pub indexer_falls : (lacks : Bool) (e : EvalAltResult H) (otherwise : Result (Dynamic H) (EvalAltResult H)) (k : List (Frame H))
-      (l : Local H) → size (indexer_missing lacks e otherwise k l) ≤ 10 + stack_size k
+      (l : Local H) → size (indexer_missing lacks e otherwise k l) ≤ 11 + stack_size k
   indexer_falls true e (Ok v) k l = omega arith
   indexer_falls true e (Err fault) k l = omega arith
   indexer_falls false e otherwise k l = omega arith
@@ -134,7 +134,7 @@ module _ {H : Type 0} where
   method_link_size None link chain k = omega arith
   method_link_size (Some rest) link chain k = omega arith
 
-  measured_part_size : (r : Result (Dynamic H) (EvalAltResult H)) → control_size (measured_part r) ≤ 10
+  measured_part_size : (r : Result (Dynamic H) (EvalAltResult H)) → control_size (measured_part r) ≤ 11
   measured_part_size (Ok v) = omega arith
   measured_part_size (Err e) = omega arith
 
@@ -157,7 +157,7 @@ module _ {H : Type 0} where
 
     member_falls : (behind : Option ExprLayer) (new : Option (NewValue H)) (link : Link) (access : MemberAccess H) (chain : Chain H)
         (k : List (Frame H)) (l : Local H) →
-        size (member_core s behind new link access chain k l) < 16 + 20 * left_by behind + stack_size k
+        size (member_core s behind new link access chain k l) < 17 + 20 * left_by behind + stack_size k
     member_falls (Some rest) new link access chain k l = omega (
       arith,
       got_falls access.member access
@@ -167,7 +167,7 @@ module _ {H : Type 0} where
     member_falls None (Some new) link access chain k l = omega (arith, assign_member_falls new.op.op access chain.root new k l)
 
     pub assign_focus_falls : (root : Expr) (new : NewValue H) (k : List (Frame H)) (l : Local H) →
-        size (assign_focus s root new k l) < 11 + stack_size k
+        size (assign_focus s root new k l) < 12 + stack_size k
     assign_focus_falls root new k l = on_falls (focus_target l.around.cells (name_in (out-Expr root)) (start_of root) (focus_of l)) _ k l
         (λ target. assign_falls s new.op.op _ target new.value k l)
 
@@ -179,7 +179,7 @@ module _ {H : Type 0} where
     measured_size (AtMethod name args pos) source at op_at k = omega arith
 
     assign_spot_falls : (is_place : Bool) (at : Spot) (link : Link) (root : Expr) (new : NewValue H) (source : Dynamic H)
-        (k : List (Frame H)) (l : Local H) → size (assign_spot s is_place at link root new source k l) < 16 + stack_size k
+        (k : List (Frame H)) (l : Local H) → size (assign_spot s is_place at link root new source k l) < 17 + stack_size k
     assign_spot_falls true at link root new source k l = omega (
       arith,
       assign_focus_falls root new (measured_place s link.form source at new.op.position k) (focused_on (value_at source at) l),
@@ -221,19 +221,19 @@ module _ {H : Type 0} where
 
     spot_falls : (behind : Option ExprLayer) (new : Option (NewValue H)) (link : Link) (index : Dynamic H) (chain : Chain H)
         (source : Dynamic H) (k : List (Frame H)) (l : Local H) →
-        size (spot_core s behind new link index chain source k l) < 16 + 20 * left_by behind + stack_size k
+        size (spot_core s behind new link index chain source k l) < 17 + 20 * left_by behind + stack_size k
     spot_falls (Some rest) new link index chain source k l = on_below (spot_of s false link l.around.cells source index) _ k l
-        (16 + 20 * (1 + links rest) + stack_size k) (omega arith)
+        (17 + 20 * (1 + links rest) + stack_size k) (omega arith)
         (λ spot. omega (arith, descend_falls (is_place_spot spot.1) spot.1 link rest index chain spot.0 k l))
     spot_falls None None link index chain source k l = on_below (spot_of s false link l.around.cells source index) _ k l
-        (16 + stack_size k) (omega arith) (λ spot. omega arith)
+        (17 + stack_size k) (omega arith) (λ spot. omega arith)
     spot_falls None (Some new) link index chain source k l =
         on_below (unless_barred chain.root source index (spot_of s true link l.around.cells source index)) _ k l
-        (16 + stack_size k) (omega arith)
+        (17 + stack_size k) (omega arith)
         (λ spot. assign_spot_falls (is_place_spot spot.1) spot.1 link chain.root new spot.0 k l)
 
     indexed_falls : (indexed : Bool) (link : Link) (index : Dynamic H) (chain : Chain H) (source : Dynamic H) (k : List (Frame H))
-        (l : Local H) → size (indexed_core s indexed link index chain source k l) < 16 + 20 * left_by link.behind + stack_size k
+        (l : Local H) → size (indexed_core s indexed link index chain source k l) < 17 + 20 * left_by link.behind + stack_size k
     indexed_falls true link index chain source k l = spot_falls link.behind chain.new link index chain source k l
     indexed_falls false link index chain source k l = member_falls link.behind chain.new link
         (record { member = Item index; at = link.at; guarded = chain.in_place }) chain k l
@@ -247,7 +247,7 @@ module _ {H : Type 0} where
           arith,
           entered_falls (focus_of l).value inner
               (λ j m. indexed_core s (is_indexed (layer_of inner)) link (index_by link.form chain.args) chain inner j m)
-              (16 + 20 * left_by link.behind) k l
+              (17 + 20 * left_by link.behind) k l
               (λ j m. indexed_falls (is_indexed (layer_of inner)) link (index_by link.form chain.args) chain inner j m),
         ))
 
@@ -260,7 +260,7 @@ module _ {H : Type 0} where
     property_falls false name at link inner chain k l less = omega (
       arith,
       entered_falls (focus_of l).value inner (member_core s link.behind chain.new link
-          (record { member = Property name at; at = link.at; guarded = chain.in_place }) chain) (16 + 20 * left_by link.behind) k l
+          (record { member = Property name at; at = link.at; guarded = chain.in_place }) chain) (17 + 20 * left_by link.behind) k l
           (λ j m. member_falls link.behind chain.new link
           (record { member = Property name at; at = link.at; guarded = chain.in_place }) chain j m),
       less,
@@ -269,7 +269,7 @@ module _ {H : Type 0} where
     -- a method enters the focus, over what waits for its value
     method_of_falls : (name : List ℕ) (args : List Expr) (at : Position) (was_handle : Bool) (link : Link) (chain : Chain H)
         (k : List (Frame H)) (l : Local H) →
-        size (method_of s name args at was_handle chain (after_method link.behind link chain k) l) < 13 + 20 * left_by link.behind + stack_size k
+        size (method_of s name args at was_handle chain (after_method link.behind link chain k) l) < 14 + 20 * left_by link.behind + stack_size k
     method_of_falls name args at was_handle link chain k l = omega (
       arith,
       method_falls s (record { name = name; at = at; first_at = first_position args; was_handle = was_handle })
@@ -287,7 +287,7 @@ module _ {H : Type 0} where
           arith,
           entered_falls (focus_of l).value inner
               (λ above below. method_of s name args at (is_handle (focus_of l).value) chain (after_method link.behind link chain above) below)
-              (13 + 20 * left_by link.behind) k l
+              (14 + 20 * left_by link.behind) k l
               (λ j m. method_of_falls name args at (is_handle (focus_of l).value) link chain j m),
           less,
         ))
@@ -310,30 +310,30 @@ module _ {H : Type 0} where
     -- ---- what a link leaves behind
 
     pub part_assigned_falls : (whole : Option (Dynamic H)) (above : Dynamic H) (at : Spot) (op_at : Position) (k : List (Frame H))
-        (l : Local H) → size (part_assigned s whole above at op_at k l) ≤ 10 + stack_size k
+        (l : Local H) → size (part_assigned s whole above at op_at k l) ≤ 11 + stack_size k
     part_assigned_falls (Some whole) above at op_at k l =
         omega (arith, measured_part_size (sized s.limits (focus_of l) op_at))
     part_assigned_falls None above at op_at k l = omega arith
 
     pub part_changed_falls : (whole : Option (Dynamic H)) (above : Dynamic H) (at : Spot) (pos : Position) (v : Dynamic H)
-        (k : List (Frame H)) (l : Local H) → size (part_changed s whole above at pos v k l) ≤ 10 + stack_size k
+        (k : List (Frame H)) (l : Local H) → size (part_changed s whole above at pos v k l) ≤ 11 + stack_size k
     part_changed_falls (Some whole) above at pos v k l = omega arith
     part_changed_falls None above at pos v k l = omega arith
 
     -- a temporary that may have changed
     pub temporary_falls : (back : Option (MemberAccess H)) (temporary v : Dynamic H) (k : List (Frame H)) (l : Local H) →
-        size (temporary_changed s back temporary v k l) < 9 + stack_size k
+        size (temporary_changed s back temporary v k l) < 10 + stack_size k
     temporary_falls None temporary v k l = omega arith
     temporary_falls (Some access) temporary v k l = omega (arith, set_falls access.member true access temporary (MemberSet v ∷ k) l)
 
     pub member_operated_falls : (member : Member H) (access : MemberAccess H) (v : Dynamic H) (op_at : Position) (k : List (Frame H))
-        (l : Local H) → size (operated_core s member access v op_at k l) < 11 + stack_size k
+        (l : Local H) → size (operated_core s member access v op_at k l) < 12 + stack_size k
     member_operated_falls (Property name at) access v op_at k l = omega (arith, set_falls access.member false access v k l)
     member_operated_falls (Item index) access v op_at k l = on_falls (sized s.limits v op_at) _ k l
         (λ x. omega (arith, set_falls access.member false access x (MemberSet unit_value ∷ k) l))
 
     pub got_none_falls : (lacks : Bool) (member : Member H) (e : EvalAltResult H) (access : MemberAccess H) (new : NewValue H)
-        (k : List (Frame H)) (l : Local H) → size (got_none s lacks member e access new k l) ≤ 10 + stack_size k
+        (k : List (Frame H)) (l : Local H) → size (got_none s lacks member e access new k l) ≤ 11 + stack_size k
     got_none_falls true (Item index) e access new k l =
         omega (arith, set_falls access.member false access new.value (MemberSet unit_value ∷ k) l)
     got_none_falls true (Property name at) e access new k l = omega arith

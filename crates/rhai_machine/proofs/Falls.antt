@@ -22,7 +22,8 @@ use Rattle.rhai_values.specs.declared.base.value.Union.{Union}
 use Rattle.rhai_values.specs.declared.base.value.Union.TheVariants as value
 use Rattle.rhai_state.specs.declared.error.EvalAltResult.{EvalAltResult}
 use Rattle.rhai_state.specs.declared.error.EvalAltResult.TheVariants as error
-use Rattle.rhai_state.specs.Errors.{is_system}
+use Rattle.rhai_values.specs.Layers.{layer_of}
+use Rattle.rhai_state.specs.Errors.{is_catchable, is_system}
 use Rattle.rhai_state.specs.Scope.{index_of}
 use Rattle.rhai_places.specs.PutBack.{put_back}
 use Rattle.rhai_machine.specs.machine.Settling.{Falls}
@@ -38,10 +39,16 @@ use Rattle.rhai_machine.specs.language.Frames.{ArrayItem, EntryValue, TextPart, 
 use Rattle.rhai_machine.specs.language.Frames.{OpenChain, ChainArguments, ChainRoot, ReadRoot, Walk, Locate, AssignChain, AssignedChain}
 use Rattle.rhai_machine.specs.language.Frames.{RootValue, ChainEnd, StepDown, Temporary, PartMethod, PartAssigned, Measured, MethodLink}
 use Rattle.rhai_machine.specs.language.Frames.{MemberLink, MemberGot, MemberOperated, GetterTried, SetterTried, IndexerTried, MemberSet}
-use Rattle.rhai_machine.specs.language.Frames.{EnterFunction, EnterOnFocus, AssignThis, AssignThisValue, CallEnd}
+use Rattle.rhai_machine.specs.language.Frames.{EnterFunction, EnterOnFocus, AssignThis, AssignThisValue, CallEnd, Choose, ForTurn, ForItem, Share}
+use Rattle.rhai_machine.specs.language.Frames.{SwitchValue, SwitchCondition, ForItems, ForBody, RestoreScope, TryBody, CatchBranch, ThrowValue}
 use Rattle.rhai_machine.specs.language.Data.{with_item, with_value, with_part, items_core, entries_core, parts_core, part_core, joined_core}
 use Rattle.rhai_machine.specs.language.Data.{printed, unprinted_core}
 use Rattle.rhai_machine.specs.language.Places.{is_barred, target_of, this_target}
+use Rattle.rhai_machine.specs.language.Cases.{candidates, default_of}
+use Rattle.rhai_machine.specs.language.Turns.{next_turn, turns_of}
+use Rattle.rhai_machine.specs.language.Choices.{met_core}
+use Rattle.rhai_machine.specs.language.Walks.{has_no_room, started_core}
+use Rattle.rhai_machine.specs.language.Tries.{catch_variable}
 use Rattle.rhai_machine.specs.language.Assignment.{assignment_move}
 use Rattle.rhai_machine.specs.language.Loops.{is_endless, while_move, while_core, if_goes_on, goes_on, do_control, caught}
 use Rattle.rhai_machine.specs.language.Names.{bound_this, read}
@@ -50,17 +57,19 @@ use Rattle.rhai_machine.specs.language.Expressions.{coalesce_core, coalesce_seen
 use Rattle.rhai_machine.specs.language.Calls.{builtin_of, call_of, sized}
 use Rattle.rhai_machine.specs.language.Arguments.{flattens, taken, arguments_core, keyword_of, function_core, function_of}
 use Rattle.rhai_machine.specs.language.Statements.{enter_core, run_core, chosen_core, defined_core, define_core, break_core, return_move}
-use Rattle.rhai_machine.specs.language.Statements.{has_option, stmt_move}
+use Rattle.rhai_machine.specs.language.Statements.{has_option, loop_of, stmt_move}
 use Rattle.rhai_machine.specs.language.Bodies.{returned}
 use Rattle.rhai_machine.specs.language.Unwinding.{up_core, down_core, topped, operated, looked_at, marked_core}
 use Rattle.rhai_machine.specs.language.Language.{move_at, move}
 use Rattle.rhai_machine.specs.language.Members.{focus_of, focused_on, lacks_property, lacks_indexer}
 use Rattle.rhai_machine.specs.language.Links.{link_of}
 use Rattle.rhai_machine.proofs.ChainLinks.{links, within}
-use Rattle.rhai_machine.proofs.Sizes.{target_links, purpose_size, control_size, stack_size, size, enter_size, run_size, result_falls}
+use Rattle.rhai_machine.proofs.Sizes.{all_numbers, parts_in, purpose_size, control_size, stack_size, size, enter_size, run_size, result_falls}
 use Rattle.rhai_machine.proofs.Sizes.{on_falls, on_below, there_falls}
 use Rattle.rhai_machine.proofs.CallFalls.{named_call_falls, question_falls, fire_falls, focus_falls, keyword_falls, arguments_fall}
 use Rattle.rhai_machine.proofs.CallFalls.{operator_falls}
+use Rattle.rhai_machine.proofs.FormFalls.{candidates_size, choose_falls, met_falls, for_falls, started_falls, for_turn_falls, item_falls}
+use Rattle.rhai_machine.proofs.FormFalls.{tried_falls, share_falls}
 use Rattle.rhai_machine.proofs.AssignmentFalls.{store_falls, barred_falls, fire_update_falls}
 use Rattle.rhai_machine.proofs.ChainFalls.{asked_falls, open_falls, root_falls, read_root_falls, walk_falls, locate_falls}
 use Rattle.rhai_machine.proofs.ChainFalls.{assign_focus_falls, part_assigned_falls, part_changed_falls, member_operated_falls}
@@ -84,31 +93,31 @@ module _ {H : Type 0} where
     argument_falls (Some v) e k l = tt
     argument_falls None e k l = omega arith
 
-    and_falls : (parts : List Expr) (k : List (Frame H)) (l : Local H) → size (and_core parts k l) < 8 + stack_size k
+    and_falls : (parts : List Expr) (k : List (Frame H)) (l : Local H) → size (and_core parts k l) < 9 + stack_size k
     and_falls [] k l = omega arith
     and_falls (part ∷ parts) k l = omega arith
 
-    or_falls : (parts : List Expr) (k : List (Frame H)) (l : Local H) → size (or_core parts k l) < 8 + stack_size k
+    or_falls : (parts : List Expr) (k : List (Frame H)) (l : Local H) → size (or_core parts k l) < 9 + stack_size k
     or_falls [] k l = omega arith
     or_falls (part ∷ parts) k l = omega arith
 
     coalesce_falls : (last : Dynamic H) (parts : List Expr) (k : List (Frame H)) (l : Local H) →
-        size (coalesce_core last parts k l) < 8 + stack_size k
+        size (coalesce_core last parts k l) < 9 + stack_size k
     coalesce_falls last [] k l = omega arith
     coalesce_falls last (part ∷ parts) k l = omega arith
 
     items_fall : (made : List (Dynamic H)) (items : List Expr) (k : List (Frame H)) (l : Local H) →
-        size (items_core made items k l) < 8 + stack_size k
+        size (items_core made items k l) < 9 + stack_size k
     items_fall made [] k l = omega arith
     items_fall made (item ∷ items) k l = omega arith
 
     entries_fall : (keys : List (List ℕ)) (made : List (Dynamic H)) (entries : List MapEntry) (k : List (Frame H)) (l : Local H) →
-        size (entries_core keys made entries k l) < 8 + stack_size k
+        size (entries_core keys made entries k l) < 9 + stack_size k
     entries_fall keys made [] k l = omega arith
     entries_fall keys made (entry ∷ entries) k l = omega arith
 
     parts_fall : (text : List ℕ) (parts : List Expr) (k : List (Frame H)) (l : Local H) →
-        size (parts_core text parts k l) < 8 + stack_size k
+        size (parts_core text parts k l) < 9 + stack_size k
     parts_fall text [] k l = omega arith
     parts_fall text (part ∷ parts) k l = omega arith
 
@@ -166,13 +175,13 @@ module _ {H : Type 0} where
     define_falls false false ident value options restoring pos k l = omega arith
 
     assignment_falls : (target : ExprLayer) (op : OpAssignment) (rhs : Expr) (form : StmtLayer) (restoring : Bool) (k : List (Frame H))
-        (l : Local H) → target_links form ≡ links target →
+        (l : Local H) → parts_in form ≡ links target →
         Falls size (core (OpenStmt form restoring) k l) (assignment_move target op rhs k l)
     assignment_falls (layer.Variable offset name namespace pos) op rhs form restoring k l same =
         there_falls (is_unqualified namespace.path) (core (OpenStmt form restoring) k l) _ (omega arith)
     assignment_falls (layer.ThisPtr pos) op rhs form restoring k l same =
         on_below (bound_this pos l.this) (λ this. core (Eval rhs) (AssignThisValue op pos (position_of rhs) ∷ k) l) k l
-        (20 * target_links form + 50 + stack_size k) (omega arith) (λ this. omega arith)
+        (20 * parts_in form + 50 + stack_size k) (omega arith) (λ this. omega arith)
     assignment_falls (layer.Index lhs rest options pos) op rhs form restoring k l same = omega (arith, same)
     assignment_falls (layer.Dot lhs rest options pos) op rhs form restoring k l same = omega (arith, same)
     assignment_falls _ op rhs form restoring k l same = tt
@@ -185,7 +194,8 @@ module _ {H : Type 0} where
     return_falls : (throws : Bool) (value : Option Expr) (pos : Position) (form : StmtLayer) (restoring : Bool) (k : List (Frame H))
         (l : Local H) →
         Falls size (core (OpenStmt form restoring) k l) (return_move throws value pos k l)
-    return_falls true value pos form restoring k l = tt
+    return_falls true None pos form restoring k l = omega arith
+    return_falls true (Some value) pos form restoring k l = omega arith
     return_falls false None pos form restoring k l = omega arith
     return_falls false (Some value) pos form restoring k l = omega arith
 
@@ -207,76 +217,81 @@ module _ {H : Type 0} where
               (nat_le s.limits.max_variables (length l.scope)) ident value options restoring pos k l,
         ))
     stmt_falls (layer.If test body branch pos) restoring k l = omega arith
+    stmt_falls (layer.Switch value results cases ranges default pos) restoring k l = omega arith
     stmt_falls (layer.While test body pos) restoring k l = omega arith
     stmt_falls (layer.Do test body options pos) restoring k l = omega arith
+    stmt_falls (layer.For variable counter items body pos) restoring k l =
+        omega (arith, for_falls (has_no_room s.limits (loop_of variable counter items body) l) (loop_of variable counter items body) k l)
+    stmt_falls (layer.TryCatch body variable branch pos) restoring k l = omega (arith, enter_size body.statements true k)
+    stmt_falls (layer.Share variables) restoring k l = omega arith
     stmt_falls (layer.BreakLoop value options pos) restoring k l = break_falls value (has_option 2 options) pos k l
     stmt_falls (layer.Return value options pos) restoring k l =
         return_falls (has_option 2 options) value pos (layer.Return value options pos) restoring k l
     stmt_falls _ restoring k l = tt
 
     part_falls : (text part : List ℕ) (at : Position) (rest : List Expr) (k : List (Frame H)) (l : Local H) →
-        size (part_core s text part at rest k l) < 11 + stack_size k
+        size (part_core s text part at rest k l) < 12 + stack_size k
     part_falls text part at rest k l = on_falls (with_part s.limits text part at) (λ more. parts_core more rest k l) k l
         (λ more. grind (arith, parts_fall more rest k l))
 
     joined_falls : (u : Union H) (v : Dynamic H) (text : List ℕ) (at : Position) (rest : List Expr) (k : List (Frame H)) (l : Local H) →
-        size (joined_core s u v text at rest k l) < 11 + stack_size k
+        size (joined_core s u v text at rest k l) < 12 + stack_size k
     joined_falls (value.Str part) v text at rest k l = part_falls text part at rest k l
     joined_falls _ v text at rest k l = omega arith
 
     unprinted_falls : (passes : Bool) (e : EvalAltResult H) (text type : List ℕ) (at : Position) (rest : List Expr) (k : List (Frame H))
         (l : Local H) →
-        size (unprinted_core s passes e text type at rest k l) < 11 + stack_size k
+        size (unprinted_core s passes e text type at rest k l) < 12 + stack_size k
     unprinted_falls true e text type at rest k l = omega arith
     unprinted_falls false e text type at rest k l = part_falls text type at rest k l
 
     chosen_falls : (holds : Bool) (body branch : StmtBlock) (k : List (Frame H)) (l : Local H) →
-        size (chosen_core holds body branch k l) < 11 + stack_size k
+        size (chosen_core holds body branch k l) < 12 + stack_size k
     chosen_falls true body branch k l = omega (arith, enter_size body.statements true k)
     chosen_falls false body branch k l = omega (arith, enter_size branch.statements true k)
 
     operated_falls : (operation : Operation) (args : List (Dynamic H)) (k : List (Frame H)) (l : Local H) →
-        size (operated s operation args k l) < 11 + stack_size k
+        size (operated s operation args k l) < 12 + stack_size k
     operated_falls operation args k l = operator_falls s (builtin_of operation.token args) (call_of operation args) k l
 
     and_next_falls : (holds : Bool) (parts : List Expr) (k : List (Frame H)) (l : Local H) →
-        size (and_next holds parts k l) < 11 + stack_size k
+        size (and_next holds parts k l) < 12 + stack_size k
     and_next_falls true parts k l = grind (arith, and_falls parts k l)
     and_next_falls false parts k l = omega arith
 
     or_next_falls : (holds : Bool) (parts : List Expr) (k : List (Frame H)) (l : Local H) →
-        size (or_next holds parts k l) < 11 + stack_size k
+        size (or_next holds parts k l) < 12 + stack_size k
     or_next_falls true parts k l = omega arith
     or_next_falls false parts k l = grind (arith, or_falls parts k l)
 
     coalesce_seen_falls : (u : Union H) (v : Dynamic H) (parts : List Expr) (k : List (Frame H)) (l : Local H) →
-        size (coalesce_seen u v parts k l) < 11 + stack_size k
+        size (coalesce_seen u v parts k l) < 12 + stack_size k
     coalesce_seen_falls value.Unit v parts k l = grind (arith, coalesce_falls v parts k l)
     coalesce_seen_falls _ v parts k l = omega arith
 
     coalesce_next_falls : (r : Result (Dynamic H) (EvalAltResult H)) (v : Dynamic H) (parts : List Expr) (k : List (Frame H))
-        (l : Local H) → size (coalesce_next r v parts k l) < 11 + stack_size k
+        (l : Local H) → size (coalesce_next r v parts k l) < 12 + stack_size k
     coalesce_next_falls (Ok seen) v parts k l = coalesce_seen_falls seen.value v parts k l
     coalesce_next_falls (Err e) v parts k l = omega arith
 
     while_falls : (holds : Bool) (test : Expr) (body : StmtBlock) (k : List (Frame H)) (l : Local H) →
-        size (while_core holds test body k l) < 11 + stack_size k
+        size (while_core holds test body k l) < 12 + stack_size k
     while_falls true test body k l = omega (arith, enter_size body.statements true k)
     while_falls false test body k l = omega arith
 
-    goes_on_size : (b : Bool) (turn : Control H) → control_size turn ≤ 10 → control_size (if_goes_on b turn) ≤ 10
+    goes_on_size : (b : Bool) (turn : Control H) → control_size turn ≤ 11 → control_size (if_goes_on b turn) ≤ 11
     goes_on_size true turn small = small
     goes_on_size false turn small = omega arith
 
-    do_control_size : (r : Result Bool (EvalAltResult H)) (until : Bool) (turn : Control H) → control_size turn ≤ 10 →
-        control_size (do_control r until turn) ≤ 10
+    do_control_size : (r : Result Bool (EvalAltResult H)) (until : Bool) (turn : Control H) → control_size turn ≤ 11 →
+        control_size (do_control r until turn) ≤ 11
     do_control_size (Ok holds) until turn small = goes_on_size (goes_on until holds) turn small
     do_control_size (Err e) until turn small = omega arith
 
-    caught_size : (turn : Control H) → control_size turn ≤ 10 → (e : EvalAltResult H) → control_size (caught turn e) ≤ 10
-    caught_size turn small (error.LoopBreak v false at) = small
-    caught_size turn small (error.LoopBreak v true at) = omega arith
-    caught_size turn small _ = omega arith
+    caught_size : (n : ℕ) (turn : Control H) → 11 ≤ n → control_size turn ≤ n → (e : EvalAltResult H) → control_size (caught turn e) ≤ n
+    caught_size n turn most small (error.LoopBreak v false at) = small
+    caught_size n turn most small (error.LoopBreak v true at) = omega (arith, most)
+    caught_size n turn most small _ = omega (arith, most)
 
     -- a turn of a `while` charges, or comes to a charge
     while_turn_falls : (endless : Bool) (stmts : List Stmt) (test : Expr) (body : StmtBlock) (k : List (Frame H)) (l : Local H) →
@@ -286,8 +301,8 @@ module _ {H : Type 0} where
     while_turn_falls true (stmt ∷ stmts) test body k l = omega arith
 
     up_falls : (frame : Frame H) (v : Dynamic H) (k : List (Frame H)) (l : Local H) →
-        size (up_core s frame v k l) < 7 + stack_size (frame ∷ k)
-    up_falls (StatementValue at) v k l = result_falls (flat l.around.cells v at) (7 + (4 + stack_size k)) (stack_size k) (omega arith)
+        size (up_core s frame v k l) < 8 + stack_size (frame ∷ k)
+    up_falls (StatementValue at) v k l = result_falls (flat l.around.cells v at) (8 + (4 + stack_size k)) (stack_size k) (omega arith)
     up_falls (DefineValue ident options restoring value_at) v k l = grind
         (arith, on_falls (flat l.around.cells v value_at) (λ x. defined_core x ident options restoring k l) k l (λ x. omega arith))
     up_falls (IfCondition test_at body branch) v k l = grind (
@@ -314,7 +329,7 @@ module _ {H : Type 0} where
           (λ y. operated_falls operation (left ∷ y ∷ []) k l),
     )
     up_falls (CallArgument purpose made argument_at rest) v k l = on_below (taken (flattens purpose) l.around.cells v argument_at)
-        (λ x. arguments_core s purpose (made ++ x ∷ []) rest k l) k l (7 + (purpose_size purpose + 8 + stack_size k)) (omega arith)
+        (λ x. arguments_core s purpose (made ++ x ∷ []) rest k l) k l (8 + (purpose_size purpose + 8 + stack_size k)) (omega arith)
         (λ x. omega (arith, arguments_fall s purpose (made ++ x ∷ []) rest k l))
     up_falls (KeywordArgument keyword call_at start rest captures) v k l =
         omega (arith, keyword_falls s keyword call_at start rest captures v k l)
@@ -363,21 +378,36 @@ module _ {H : Type 0} where
               (DoTurn test body options) (omega arith),
         )
     up_falls (DoBody test body options) v k l = omega arith
+    up_falls (SwitchValue value_at choice) v k l = on_below (flat l.around.cells v value_at)
+        (λ x. core (Choose (candidates choice x) (default_of choice)) k l) k l (8 + (all_numbers choice.cases choice.ranges + 4 + stack_size k))
+        (omega arith) (λ x. omega (arith, candidates_size choice x))
+    up_falls (SwitchCondition candidate rest default) v k l = on_below
+        (truth s.host_type l.around.cells v (position_of candidate.condition)) (λ holds. met_core holds candidate rest default k l) k l
+        (8 + (length rest + 4 + stack_size k)) (omega arith) (λ holds. omega (arith, met_falls holds candidate rest default k l))
+    up_falls (ForItems loop) v k l = on_below (flat l.around.cells v (position_of loop.items))
+        (λ x. started_core (turns_of (layer_of x)) loop k l) k l (8 + (8 + stack_size k)) (omega arith)
+        (λ x. omega (arith, started_falls (turns_of (layer_of x)) loop k l))
+    up_falls (ForBody loop rest turn base) v k l = omega arith
+    up_falls (RestoreScope n) v k l = omega arith
+    up_falls (TryBody variable branch) v k l = omega arith
+    up_falls (CatchBranch caught) v k l = omega arith
+    up_falls (ThrowValue value_at at) v k l = grind
+        (arith, on_falls (flat l.around.cells v value_at) (λ x. core (Fail (error.ErrorRuntime x at)) k l) k l (λ x. omega arith))
     up_falls (BreakValue is_break at) v k l = omega arith
     up_falls (ReturnValue value_at at) v k l = grind
         (arith, on_falls (flat l.around.cells v value_at) (λ x. core (Fail (error.Return x at)) k l) k l (λ x. omega arith))
     up_falls (AssignChain root chain op value_at) v k l = on_below (flat l.around.cells v value_at) _ k l
-        (7 + (20 * links chain + 30 + stack_size k)) (omega arith) (λ x. omega arith)
+        (8 + (20 * links chain + 30 + stack_size k)) (omega arith) (λ x. omega arith)
     up_falls AssignedChain v k l = omega arith
     up_falls (RootValue chain) v k l = on_below (flat l.around.cells v (position_of chain.root)) _ k l
-        (7 + (20 * links chain.rest + 20 + stack_size k)) (omega arith) (λ x. omega arith)
+        (8 + (20 * links chain.rest + 20 + stack_size k)) (omega arith) (λ x. omega arith)
     up_falls (ChainEnd lender outer) v k l = omega arith
     up_falls (StepDown above step) v k l = omega arith
     up_falls (Temporary above back) v k l = omega arith
     up_falls (PartMethod above spot at) v k l = omega arith
     up_falls (PartAssigned above spot at) v k l =
         omega (arith, part_assigned_falls s (put_back above spot (focus_of l)) above spot at k l)
-    up_falls (Measured at) v k l = on_below (sized s.limits (looked_at l.around.cells (focus_of l)) at) _ k l (7 + (4 + stack_size k))
+    up_falls (Measured at) v k l = on_below (sized s.limits (looked_at l.around.cells (focus_of l)) at) _ k l (8 + (4 + stack_size k))
         (omega arith) (λ x. omega arith)
     up_falls (MethodLink chain) v k l = omega arith
     up_falls (MemberLink access chain) v k l = omega arith
@@ -393,13 +423,13 @@ module _ {H : Type 0} where
     up_falls (MemberSet value) v k l = omega arith
 
     down_falls : (frame : Frame H) (e : EvalAltResult H) (k : List (Frame H)) (l : Local H) →
-        size (down_core s frame e k l) < 10 + stack_size (frame ∷ k)
+        size (down_core s frame e k l) < 11 + stack_size (frame ∷ k)
     down_falls (StatementValue at) e k l = omega arith
     down_falls (DefineValue ident options restoring value_at) e k l = omega arith
     down_falls (IfCondition test_at body branch) e k l = omega arith
     down_falls (RestOfList rest restoring) e k l = omega arith
     down_falls (RestoreList saved) e k l = omega arith
-    down_falls (Top map_exit) e k l = result_falls (topped map_exit e) (10 + (4 + stack_size k)) (stack_size k) (omega arith)
+    down_falls (Top map_exit) e k l = result_falls (topped map_exit e) (11 + (4 + stack_size k)) (stack_size k) (omega arith)
     down_falls (UnaryOperand operation operand_at) e k l = omega arith
     down_falls (LeftOperand operation left_at right) e k l = omega arith
     down_falls (RightOperand operation left right_at) e k l = omega arith
@@ -414,11 +444,21 @@ module _ {H : Type 0} where
     down_falls (PrintedPart text type part_at rest) e k l = grind (arith, unprinted_falls (is_system e) e text type part_at rest k l)
     down_falls (AssignValue assignment value_at) e k l = omega arith
     down_falls (AssignThisValue op at value_at) e k l = omega arith
-    down_falls (CallEnd exit) e k l = result_falls (returned exit e) (10 + (1 + stack_size k)) (stack_size k) (omega arith)
+    down_falls (CallEnd exit) e k l = result_falls (returned exit e) (11 + (1 + stack_size k)) (stack_size k) (omega arith)
     down_falls (WhileCondition test body) e k l = omega arith
-    down_falls (WhileBody test body) e k l = omega (arith, caught_size (WhileTurn test body) (omega arith) e)
+    down_falls (WhileBody test body) e k l = omega (arith, caught_size 11 (WhileTurn test body) (omega arith) (omega arith) e)
     down_falls (DoCondition test body options) e k l = omega arith
-    down_falls (DoBody test body options) e k l = omega (arith, caught_size (DoTurn test body options) (omega arith) e)
+    down_falls (DoBody test body options) e k l = omega (arith, caught_size 11 (DoTurn test body options) (omega arith) (omega arith) e)
+    down_falls (SwitchValue value_at choice) e k l = omega arith
+    down_falls (SwitchCondition candidate rest default) e k l = omega arith
+    down_falls (ForItems loop) e k l = omega arith
+    down_falls (ForBody loop rest turn base) e k l =
+        omega (arith, caught_size 13 (ForTurn loop rest (turn + 1) base) (omega arith) (omega arith) e)
+    down_falls (RestoreScope n) e k l = omega arith
+    down_falls (TryBody variable branch) e k l =
+        omega (arith, tried_falls s (is_catchable e) (catch_variable (out-Expr variable)) e branch k l)
+    down_falls (CatchBranch caught) e k l = omega arith
+    down_falls (ThrowValue value_at at) e k l = omega arith
     down_falls (BreakValue is_break at) e k l = omega arith
     down_falls (ReturnValue value_at at) e k l = omega arith
     down_falls (MemberGot access root new) e k l = omega (arith, got_none_falls s (lacks_indexer e) access.member e access new k l)
@@ -442,7 +482,7 @@ module _ {H : Type 0} where
 
     -- a mark goes on below a frame, or is forgotten
     marked_falls : (frame : Frame H) (v : Dynamic H) (k : List (Frame H)) (l : Local H) →
-        size (marked_core s frame v k l) < 8 + stack_size (frame ∷ k)
+        size (marked_core s frame v k l) < 9 + stack_size (frame ∷ k)
     marked_falls (StepDown above step) v k l = omega arith
     marked_falls (Temporary above back) v k l =
         omega (arith, temporary_falls s back (focus_of l) v k (focused_on above l))
@@ -478,6 +518,10 @@ module _ {H : Type 0} where
         store_falls s (this_target l.around.cells at l.this) (record { name = []; at = at; op = op }) v k l
     control_falls (WhileTurn test body) k l = while_turn_falls (is_endless (out-Expr test)) body.statements test body k l
     control_falls (DoTurn test body options) k l = omega (arith, enter_size body.statements true k)
+    control_falls (Choose candidates default) k l = omega (arith, choose_falls candidates default k l)
+    control_falls (ForTurn loop left turn base) k l = for_turn_falls (next_turn left) loop.body.statements loop left turn base k l refl
+    control_falls (ForItem loop item rest turn base) k l = omega (arith, item_falls loop item rest turn base k l)
+    control_falls (Share variables) k l = omega (arith, share_falls variables k l)
     control_falls (OpenChain chain) k l = open_falls (link_of chain.rest) chain k l
     control_falls (ChainArguments chain rest made) k l = asked_falls s (link_of rest) chain rest made k l
     control_falls (ChainRoot chain) k l = root_falls (out-Expr chain.root) chain k l

@@ -10,5 +10,6 @@ mod Sizes
 mod CallFalls
 mod AssignmentFalls
 mod ChainFalls
+mod FormFalls
 mod Falls
 pub mod LanguageLaws

@@ -2,11 +2,15 @@
 pub use Rattle.rhai_state.specs.declared.error.EvalAltResult.{EvalAltResult}
 pub use Rattle.rhai_state.specs.declared.limits.Limits.{Limits}
 pub use Rattle.rhai_state.specs.declared.scope.ScopeEntry.{ScopeEntry}
+pub use Rattle.rhai_tree.specs.declared.expr.ConditionalExpr.{ConditionalExpr}
 pub use Rattle.rhai_tree.specs.declared.expr.Expr.{out-Expr, Expr}
 pub use Rattle.rhai_tree.specs.declared.expr.Ident.{Ident}
 pub use Rattle.rhai_tree.specs.declared.expr.OpAssignment.{OpAssignment}
+pub use Rattle.rhai_tree.specs.declared.expr.RangeCase.{RangeCase}
+pub use Rattle.rhai_tree.specs.declared.expr.SharedVariable.{SharedVariable}
 pub use Rattle.rhai_tree.specs.declared.expr.Stmt.{Stmt}
 pub use Rattle.rhai_tree.specs.declared.expr.StmtBlock.{StmtBlock}
+pub use Rattle.rhai_tree.specs.declared.expr.SwitchCase.{SwitchCase}
 pub use Rattle.rhai_tree.specs.declared.flags.ASTFlags.{ASTFlags}
 pub use Rattle.rhai_tree.specs.declared.function.FnAccess.{FnAccess}
 pub use Rattle.rhai_tree.specs.declared.function.ScriptFuncDef.{ScriptFuncDef}

@@ -6,6 +6,8 @@ pub mod Names
 pub mod Places
 pub mod Links
 pub mod Activations
+pub mod Cases
+pub mod Turns
 pub mod Frames
 pub mod Handles
 pub mod Bodies
@@ -18,7 +20,12 @@ pub mod Assignment
 pub mod Members
 pub mod Located
 pub mod Chains
+pub mod Choices
 pub mod Loops
+pub mod Walks
+pub mod Caught
+pub mod Tries
+pub mod Sharing
 pub mod Statements
 pub mod Unwinding
 pub mod Language

@@ -9,3 +9,7 @@ mod LoopRuns
 mod MemberRuns
 mod MethodRuns
 mod PartRuns
+mod SwitchRuns
+mod WalkRuns
+mod TryRuns
+mod ShareRuns

@@ -16,3 +16,7 @@ pub mod Entries
 pub mod Members
 pub mod Parts
 pub mod Functions
+pub mod Switches
+pub mod Walks
+pub mod Tries
+pub mod Shares

@@ -9,6 +9,8 @@ use Rattle.rhai_machine.specs.machine.Point.{with_calls}
 use Rattle.rhai_machine.specs.language.Setting.{Setting, Rules, cut, over}
 use Rattle.rhai_machine.specs.language.State.{Local, State}
 use Rattle.rhai_machine.specs.language.Language.{machine}
+use Rattle.rhai_machine.specs.language.Frames.{Control, Frame}
+use Rattle.rhai_machine.specs.language.Runs.{at}
 use Rattle.rhai_machine.specs.language.Script.{start_of_script, end_of_script}
 
 -- a table of natives in a state
@@ -131,3 +133,9 @@ module _ {S H : Type 0} (table : Table S H) where
   -- over what is there before it ends so, and calls no native
   abbrev pub Ends : Setting H → Local H → List Stmt → Result (Dynamic H) (EvalAltResult H) → (count : ℕ) → Local H → Type 0
   Ends s before script result count after = EndsScript s false script 0 before result count after []
+
+  -- from a control over these frames and what is there before a run comes to this result, and calls no native
+  abbrev pub EndsFromFrames : Setting H → Local H → Control H → List (Frame H) → Result (Dynamic H) (EvalAltResult H) → (count : ℕ) →
+      Local H → Type 0
+  EndsFromFrames s before c k result count after = Run (machine (under s table)) (cut (under s table))
+      (with_calls (at c k (state 0 before)) []) (with_calls (end_of_script result (state count after)) [])

@@ -1,6 +1,7 @@
 -- Small words for the trees of sample scripts. A script stands on one line, so each place is a column.
-use Rattle.std.specs.Prelude.{ℕ, ◌+◌, pos, Bool, false, List, [], Option, Some, None}
-use Rattle.rhai_machine.specs.Types.{Expr, Position, Stmt, StmtBlock, Token}
+use Rattle.std.specs.Prelude.{ℕ, ◌+◌, pos, Bool, true, false, List, [], ◌∷◌, Option, Some, None}
+use Rattle.rhai_machine.specs.Types.{ConditionalExpr, Expr, Ident, Position, RangeCase, SharedVariable, Stmt, StmtBlock, SwitchCase, Token}
+use Rattle.rhai_tree.specs.declared.literal.Literal.{Literal}
 use Rattle.rhai_tree.specs.declared.expr.Namespace.{Namespace}
 use Rattle.rhai_tree.specs.declared.expr.Expr.TheVariants as expr
 use Rattle.rhai_tree.specs.declared.expr.Stmt.TheVariants as stmt
@@ -99,6 +100,41 @@ continue_ c = stmt.BreakLoop None (record { 0 = 0 }) (column c)
 
 abbrev pub return_ : (at : ℕ) → Option Expr → Stmt
 return_ c e = stmt.Return e (record { 0 = 0 }) (column c)
+
+abbrev pub throw_ : (at : ℕ) → Option Expr → Stmt
+throw_ c e = stmt.Return e (record { 0 = 2 }) (column c)
+
+-- a name at a column
+abbrev pub ident : (at : ℕ) → List ℕ → Ident
+ident c name = record { name = name; pos = column c }
+
+abbrev pub for_ : (at : ℕ) → Ident → (counter : Option Ident) → Expr → StmtBlock → Stmt
+for_ c name counter items body = stmt.For name counter items body (column c)
+
+-- a `try` whose branch has a variable, or none
+abbrev pub try_ : (at : ℕ) → StmtBlock → Expr → StmtBlock → Stmt
+try_ c body variable branch = stmt.TryCatch body variable branch (column c)
+
+abbrev pub no_variable : Expr
+no_variable = expr.Unit none
+
+-- a result of a `switch`: under a condition, or under none
+abbrev pub result_if : (test result : Expr) → ConditionalExpr
+result_if test e = record { condition = test; expr = e }
+
+abbrev pub result_of : Expr → ConditionalExpr
+result_of e = result_if (expr.BoolConstant true none) e
+
+-- a case with the number of its result, and a `switch` at its column
+abbrev pub case_of : Literal → ℕ → SwitchCase
+case_of literal number = record { value = literal; blocks = number ∷ [] }
+
+abbrev pub switch_ : (at : ℕ) → Expr → List ConditionalExpr → List SwitchCase → List RangeCase → (default : Option ℕ) → Stmt
+switch_ c e results cases ranges default = stmt.Switch e results cases ranges default (column c)
+
+-- a variable that a closure shares
+abbrev pub shared : (at : ℕ) → List ℕ → SharedVariable
+shared c name = record { ident = ident c name; offset = None }
 
 -- an `if` with both its lists
 abbrev pub if_ : (at : ℕ) → Expr → StmtBlock → StmtBlock → Stmt

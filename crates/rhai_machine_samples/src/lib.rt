@@ -25,6 +25,10 @@ ghost use Rattle.rhai_machine_samples.specs.Items.{Items, SharedItems};
 ghost use Rattle.rhai_machine_samples.specs.Entries.{Entries};
 ghost use Rattle.rhai_machine_samples.specs.Members.{Members, SetBack, Guards, Indexers};
 ghost use Rattle.rhai_machine_samples.specs.Parts.{MethodChains, Parts};
+ghost use Rattle.rhai_machine_samples.specs.Switches.{Switches, SwitchErrors};
+ghost use Rattle.rhai_machine_samples.specs.Walks.{Walks, WalkEnds};
+ghost use Rattle.rhai_machine_samples.specs.Tries.{Throws, Tries, TryEnds};
+ghost use Rattle.rhai_machine_samples.specs.Shares.{Shares};
 
 use rhai_machine::laws::{Language, always_ends};
 use rhai_state::table::NativeTable;
@@ -200,4 +204,44 @@ pub fn sample_method_chains<H, S>(of: PhantomData<(H, S)>)
 /// Characters and bits that are read and put back.
 pub fn sample_parts<H, S>(of: PhantomData<(H, S)>)
     ensures { (table : Table S H) (host : H → List ℕ) → Parts table host }
+{}
+
+/// Values that a `switch` leads to a case, to a range or to its default.
+pub fn sample_switches<H, S>(of: PhantomData<(H, S)>)
+    ensures { (table : Table S H) (host : H → List ℕ) → Switches table host }
+{}
+
+/// What fails or is refused in a `switch`.
+pub fn sample_switch_errors<H, S>(of: PhantomData<(H, S)>)
+    ensures { (table : Table S H) (host : H → List ℕ) → SwitchErrors table host }
+{}
+
+/// What a `for` walks, and the variables that it writes.
+pub fn sample_walks<H, S>(of: PhantomData<(H, S)>)
+    ensures { (table : Table S H) (host : H → List ℕ) → Walks table host }
+{}
+
+/// The ways out of a `for`, and a turn that can not be made.
+pub fn sample_walk_ends<H, S>(of: PhantomData<(H, S)>)
+    ensures { (table : Table S H) (host : H → List ℕ) → WalkEnds table host }
+{}
+
+/// `throw`, with a value and without.
+pub fn sample_throws<H, S>(of: PhantomData<(H, S)>)
+    ensures { (table : Table S H) (host : H → List ℕ) → Throws table host }
+{}
+
+/// What a `try` catches, and what its branch finds.
+pub fn sample_tries<H, S>(of: PhantomData<(H, S)>)
+    ensures { (table : Table S H) (host : H → List ℕ) → Tries table host }
+{}
+
+/// What passes through a `try`.
+pub fn sample_try_ends<H, S>(of: PhantomData<(H, S)>)
+    ensures { (table : Table S H) (host : H → List ℕ) → TryEnds table host }
+{}
+
+/// Variables that closures share.
+pub fn sample_shares<H, S>(of: PhantomData<(H, S)>)
+    ensures { (table : Table S H) (host : H → List ℕ) → Shares table host }
 {}

@@ -23,7 +23,7 @@ use Rattle.rhai_machine.specs.language.State.{Held, Local, State}
 use Rattle.rhai_machine.specs.language.Values.{bool_value}
 use Rattle.rhai_machine.specs.language.Unwinding.{down_core}
 use Rattle.rhai_machine.specs.language.Frames.{Frame, core, Eval, OpenExpr, Fail, IfCondition}
-use Rattle.rhai_machine.specs.language.Frames.{AndPart, OrPart, WhileCondition, DoCondition}
+use Rattle.rhai_machine.specs.language.Frames.{AndPart, OrPart, WhileCondition, DoCondition, SwitchCondition}
 use Rattle.rhai_machine.specs.language.Runs.{at, Goes}
 use Rattle.rhai_steps.specs.States.{state_of}
 use Rattle.rhai_steps.proofs.Pieces.{charged, refused, step_by}
@@ -40,6 +40,7 @@ module _ {S H : Type 0} (rules : Rules S H) where
   truth_passes (OrPart part_at rest) pos is x k l = refl
   truth_passes (WhileCondition test body) pos is x k l = refl
   truth_passes (DoCondition test body options) pos is x k l = refl
+  truth_passes (SwitchCondition candidate rest default) pos is x k l = refl
   truth_passes _ pos is x k l = cc
 
   pub passes_on : (f : Frame H) (pos : Position) → asks_truth f ≡ Some pos → (x : EvalAltResult H) (k : List (Frame H)) (l : State S H) →

@@ -37,8 +37,8 @@ two_resolve left right names h =
 module _ (call : FnCallExpr) (pos : Position) (names : List Name) (h : IsTrue (resolves_call call pos names)) where
   passed_call : IsTrue (is_unqualified call.namespace.path) × IsTrue (all_resolve_exprs (map tests_of call.args) names)
   passed_call =
-      let opened = fold_out-FnCallExpr (walk.Seen sound) (walk.SeenStmt sound) (Unit {0}) (walk.SeenCall sound)
-      (walk.SeenEntry sound) (walk.Seen sound) (walk.expr_step sound) (walk.stmt_step sound) (λ conditional. tt) (walk.call_step sound)
+      let opened = fold_out-FnCallExpr (walk.Seen sound) (walk.SeenStmt sound) (walk.SeenConditional sound) (walk.SeenCall sound)
+      (walk.SeenEntry sound) (walk.Seen sound) (walk.expr_step sound) (walk.stmt_step sound) (walk.conditional_step sound) (walk.call_step sound)
       (walk.entry_step sound) (walk.block_step sound) call in
       holds_then _ _ (fails_then _ _ (subst (λ (s : walk.SeenCall sound). IsTrue (s.value pos names)) opened h)).1
 

@@ -8,6 +8,7 @@ use Rattle.rhai_machine.specs.language.Setting.{Setting, Rules}
 use Rattle.rhai_machine.specs.language.State.{Local, State}
 use Rattle.rhai_machine.specs.language.Values.{bool_value}
 use Rattle.rhai_machine.specs.language.Frames.{Frame, Core, core, Eval, Fail, IfCondition, AndPart, OrPart, WhileCondition, DoCondition}
+use Rattle.rhai_machine.specs.language.Frames.{SwitchCondition}
 use Rattle.rhai_machine.specs.language.Unwinding.{up_core}
 use Rattle.rhai_machine.specs.language.Runs.{at, with_core, Goes}
 
@@ -19,6 +20,7 @@ module _ {H : Type 0} where
   asks_truth (OrPart part_at rest) = Some part_at
   asks_truth (WhileCondition test body) = Some (position_of test)
   asks_truth (DoCondition test body options) = Some (position_of test)
+  asks_truth (SwitchCondition candidate rest default) = Some (position_of candidate.condition)
   asks_truth _ = None
 
   -- a truth value comes up to a frame, or an error passes it

@@ -200,3 +200,20 @@ pub fn variable_declared(alloc: Global) -> Result<TreeParts, AllocError> {
     tree.function("keep", &["n"], body);
     tree.finish_with_functions([])
 }
+
+/// `fn g() { 1 }`
+pub fn function_g(alloc: Global) -> Result<TreeParts, AllocError> {
+    let mut tree = Builder::new(alloc);
+    let body = tree.block([Stmt::Expr(int(1, 10))], 8, 12);
+    tree.function("g", &[], body);
+    tree.finish_with_functions([])
+}
+
+/// `fn h() { g() }`
+pub fn function_h(alloc: Global) -> Result<TreeParts, AllocError> {
+    let mut tree = Builder::new(alloc);
+    let call = tree.call("g", 10, []);
+    let body = tree.block([Stmt::Expr(call)], 8, 14);
+    tree.function("h", &[], body);
+    tree.finish_with_functions([])
+}

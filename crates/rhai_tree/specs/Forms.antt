@@ -1,7 +1,9 @@
 -- Which forms of the tree are there.
-use Rattle.std.specs.Prelude.{ℕ, Bool, true, false, ◌&&◌, ◌||◌, ◌==◌, List, [], ◌∷◌, codes}
+use Rattle.std.specs.Prelude.{ℕ, Bool, true, false, if◌then◌else◌, ◌&&◌, ◌||◌, ◌==◌, List, [], ◌∷◌, Option, Some, None, codes}
 use Rattle.std.specs.Int.RustNames.{bit_and}
 use Rattle.std.specs.Str.{bytes_eq}
+use Rattle.rhai_tree.specs.declared.expr.Expr.{Expr, out-Expr}
+use Rattle.rhai_tree.specs.declared.expr.Expr.TheOpen as layer
 use Rattle.rhai_tree.specs.declared.expr.Namespace.{Namespace}
 use Rattle.rhai_tree.specs.Types.{ASTFlags}
 use Rattle.rhai_tree.specs.Names.{Name}
@@ -26,6 +28,15 @@ is_throw options = bit_and options.0 2 == 2
 -- an operator of a chain that ends it: the chain stands in brackets of its own
 abbrev pub ends_chain : ASTFlags → Bool
 ends_chain options = bit_and options.0 2 == 2
+
+-- the name that a catch variable declares: `()` none, and a name without a path itself; no other form is a catch variable
+abbrev pub catch_name : {A B C D E F : Type 0} → layer.Expr-F A B C D E F → Option (Option Name)
+catch_name (layer.Unit pos) = Some None
+catch_name (layer.Variable offset name namespace pos) = if is_unqualified namespace.path then Some (Some name) else None
+catch_name _ = None
+
+abbrev pub catch_of : Expr → Option (Option Name)
+catch_of e = catch_name (out-Expr e)
 
 -- one of several parts
 abbrev pub any_of : List Bool → Bool

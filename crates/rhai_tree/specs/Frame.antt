@@ -1,8 +1,11 @@
 -- What a run may rely on in a part of a checked tree: it has forms that are there alone, a list counts the links of each chain, and each
 -- offset is that of the newest variable of its name in the scope, whose names are taken oldest first.
-use Rattle.std.specs.Prelude.{Bool, false, IsTrue, List, [], ◌∷◌, ◌++◌, map, Option}
-use Rattle.rhai_tree.specs.Types.{ASTFlags, Expr, FnCallExpr, MapEntry, Position, ScriptFuncDef, ScriptFuncPayload, Stmt, StmtBlock}
+use Rattle.std.specs.Prelude.{Bool, false, IsTrue, List, [], ◌∷◌, ◌++◌, map, Option, option_map}
+use Rattle.rhai_tree.specs.Types.{ASTFlags, ConditionalExpr, Expr, FnCallExpr, Ident, MapEntry, Position, ScriptFuncDef}
+use Rattle.rhai_tree.specs.Types.{ScriptFuncPayload, SharedVariable, Stmt, StmtBlock}
 use Rattle.rhai_tree.specs.declared.function.ScriptFuncPayload.TheVariants.{Statements}
+use Rattle.rhai_tree.specs.Positions.{position_of}
+use Rattle.rhai_tree.specs.Forms.{catch_of}
 use Rattle.rhai_tree.specs.Names.{Name}
 use Rattle.rhai_tree.specs.Reading as walk
 use Rattle.rhai_tree.specs.Reading.{sound}
@@ -48,6 +51,35 @@ entries_resolve = walk.found_in_entries sound
 
 abbrev pub map_resolves : List (walk.SeenEntry sound) → List Name → Position → walk.Finds sound
 map_resolves = walk.found_in_map sound
+
+-- of a result of a `switch` under its condition, and of those in a row
+abbrev pub resolves_conditional : ConditionalExpr → walk.Finds sound
+resolves_conditional = walk.seen_conditional sound
+
+abbrev pub conditionals_resolve : List (walk.SeenConditional sound) → walk.Finds sound
+conditionals_resolve = walk.found_in_conditionals sound
+
+-- the names after one that may be left out, in the body of a `for` behind its counter and its variable, and behind a catch variable
+abbrev pub with_name : Option Name → List Name → List Name
+with_name = walk.after sound
+
+abbrev pub turn_names : (variable : Ident) → (counter : Option Ident) → List Name → List Name
+turn_names variable counter names = with_name (option_map (walk.name_in sound) counter) names ++ variable.name ∷ []
+
+abbrev pub catch_names : (catch : Option (Option Name)) → List Name → List Name
+catch_names = walk.after_catch sound
+
+-- of the body of a `for`, and of a catch variable with its branch
+abbrev pub turns_resolve : (variable : Ident) → (counter : Option Ident) → StmtBlock → walk.Finds sound
+turns_resolve variable counter body =
+    walk.found_in_turns sound variable.name (option_map (walk.name_in sound) counter) (resolves_block body)
+
+abbrev pub catch_resolves : (variable : Expr) → (branch : StmtBlock) → walk.Finds sound
+catch_resolves variable branch = walk.found_in_catch sound (catch_of variable) (position_of variable) (resolves_block branch)
+
+-- of the variables that closures share
+abbrev pub shared_resolve : List SharedVariable → walk.Finds sound
+shared_resolve = walk.found_in_shared sound
 
 -- of what stands behind a dot, and of a property or a method that begins there
 abbrev pub dot_resolves : Bool → walk.Link sound → Position → walk.Finds sound

@@ -1,4 +1,5 @@
 pub mod Ascending
+pub mod Cases
 pub mod Context
 pub mod Faults
 pub mod Forms
@@ -11,6 +12,7 @@ pub mod Names
 pub mod Position
 pub mod Positions
 pub mod Reading
+pub mod SameLiteral
 pub mod Signatures
 pub mod Tokens
 pub mod Types

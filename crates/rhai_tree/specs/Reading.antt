@@ -1,17 +1,20 @@
 -- One walk over a tree, which is read in two ways: for the faults that stand in it, and for whether a part may run above some names.
-use Rattle.std.specs.Prelude.{ℕ, ◌+◌, Bool, true, false, not, ◌&&◌, if◌then◌else◌, List, [], ◌∷◌, ◌++◌, length, map, Option, Some, None}
+use Rattle.std.specs.Prelude.{ℕ, ◌+◌, Bool, true, false, not, ◌&&◌, if◌then◌else◌, List, [], ◌∷◌, ◌++◌, length, map, Option, Some, None, option_map}
 use Rattle.std.specs.declared.num.NonZeroUsize.{NonZeroUsize}
-use Rattle.rhai_tree.specs.Types.{ASTFlags, CheckFault, Expr, FnCallExpr, MapEntry, Position, Stmt, StmtBlock}
-use Rattle.rhai_tree.specs.declared.fault.CheckFault.TheVariants.{BadOffset, BadChain, BadAssignment, BadMapKey}
+use Rattle.rhai_tree.specs.Types.{ASTFlags, CheckFault, ConditionalExpr, Expr, FnCallExpr, Ident, MapEntry, Position, SharedVariable}
+use Rattle.rhai_tree.specs.Types.{Stmt, StmtBlock}
+use Rattle.rhai_tree.specs.declared.fault.CheckFault.TheVariants.{BadOffset, BadChain, BadAssignment, BadSwitch, BadMapKey, BadCatch}
 use Rattle.rhai_tree.specs.declared.fault.CheckFault.TheVariants.{LoopControlOutside, EvalCall, NotAnExpression, QualifiedMethod, NotYet}
 use Rattle.rhai_tree.specs.declared.expr.Expr.TheOpen as layer
-use Rattle.rhai_tree.specs.declared.expr.Expr.TheFolds.{fold-Expr, fold-FnCallExpr, fold-MapEntry, fold-StmtBlock, fold-Stmt}
+use Rattle.rhai_tree.specs.declared.expr.Expr.TheFolds.{fold-Expr, fold-ConditionalExpr, fold-FnCallExpr, fold-MapEntry, fold-StmtBlock}
+use Rattle.rhai_tree.specs.declared.expr.Expr.TheFolds.{fold-Stmt}
+use Rattle.rhai_tree.specs.Cases.{is_switch}
 use Rattle.rhai_tree.specs.Context.{Context, inside, looping, declaring}
-use Rattle.rhai_tree.specs.Forms.{is_unqualified, is_eval_call, is_exported, is_throw, ends_chain}
+use Rattle.rhai_tree.specs.Forms.{is_unqualified, is_eval_call, is_exported, ends_chain, catch_name}
 use Rattle.rhai_tree.specs.Keys.{are_keys}
 use Rattle.rhai_tree.specs.Links.{is_counted}
 use Rattle.rhai_tree.specs.Names.{Name, is_good}
-use Rattle.rhai_tree.specs.Positions.{first_or, start_of_name, start_of_operands, start_of_call, first_shared}
+use Rattle.rhai_tree.specs.Positions.{first_or, start_of_name, start_of_operands, start_of_call}
 
 -- A way of reading a tree: what it keeps of what surrounds a form, what it gathers of a form's parts, and what it finds of how many links
 -- a chain has.
@@ -72,14 +75,16 @@ module _ (r : Reading) where
     Named : (is_method : Bool) → Finds → Link
     GoesOn : (first : Finds) → (named : Option Finds) → (behind : Finds) → (ends_in_method : Bool) → Link
 
-  -- what is seen of an expression or a block: where it starts, whether it may be assigned to, how many links it has, what is found of it,
-  -- and what it is in a chain
+  -- what is seen of an expression or a block: where it starts and where it stands, whether it may be assigned to, how many links it has,
+  -- what is found of it, what it is in a chain, and what it declares as a catch variable
   pub record Seen : Type 0 where
     pub start : Position
+    pub pos : Position
     pub is_place : Bool
     pub links : ℕ
     pub value : Finds
     pub link : Link
+    pub catch : Option (Option Name)
 
   -- what is seen of a call: its first operand's start, where it is written between two, and what is found
   -- of it where its name or operator stands, as a call and as a method
@@ -97,6 +102,10 @@ module _ (r : Reading) where
     pub key : Name
     pub value : Finds
 
+  -- what is found of a result of a `switch` and of its condition
+  abbrev pub SeenConditional : Type 0
+  SeenConditional = Finds
+
   abbrev pub key_in : SeenEntry → Name
   key_in entry = entry.key
 
@@ -107,22 +116,21 @@ module _ (r : Reading) where
   abbrev pub nothing : Finds
   nothing c = r.none
 
+  -- a form that starts where it stands, and is no place, no chain and no catch variable
+  abbrev pub plain : Position → Finds → Seen
+  plain pos value = record { start = pos; pos = pos; is_place = false; links = 0; value = value; link = IndexAlone; catch = None }
+
   -- variables, `this` and chains from them are places, and nothing else is
   abbrev pub place : Position → Finds → Seen
-  place start value = record { start = start; is_place = true; links = 0; value = value; link = IndexAlone }
+  place pos value = record (plain pos value) { is_place = true }
 
-  abbrev pub plain : Position → Finds → Seen
-  plain start value = record { start = start; is_place = false; links = 0; value = value; link = IndexAlone }
+  -- a form that starts further to the front
+  abbrev pub from : (start : Position) → Seen → Seen
+  from start seen = record seen { start = start }
 
   -- a property or a method is no expression by itself
   abbrev pub named : (is_method : Bool) → Position → Finds → Seen
-  named is_method pos value = record {
-    start = pos;
-    is_place = false;
-    links = 0;
-    value = λ c. r.fault (NotAnExpression pos);
-    link = Named is_method value;
-  }
+  named is_method pos value = record (plain pos (λ c. r.fault (NotAnExpression pos))) { link = Named is_method value }
 
   -- ---- chains
 
@@ -162,14 +170,16 @@ module _ (r : Reading) where
   index_ends false (GoesOn first named behind ends_in_method) = ends_in_method
   index_ends _ _ = false
 
-  -- a chain: its root, its links, and what is behind its operator
-  abbrev pub chain : (root : Seen) → (links : ℕ) → (behind : Finds) → (ends_in_method : Bool) → Seen
-  chain root links behind ends_in_method = record {
+  -- a chain: its root, where its operator stands, its links, and what is behind its operator
+  abbrev pub chain : (root : Seen) → Position → (links : ℕ) → (behind : Finds) → (ends_in_method : Bool) → Seen
+  chain root pos links behind ends_in_method = record {
     start = root.start;
+    pos = pos;
     is_place = is_root root.is_place root.link && not ends_in_method;
     links = links;
     value = λ c. r.both (r.counted links) (r.both (root.value c) (behind c));
     link = GoesOn root.value (named_in root.link) behind ends_in_method;
+    catch = None;
   }
 
   -- the left side of an assignment is a place
@@ -205,45 +215,97 @@ module _ (r : Reading) where
   found_in_list (part ∷ parts) c =
       (r.both (part c).0 (found_in_list parts (part c).1).0, (found_in_list parts (part c).1).1)
 
-  -- a variable's name must be the newest of its name at its offset
+  -- among some names an offset is that of the newest of its name
+  abbrev pub found_at_offset : Option NonZeroUsize → Name → Position → List Name → r.Found
+  found_at_offset offset name pos names = if is_good offset name names then r.none else r.fault (BadOffset pos)
+
+  -- a variable's offset is among the names before it
   abbrev pub found_in_variable : Option NonZeroUsize → Name → List Name → Position → Finds
   found_in_variable offset name path pos c =
-      if is_unqualified path then (if is_good offset name (r.names c) then r.none else r.fault (BadOffset pos)) else r.fault (NotYet pos)
+      if is_unqualified path then found_at_offset offset name pos (r.names c) else r.fault (NotYet pos)
+
+  -- so is that of each variable that closures share
+  abbrev pub found_in_shared : List SharedVariable → List Name → r.Found
+  found_in_shared [] names = r.none
+  found_in_shared (variable ∷ variables) names =
+      r.both (found_at_offset variable.offset variable.ident.name variable.ident.pos names) (found_in_shared variables names)
 
   -- `break` and `continue` stand in a loop of their function
   abbrev pub found_in_control : Position → Finds
   found_in_control pos c = if r.in_loop c then r.none else r.fault (LoopControlOutside pos)
 
+  -- the cases of a `switch` are good
+  abbrev pub found_in_cases : Bool → Position → Finds
+  found_in_cases good pos c = if good then r.none else r.fault (BadSwitch pos)
+
+  -- its conditions and results, each looked at once
+  abbrev pub found_in_conditionals : List SeenConditional → Finds
+  found_in_conditionals [] c = r.none
+  found_in_conditionals (part ∷ parts) c = r.both (part c) (found_in_conditionals parts c)
+
+  -- a `switch`: its cases, its value, and its conditions and results
+  abbrev pub found_in_switch : (good : Bool) → Position → (value : Finds) → List SeenConditional → Finds
+  found_in_switch good pos value parts c = r.both (found_in_cases good pos c) (r.both (value c) (found_in_conditionals parts c))
+
+  -- what surrounds a form after a name that may be left out
+  abbrev pub after : Option Name → r.Around → r.Around
+  after None c = c
+  after (Some name) c = r.declaring name c
+
+  abbrev pub name_in : Ident → Name
+  name_in ident = ident.name
+
+  -- a `for` declares its counter and then its variable, for its body alone
+  abbrev pub found_in_turns : (variable : Name) → (counter : Option Name) → (body : Finds) → Finds
+  found_in_turns variable counter body c = body (r.looping (r.declaring variable (after counter c)))
+
+  -- a catch variable is `()` or a name
+  abbrev pub found_in_catch_variable : (catch : Option (Option Name)) → Position → r.Found
+  found_in_catch_variable (Some name) pos = r.none
+  found_in_catch_variable None pos = r.fault (BadCatch pos)
+
+  -- what surrounds its branch, for which alone it declares its name
+  abbrev pub after_catch : (catch : Option (Option Name)) → r.Around → r.Around
+  after_catch (Some name) c = after name c
+  after_catch None c = c
+
+  abbrev pub found_in_catch : (catch : Option (Option Name)) → Position → (branch : Finds) → Finds
+  found_in_catch catch pos branch c = r.both (found_in_catch_variable catch pos) (branch (after_catch catch c))
+
   -- a variable that is exported is not there yet
   abbrev pub found_in_var : Seen → ASTFlags → Position → Finds
   found_in_var expr options pos c = if is_exported options then r.fault (NotYet pos) else expr.value c
 
-  abbrev pub expr_step : layer.Expr-F Seen SeenStmt (Unit {0}) SeenCall SeenEntry Seen → Seen
-  expr_step (layer.DynamicConstant value pos) = plain pos nothing
-  expr_step (layer.BoolConstant value pos) = plain pos nothing
-  expr_step (layer.IntegerConstant value pos) = plain pos nothing
-  expr_step (layer.CharConstant value pos) = plain pos nothing
-  expr_step (layer.StringConstant value pos) = plain pos nothing
-  expr_step (layer.Unit pos) = plain pos nothing
-  expr_step (layer.InterpolatedString parts pos) = plain pos (found_in_all parts)
-  expr_step (layer.Array items pos) = plain pos (found_in_all items)
-  expr_step (layer.Map entries template pos) = plain pos (found_in_map entries template.0 pos)
-  expr_step (layer.ThisPtr pos) = place pos nothing
-  expr_step (layer.Variable offset name namespace pos) =
-      place (start_of_name namespace.path namespace.position pos) (found_in_variable offset name namespace.path pos)
-  expr_step (layer.Property name pos) = named false pos nothing
-  expr_step (layer.MethodCall call pos) = named true pos (call.method pos)
-  expr_step (layer.Expr::FnCall call pos) = plain (start_of_call call.operand pos) (call.value pos)
-  expr_step (layer.Stmt block) = block
-  expr_step (layer.Dot lhs rhs options pos) =
-      chain lhs (1 + rhs.links) (found_behind_dot (ends_chain options) rhs.link pos) (method_ends (ends_chain options) rhs.link)
-  expr_step (layer.Index lhs rhs options pos) =
-      chain lhs (1 + rhs.links) (found_behind_bracket (ends_chain options) rhs.link rhs.value) (index_ends (ends_chain options) rhs.link)
-  expr_step (layer.And parts pos) = plain (first_or pos (map start_in parts)) (found_in_all parts)
-  expr_step (layer.Or parts pos) = plain (first_or pos (map start_in parts)) (found_in_all parts)
-  expr_step (layer.Coalesce parts pos) = plain (first_or pos (map start_in parts)) (found_in_all parts)
+  -- an expression as its form is written, without what it declares as a catch variable
+  abbrev pub form_step : layer.Expr-F Seen SeenStmt SeenConditional SeenCall SeenEntry Seen → Seen
+  form_step (layer.DynamicConstant value pos) = plain pos nothing
+  form_step (layer.BoolConstant value pos) = plain pos nothing
+  form_step (layer.IntegerConstant value pos) = plain pos nothing
+  form_step (layer.CharConstant value pos) = plain pos nothing
+  form_step (layer.StringConstant value pos) = plain pos nothing
+  form_step (layer.Unit pos) = plain pos nothing
+  form_step (layer.InterpolatedString parts pos) = plain pos (found_in_all parts)
+  form_step (layer.Array items pos) = plain pos (found_in_all items)
+  form_step (layer.Map entries template pos) = plain pos (found_in_map entries template.0 pos)
+  form_step (layer.ThisPtr pos) = place pos nothing
+  form_step (layer.Variable offset name namespace pos) =
+      from (start_of_name namespace.path namespace.position pos) (place pos (found_in_variable offset name namespace.path pos))
+  form_step (layer.Property name pos) = named false pos nothing
+  form_step (layer.MethodCall call pos) = named true pos (call.method pos)
+  form_step (layer.Expr::FnCall call pos) = from (start_of_call call.operand pos) (plain pos (call.value pos))
+  form_step (layer.Stmt block) = block
+  form_step (layer.Dot lhs rhs options pos) =
+      chain lhs pos (1 + rhs.links) (found_behind_dot (ends_chain options) rhs.link pos) (method_ends (ends_chain options) rhs.link)
+  form_step (layer.Index lhs rhs options pos) =
+      chain lhs pos (1 + rhs.links) (found_behind_bracket (ends_chain options) rhs.link rhs.value) (index_ends (ends_chain options) rhs.link)
+  form_step (layer.And parts pos) = from (first_or pos (map start_in parts)) (plain pos (found_in_all parts))
+  form_step (layer.Or parts pos) = from (first_or pos (map start_in parts)) (plain pos (found_in_all parts))
+  form_step (layer.Coalesce parts pos) = from (first_or pos (map start_in parts)) (plain pos (found_in_all parts))
 
-  abbrev pub call_step : layer.FnCallExpr-F Seen SeenStmt (Unit {0}) SeenCall SeenEntry Seen → SeenCall
+  abbrev pub expr_step : layer.Expr-F Seen SeenStmt SeenConditional SeenCall SeenEntry Seen → Seen
+  expr_step form = record (form_step form) { catch = catch_name form }
+
+  abbrev pub call_step : layer.FnCallExpr-F Seen SeenStmt SeenConditional SeenCall SeenEntry Seen → SeenCall
   call_step call = record {
     operand = start_of_operands call.op_token (map start_in call.args);
     value = λ pos c.
@@ -253,14 +315,17 @@ module _ (r : Reading) where
     method = λ pos c. if is_unqualified call.namespace.path then found_in_all call.args c else r.fault (QualifiedMethod pos);
   }
 
-  abbrev pub entry_step : layer.MapEntry-F Seen SeenStmt (Unit {0}) SeenCall SeenEntry Seen → SeenEntry
+  abbrev pub entry_step : layer.MapEntry-F Seen SeenStmt SeenConditional SeenCall SeenEntry Seen → SeenEntry
   entry_step entry = record { key = entry.key; value = entry.value.value }
 
+  abbrev pub conditional_step : layer.ConditionalExpr-F Seen SeenStmt SeenConditional SeenCall SeenEntry Seen → SeenConditional
+  conditional_step conditional c = r.both (conditional.condition.value c) (conditional.expr.value c)
+
   -- what a block declares ends with it
-  abbrev pub block_step : layer.StmtBlock-F Seen SeenStmt (Unit {0}) SeenCall SeenEntry Seen → Seen
+  abbrev pub block_step : layer.StmtBlock-F Seen SeenStmt SeenConditional SeenCall SeenEntry Seen → Seen
   block_step block = plain block.position (λ c. (found_in_list block.statements (r.inside c)).0)
 
-  abbrev pub stmt_step : layer.Stmt-F Seen SeenStmt (Unit {0}) SeenCall SeenEntry Seen → SeenStmt
+  abbrev pub stmt_step : layer.Stmt-F Seen SeenStmt SeenConditional SeenCall SeenEntry Seen → SeenStmt
   stmt_step (layer.Noop pos) c = (r.none, c)
   stmt_step (layer.Expr expr) c = (expr.value c, c)
   stmt_step (layer.Stmt::FnCall call pos) c = (call.value pos c, c)
@@ -269,33 +334,40 @@ module _ (r : Reading) where
   stmt_step (layer.Var ident expr None options pos) c = (found_in_var expr options pos c, r.declaring ident.name c)
   stmt_step (layer.Var ident expr (Some offset) options pos) c = (r.fault (NotYet pos), c)
   stmt_step (layer.If expr body branch pos) c = (r.both (expr.value c) (r.both (body.value c) (branch.value c)), c)
-  stmt_step (layer.Switch expr expressions cases ranges def_case pos) c = (r.fault (NotYet pos), c)
+  stmt_step (layer.Switch expr expressions cases ranges def_case pos) c =
+      (found_in_switch (is_switch (length expressions) cases ranges def_case) pos expr.value expressions c, c)
   stmt_step (layer.While expr body pos) c = (r.both (expr.value c) (body.value (r.looping c)), c)
   stmt_step (layer.Do expr body options pos) c = (r.both (expr.value c) (body.value (r.looping c)), c)
-  stmt_step (layer.For name counter expr body pos) c = (r.fault (NotYet pos), c)
+  stmt_step (layer.For name counter expr body pos) c =
+      (r.both (expr.value c) (found_in_turns name.name (option_map name_in counter) body.value c), c)
   stmt_step (layer.BreakLoop expr options pos) c = (r.both (found_in_control pos c) (found_in_option expr c), c)
-  stmt_step (layer.TryCatch body variable branch pos) c = (r.fault (NotYet pos), c)
-  stmt_step (layer.Return expr options pos) c = (if is_throw options then r.fault (NotYet pos) else found_in_option expr c, c)
+  stmt_step (layer.TryCatch body variable branch pos) c =
+      (r.both (body.value c) (found_in_catch variable.catch variable.pos branch.value c), c)
+  stmt_step (layer.Return expr options pos) c = (found_in_option expr c, c)
   stmt_step (layer.Import expr alias pos) c = (r.fault (NotYet pos), c)
   stmt_step (layer.Export name alias pos) c = (r.fault (NotYet pos), c)
-  stmt_step (layer.Share variables) c = (r.fault (NotYet (first_shared variables)), c)
+  stmt_step (layer.Share variables) c = (found_in_shared variables (r.names c), c)
 
   abbrev pub seen_expr : Expr → Seen
-  seen_expr = fold-Expr Seen SeenStmt (Unit {0}) SeenCall SeenEntry Seen expr_step stmt_step (λ conditional. tt) call_step entry_step
+  seen_expr = fold-Expr Seen SeenStmt SeenConditional SeenCall SeenEntry Seen expr_step stmt_step conditional_step call_step entry_step
       block_step
 
   abbrev pub seen_call : FnCallExpr → SeenCall
-  seen_call = fold-FnCallExpr Seen SeenStmt (Unit {0}) SeenCall SeenEntry Seen expr_step stmt_step (λ conditional. tt) call_step
+  seen_call = fold-FnCallExpr Seen SeenStmt SeenConditional SeenCall SeenEntry Seen expr_step stmt_step conditional_step call_step
       entry_step block_step
 
   abbrev pub seen_block : StmtBlock → Seen
-  seen_block = fold-StmtBlock Seen SeenStmt (Unit {0}) SeenCall SeenEntry Seen expr_step stmt_step (λ conditional. tt) call_step
+  seen_block = fold-StmtBlock Seen SeenStmt SeenConditional SeenCall SeenEntry Seen expr_step stmt_step conditional_step call_step
       entry_step block_step
 
   abbrev pub seen_stmt : Stmt → SeenStmt
-  seen_stmt = fold-Stmt Seen SeenStmt (Unit {0}) SeenCall SeenEntry Seen expr_step stmt_step (λ conditional. tt) call_step entry_step
+  seen_stmt = fold-Stmt Seen SeenStmt SeenConditional SeenCall SeenEntry Seen expr_step stmt_step conditional_step call_step entry_step
       block_step
 
+  abbrev pub seen_conditional : ConditionalExpr → SeenConditional
+  seen_conditional = fold-ConditionalExpr Seen SeenStmt SeenConditional SeenCall SeenEntry Seen expr_step stmt_step conditional_step
+      call_step entry_step block_step
+
   abbrev pub seen_entry : MapEntry → SeenEntry
-  seen_entry = fold-MapEntry Seen SeenStmt (Unit {0}) SeenCall SeenEntry Seen expr_step stmt_step (λ conditional. tt) call_step
+  seen_entry = fold-MapEntry Seen SeenStmt SeenConditional SeenCall SeenEntry Seen expr_step stmt_step conditional_step call_step
       entry_step block_step

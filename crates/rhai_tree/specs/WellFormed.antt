@@ -1,8 +1,10 @@
 -- Well-formed trees: the faults that stand in a tree, each with its position, in the order of the tree.
-use Rattle.std.specs.Prelude.{◌≡◌, Bool, false, List, [], ◌∷◌, ◌++◌, map, Option}
+use Rattle.std.specs.Prelude.{◌≡◌, Bool, false, List, [], ◌∷◌, ◌++◌, map, Option, option_map}
 use Rattle.std.specs.List.{Contains}
-use Rattle.rhai_tree.specs.Types.{ASTFlags, CheckFault, Expr, FnCallExpr, MapEntry, Position, ScriptFuncDef, ScriptFuncPayload, Stmt}
-use Rattle.rhai_tree.specs.Types.{StmtBlock}
+use Rattle.rhai_tree.specs.Types.{ASTFlags, CheckFault, ConditionalExpr, Expr, FnCallExpr, Ident, MapEntry, Position, ScriptFuncDef}
+use Rattle.rhai_tree.specs.Types.{ScriptFuncPayload, SharedVariable, Stmt, StmtBlock}
+use Rattle.rhai_tree.specs.Positions.{position_of}
+use Rattle.rhai_tree.specs.Forms.{catch_of}
 use Rattle.rhai_tree.specs.Names.{Name}
 use Rattle.rhai_tree.specs.declared.function.ScriptFuncPayload.TheVariants.{Statements}
 use Rattle.rhai_tree.specs.Context.{top, body_with}
@@ -49,6 +51,28 @@ control_faults = walk.found_in_control faulty
 
 abbrev pub var_faults : walk.Seen faulty → ASTFlags → Position → walk.Finds faulty
 var_faults = walk.found_in_var faulty
+
+-- the faults of a result of a `switch` and of its condition, and of those in a row
+abbrev pub seen_conditional : ConditionalExpr → walk.Finds faulty
+seen_conditional = walk.seen_conditional faulty
+
+abbrev pub faults_in_conditionals : List (walk.SeenConditional faulty) → walk.Finds faulty
+faults_in_conditionals = walk.found_in_conditionals faulty
+
+-- the faults of the body of a `for` behind its counter and its variable, and of a catch variable with its branch
+abbrev pub turn_faults : (variable : Ident) → (counter : Option Ident) → StmtBlock → walk.Finds faulty
+turn_faults variable counter body =
+    walk.found_in_turns faulty variable.name (option_map (walk.name_in faulty) counter) (seen_block body).value
+
+abbrev pub catch_variable_faults : (variable : Expr) → List CheckFault
+catch_variable_faults variable = walk.found_in_catch_variable faulty (catch_of variable) (position_of variable)
+
+abbrev pub catch_faults : (variable : Expr) → (branch : StmtBlock) → walk.Finds faulty
+catch_faults variable branch = walk.found_in_catch faulty (catch_of variable) (position_of variable) (seen_block branch).value
+
+-- the faults of the variables that closures share
+abbrev pub shared_faults : List SharedVariable → List Name → List CheckFault
+shared_faults = walk.found_in_shared faulty
 
 -- the faults of what stands behind a dot, and of a property or a method that begins there
 abbrev pub dot_faults : Bool → walk.Link faulty → Position → walk.Finds faulty

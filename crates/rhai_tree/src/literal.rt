@@ -1,4 +1,8 @@
-//! Constants of the tree.
+//! Constants of the tree, and when two of them are one value.
+
+ghost use Rattle.std.specs.Prelude.{◌≡◌, map};
+ghost use Rattle.std.specs.Str.{bytes_eq};
+ghost use Rattle.rhai_tree.specs.SameLiteral.{each, same_literal};
 
 use crate::{Items, Shared, Table, Text};
 
@@ -44,4 +48,63 @@ pub enum LiteralFnPtrKind {
     Arity(usize),
     /// A native of the caller's table.
     Native(NativeId),
+}
+
+/// Whether two constants are one value, by type and content. A pointer is the same as nothing.
+#[cycle(same)]
+pub fn same_literal(this: &Literal, that: &Literal) -> bool
+    ensures { result ≡ same_literal this.now that.now }
+{
+    match (this, that) {
+        (Literal::Unit, Literal::Unit) => true,
+        (Literal::Bool(x), Literal::Bool(y)) => x == y,
+        (Literal::Int(x), Literal::Int(y)) => x == y,
+        (Literal::Char(x), Literal::Char(y)) => x == y,
+        (Literal::Str(x), Literal::Str(y)) => same_text(x, y),
+        (Literal::ExclusiveRange(a, b), Literal::ExclusiveRange(c, d)) => a == c && b == d,
+        (Literal::InclusiveRange(a, b), Literal::InclusiveRange(c, d)) => a == c && b == d,
+        (Literal::Array(xs), Literal::Array(ys)) => all_same(xs.as_slice(), ys.as_slice()),
+        (Literal::Blob(xs), Literal::Blob(ys)) => xs.as_slice() == ys.as_slice(),
+        (Literal::Map(xs), Literal::Map(ys)) => {
+            same_texts(xs.keys(), ys.keys()) && all_same(xs.values(), ys.values())
+        }
+        _ => false,
+    }
+}
+
+#[cycle(same)]
+fn all_same(these: &[Literal], those: &[Literal]) -> bool
+    ensures { result ≡ each (map same_literal these.now) those.now }
+{
+    if these.len() != those.len() {
+        return false;
+    }
+    for i in 0..these.len() {
+        if !same_literal(&these[i], &those[i]) {
+            return false;
+        }
+    }
+    true
+}
+
+/// Whether two lists of texts are the same.
+fn same_texts(these: &[Shared<Text>], those: &[Shared<Text>]) -> bool
+    ensures { result ≡ each (map bytes_eq these.now) those.now }
+{
+    if these.len() != those.len() {
+        return false;
+    }
+    for i in 0..these.len() {
+        if !same_text(&these[i], &those[i]) {
+            return false;
+        }
+    }
+    true
+}
+
+/// Whether two texts are the same.
+fn same_text(this: &Shared<Text>, that: &Shared<Text>) -> bool
+    ensures { result ≡ bytes_eq this.now that.now }
+{
+    this.get().as_str() == that.get().as_str()
 }

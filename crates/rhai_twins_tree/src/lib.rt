@@ -6,6 +6,7 @@
 
 pub mod boxed;
 pub mod items;
+pub mod literal;
 pub mod shared;
 pub mod table;
 pub mod text;

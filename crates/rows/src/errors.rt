@@ -25,8 +25,12 @@ pub fn write_shown(alloc: Global, words: &str, out: &mut Vec<u8>) -> io::Result<
 pub fn write_error(alloc: Global, error: EvalAltResult<Pair>, out: &mut Vec<u8>) -> io::Result<()> {
     let shown = format!(in alloc; "{error}");
     drop(error);
-    let shown = shown?;
-    for (at, line) in shown.lines().enumerate() {
+    write_lines(shown?.as_str(), out)
+}
+
+/// Writes a text, with `\n` between two lines of it.
+pub fn write_lines(text: &str, out: &mut Vec<u8>) -> io::Result<()> {
+    for (at, line) in text.lines().enumerate() {
         if at > 0 {
             write!(out, "\\n")?;
         }

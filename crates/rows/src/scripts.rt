@@ -1,15 +1,22 @@
 //! What scripts come to.
 
+use crate::errors::write_lines;
 use rhai_bench::outcome::{Ending, Outcome};
 use rhai_bench::print::{write_ending, write_value};
+use rhai_bench::rows::caught::caught_or_not;
+use rhai_bench::rows::cells::shared_cells;
 use rhai_bench::rows::chains::left_in_place;
+use rhai_bench::rows::checked::checked_only;
+use rhai_bench::rows::choices::conditions;
 use rhai_bench::rows::functions::in_no_row;
-use rhai_bench::rows::loops::{endless, outside_of_loops};
+use rhai_bench::rows::loops::outside_of_loops;
 use rhai_bench::rows::order::evaluated_in_order;
-use rhai_bench::rows::scripts;
+use rhai_bench::rows::walks::turns;
+use rhai_bench::rows::{scope_for, scripts};
 use rhai_bench::script::Script;
 use rhai_bench::settings::Way;
-use rhai_eval::base::{AccessMode, Dynamic, EvalAltResult, Items, Scope, Union};
+use rhai_eval::base::{AccessMode, CellId, Dynamic, EvalAltResult, Items, Scope, Union};
+use rhai_eval::cells::CellStore;
 use rhai_tables::host::Pair;
 use std::alloc::{AllocError, Global};
 use std::io;
@@ -18,11 +25,15 @@ use std::io::Write;
 /// The scripts of a list: those of a row by its number, and of lists that no row has by their names.
 fn scripts_of(alloc: Global, list: &str) -> Result<Option<Items<Script>>, AllocError> {
     let scripts = match list {
-        "endless" => endless(alloc),
         "outside" => outside_of_loops(alloc),
         "kept" => left_in_place(alloc),
         "calls" => in_no_row(alloc),
         "order" => evaluated_in_order(alloc),
+        "walks" => turns(alloc),
+        "choices" => conditions(alloc),
+        "caught" => caught_or_not(alloc),
+        "cells" => shared_cells(alloc),
+        "checked" => checked_only(alloc),
         row => return scripts(alloc, row),
     };
     scripts.map(Some)
@@ -83,7 +94,7 @@ fn write_way(
     out: &mut Vec<u8>,
 ) -> io::Result<()> {
     match script_of(alloc, name)? {
-        Some(script) => write_script(alloc, others, form, script, way, out),
+        Some(script) => write_script(alloc, others, form, name, script, way, out),
         None => write!(out, "no script"),
     }
 }
@@ -92,19 +103,21 @@ fn write_script(
     alloc: Global,
     others: usize,
     form: &str,
+    name: &str,
     script: Script,
     way: Way,
     out: &mut Vec<u8>,
 ) -> io::Result<()> {
-    let outcome = script.run_above(alloc, way, scope_of(alloc, others)?)?;
-    let wrote = write_outcome(others, form, &outcome, out);
+    let outcome = script.run_above(alloc, way, scope_of(alloc, others, name)?)?;
+    let wrote = write_outcome(alloc, others, form, &outcome, out);
     drop(outcome);
     wrote
 }
 
-/// A scope of so many variables, `x0` and so on, each with its number.
-fn scope_of(alloc: Global, others: usize) -> Result<Scope<Pair>, AllocError> {
-    let mut scope = Scope::new(alloc);
+/// The variables of a script's list, and so many others, `x0` and so on, each with its number.
+fn scope_of(alloc: Global, others: usize, name: &str) -> Result<Scope<Pair>, AllocError> {
+    let (list, _) = name.split_once(' ').unwrap_or((name, ""));
+    let mut scope = scope_for(alloc, list)?;
     for number in 0..others {
         push_numbered(alloc, &mut scope, number)?;
     }
@@ -118,6 +131,7 @@ fn push_numbered(alloc: Global, scope: &mut Scope<Pair>, number: usize) -> Resul
 }
 
 fn write_outcome(
+    alloc: Global,
     others: usize,
     form: &str,
     outcome: &Outcome,
@@ -127,7 +141,10 @@ fn write_outcome(
         "ends" => write_ending(out, &outcome.ending),
         "charges" => write!(out, "{}", outcome.num_operations),
         "leaves" => write_variables(others, &outcome.scope, out),
+        "fixes" => write_constants(&outcome.scope, out),
+        "shares" => write_cells(&outcome.cells, out),
         "says" => write_said(&outcome.ending, out),
+        "reads" => write_read(alloc, &outcome.ending, out),
         _ => write!(out, "no form"),
     }
 }
@@ -149,6 +166,50 @@ fn write_variables(others: usize, scope: &Scope<Pair>, out: &mut Vec<u8>) -> io:
         write!(out, ";")?;
     }
     Ok(())
+}
+
+/// Writes the names of the variables that are constant, each with a `;`, or `nothing`.
+fn write_constants(scope: &Scope<Pair>, out: &mut Vec<u8>) -> io::Result<()> {
+    let mut separator = "";
+    for entry in scope.entries() {
+        if entry.value.access_mode() == AccessMode::ReadOnly {
+            write!(out, "{separator}{};", entry.name.get().as_str())?;
+            separator = " ";
+        }
+    }
+    if separator == "" {
+        write!(out, "nothing")?;
+    }
+    Ok(())
+}
+
+/// Writes the values of the cells, as `1; [2];`, or `nothing`.
+fn write_cells(cells: &CellStore<Pair>, out: &mut Vec<u8>) -> io::Result<()> {
+    if cells.len() == 0 {
+        return write!(out, "nothing");
+    }
+    for number in 0..cells.len() {
+        if number > 0 {
+            write!(out, " ")?;
+        }
+        match cells.get(CellId { number }) {
+            Some(value) => write_value(out, value)?,
+            None => write!(out, "held")?,
+        }
+        write!(out, ";")?;
+    }
+    Ok(())
+}
+
+/// Writes an error as a user reads it, or `no error`.
+fn write_read(alloc: Global, ending: &Ending, out: &mut Vec<u8>) -> io::Result<()> {
+    match ending {
+        Ending::Error(error) => {
+            let shown = format!(in alloc; "{error}")?;
+            write_lines(shown.as_str(), out)
+        }
+        _ => write!(out, "no error"),
+    }
 }
 
 /// Writes what an error of these scripts says beside its place, or `nothing`.

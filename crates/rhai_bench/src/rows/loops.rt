@@ -4,17 +4,10 @@ use crate::rows::Row;
 use crate::script::Script;
 use rhai_eval::base::Items;
 use rhai_samples::loops::{
-    break_at_the_top, continued_until, decrements, doublings, empty_loop, integer_and_true,
-    pairings, return_at_the_top, three_turns, true_or_integer, value_of_a_loop,
+    break_at_the_top, continued_until, decrements, doublings, integer_and_true, pairings,
+    return_at_the_top, three_turns, true_or_integer, value_of_a_loop,
 };
 use std::alloc::{AllocError, Global};
-
-/// A loop without an end, which the limit of operations ends.
-pub fn endless(alloc: Global) -> Result<Items<Script>, AllocError> {
-    let mut row = Row::new(alloc);
-    row.add_limited(empty_loop(alloc), 10);
-    row.finish()
-}
 
 /// A `continue` that starts the next turn without a test of the condition.
 pub(crate) fn continued(alloc: Global) -> Result<Items<Script>, AllocError> {

@@ -2,8 +2,7 @@
 
 ghost use Rattle.std.specs.Prelude.{◌≡◌, ◌++◌, [], IsTrue, IfErr, OnOk, map, length, List, option_map, true};
 ghost use Rattle.rhai_check.specs.Around.{around};
-ghost use Rattle.rhai_tree.specs.Forms.{any_of};
-ghost use Rattle.rhai_check.specs.Declares.{in_option, declares_expr, declares_call};
+ghost use Rattle.rhai_check.specs.Declares.{in_option, any_need, needs_of, declares_expr, declares_call};
 ghost use Rattle.rhai_tree.specs.Forms.{is_eval_call, is_unqualified};
 ghost use Rattle.rhai_tree.specs.Frame.{tests_of, resolves_expr, resolves_call, target_resolves};
 ghost use Rattle.rhai_tree.specs.Frame.{option_resolves, all_resolve_exprs, entries_resolve, map_resolves};
@@ -98,7 +97,7 @@ pub(crate) fn check_exprs(
     ensures resolved { OnOk result ((base : List Name) → IsTrue
         (all_resolve_exprs (map tests_of exprs.now) (base ++ names.old))) }
     ensures refused { IfErr result (λ fault. Refuses (faults_in_all (map seen_expr exprs.now)
-        (around names.old place)) (any_of (map declares_expr exprs.now)) fault) }
+        (around names.old place)) (any_need (map needs_of exprs.now)) fault) }
 {
     'each: for expr in exprs {
         check_expr(names, place, expr)?;
@@ -164,7 +163,7 @@ pub(crate) fn check_option(
     ensures resolved { OnOk result ((base : List Name) → IsTrue
         (option_resolves (option_map tests_of expr.now) (base ++ names.old))) }
     ensures refused { IfErr result (λ fault. Refuses (faults_in_option (option_map seen_expr expr.now)
-        (around names.old place)) (in_option (option_map declares_expr expr.now)) fault) }
+        (around names.old place)) (in_option (option_map needs_of expr.now)) fault) }
 {
     match expr {
         None => Ok(()),

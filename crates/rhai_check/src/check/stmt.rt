@@ -4,20 +4,24 @@ ghost use Rattle.std.specs.Prelude.{◌≡◌, ◌++◌, [], ◌∷◌, true, Is
 ghost use Rattle.std.specs.Prelude.{option_map};
 ghost use Rattle.rhai_check.specs.Around.{around};
 ghost use Rattle.rhai_tree.specs.Forms.{any_of};
-ghost use Rattle.rhai_check.specs.Declares.{in_option, declares_stmt, declares_block, declares_expr};
+ghost use Rattle.rhai_check.specs.Declares.{in_option, needs_of, declares_stmt, declares_block};
+ghost use Rattle.rhai_check.specs.Declares.{declares_catch, declares_conditional};
 ghost use Rattle.rhai_tree.specs.Frame.{tests_of, resolves_stmt, resolves_block, all_resolve};
-ghost use Rattle.rhai_tree.specs.Frame.{option_resolves, var_resolves};
+ghost use Rattle.rhai_tree.specs.Frame.{option_resolves, var_resolves, turns_resolve, catch_resolves};
+ghost use Rattle.rhai_tree.specs.Frame.{resolves_conditional, conditionals_resolve};
 ghost use Rattle.rhai_tree.specs.Names.{Name, Begins};
 ghost use Rattle.rhai_check.specs.Refusals.{Refuses};
 ghost use Rattle.rhai_tree.specs.WellFormed.{seen_expr, seen_stmt, seen_block, faults_in_list};
-ghost use Rattle.rhai_tree.specs.WellFormed.{faults_in_option, control_faults, var_faults};
+ghost use Rattle.rhai_tree.specs.WellFormed.{faults_in_option, control_faults, var_faults, turn_faults};
+ghost use Rattle.rhai_tree.specs.WellFormed.{catch_faults, seen_conditional, faults_in_conditionals};
 
 use crate::check::CheckFault;
+use crate::check::cases::is_switch;
 use crate::check::expr::{check_call, check_expr, check_option, check_target};
-use crate::check::names::declare;
+use crate::check::names::{check_shared, declare, declare_catch, declare_turn};
 use crate::check::place::Place;
 use bitflags::Flags;
-use rhai_tree::expr::{Expr, Stmt, StmtBlock};
+use rhai_tree::expr::{ConditionalExpr, Expr, Ident, Stmt, StmtBlock};
 use rhai_tree::flags::ASTFlags;
 use rhai_tree::position::Position;
 use rhai_tree::{Items, Shared, Text};
@@ -102,12 +106,100 @@ fn check_control(
         (option_resolves (option_map tests_of expr.now) (base ++ names.old))) }
     ensures refused { IfErr result (λ fault. Refuses (control_faults pos (around names.old place)
         ++ faults_in_option (option_map seen_expr expr.now) (around names.old place))
-        (in_option (option_map declares_expr expr.now)) fault) }
+        (in_option (option_map needs_of expr.now)) fault) }
 {
     if !place.in_loop {
         return Err(CheckFault::LoopControlOutside(pos));
     }
     check_option(names, place, expr)
+}
+
+/// Passes a condition of a `switch` and its result, or answers one of their faults.
+#[cycle(check)]
+fn check_conditional(
+    names: &mut Items<Shared<Text>>,
+    place: Place,
+    conditional: &ConditionalExpr,
+) -> Result<(), CheckFault>
+    ensures same { OnOk result (names.new ≡ names.old) }
+    ensures exact { OnOk result (seen_conditional conditional.now (around names.old place) ≡ []) }
+    ensures resolved { OnOk result ((base : List Name) → IsTrue
+        (resolves_conditional conditional.now (base ++ names.old))) }
+    ensures refused { IfErr result (λ fault. Refuses (seen_conditional conditional.now
+        (around names.old place)) (declares_conditional conditional.now) fault) }
+{
+    check_expr(names, place, &conditional.condition)?;
+    check_expr(names, place, &conditional.expr)
+}
+
+/// Passes the conditions and results of a `switch`, or answers one of their faults.
+#[cycle(check)]
+fn check_conditionals(
+    names: &mut Items<Shared<Text>>,
+    place: Place,
+    conditionals: &[ConditionalExpr],
+) -> Result<(), CheckFault>
+    ensures same { OnOk result (names.new ≡ names.old) }
+    ensures exact { OnOk result (faults_in_conditionals (map seen_conditional conditionals.now)
+        (around names.old place) ≡ []) }
+    ensures resolved { OnOk result ((base : List Name) → IsTrue
+        (conditionals_resolve (map resolves_conditional conditionals.now) (base ++ names.old))) }
+    ensures refused { IfErr result (λ fault. Refuses (faults_in_conditionals
+        (map seen_conditional conditionals.now) (around names.old place))
+        (any_of (map declares_conditional conditionals.now)) fault) }
+{
+    'each: for conditional in conditionals {
+        check_conditional(names, place, conditional)?;
+    }
+    Ok(())
+}
+
+/// Passes the body of a `for`, which has the counter and the variable, or answers one of its faults.
+/// These names end with it.
+#[cycle(check)]
+fn check_turns(
+    names: &mut Items<Shared<Text>>,
+    place: Place,
+    variable: &Ident,
+    counter: &Option<Ident>,
+    body: &StmtBlock,
+) -> Result<(), CheckFault>
+    ensures same { OnOk result (names.new ≡ names.old) }
+    ensures exact { OnOk result (turn_faults variable.now counter.now body.now (around names.old place)
+        ≡ []) }
+    ensures resolved { OnOk result ((base : List Name) → IsTrue
+        (turns_resolve variable.now counter.now body.now (base ++ names.old))) }
+    ensures refused { IfErr result (λ fault. Refuses (turn_faults variable.now counter.now body.now
+        (around names.old place)) true fault) }
+{
+    let start = names.len();
+    declare_turn(names, variable, counter)?;
+    check_block(names, place.looping(), body)?;
+    names.truncate(start);
+    Ok(())
+}
+
+/// Passes the branch of a `try` with its catch variable, or answers one of their faults. The
+/// variable's name ends with the branch.
+#[cycle(check)]
+fn check_branch(
+    names: &mut Items<Shared<Text>>,
+    place: Place,
+    branch: &StmtBlock,
+    variable: &Expr,
+) -> Result<(), CheckFault>
+    ensures same { OnOk result (names.new ≡ names.old) }
+    ensures exact { OnOk result (catch_faults variable.now branch.now (around names.old place) ≡ []) }
+    ensures resolved { OnOk result ((base : List Name) → IsTrue
+        (catch_resolves variable.now branch.now (base ++ names.old))) }
+    ensures refused { IfErr result (λ fault. Refuses (catch_faults variable.now branch.now
+        (around names.old place)) (declares_catch variable.now branch.now) fault) }
+{
+    let start = names.len();
+    declare_catch(names, variable)?;
+    check_block(names, place, branch)?;
+    names.truncate(start);
+    Ok(())
 }
 
 /// Passes a statement, or answers one of its faults.
@@ -146,18 +238,39 @@ fn check_stmt(names: &mut Items<Shared<Text>>, place: Place, stmt: &Stmt) -> Res
             check_block(names, place.looping(), body)
         }
         Stmt::BreakLoop(expr, _, pos) => check_control(names, place, expr, *pos),
-        Stmt::Return(expr, options, pos) => {
-            if options.contains(ASTFlags::BREAK) {
-                return Err(CheckFault::NotYet(*pos));
+        Stmt::Return(expr, _, _) => check_option(names, place, expr),
+        Stmt::Switch {
+            expr,
+            expressions,
+            cases,
+            ranges,
+            def_case,
+            pos,
+        } => {
+            let count = expressions.len();
+            if !is_switch(count, cases.as_slice(), ranges.as_slice(), *def_case) {
+                return Err(CheckFault::BadSwitch(*pos));
             }
-            check_option(names, place, expr)
+            check_expr(names, place, expr)?;
+            check_conditionals(names, place, expressions.as_slice())
         }
-        Stmt::Var(_, _, Some(_), _, pos)
-        | Stmt::Switch { pos, .. }
-        | Stmt::For { pos, .. }
-        | Stmt::TryCatch(_, _, _, pos)
-        | Stmt::Import(_, _, pos)
-        | Stmt::Export(_, _, pos) => Err(CheckFault::NotYet(*pos)),
-        Stmt::Share(_) => Err(CheckFault::NotYet(stmt.position())),
+        Stmt::For {
+            name,
+            counter,
+            expr,
+            body,
+            ..
+        } => {
+            check_expr(names, place, expr)?;
+            check_turns(names, place, name, counter, body)
+        }
+        Stmt::TryCatch(body, variable, branch, _) => {
+            check_block(names, place, body)?;
+            check_branch(names, place, branch, variable)
+        }
+        Stmt::Share(variables) => check_shared(names.as_slice(), variables.as_slice()),
+        Stmt::Var(_, _, Some(_), _, pos) | Stmt::Import(_, _, pos) | Stmt::Export(_, _, pos) => Err(
+            CheckFault::NotYet(*pos),
+        ),
     }
 }

@@ -1,6 +1,7 @@
 -- The machine's controls and frames: what it does next, and what waits for the value or the error that comes of it.
 use Rattle.std.specs.Prelude.{ℕ, Bool, true, false, List, [], Option, Result, Ok, Err}
-use Rattle.rhai_machine.specs.Types.{ASTFlags, Dynamic, EvalAltResult, Expr, FnPtr, Ident, OpAssignment, Position, Stmt, StmtBlock, Token}
+use Rattle.rhai_machine.specs.Types.{ASTFlags, ConditionalExpr, Dynamic, EvalAltResult, Expr, FnPtr, Ident, OpAssignment, Position, Stmt, StmtBlock}
+use Rattle.rhai_machine.specs.Types.{SharedVariable, Token}
 use Rattle.rhai_tree.specs.declared.expr.MapEntry.{MapEntry}
 use Rattle.rhai_tree.specs.Layers.{ExprLayer, StmtLayer}
 use Rattle.rhai_machine.specs.machine.Machine.{Move, Halt, Go}
@@ -11,6 +12,8 @@ use Rattle.rhai_machine.specs.language.Places.{Place}
 use Rattle.rhai_machine.specs.language.Links.{Link}
 use Rattle.rhai_machine.specs.language.Functions.{Function}
 use Rattle.rhai_machine.specs.language.Activations.{Entered, CallExit}
+use Rattle.rhai_machine.specs.language.Cases.{Cases}
+use Rattle.rhai_machine.specs.language.Turns.{ForLoop, Turns}
 
 -- what a call is of: its name, its operator where it was written as one, and where it stands
 pub record Operation : Type 0 where
@@ -152,6 +155,13 @@ pub data Control (H : Type 0) : Type 0 where
   StoreThis : OpAssignment → (at : Position) → Dynamic H → Control H
   WhileTurn : (test : Expr) → (body : StmtBlock) → Control H
   DoTurn : (test : Expr) → (body : StmtBlock) → (options : ASTFlags) → Control H
+  -- the results that a `switch` may choose, in order, and its default
+  Choose : (candidates : List ConditionalExpr) → (default : Option Expr) → Control H
+  -- a turn of a `for`, by its number, with the turns that are left and where its variables begin; and its item, once it is counted
+  ForTurn : (loop : ForLoop) → (left : Turns H) → (turn base : ℕ) → Control H
+  ForItem : (loop : ForLoop) → (item : Dynamic H) → (rest : Turns H) → (turn base : ℕ) → Control H
+  -- the variables that closures share, one after the other
+  Share : List SharedVariable → Control H
   -- a chain is entered; the arguments of its links are evaluated, after those that are there; its root is, and as a variable is read
   OpenChain : Chain H → Control H
   ChainArguments : Chain H → (rest : ExprLayer) → (made : List (Dynamic H)) → Control H
@@ -206,9 +216,21 @@ pub data Frame (H : Type 0) : Type 0 where
   WhileBody : (test : Expr) → (body : StmtBlock) → Frame H
   DoCondition : (test : Expr) → (body : StmtBlock) → (options : ASTFlags) → Frame H
   DoBody : (test : Expr) → (body : StmtBlock) → (options : ASTFlags) → Frame H
-  -- the value of a `break` or a `continue`, and of a `return`
+  -- the value of a `switch`, and the condition of a result, before the results that may be chosen after it
+  SwitchValue : (value_at : Position) → (choice : Cases) → Frame H
+  SwitchCondition : (candidate : ConditionalExpr) → (rest : List ConditionalExpr) → (default : Option Expr) → Frame H
+  -- what a `for` walks; and its body, in a turn, before the turns that are left
+  ForItems : (loop : ForLoop) → Frame H
+  ForBody : (loop : ForLoop) → (rest : Turns H) → (turn base : ℕ) → Frame H
+  -- the variables that are newer than so many leave the scope
+  RestoreScope : (length : ℕ) → Frame H
+  -- the body of a `try`, before its branch; and the branch, with the error that was caught
+  TryBody : (variable : Expr) → (branch : StmtBlock) → Frame H
+  CatchBranch : (caught : EvalAltResult H) → Frame H
+  -- the value of a `break` or a `continue`, of a `return`, and of a `throw`
   BreakValue : (is_break : Bool) → (at : Position) → Frame H
   ReturnValue : (value_at at : Position) → Frame H
+  ThrowValue : (value_at at : Position) → Frame H
   -- the value that is assigned to a chain, and the end of that assignment
   AssignChain : (root : Expr) → (chain : ExprLayer) → (op : OpAssignment) → (value_at : Position) → Frame H
   AssignedChain : Frame H

@@ -10,7 +10,7 @@ use Rattle.rhai_machine.specs.language.State.{Local}
 use Rattle.rhai_machine.specs.language.Frames.{Control, Frame, Core, core, Eval, Exec, Ask, Assign, AskUpdate, Argument, Question, Fire}
 use Rattle.rhai_machine.specs.language.Frames.{QuestionUpdate, FireUpdate, OpenExpr, OpenStmt, Enter, Run, Store, StoreThis, WhileTurn, DoTurn, Back}
 use Rattle.rhai_machine.specs.language.Frames.{Changed, Fail, DoBody, CallNamed, EnterFunction, EnterOnFocus, AssignThis, OpenChain, ChainArguments, ChainRoot}
-use Rattle.rhai_machine.specs.language.Frames.{ReadRoot, Walk, Locate}
+use Rattle.rhai_machine.specs.language.Frames.{ReadRoot, Walk, Locate, Choose, ForTurn, ForItem, Share}
 use Rattle.rhai_machine.specs.language.Links.{link_of}
 use Rattle.rhai_machine.specs.language.Chains.{asked_move, locate_core, open_move, read_root_core, root_move, walk_move}
 use Rattle.rhai_machine.specs.language.Expressions.{literal_of, argument_move, expr_move}
@@ -19,7 +19,11 @@ use Rattle.rhai_machine.specs.language.Calls.{focus_core, question_move, fire_mo
 use Rattle.rhai_machine.specs.language.Arguments.{named_move}
 use Rattle.rhai_machine.specs.language.Places.{target_of}
 use Rattle.rhai_machine.specs.language.Assignment.{store_core, store_this, question_update, fire_update}
+use Rattle.rhai_machine.specs.language.Turns.{next_turn}
+use Rattle.rhai_machine.specs.language.Choices.{choose_core}
 use Rattle.rhai_machine.specs.language.Loops.{is_endless, while_move}
+use Rattle.rhai_machine.specs.language.Walks.{for_move, item_core}
+use Rattle.rhai_machine.specs.language.Sharing.{share_core}
 use Rattle.rhai_machine.specs.language.Statements.{enter_core, run_core, stmt_move}
 use Rattle.rhai_machine.specs.language.Unwinding.{up_core, down_core, marked_core}
 
@@ -50,6 +54,10 @@ module _ {H : Type 0} (s : Setting H) where
   move_at (StoreThis op at v) k l = Go (store_this s op at v k l)
   move_at (WhileTurn test body) k l = while_move (is_endless (out-Expr test)) body.statements test body k l
   move_at (DoTurn test body options) k l = Go (core (Enter body.statements true) (DoBody test body options ∷ k) l)
+  move_at (Choose candidates default) k l = Go (choose_core candidates default k l)
+  move_at (ForTurn loop left turn base) k l = for_move (next_turn left) loop.body.statements loop turn base k l
+  move_at (ForItem loop item rest turn base) k l = Go (item_core loop item rest turn base k l)
+  move_at (Share variables) k l = Go (share_core variables k l)
   move_at (OpenChain chain) k l = open_move (link_of chain.rest) chain k l
   move_at (ChainArguments chain rest made) k l = asked_move s (link_of rest) chain made k l
   move_at (ChainRoot chain) k l = root_move (out-Expr chain.root) chain k l

@@ -17,9 +17,11 @@ use Rattle.rhai_machine.specs.language.Setting.{Setting}
 use Rattle.rhai_machine.specs.language.State.{Local, Surroundings}
 pub use Rattle.rhai_machine.specs.language.State.{deeper}
 use Rattle.rhai_machine.specs.language.Values.{unit_value}
+use Rattle.rhai_machine.specs.language.Turns.{ForLoop}
 use Rattle.rhai_machine.specs.language.Frames.{Saved, Frame, Core, core, where_there, Eval, Exec, OpenExpr, Enter, Run, WhileTurn}
 use Rattle.rhai_machine.specs.language.Frames.{DoTurn, Back, Fail, StatementValue, DefineValue, IfCondition, RestOfList, RestoreList}
-use Rattle.rhai_machine.specs.language.Frames.{BreakValue, ReturnValue}
+use Rattle.rhai_machine.specs.language.Frames.{Share, SwitchValue, TryBody, BreakValue, ReturnValue, ThrowValue}
+use Rattle.rhai_machine.specs.language.Walks.{for_core, has_no_room}
 use Rattle.rhai_machine.specs.language.Assignment.{assignment_move}
 
 -- an option is among the options
@@ -35,6 +37,10 @@ abbrev pub with_entry_at : {T : Type 0} → List ℕ → T → List (List (List 
     List (List (List ℕ) × List T)
 with_entry_at name v tables at (Some table) = slice_set tables at (with_entry name v table)
 with_entry_at name v tables at None = tables
+
+-- a `for` as it stands in the tree
+abbrev pub loop_of : Ident → (counter : Option Ident) → Expr → StmtBlock → ForLoop
+loop_of variable counter items body = record { variable = variable; counter = counter; items = items; body = body }
 
 module _ {H : Type 0} where
   -- a list: an empty one has no effect; a restoring one keeps what it takes back at its end
@@ -100,9 +106,10 @@ module _ {H : Type 0} where
   break_core None is_break pos k l = core (Fail (error.LoopBreak unit_value is_break pos)) k l
   break_core (Some value) is_break pos k l = core (Eval value) (BreakValue is_break pos ∷ k) l
 
-  -- a `return` is an error on its way to the end of its function or script; a `throw` has no step
+  -- a `return` is an error on its way to the end of its function or script, and a `throw` on its way to a `try`
   abbrev pub return_move : (throws : Bool) → Option Expr → Position → List (Frame H) → Local H → Move H (Core H)
-  return_move true value pos k l = Halt
+  return_move true None pos k l = Go (core (Fail (error.ErrorRuntime unit_value pos)) k l)
+  return_move true (Some value) pos k l = Go (core (Eval value) (ThrowValue (position_of value) pos ∷ k) l)
   return_move false None pos k l = Go (core (Fail (error.Return unit_value pos)) k l)
   return_move false (Some value) pos k l = Go (core (Eval value) (ReturnValue (position_of value) pos ∷ k) l)
 
@@ -127,8 +134,14 @@ module _ {H : Type 0} where
         (define_core (not s.offer.allow_shadowing && is_some (index_of ident.name l.scope))
         (nat_le s.limits.max_variables (length l.scope)) ident value options restoring pos k l)
     stmt_move (layer.If test body branch pos) restoring k l = Go (core (Eval test) (IfCondition (position_of test) body branch ∷ k) l)
+    stmt_move (layer.Switch value results cases ranges default pos) restoring k l = Go (core (Eval value)
+        (SwitchValue (position_of value) (record { results = results; cases = cases; ranges = ranges; default = default }) ∷ k) l)
     stmt_move (layer.While test body pos) restoring k l = Go (core (WhileTurn test body) k l)
     stmt_move (layer.Do test body options pos) restoring k l = Go (core (DoTurn test body options) k l)
+    stmt_move (layer.For variable counter items body pos) restoring k l =
+        Go (for_core (has_no_room s.limits (loop_of variable counter items body) l) (loop_of variable counter items body) k l)
     stmt_move (layer.BreakLoop value options pos) restoring k l = Go (break_core value (has_option 2 options) pos k l)
+    stmt_move (layer.TryCatch body variable branch pos) restoring k l = Go (core (Enter body.statements true) (TryBody variable branch ∷ k) l)
+    stmt_move (layer.Share variables) restoring k l = Go (core (Share variables) k l)
     stmt_move (layer.Return value options pos) restoring k l = return_move (has_option 2 options) value pos k l
     stmt_move _ restoring k l = Halt

@@ -1,20 +1,23 @@
 -- What a frame does with a value that comes up, and with an error that comes down.
-use Rattle.std.specs.Prelude.{ℕ, Bool, true, false, List, [], ◌∷◌, ◌++◌, Option, Some, None, Result, Ok, Err}
+use Rattle.std.specs.Prelude.{◌+◌, Bool, true, false, List, [], ◌∷◌, ◌++◌, take, Option, Some, None, Result, Ok, Err}
 use Rattle.std.specs.Option.{unwrap_or}
-use Rattle.rhai_machine.specs.Types.{Dynamic, EvalAltResult, Position, Union}
+use Rattle.rhai_machine.specs.Types.{Dynamic, EvalAltResult, out-Expr, Position, Union}
 use Rattle.rhai_tree.specs.Positions.{position_of}
 use Rattle.rhai_values.specs.declared.base.value.Union.TheVariants as value
 use Rattle.rhai_values.specs.Cells.{value_of_cell}
+use Rattle.rhai_values.specs.Layers.{layer_of}
 use Rattle.rhai_values.specs.TypeNames.{own_type_name}
 use Rattle.rhai_places.specs.declared.spot.Spot.{Spot}
 use Rattle.rhai_places.specs.PutBack.{put_back, wanted}
 use Rattle.rhai_places.specs.Paths.{Rooted, gone_back}
 use Rattle.rhai_state.specs.declared.error.EvalAltResult.TheVariants as error
-use Rattle.rhai_state.specs.Errors.{is_system}
+use Rattle.rhai_state.specs.Errors.{is_catchable, is_system}
 use Rattle.rhai_machine.specs.language.Setting.{Setting}
 use Rattle.rhai_machine.specs.language.State.{Local}
 use Rattle.rhai_machine.specs.language.Values.{Cells, flat, mismatch, through, truth, unit_value}
 use Rattle.rhai_machine.specs.language.Places.{put}
+use Rattle.rhai_machine.specs.language.Cases.{candidates, default_of}
+use Rattle.rhai_machine.specs.language.Turns.{turns_of}
 use Rattle.rhai_machine.specs.language.Frames.{Operation, Lender, NewValue, Member, Property, Item, MemberAccess, Control, Frame, Core}
 use Rattle.rhai_machine.specs.language.Frames.{core, chain_on, on_value, ended, Assign, AssignThis, AssignThisValue, CallEnd, Eval, Argument, Run}
 use Rattle.rhai_machine.specs.language.Frames.{WhileTurn, DoTurn, OpenChain, Walk, Back, Changed}
@@ -24,6 +27,8 @@ use Rattle.rhai_machine.specs.language.Frames.{WhileBody, DoCondition, DoBody, B
 use Rattle.rhai_machine.specs.language.Frames.{TextPart, PrintedPart, CallArgument, KeywordArgument, AssignChain, AssignedChain, RootValue}
 use Rattle.rhai_machine.specs.language.Frames.{ChainEnd, StepDown, Temporary, PartMethod, PartAssigned, Measured, MethodLink, MemberLink}
 use Rattle.rhai_machine.specs.language.Frames.{MemberGot, MemberOperated, GetterTried, SetterTried, IndexerTried, MemberSet}
+use Rattle.rhai_machine.specs.language.Frames.{Choose, ForTurn, SwitchValue, SwitchCondition, ForItems, ForBody, RestoreScope, TryBody}
+use Rattle.rhai_machine.specs.language.Frames.{CatchBranch, ThrowValue}
 use Rattle.rhai_machine.specs.language.Data.{with_item, with_value, items_core, entries_core, joined_core, part_core, printed}
 use Rattle.rhai_machine.specs.language.Data.{unprinted_core}
 use Rattle.rhai_machine.specs.language.Expressions.{and_next, or_next, coalesce_next}
@@ -31,7 +36,11 @@ use Rattle.rhai_machine.specs.language.Bodies.{called_back, returned}
 use Rattle.rhai_machine.specs.language.Calls.{builtin_of, call_of, operator_core, place_of, sized}
 use Rattle.rhai_machine.specs.language.Arguments.{arguments_core, flattens, keyword_core, taken}
 use Rattle.rhai_machine.specs.language.Statements.{has_option, chosen_core, defined_core, restored_by}
+use Rattle.rhai_machine.specs.language.Choices.{met_core}
 use Rattle.rhai_machine.specs.language.Loops.{while_core, do_control, caught}
+use Rattle.rhai_machine.specs.language.Walks.{started_core}
+use Rattle.rhai_machine.specs.language.Caught.{raised}
+use Rattle.rhai_machine.specs.language.Tries.{catch_variable, tried_core}
 use Rattle.rhai_machine.specs.language.Members.{focus_of, focused_on, set_core, lacks_property, lacks_indexer, getter_missing, setter_missing}
 use Rattle.rhai_machine.specs.language.Members.{indexer_missing}
 use Rattle.rhai_machine.specs.language.Chains.{assign_focus, begun_core}
@@ -50,6 +59,7 @@ module _ {H : Type 0} where
 
   abbrev pub restored : Frame H → Local H → Local H
   restored (RestoreList saved) l = restored_by saved l
+  restored (RestoreScope length) l = record l { scope = take length l.scope }
   restored (CallEnd exit) l = called_back exit l
   restored (ChainEnd lender outer) l = ended_chain lender outer l
   restored (StepDown above step) l = gone_up (gone_back above step (record { value = focus_of l; cells = l.around.cells })) l
@@ -144,8 +154,18 @@ module _ {H : Type 0} (s : Setting H) where
   up_core (DoCondition test body options) v k l =
       core (do_control (truth s.host_type l.around.cells v (position_of test)) (has_option 1 options) (DoTurn test body options)) k l
   up_core (DoBody test body options) v k l = core (Eval test) (DoCondition test body options ∷ k) l
+  up_core (SwitchValue value_at choice) v k l =
+      on_value (flat l.around.cells v value_at) (λ x. core (Choose (candidates choice x) (default_of choice)) k l) k l
+  up_core (SwitchCondition candidate rest default) v k l =
+      on_value (truth s.host_type l.around.cells v (position_of candidate.condition)) (λ holds. met_core holds candidate rest default k l) k l
+  up_core (ForItems loop) v k l =
+      on_value (flat l.around.cells v (position_of loop.items)) (λ x. started_core (turns_of (layer_of x)) loop k l) k l
+  up_core (ForBody loop rest turn base) v k l = core (ForTurn loop rest (turn + 1) base) k l
+  up_core (CatchBranch caught) v k l = core (Back unit_value) k l
   up_core (BreakValue is_break at) v k l = core (Fail (error.LoopBreak v is_break at)) k l
   up_core (ReturnValue value_at at) v k l = on_value (flat l.around.cells v value_at) (λ x. core (Fail (error.Return x at)) k l) k l
+  up_core (ThrowValue value_at at) v k l =
+      on_value (flat l.around.cells v value_at) (λ x. core (Fail (error.ErrorRuntime x at)) k l) k l
   up_core (AssignChain root chain op value_at) v k l = on_value (flat l.around.cells v value_at)
       (λ x. core (OpenChain (chain_on root chain (Some (record { op = op; value = x })))) (AssignedChain ∷ k) l) k l
   up_core AssignedChain v k l = core (Back unit_value) k l
@@ -161,13 +181,16 @@ module _ {H : Type 0} (s : Setting H) where
   up_core (MemberSet value) v k l = core (Changed value) k l
   up_core frame v k l = core (Back v) k (restored frame l)
 
-  -- an error comes down to a frame: but for a script's and a function's end, a loop's body and what a native prints each takes back what it
-  -- has to, and passes it on
+  -- an error comes down to a frame: but for a script's and a function's end, a loop's body, a `try` and its branch, and what a native
+  -- prints each takes back what it has to, and passes it on
   abbrev pub down_core : Frame H → EvalAltResult H → List (Frame H) → Local H → Core H
   down_core (Top map_exit) e k l = core (ended (topped map_exit e)) k l
   down_core (CallEnd exit) e k l = core (ended (returned exit e)) k (called_back exit l)
   down_core (WhileBody test body) e k l = core (caught (WhileTurn test body) e) k l
   down_core (DoBody test body options) e k l = core (caught (DoTurn test body options) e) k l
+  down_core (ForBody loop rest turn base) e k l = core (caught (ForTurn loop rest (turn + 1) base) e) k l
+  down_core (TryBody variable branch) e k l = tried_core s (is_catchable e) (catch_variable (out-Expr variable)) e branch k l
+  down_core (CatchBranch caught) e k l = core (Fail (raised l.around.cells caught e)) k l
   down_core (PrintedPart text type part_at rest) e k l = unprinted_core s (is_system e) e text type part_at rest k l
   down_core (MemberGot access root new) e k l = got_none (lacks_indexer e) access.member e access new k l
   down_core (GetterTried access name) e k l = getter_missing (lacks_property e) e access name k l

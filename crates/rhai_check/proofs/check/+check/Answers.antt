@@ -1,14 +1,18 @@
-use Rattle.std.proofs.Common.{◌≡◌, ap, ◌∙◌, sym, rules, refl, ◌++◌, true, arith, length, ◌≤◌}
+use Rattle.std.proofs.Common.{◌≡◌, ap, ◌∙◌, sym, rules, refl, ◌++◌, true, false, arith, length, ◌≤◌, take, ◌&&◌}
 use Rattle.rhai_tree.specs.declared.expr.Expr.TheOpen as layer
 use Rattle.rhai_tree.specs.declared.expr.Expr.TheVariants.{outs-Variable, outs-Or, outs-Dot, outs-Index, outs-DynamicConstant}
 use Rattle.rhai_tree.specs.declared.expr.Expr.TheVariants.{outs-BoolConstant, outs-IntegerConstant, outs-CharConstant}
 use Rattle.rhai_tree.specs.declared.expr.Expr.TheVariants.{outs-StringConstant, outs-Unit, outs-ThisPtr}
-use Rattle.rhai_tree.specs.declared.expr.Stmt.TheVariants.{outs-If, outs-Noop, outs-While, outs-Assignment}
+use Rattle.rhai_tree.specs.declared.expr.Stmt.TheVariants.{outs-If, outs-Noop, outs-While, outs-Assignment, outs-Switch, outs-For}
+use Rattle.rhai_tree.specs.declared.expr.Stmt.TheVariants.{outs-TryCatch}
 use Rattle.rhai_check.specs.Around.{around}
 use Rattle.rhai_tree.specs.Frame.{tests_of, resolves_expr, dot_resolves, name_resolves, bracket_resolves}
-use Rattle.rhai_tree.specs.Forms.{ends_chain}
+use Rattle.rhai_tree.specs.Frame.{resolves_block, turn_names, turns_resolve, catch_resolves}
+use Rattle.rhai_check.specs.Declares.{names_a_catch}
+use Rattle.rhai_tree.specs.Cases.{is_switch}
+use Rattle.rhai_tree.specs.Forms.{ends_chain, catch_of}
 use Rattle.rhai_tree.specs.Reading.{faulty, sound}
-use Rattle.rhai_tree.specs.WellFormed.{seen_expr, dot_faults}
+use Rattle.rhai_tree.specs.WellFormed.{seen_expr, seen_block, dot_faults, catch_variable_faults}
 use Rattle.rhai_tree.specs.Names.{is_good}
 use Rattle.std.proofs.lemmas.Grind.{common_steps}
 use Rattle.std.proofs.lemmas.List.{append-nil}
@@ -20,6 +24,10 @@ use Rattle.rhai_check.proofs.Outcome.{given_ok, err_then, runs_at, exact_expr_at
 use Rattle.rhai_check.proofs.Outcome.{target_refused, exported_refused, var_passes, var_runs, control_passes, control_refused, loop_passes}
 use Rattle.rhai_check.proofs.Refused.{refused, refuses_expr, refuses_stmt, refuses_first, refuses_later}
 use Rattle.rhai_check.proofs.Refused.{refuses_front, refuses_behind, refuses_memory}
+use Rattle.rhai_check.proofs.Scopes.{take_turn, turn_passes, turn_runs, turn_refused, take_caught, branch_passes, branch_runs}
+use Rattle.rhai_check.proofs.Scopes.{branch_refused, catch_same, catch_refused}
+use Rattle.rhai_check.proofs.Switches.{refuses_conditional, switch_bad, value_refused, parts_refused, switch_passes, switch_runs}
+use Rattle.rhai_check.proofs.Outcome.{runs_stmt_at, both_run}
 use Rattle.rhai_check.proofs.Counted.{counted_runs}
 use Rattle.rhai_check.proofs.Walk.{refuses_expr_at, refuses_stmt_at, declares-expr}
 use Rattle.rhai_tree.proofs.Walk.{resolves-expr, resolves-stmt}
@@ -434,3 +442,185 @@ chain::check_behind_bracket-returns-in_default-clause-resolved t c =
 pub expr::check_expr-returns-in-ThisPtr-clause-resolved : goal.expr::check_expr-returns-in-ThisPtr-clause-resolved
 expr::check_expr-returns-in-ThisPtr-clause-resolved t c base =
     runs_at c.args.expr.now (layer.ThisPtr c.in-ThisPtr.field-0) (base ++ c.args.names.now) (rw (c.in-ThisPtr.is, outs-ThisPtr) refl) refl
+
+pub stmt::check_conditionals-returns-in_err-check_conditional-clause-refused :
+    goal.stmt::check_conditionals-returns-in_err-check_conditional-clause-refused
+stmt::check_conditionals-returns-in_err-check_conditional-clause-refused t c =
+    refused _ _ _ _ c.from_residual.ensures
+    (refuses_conditional c.args.conditionals.now c.each.conditional-index c.conditional-item.result
+    (around c.args.names.now c.args.place) _ c.each-test.true c.conditional-item.is c.each.invariant.faults c.each.invariant.declares
+    (rw c.each.invariant.same at c.in_err-check_conditional.ensures.refused))
+
+pub stmt::check_turns-returns-in_err-check_block-clause-refused : goal.stmt::check_turns-returns-in_err-check_block-clause-refused
+stmt::check_turns-returns-in_err-check_block-clause-refused t c =
+    refused _ _ _ _ c.from_residual-in_err-check_block.ensures
+    (turn_refused c.args.variable.now c.args.counter.now c.args.names.now c.args.body.now c.args.place _ _
+    (rw (c.in_ok-declare_turn.ensures.added, c.looping.ensures) at c.in_err-check_block.ensures.refused))
+
+pub stmt::check_turns-returns-clause-same : goal.stmt::check_turns-returns-clause-same
+stmt::check_turns-returns-clause-same t c =
+    c.truncate.ensures ∙ ap (take c.len-start.result) (c.in_ok-check_block.ensures.same ∙ c.in_ok-declare_turn.ensures.added)
+    ∙ ap (λ n. take n (turn_names c.args.variable.now c.args.counter.now c.args.names.now)) c.len-start.ensures
+    ∙ take_turn c.args.variable.now c.args.counter.now c.args.names.now
+
+pub stmt::check_turns-returns-clause-exact : goal.stmt::check_turns-returns-clause-exact
+stmt::check_turns-returns-clause-exact t c =
+    turn_passes c.args.variable.now c.args.counter.now c.args.names.now c.args.body.now c.args.place
+    (rw (c.in_ok-declare_turn.ensures.added, c.looping.ensures) at c.in_ok-check_block.ensures.exact)
+
+pub stmt::check_turns-returns-clause-resolved : goal.stmt::check_turns-returns-clause-resolved
+stmt::check_turns-returns-clause-resolved t c =
+    turn_runs c.args.variable.now c.args.counter.now c.args.names.now c.args.body.now
+    (rw c.in_ok-declare_turn.ensures.added at c.in_ok-check_block.ensures.resolved)
+
+pub stmt::check_branch-returns-in_err-declare_catch-clause-refused : goal.stmt::check_branch-returns-in_err-declare_catch-clause-refused
+stmt::check_branch-returns-in_err-declare_catch-clause-refused t c =
+    refused _ _ _ _ c.from_residual.ensures
+    (refuses_first (catch_variable_faults c.args.variable.now) _ (names_a_catch (catch_of c.args.variable.now)) _ _
+    c.in_err-declare_catch.ensures.refused)
+
+pub stmt::check_branch-returns-in_err-check_block-clause-refused : goal.stmt::check_branch-returns-in_err-check_block-clause-refused
+stmt::check_branch-returns-in_err-check_block-clause-refused t c =
+    refused _ _ _ _ c.from_residual-in_err-check_block.ensures
+    (branch_refused c.args.variable.now c.args.branch.now c.args.names.now c.declare_catch.new.names c.in_ok-declare_catch.ensures.added
+    c.args.place _ c.in_err-check_block.ensures.refused)
+
+pub stmt::check_branch-returns-clause-same : goal.stmt::check_branch-returns-clause-same
+stmt::check_branch-returns-clause-same t c =
+    c.truncate.ensures ∙ ap (take c.len-start.result) c.in_ok-check_block.ensures.same
+    ∙ ap (λ n. take n c.declare_catch.new.names) c.len-start.ensures
+    ∙ take_caught (catch_of c.args.variable.now) c.args.names.now c.declare_catch.new.names c.in_ok-declare_catch.ensures.added
+
+pub stmt::check_branch-returns-clause-exact : goal.stmt::check_branch-returns-clause-exact
+stmt::check_branch-returns-clause-exact t c =
+    branch_passes c.args.variable.now c.args.branch.now c.args.names.now c.declare_catch.new.names c.in_ok-declare_catch.ensures.added
+    c.args.place c.in_ok-check_block.ensures.exact
+
+pub stmt::check_branch-returns-clause-resolved : goal.stmt::check_branch-returns-clause-resolved
+stmt::check_branch-returns-clause-resolved t c =
+    branch_runs c.args.variable.now c.args.branch.now c.args.names.now c.declare_catch.new.names c.in_ok-declare_catch.ensures.added
+    c.in_ok-check_block.ensures.resolved
+
+pub stmt::check_stmt-returns-then-not-is_switch-clause-refused : goal.stmt::check_stmt-returns-then-not-is_switch-clause-refused
+stmt::check_stmt-returns-then-not-is_switch-clause-refused t c =
+    let bad : is_switch (length c.in-Switch.expressions) c.in-Switch.cases c.in-Switch.ranges c.in-Switch.def_case ≡ false =
+    sym (rw (c.len-count.ensures, c.as_slice.ensures, c.as_slice-in-Switch.ensures) at c.if-not-is_switch.ensures) in
+    switch_bad c.args.stmt.now c.in-Switch.expr c.in-Switch.expressions c.in-Switch.cases c.in-Switch.ranges c.in-Switch.def_case
+    c.in-Switch.pos c.args.names.now c.args.place (rw (c.in-Switch.is, outs-Switch) refl) bad
+
+pub stmt::check_stmt-returns-in_err-check_expr-in-Switch-clause-refused :
+    goal.stmt::check_stmt-returns-in_err-check_expr-in-Switch-clause-refused
+stmt::check_stmt-returns-in_err-check_expr-in-Switch-clause-refused t c =
+    let good : is_switch (length c.in-Switch.expressions) c.in-Switch.cases c.in-Switch.ranges c.in-Switch.def_case ≡ true =
+    sym (rw (c.len-count.ensures, c.as_slice.ensures, c.as_slice-in-Switch.ensures) at c.if-not-is_switch.ensures) in
+    refused _ _ _ _ c.from_residual-in_err-check_expr-in-Switch.ensures
+    (value_refused c.args.stmt.now c.in-Switch.expr c.in-Switch.expressions c.in-Switch.cases c.in-Switch.ranges c.in-Switch.def_case
+    c.in-Switch.pos c.args.names.now c.args.place (rw (c.in-Switch.is, outs-Switch) refl) good _
+    c.in_err-check_expr-in-Switch.ensures.refused)
+
+pub stmt::check_stmt-returns-in_ok-check_expr-in-Switch-clause-exact :
+    goal.stmt::check_stmt-returns-in_ok-check_expr-in-Switch-clause-exact
+stmt::check_stmt-returns-in_ok-check_expr-in-Switch-clause-exact t c =
+    let good : is_switch (length c.in-Switch.expressions) c.in-Switch.cases c.in-Switch.ranges c.in-Switch.def_case ≡ true =
+    sym (rw (c.len-count.ensures, c.as_slice.ensures, c.as_slice-in-Switch.ensures) at c.if-not-is_switch.ensures) in
+    switch_passes c.args.stmt.now c.in-Switch.expr c.in-Switch.expressions c.in-Switch.cases c.in-Switch.ranges c.in-Switch.def_case
+    c.in-Switch.pos c.args.names.now c.args.place (rw (c.in-Switch.is, outs-Switch) refl) good
+    c.in_ok-check_expr-in-Switch.ensures.exact _ _
+    (rw (c.in_ok-check_expr-in-Switch.ensures.same, c.as_slice-in-Switch-2.ensures) at c.check_conditionals.ensures.exact)
+    (rw c.in_ok-check_expr-in-Switch.ensures.same at c.check_conditionals.ensures.same)
+
+pub stmt::check_stmt-returns-in_ok-check_expr-in-Switch-clause-resolved :
+    goal.stmt::check_stmt-returns-in_ok-check_expr-in-Switch-clause-resolved
+stmt::check_stmt-returns-in_ok-check_expr-in-Switch-clause-resolved t c =
+    let good : is_switch (length c.in-Switch.expressions) c.in-Switch.cases c.in-Switch.ranges c.in-Switch.def_case ≡ true =
+    sym (rw (c.len-count.ensures, c.as_slice.ensures, c.as_slice-in-Switch.ensures) at c.if-not-is_switch.ensures) in
+    switch_runs c.args.stmt.now c.in-Switch.expr c.in-Switch.expressions c.in-Switch.cases c.in-Switch.ranges c.in-Switch.def_case
+    c.in-Switch.pos c.args.names.now c.args.place (rw (c.in-Switch.is, outs-Switch) refl) good
+    _ _ c.in_ok-check_expr-in-Switch.ensures.resolved
+    (rw (c.in_ok-check_expr-in-Switch.ensures.same, c.as_slice-in-Switch-2.ensures) at c.check_conditionals.ensures.resolved)
+    (rw c.in_ok-check_expr-in-Switch.ensures.same at c.check_conditionals.ensures.same)
+
+pub stmt::check_stmt-returns-in_ok-check_expr-in-Switch-clause-refused :
+    goal.stmt::check_stmt-returns-in_ok-check_expr-in-Switch-clause-refused
+stmt::check_stmt-returns-in_ok-check_expr-in-Switch-clause-refused t c =
+    let good : is_switch (length c.in-Switch.expressions) c.in-Switch.cases c.in-Switch.ranges c.in-Switch.def_case ≡ true =
+    sym (rw (c.len-count.ensures, c.as_slice.ensures, c.as_slice-in-Switch.ensures) at c.if-not-is_switch.ensures) in
+    err_then _ (λ e h. parts_refused c.args.stmt.now c.in-Switch.expr c.in-Switch.expressions c.in-Switch.cases c.in-Switch.ranges c.in-Switch.def_case
+    c.in-Switch.pos c.args.names.now c.args.place (rw (c.in-Switch.is, outs-Switch) refl) good
+    c.in_ok-check_expr-in-Switch.ensures.exact e h)
+    (rw (c.in_ok-check_expr-in-Switch.ensures.same, c.as_slice-in-Switch-2.ensures) at c.check_conditionals.ensures.refused)
+
+pub stmt::check_stmt-returns-in_err-check_expr-in-For-clause-refused :
+    goal.stmt::check_stmt-returns-in_err-check_expr-in-For-clause-refused
+stmt::check_stmt-returns-in_err-check_expr-in-For-clause-refused t c =
+    refused _ _ _ _ c.from_residual-in_err-check_expr-in-For.ensures
+    (refuses_stmt_at c.args.stmt.now (layer.For c.in-For.name c.in-For.counter c.in-For.expr c.in-For.body c.in-For.pos)
+    (around c.args.names.now c.args.place) _ (rw (c.in-For.is, outs-For) refl)
+    (refuses_front _ _ _ _ c.in_err-check_expr-in-For.ensures.refused))
+
+pub stmt::check_stmt-returns-in_ok-check_expr-in-For-clause-exact : goal.stmt::check_stmt-returns-in_ok-check_expr-in-For-clause-exact
+stmt::check_stmt-returns-in_ok-check_expr-in-For-clause-exact t c =
+    exact_stmt_at _ c.args.stmt.now (layer.For c.in-For.name c.in-For.counter c.in-For.expr c.in-For.body c.in-For.pos)
+    (around c.args.names.now c.args.place) _ (rw (c.in-For.is, outs-For) refl)
+    (loop_passes _ _ _ c.args.place c.args.names.now _ c.in_ok-check_expr-in-For.ensures.exact
+    (rw c.in_ok-check_expr-in-For.ensures.same at c.check_turns.ensures.exact) (rw c.in_ok-check_expr-in-For.ensures.same at c.check_turns.ensures.same))
+
+pub stmt::check_stmt-returns-in_ok-check_expr-in-For-clause-resolved :
+    goal.stmt::check_stmt-returns-in_ok-check_expr-in-For-clause-resolved
+stmt::check_stmt-returns-in_ok-check_expr-in-For-clause-resolved t c =
+    let turns = turns_resolve c.in-For.name c.in-For.counter c.in-For.body in
+    runs_stmt_at _ c.args.stmt.now (layer.For c.in-For.name c.in-For.counter c.in-For.expr c.in-For.body c.in-For.pos)
+    (λ ns. resolves_expr c.in-For.expr ns && turns ns) c.args.names.now _ (rw (c.in-For.is, outs-For) refl) (λ ns. refl)
+    (both_run _ (resolves_expr c.in-For.expr) turns c.args.names.now c.in_ok-check_expr-in-For.ensures.resolved
+    (rw c.in_ok-check_expr-in-For.ensures.same at c.check_turns.ensures.resolved))
+    (rw c.in_ok-check_expr-in-For.ensures.same at c.check_turns.ensures.same)
+
+pub stmt::check_stmt-returns-in_ok-check_expr-in-For-clause-refused :
+    goal.stmt::check_stmt-returns-in_ok-check_expr-in-For-clause-refused
+stmt::check_stmt-returns-in_ok-check_expr-in-For-clause-refused t c =
+    err_then _ (λ e h. refuses_stmt_at c.args.stmt.now (layer.For c.in-For.name c.in-For.counter c.in-For.expr c.in-For.body c.in-For.pos)
+    (around c.args.names.now c.args.place) e (rw (c.in-For.is, outs-For) refl)
+    (refuses_behind _ _ _ e c.in_ok-check_expr-in-For.ensures.exact h))
+    (rw c.in_ok-check_expr-in-For.ensures.same at c.check_turns.ensures.refused)
+
+pub stmt::check_stmt-returns-in_err-check_block-in-TryCatch-clause-refused :
+    goal.stmt::check_stmt-returns-in_err-check_block-in-TryCatch-clause-refused
+stmt::check_stmt-returns-in_err-check_block-in-TryCatch-clause-refused t c =
+    refused _ _ _ _ c.from_residual-in_err-check_block-in-TryCatch.ensures
+    (refuses_stmt_at c.args.stmt.now (layer.TryCatch c.in-TryCatch.body c.in-TryCatch.variable c.in-TryCatch.branch c.in-TryCatch.field-3)
+    (around c.args.names.now c.args.place) _ (rw (c.in-TryCatch.is, outs-TryCatch) refl)
+    (refuses_first _ _ _ _ _ c.in_err-check_block-in-TryCatch.ensures.refused))
+
+pub stmt::check_stmt-returns-in_ok-check_block-in-TryCatch-clause-exact :
+    goal.stmt::check_stmt-returns-in_ok-check_block-in-TryCatch-clause-exact
+stmt::check_stmt-returns-in_ok-check_block-in-TryCatch-clause-exact t c =
+    exact_stmt_at _ c.args.stmt.now (layer.TryCatch c.in-TryCatch.body c.in-TryCatch.variable c.in-TryCatch.branch c.in-TryCatch.field-3)
+    (around c.args.names.now c.args.place) _ (rw (c.in-TryCatch.is, outs-TryCatch) refl)
+    (loop_passes _ _ _ c.args.place c.args.names.now _ c.in_ok-check_block-in-TryCatch.ensures.exact
+    (passes_as _ _ _ (catch_same faulty c.in-TryCatch.variable (seen_block c.in-TryCatch.branch).value (around c.args.names.now c.args.place))
+    (rw c.in_ok-check_block-in-TryCatch.ensures.same at c.check_branch.ensures.exact))
+    (rw c.in_ok-check_block-in-TryCatch.ensures.same at c.check_branch.ensures.same))
+
+pub stmt::check_stmt-returns-in_ok-check_block-in-TryCatch-clause-resolved :
+    goal.stmt::check_stmt-returns-in_ok-check_block-in-TryCatch-clause-resolved
+stmt::check_stmt-returns-in_ok-check_block-in-TryCatch-clause-resolved t c =
+    let branch = catch_resolves c.in-TryCatch.variable c.in-TryCatch.branch in
+    runs_stmt_at _ c.args.stmt.now (layer.TryCatch c.in-TryCatch.body c.in-TryCatch.variable c.in-TryCatch.branch c.in-TryCatch.field-3)
+    (λ ns. resolves_block c.in-TryCatch.body ns && branch ns) c.args.names.now _ (rw (c.in-TryCatch.is, outs-TryCatch) refl)
+    (λ ns i. (
+      resolves_block c.in-TryCatch.body ns
+          && catch_same sound c.in-TryCatch.variable (resolves_block c.in-TryCatch.branch) ns i,
+      ns,
+    ))
+    (both_run _ (resolves_block c.in-TryCatch.body) branch c.args.names.now c.in_ok-check_block-in-TryCatch.ensures.resolved
+    (rw c.in_ok-check_block-in-TryCatch.ensures.same at c.check_branch.ensures.resolved))
+    (rw c.in_ok-check_block-in-TryCatch.ensures.same at c.check_branch.ensures.same)
+
+pub stmt::check_stmt-returns-in_ok-check_block-in-TryCatch-clause-refused :
+    goal.stmt::check_stmt-returns-in_ok-check_block-in-TryCatch-clause-refused
+stmt::check_stmt-returns-in_ok-check_block-in-TryCatch-clause-refused t c =
+    err_then _ (λ e h. refuses_stmt_at c.args.stmt.now (layer.TryCatch c.in-TryCatch.body c.in-TryCatch.variable c.in-TryCatch.branch c.in-TryCatch.field-3)
+    (around c.args.names.now c.args.place) e (rw (c.in-TryCatch.is, outs-TryCatch) refl)
+    (refuses_later _ _ _ _ e c.in_ok-check_block-in-TryCatch.ensures.exact
+    (catch_refused c.in-TryCatch.variable c.in-TryCatch.branch (around c.args.names.now c.args.place) e h)))
+    (rw c.in_ok-check_block-in-TryCatch.ensures.same at c.check_branch.ensures.refused)

@@ -1,10 +1,12 @@
 use Rattle.std.specs.Prelude.{◌≡◌, ◌++◌, map, drop, List, IsTrue}
 use Rattle.rhai_check.specs.Around.{around}
 use Rattle.rhai_tree.specs.Forms.{any_of}
-use Rattle.rhai_check.specs.Declares.{declares_expr, declares_stmt}
+use Rattle.rhai_check.specs.Declares.{any_need, needs_of, declares_stmt, declares_conditional}
 use Rattle.rhai_tree.specs.Frame.{tests_of, resolves_stmt, all_resolve_exprs, all_resolve, entries_resolve, tests_of_entry}
+use Rattle.rhai_tree.specs.Frame.{resolves_conditional, conditionals_resolve}
 use Rattle.rhai_tree.specs.Names.{Name, Begins}
 use Rattle.rhai_tree.specs.WellFormed.{seen_expr, seen_stmt, seen_entry, faults_in_all, faults_in_entries, faults_in_list}
+use Rattle.rhai_tree.specs.WellFormed.{seen_conditional, faults_in_conditionals}
 use Rattle.rhai_check.proofs.check.+check.Given as goal
 
 abbrev pub invariant-expr::check_exprs-each : goal.invariant-expr::check_exprs-each
@@ -14,7 +16,7 @@ invariant-expr::check_exprs-each l = record {
       (around l.fn.names l.place);
   resolved : (base : List Name) → all_resolve_exprs (map tests_of l.exprs) (base ++ l.fn.names) ≡ all_resolve_exprs
       (map tests_of (drop l.expr-index l.exprs)) (base ++ l.fn.names);
-  declares : IsTrue (any_of (map declares_expr (drop l.expr-index l.exprs))) → IsTrue (any_of (map declares_expr l.exprs));
+  declares : IsTrue (any_need (map needs_of (drop l.expr-index l.exprs))) → IsTrue (any_need (map needs_of l.exprs));
 }
 
 abbrev pub invariant-stmt::check_statements-each : goal.invariant-stmt::check_statements-each
@@ -34,4 +36,15 @@ invariant-expr::check_entries-each l = record {
       (map seen_entry (drop l.entry-index l.entries)) (around l.fn.names l.place);
   resolved : (base : List Name) → entries_resolve (map tests_of_entry l.entries) (base ++ l.fn.names) ≡ entries_resolve
       (map tests_of_entry (drop l.entry-index l.entries)) (base ++ l.fn.names);
+}
+
+abbrev pub invariant-stmt::check_conditionals-each : goal.invariant-stmt::check_conditionals-each
+invariant-stmt::check_conditionals-each l = record {
+  same : l.names ≡ l.fn.names;
+  faults : faults_in_conditionals (map seen_conditional l.conditionals) (around l.fn.names l.place) ≡ faults_in_conditionals
+      (map seen_conditional (drop l.conditional-index l.conditionals)) (around l.fn.names l.place);
+  resolved : (base : List Name) → conditionals_resolve (map resolves_conditional l.conditionals) (base ++ l.fn.names)
+      ≡ conditionals_resolve (map resolves_conditional (drop l.conditional-index l.conditionals)) (base ++ l.fn.names);
+  declares : IsTrue (any_of (map declares_conditional (drop l.conditional-index l.conditionals)))
+      → IsTrue (any_of (map declares_conditional l.conditionals));
 }

@@ -13,7 +13,10 @@ mod Methods
 mod Roots
 mod Spots
 mod Statements
+mod Switches
+mod Tries
 mod Walk
+mod Walks
 use Rattle.rhai_cycle.proofs.evaluator.Evaluator.+eval.Goals as goal
 use Rattle.rhai_cycle.proofs.evaluator.Evaluator.+eval.Answers.Bodies as bodies
 use Rattle.rhai_cycle.proofs.evaluator.Evaluator.+eval.Answers.Calls as calls
@@ -30,7 +33,10 @@ use Rattle.rhai_cycle.proofs.evaluator.Evaluator.+eval.Answers.Methods as method
 use Rattle.rhai_cycle.proofs.evaluator.Evaluator.+eval.Answers.Roots as roots
 use Rattle.rhai_cycle.proofs.evaluator.Evaluator.+eval.Answers.Spots as spots
 use Rattle.rhai_cycle.proofs.evaluator.Evaluator.+eval.Answers.Statements as statements
+use Rattle.rhai_cycle.proofs.evaluator.Evaluator.+eval.Answers.Switches as switches
+use Rattle.rhai_cycle.proofs.evaluator.Evaluator.+eval.Answers.Tries as tries
 use Rattle.rhai_cycle.proofs.evaluator.Evaluator.+eval.Answers.Walk as walking
+use Rattle.rhai_cycle.proofs.evaluator.Evaluator.+eval.Answers.Walks as walks
 
 pub run_body-returns-in_err-track_operation-clause-runs : goal.run_body-returns-in_err-track_operation-clause-runs
 run_body-returns-in_err-track_operation-clause-runs = bodies.run_body-returns-in_err-track_operation-clause-runs
@@ -881,6 +887,48 @@ run_stmt-returns-in-BreakLoop-clause-runs = statements.run_stmt-returns-in-Break
 pub run_stmt-returns-in-Return-clause-runs : goal.run_stmt-returns-in-Return-clause-runs
 run_stmt-returns-in-Return-clause-runs = statements.run_stmt-returns-in-Return-clause-runs
 
+pub run_stmt-run_switch-done-requires : goal.run_stmt-run_switch-done-requires
+run_stmt-run_switch-done-requires = statements.run_stmt-run_switch-done-requires
+
+pub run_stmt-returns-in-Switch-clause-runs : goal.run_stmt-returns-in-Switch-clause-runs
+run_stmt-returns-in-Switch-clause-runs = statements.run_stmt-returns-in-Switch-clause-runs
+
+pub run_stmt-returns-in-Switch-clause-charges : goal.run_stmt-returns-in-Switch-clause-charges
+run_stmt-returns-in-Switch-clause-charges = statements.run_stmt-returns-in-Switch-clause-charges
+
+pub run_stmt-returns-in-Switch-clause-names : goal.run_stmt-returns-in-Switch-clause-names
+run_stmt-returns-in-Switch-clause-names = statements.run_stmt-returns-in-Switch-clause-names
+
+pub run_stmt-run_for-done-requires : goal.run_stmt-run_for-done-requires
+run_stmt-run_for-done-requires = statements.run_stmt-run_for-done-requires
+
+pub run_stmt-returns-in-For-clause-runs : goal.run_stmt-returns-in-For-clause-runs
+run_stmt-returns-in-For-clause-runs = statements.run_stmt-returns-in-For-clause-runs
+
+pub run_stmt-returns-in-For-clause-charges : goal.run_stmt-returns-in-For-clause-charges
+run_stmt-returns-in-For-clause-charges = statements.run_stmt-returns-in-For-clause-charges
+
+pub run_stmt-returns-in-For-clause-names : goal.run_stmt-returns-in-For-clause-names
+run_stmt-returns-in-For-clause-names = statements.run_stmt-returns-in-For-clause-names
+
+pub run_stmt-run_try-done-requires : goal.run_stmt-run_try-done-requires
+run_stmt-run_try-done-requires = statements.run_stmt-run_try-done-requires
+
+pub run_stmt-returns-in-TryCatch-clause-runs : goal.run_stmt-returns-in-TryCatch-clause-runs
+run_stmt-returns-in-TryCatch-clause-runs = statements.run_stmt-returns-in-TryCatch-clause-runs
+
+pub run_stmt-returns-in-TryCatch-clause-charges : goal.run_stmt-returns-in-TryCatch-clause-charges
+run_stmt-returns-in-TryCatch-clause-charges = statements.run_stmt-returns-in-TryCatch-clause-charges
+
+pub run_stmt-returns-in-TryCatch-clause-names : goal.run_stmt-returns-in-TryCatch-clause-names
+run_stmt-returns-in-TryCatch-clause-names = statements.run_stmt-returns-in-TryCatch-clause-names
+
+pub run_stmt-share_variables-requires : goal.run_stmt-share_variables-requires
+run_stmt-share_variables-requires = statements.run_stmt-share_variables-requires
+
+pub run_stmt-returns-in-Share-clause-runs : goal.run_stmt-returns-in-Share-clause-runs
+run_stmt-returns-in-Share-clause-runs = statements.run_stmt-returns-in-Share-clause-runs
+
 pub run_stmt-returns-in-Var-default-default-None-default-default-clause-runs : goal.run_stmt-returns-in-Var-default-default-None-default-default-clause-runs
 run_stmt-returns-in-Var-default-default-None-default-default-clause-runs = statements.run_stmt-returns-in-Var-default-default-None-default-default-clause-runs
 
@@ -968,6 +1016,69 @@ run_statements-returns-clause-runs = statements.run_statements-returns-clause-ru
 pub run_statements-returns-in_err-last-clause-memory : goal.run_statements-returns-in_err-last-clause-memory
 run_statements-returns-in_err-last-clause-memory = statements.run_statements-returns-in_err-last-clause-memory
 
+pub run_switch-returns-then-not-settle-clause-runs : goal.run_switch-returns-then-not-settle-clause-runs
+run_switch-returns-then-not-settle-clause-runs = switches.run_switch-returns-then-not-settle-clause-runs
+
+pub run_switch-run_condition-requires : goal.run_switch-run_condition-requires
+run_switch-run_condition-requires = switches.run_switch-run_condition-requires
+
+pub run_switch-each_candidate-init : goal.run_switch-each_candidate-init
+run_switch-each_candidate-init = switches.run_switch-each_candidate-init
+
+pub run_switch-returns-in-None-default_result-clause-runs : goal.run_switch-returns-in-None-default_result-clause-runs
+run_switch-returns-in-None-default_result-clause-runs = switches.run_switch-returns-in-None-default_result-clause-runs
+
+pub run_switch-returns-in-Err-clause-runs : goal.run_switch-returns-in-Err-clause-runs
+run_switch-returns-in-Err-clause-runs = switches.run_switch-returns-in-Err-clause-runs
+
+pub run_switch-run_expr-answer-requires-in-Some-default_result : goal.run_switch-run_expr-answer-requires-in-Some-default_result
+run_switch-run_expr-answer-requires-in-Some-default_result = switches.run_switch-run_expr-answer-requires-in-Some-default_result
+
+pub run_switch-returns-in-Some-default_result-clause-runs : goal.run_switch-returns-in-Some-default_result-clause-runs
+run_switch-returns-in-Some-default_result-clause-runs = switches.run_switch-returns-in-Some-default_result-clause-runs
+
+pub run_switch-run_expr-answer-requires-then-holds : goal.run_switch-run_expr-answer-requires-then-holds
+run_switch-run_expr-answer-requires-then-holds = switches.run_switch-run_expr-answer-requires-then-holds
+
+pub run_switch-returns-then-holds-clause-runs : goal.run_switch-returns-then-holds-clause-runs
+run_switch-returns-then-holds-clause-runs = switches.run_switch-returns-then-holds-clause-runs
+
+pub run_switch-each_candidate-preserved : goal.run_switch-each_candidate-preserved
+run_switch-each_candidate-preserved = switches.run_switch-each_candidate-preserved
+
+pub run_try-run_branch-requires : goal.run_try-run_branch-requires
+run_try-run_branch-requires = tries.run_try-run_branch-requires
+
+pub run_try-returns-in-Ok-clause-runs : goal.run_try-returns-in-Ok-clause-runs
+run_try-returns-in-Ok-clause-runs = tries.run_try-returns-in-Ok-clause-runs
+
+pub run_try-returns-then-is_catchable-clause-counts : goal.run_try-returns-then-is_catchable-clause-counts
+run_try-returns-then-is_catchable-clause-counts = tries.run_try-returns-then-is_catchable-clause-counts
+
+pub run_try-returns-then-is_catchable-clause-names : goal.run_try-returns-then-is_catchable-clause-names
+run_try-returns-then-is_catchable-clause-names = tries.run_try-returns-then-is_catchable-clause-names
+
+pub run_try-returns-then-is_catchable-clause-runs : goal.run_try-returns-then-is_catchable-clause-runs
+run_try-returns-then-is_catchable-clause-runs = tries.run_try-returns-then-is_catchable-clause-runs
+
+pub run_try-returns-else-is_catchable-clause-runs : goal.run_try-returns-else-is_catchable-clause-runs
+run_try-returns-else-is_catchable-clause-runs = tries.run_try-returns-else-is_catchable-clause-runs
+
+pub run_branch-returns-in-Err-clause-runs : goal.run_branch-returns-in-Err-clause-runs
+run_branch-returns-in-Err-clause-runs = tries.run_branch-returns-in-Err-clause-runs
+
+pub run_branch-run_stmt_block-outcome-requires : goal.run_branch-run_stmt_block-outcome-requires
+run_branch-run_stmt_block-outcome-requires = tries.run_branch-run_stmt_block-outcome-requires
+
+pub run_branch-returns-clause-runs : goal.run_branch-returns-clause-runs
+run_branch-returns-clause-runs = tries.run_branch-returns-clause-runs
+
+pub run_branch-returns-clause-counts : goal.run_branch-returns-clause-counts
+run_branch-returns-clause-counts = tries.run_branch-returns-clause-counts
+
+pub run_branch-returns-clause-names : goal.run_branch-returns-clause-names
+run_branch-returns-clause-names = tries.run_branch-returns-clause-names
+
 pub walk_chain-unreachable-requires : goal.walk_chain-unreachable-requires
 walk_chain-unreachable-requires = walking.walk_chain-unreachable-requires
 
@@ -979,3 +1090,69 @@ walk_chain-returns-in-Ended-clause-runs = walking.walk_chain-returns-in-Ended-cl
 
 pub walk_chain-returns-in-Enters-clause-runs : goal.walk_chain-returns-in-Enters-clause-runs
 walk_chain-returns-in-Enters-clause-runs = walking.walk_chain-returns-in-Enters-clause-runs
+
+pub run_for-returns-then-has_no_room-clause-runs : goal.run_for-returns-then-has_no_room-clause-runs
+run_for-returns-then-has_no_room-clause-runs = walks.run_for-returns-then-has_no_room-clause-runs
+
+pub run_for-returns-in-Err-clause-runs : goal.run_for-returns-in-Err-clause-runs
+run_for-returns-in-Err-clause-runs = walks.run_for-returns-in-Err-clause-runs
+
+pub run_for-returns-in-Err-start_turns-clause-runs : goal.run_for-returns-in-Err-start_turns-clause-runs
+run_for-returns-in-Err-start_turns-clause-runs = walks.run_for-returns-in-Err-start_turns-clause-runs
+
+pub run_for-turns-init : goal.run_for-turns-init
+run_for-turns-init = walks.run_for-turns-init
+
+pub run_for-run_for_turn-requires : goal.run_for-run_for_turn-requires
+run_for-run_for_turn-requires = walks.run_for-run_for_turn-requires
+
+pub run_for-next_number-turn-requires : goal.run_for-next_number-turn-requires
+run_for-next_number-turn-requires = walks.run_for-next_number-turn-requires
+
+pub run_for-turns-smaller : goal.run_for-turns-smaller
+run_for-turns-smaller = walks.run_for-turns-smaller
+
+pub run_for-turns-preserved : goal.run_for-turns-preserved
+run_for-turns-preserved = walks.run_for-turns-preserved
+
+pub run_for-returns-in-Some-clause-runs : goal.run_for-returns-in-Some-clause-runs
+run_for-returns-in-Some-clause-runs = walks.run_for-returns-in-Some-clause-runs
+
+pub run_for-returns-in-Some-clause-counts : goal.run_for-returns-in-Some-clause-counts
+run_for-returns-in-Some-clause-counts = walks.run_for-returns-in-Some-clause-counts
+
+pub run_for-returns-in-Some-clause-names : goal.run_for-returns-in-Some-clause-names
+run_for-returns-in-Some-clause-names = walks.run_for-returns-in-Some-clause-names
+
+pub run_for_turn-returns-in_default-clause-runs : goal.run_for_turn-returns-in_default-clause-runs
+run_for_turn-returns-in_default-clause-runs = walks.run_for_turn-returns-in_default-clause-runs
+
+pub run_for_turn-returns-in-Ok-clause-runs : goal.run_for_turn-returns-in-Ok-clause-runs
+run_for_turn-returns-in-Ok-clause-runs = walks.run_for_turn-returns-in-Ok-clause-runs
+
+pub run_for_turn-returns-in-Err-clause-runs : goal.run_for_turn-returns-in-Err-clause-runs
+run_for_turn-returns-in-Err-clause-runs = walks.run_for_turn-returns-in-Err-clause-runs
+
+pub run_for_turn-enter_turn-entered-requires : goal.run_for_turn-enter_turn-entered-requires
+run_for_turn-enter_turn-entered-requires = walks.run_for_turn-enter_turn-entered-requires
+
+pub run_for_turn-returns-in-Err-entered-clause-runs : goal.run_for_turn-returns-in-Err-entered-clause-runs
+run_for_turn-returns-in-Err-entered-clause-runs = walks.run_for_turn-returns-in-Err-entered-clause-runs
+
+pub run_for_turn-run_stmt_block-outcome-requires : goal.run_for_turn-run_stmt_block-outcome-requires
+run_for_turn-run_stmt_block-outcome-requires = walks.run_for_turn-run_stmt_block-outcome-requires
+
+pub run_for_turn-returns-clause-runs : goal.run_for_turn-returns-clause-runs
+run_for_turn-returns-clause-runs = walks.run_for_turn-returns-clause-runs
+
+pub run_for_turn-returns-clause-charges : goal.run_for_turn-returns-clause-charges
+run_for_turn-returns-clause-charges = walks.run_for_turn-returns-clause-charges
+
+pub run_for_turn-returns-clause-counts : goal.run_for_turn-returns-clause-counts
+run_for_turn-returns-clause-counts = walks.run_for_turn-returns-clause-counts
+
+pub run_for_turn-returns-clause-names_stay : goal.run_for_turn-returns-clause-names_stay
+run_for_turn-returns-clause-names_stay = walks.run_for_turn-returns-clause-names_stay
+
+pub run_for_turn-returns-clause-names : goal.run_for_turn-returns-clause-names
+run_for_turn-returns-clause-names = walks.run_for_turn-returns-clause-names

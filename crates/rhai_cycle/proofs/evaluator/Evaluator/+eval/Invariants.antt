@@ -1,7 +1,7 @@
-use Rattle.std.specs.Prelude.{◌≡◌, ◌≤◌, ◌+◌, ◌*◌, ◌-◌, ◌^◌, ℕ, List, [], drop, length, map, Option, Some}
+use Rattle.std.specs.Prelude.{Bool, ◌∷◌, ◌≡◌, ◌≤◌, ◌+◌, ◌*◌, ◌-◌, ◌^◌, ℕ, List, [], drop, length, map, Option, Some}
 use Rattle.std.specs.Option.{option_copied, option_map}
 use Rattle.std.specs.String.{string_bytes}
-use Rattle.rhai_tree.specs.Frame.{resolves_stmt, all_resolve}
+use Rattle.rhai_tree.specs.Frame.{all_resolve, resolves_stmt, turn_names}
 use Rattle.rhai_tree.specs.Keys.{key_of}
 use Rattle.rhai_tree.specs.Links.{left_by}
 use Rattle.rhai_chains.specs.declared.links.Link.{Link}
@@ -9,11 +9,17 @@ use Rattle.rhai_tree.specs.Layers.{ExprLayer}
 use Rattle.rhai_tree.specs.declared.expr.Expr.{out-Expr}
 use Rattle.rhai_state.specs.Limits.{limit_of}
 use Rattle.rhai_machine.specs.language.Values.{unit_value}
-use Rattle.rhai_machine.specs.language.Frames.{Frame, Purpose, Run, WhileTurn, DoTurn}
-use Rattle.rhai_machine.specs.language.Runs.{with_core, Goes, Steps}
+use Rattle.rhai_machine.specs.language.Cases.{default_of, results_of}
+use Rattle.rhai_machine.specs.language.Frames.{Choose, DoTurn, ForTurn, Frame, OpenStmt, Purpose, RestoreScope, Run, WhileTurn}
+use Rattle.rhai_machine.specs.language.Runs.{at, with_core, Goes, Steps}
 use Rattle.rhai_machine.specs.language.Arguments.{arguments_core, flattens}
 use Rattle.rhai_machine.specs.language.Data.{entries_core, items_core, parts_core}
 use Rattle.rhai_machine.specs.language.Expressions.{coalesce_core}
+use Rattle.rhai_tree.specs.declared.expr.Expr.TheOpen as layer
+use Rattle.rhai_tree.specs.declared.position.Position.{Position}
+use Rattle.rhai_choices.specs.Candidates.{numbers_left}
+use Rattle.rhai_walks.specs.Left.{turns_in}
+use Rattle.rhai_walks.specs.Loops.{loop_in}
 use Rattle.rhai_data.specs.Arrays.{IsMeasured}
 use Rattle.rhai_data.specs.Maps.{IsCounted}
 use Rattle.rhai_context.specs.declared.Context.{Context}
@@ -108,6 +114,21 @@ decreases-run_break g l = measured l.self.now l.run.now 0 3
 
 abbrev pub decreases-run_return : goal.decreases-run_return
 decreases-run_return g l = measured l.self.now l.run.now 0 3
+
+abbrev pub decreases-run_switch : goal.decreases-run_switch
+decreases-run_switch g l = measured l.self.now l.run.now 0 3
+
+abbrev pub decreases-run_for : goal.decreases-run_for
+decreases-run_for g l = measured l.self.now l.run.now 0 4
+
+abbrev pub decreases-run_for_turn : goal.decreases-run_for_turn
+decreases-run_for_turn g l = measured l.self.now l.run.now 0 3
+
+abbrev pub decreases-run_try : goal.decreases-run_try
+decreases-run_try g l = measured l.self.now l.run.now 0 4
+
+abbrev pub decreases-run_branch : goal.decreases-run_branch
+decreases-run_branch g l = measured l.self.now l.run.now 0 3
 
 abbrev pub decreases-run_until : goal.decreases-run_until
 decreases-run_until g l = measured l.self.now l.run.now 0 3
@@ -280,3 +301,39 @@ invariant-run_do-turns g l = record {
 
 abbrev pub decreases-run_do-turns : goal.decreases-run_do-turns
 decreases-run_do-turns g l = left l.self l.run
+
+-- the results that are left to be tried, from the value on
+abbrev pub invariant-run_switch-each_candidate : goal.invariant-run_switch-each_candidate
+invariant-run_switch-each_candidate g l = record {
+  counts : l.fn.run.global.num_operations ≤ l.run.global.num_operations;
+  names : names l.run ≡ names l.fn.run;
+  steps : (pos : Position) (restoring : Bool) → Steps (under g.H.Host.name_of l.self g.T.NativeTable.natives)
+      (OpenStmt (layer.Switch l.parts.value.now l.parts.results.now l.parts.cases.now l.parts.ranges.now l.parts.default pos) restoring)
+      (state_in (g.T.NativeTable.state l.fn.table) l.fn.run)
+      (Choose (results_of l.parts.results.now (numbers_left l.left)) (default_of (record {
+        results = l.parts.results.now;
+        cases = l.parts.cases.now;
+        ranges = l.parts.ranges.now;
+        default = l.parts.default;
+      })))
+      (state_in (g.T.NativeTable.state l.table) l.run);
+}
+
+abbrev pub decreases-run_switch-each_candidate : goal.decreases-run_switch-each_candidate
+decreases-run_switch-each_candidate g l = length (results_of l.parts.results.now (numbers_left l.left))
+
+-- the turns that are left, from the room for the variables on
+abbrev pub invariant-run_for-turns : goal.invariant-run_for-turns
+invariant-run_for-turns g l = record {
+  counts : l.fn.run.global.num_operations + l.turn ≤ l.run.global.num_operations;
+  base : l.base ≡ length (names l.fn.run);
+  names : names l.run ≡ turn_names l.parts.variable.now l.parts.counter.now (names l.fn.run);
+  steps : (pos : Position) (restoring : Bool) (k : List (Frame g.row.H.Denot)) → Goes (under g.H.Host.name_of l.self g.T.NativeTable.natives)
+      (at (OpenStmt (layer.For l.parts.variable.now l.parts.counter.now l.parts.items.now l.parts.body.now pos) restoring) k
+      (state_in (g.T.NativeTable.state l.fn.table) l.fn.run))
+      (at (ForTurn (loop_in l.parts) (turns_in l.turns) l.turn l.base) (RestoreScope l.base ∷ k)
+      (state_in (g.T.NativeTable.state l.table) l.run));
+}
+
+abbrev pub decreases-run_for-turns : goal.decreases-run_for-turns
+decreases-run_for-turns g l = left l.self l.run

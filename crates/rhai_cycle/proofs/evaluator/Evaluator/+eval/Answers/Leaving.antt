@@ -1,11 +1,13 @@
 use Rattle.std.proofs.Common.{◌∷◌, refl}
 use Rattle.rhai_machine.specs.machine.Point.{after}
 use Rattle.rhai_machine.specs.machine.Memory.{here, next, ◌⨾◌}
-use Rattle.rhai_machine.specs.language.Frames.{BreakValue, ReturnValue}
+use Rattle.rhai_machine.specs.language.Frames.{BreakValue}
 use Rattle.rhai_machine.specs.language.Runs.{Steps}
+use Rattle.rhai_machine.specs.language.Statements.{has_option}
 use Rattle.rhai_steps.proofs.Pieces.{exits, faulted}
 use Rattle.rhai_cycle.specs.States.{under}
-use Rattle.rhai_cycle.proofs.LoopSteps.{breaks_unit, breaks_value, returns_unit, returns_value}
+use Rattle.rhai_cycle.proofs.LoopSteps.{breaks_unit, breaks_value, leaves, leaving, leaving_flattens, leaving_passes}
+use Rattle.rhai_cycle.proofs.LoopSteps.{returns_unit, returns_value}
 use Rattle.rhai_cycle.proofs.Chain.{flat_fails}
 use Rattle.rhai_cycle.proofs.evaluator.Evaluator.+eval.Goals as goal
 
@@ -18,10 +20,9 @@ run_break-returns-in-None-clause-runs g t c restoring k =
 
 pub run_return-returns-in-None-clause-runs : goal.run_return-returns-in-None-clause-runs
 unfolding after Steps
-run_return-returns-in-None-clause-runs g t c options restoring plain k =
+run_return-returns-in-None-clause-runs g t c restoring k =
     let rules = under g.H.Host.name_of c.args.self.now g.T.NativeTable.natives in
-    rw c.in-None.is (returns_unit rules _ _ restoring k _ plain ⨾ rw (← c.unit_value.ensures) (faulted rules _ _ c.returned.ensures k
-    _))
+    rw c.in-None.is (returns_unit rules _ _ restoring k _ ⨾ rw (← c.unit_value.ensures) (faulted rules _ _ c.left_by.ensures k _))
 
 pub run_break-returns-in_err-value-in-Some-clause-runs : goal.run_break-returns-in_err-value-in-Some-clause-runs
 unfolding after Steps
@@ -39,22 +40,26 @@ run_break-returns-in_ok-value-in-Some-clause-runs g t c restoring k =
 
 pub run_return-returns-in_err-value-in-Some-clause-runs : goal.run_return-returns-in_err-value-in-Some-clause-runs
 unfolding after Steps
-run_return-returns-in_err-value-in-Some-clause-runs g t c options restoring plain =
+run_return-returns-in_err-value-in-Some-clause-runs g t c restoring =
     let rules = under g.H.Host.name_of c.args.self.now g.T.NativeTable.natives in
     exits rules _ _ _ _ _ c.from_residual.ensures (λ k.
-    rw c.in-Some.is (returns_value rules _ _ _ restoring k _ plain ⨾ c.in_err-value-in-Some.ensures.runs (ReturnValue _ _ ∷ k) ⨾ next here))
+    rw c.in-Some.is (returns_value rules _ _ _ restoring k _ ⨾ c.in_err-value-in-Some.ensures.runs
+    (leaving rules (has_option 2 c.args.options) _ _ ∷ k) ⨾ leaving_passes rules (has_option 2 c.args.options) _ _ _ k _))
 
 pub run_return-returns-in_err-value-in-Some-2-clause-runs : goal.run_return-returns-in_err-value-in-Some-2-clause-runs
 unfolding after Steps
-run_return-returns-in_err-value-in-Some-2-clause-runs g t c options restoring plain =
+run_return-returns-in_err-value-in-Some-2-clause-runs g t c restoring =
     let rules = under g.H.Host.name_of c.args.self.now g.T.NativeTable.natives in
     exits rules _ _ _ _ _ c.from_residual-in_err-value-in-Some-2.ensures (λ k.
-    rw c.in-Some.is (returns_value rules _ _ _ restoring k _ plain ⨾ c.in_ok-value-in-Some.ensures.runs (ReturnValue _ _ ∷ k)
-    ⨾ flat_fails rules _ _ k _ _ (ReturnValue _ _) refl (rw c.position-place.ensures at c.in_err-value-in-Some-2.ensures.exact)))
+    rw c.in-Some.is (returns_value rules _ _ _ restoring k _ ⨾ c.in_ok-value-in-Some.ensures.runs
+    (leaving rules (has_option 2 c.args.options) _ _ ∷ k)
+    ⨾ flat_fails rules _ _ k _ _ _ (leaving_flattens rules (has_option 2 c.args.options) _ _) (rw c.position-place.ensures at c.in_err-value-in-Some-2.ensures.exact)))
 
 pub run_return-returns-in_ok-value-in-Some-2-clause-runs : goal.run_return-returns-in_ok-value-in-Some-2-clause-runs
 unfolding after Steps
-run_return-returns-in_ok-value-in-Some-2-clause-runs g t c options restoring plain k =
+run_return-returns-in_ok-value-in-Some-2-clause-runs g t c restoring k =
     let rules = under g.H.Host.name_of c.args.self.now g.T.NativeTable.natives in
-    rw c.in-Some.is (returns_value rules _ _ _ restoring k _ plain ⨾ c.in_ok-value-in-Some.ensures.runs (ReturnValue _ _ ∷ k)
-    ⨾ next (rw (← c.position-place.ensures, ← (c.in_ok-value-in-Some-2.ensures.exact tt)) (faulted rules _ _ c.returned-in-Some.ensures k _)))
+    rw c.in-Some.is (returns_value rules _ _ _ restoring k _ ⨾ c.in_ok-value-in-Some.ensures.runs
+    (leaving rules (has_option 2 c.args.options) _ _ ∷ k)
+    ⨾ leaves rules (has_option 2 c.args.options) _ _ _ _ k _ (rw c.position-place.ensures at (c.in_ok-value-in-Some-2.ensures.exact tt))
+    ⨾ faulted rules _ _ c.left_by-in-Some.ensures k _)

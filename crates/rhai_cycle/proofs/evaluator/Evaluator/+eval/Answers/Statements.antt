@@ -10,6 +10,7 @@ use Rattle.rhai_tree.specs.declared.expr.Expr.TheVariants as exprs
 use Rattle.rhai_tree.specs.declared.expr.Stmt.TheVariants as stmts
 use Rattle.rhai_tree.specs.declared.expr.Expr.TheViews.{the_lemmas}
 use Rattle.rhai_tree.specs.Frame.{resolves_stmt}
+use Rattle.rhai_tree.proofs.Statements.{for_resolves, share_resolves, switch_resolves, try_resolves}
 use Rattle.rhai_state.specs.declared.state.GlobalRuntimeState.{GlobalRuntimeState}
 use Rattle.rhai_machine.specs.machine.Point.{after}
 use Rattle.rhai_machine.specs.machine.Memory.{here, next, ◌⨾◌}
@@ -25,10 +26,10 @@ use Rattle.rhai_operands.proofs.Names.{good_target, plain_target}
 use Rattle.rhai_assign.proofs.Prepared.{begins_assignment}
 use Rattle.rhai_tree.proofs.Links.{few_in_target}
 use Rattle.rhai_cycle.proofs.Conditions.{chooses}
-use Rattle.rhai_cycle.proofs.NameLemmas.{plain_return, plain_var, names_restored, rest_resolves, sides_resolve, any_item}
+use Rattle.rhai_cycle.proofs.NameLemmas.{plain_var, names_left, names_restored, rest_resolves, sides_resolve, any_item}
 use Rattle.rhai_cycle.proofs.Chain.{flat_fails, on_ok_given, drop_item, drop_all, begins_stmt, on_ok, opens_stmt}
 use Rattle.rhai_cycle.proofs.Chain.{refuses_stmt, restores, enters_empty, enters_plain, enters_restoring, is_empty_list, is_not_empty}
-use Rattle.rhai_cycle.proofs.Chain.{left_state, not_declared, begins_value}
+use Rattle.rhai_cycle.proofs.Chain.{left_state, not_declared, begins_value, on_done}
 use Rattle.rhai_cycle.proofs.ThisSteps.{this_begins, this_gone, this_stored, this_unbound}
 use Rattle.rhai_cycle.proofs.VariableSteps.{defines, defines_not, entered_as_given, stands_there, value_there}
 use Rattle.rhai_cycle.proofs.evaluator.Evaluator.+eval.Goals as goal
@@ -159,11 +160,134 @@ pub run_stmt-returns-in-Return-clause-runs : goal.run_stmt-returns-in-Return-cla
 run_stmt-returns-in-Return-clause-runs g t c =
     let rules = under g.H.Host.name_of c.args.self.now g.T.NativeTable.natives in
     opens_stmt rules _ c.args.run.now.global c.track_operation.new.global _ _ c.in_ok-track_operation.ensures.room
-    c.in_ok-track_operation.ensures.charged _ _ _ _ _ (c.run_return.ensures.runs c.in-Return.field-1 c.args.restoring (plain_return
-    c.args.stmt.now c.in-Return.value c.in-Return.field-1 c.in-Return.pos (names c.args.run.now) (rw (
+    c.in_ok-track_operation.ensures.charged _ _ _ _ _ (c.run_return.ensures.runs c.args.restoring) (rw (
       c.in-Return.is,
       stmts.outs-Return,
-    ) refl) c.requires.resolves)) (rw (c.in-Return.is, stmts.outs-Return) refl)
+    ) refl)
+
+pub run_stmt-run_switch-done-requires : goal.run_stmt-run_switch-done-requires
+run_stmt-run_switch-done-requires g t c =
+    let resolves = switch_resolves c.args.stmt.now (names c.args.run.now) c.requires.resolves
+    c.in-Switch.expr c.in-Switch.expressions c.in-Switch.cases c.in-Switch.ranges c.in-Switch.def_case c.in-Switch.pos
+    (rw (c.in-Switch.is, stmts.outs-Switch) refl) in
+    λ κs lives. (
+      omega (
+        arith,
+        c.in_ok-track_operation.ensures.room,
+        ap (λ (global : GlobalRuntimeState _). global.num_operations) c.in_ok-track_operation.ensures.charged,
+      ),
+      (lives.0, (lives.1, (resolves.1.0, rw c.as_slice-in-Switch.ensures resolves.1.1))),
+    )
+
+pub run_stmt-returns-in-Switch-clause-runs : goal.run_stmt-returns-in-Switch-clause-runs
+run_stmt-returns-in-Switch-clause-runs g t c =
+    let rules = under g.H.Host.name_of c.args.self.now g.T.NativeTable.natives in
+    opens_stmt rules _ c.args.run.now.global c.track_operation.new.global _ _ c.in_ok-track_operation.ensures.room
+    c.in_ok-track_operation.ensures.charged _ _ _ _ (layer.Switch c.in-Switch.expr c.in-Switch.expressions c.in-Switch.cases c.in-Switch.ranges c.in-Switch.def_case c.in-Switch.pos)
+    (rw (c.as_slice-in-Switch.ensures, c.as_slice-in-Switch-2.ensures, c.as_slice-in-Switch-3.ensures, ← c.finish.ensures.came)
+    at c.run_switch-done.ensures.runs c.in-Switch.pos c.args.restoring)
+    (rw (c.in-Switch.is, stmts.outs-Switch) refl)
+
+pub run_stmt-returns-in-Switch-clause-charges : goal.run_stmt-returns-in-Switch-clause-charges
+run_stmt-returns-in-Switch-clause-charges g t c = on_done _ _ c.finish.ensures.done (λ done. omega (
+  arith,
+  c.in_ok-track_operation.ensures.room,
+  ap (λ (global : GlobalRuntimeState _). global.num_operations) c.in_ok-track_operation.ensures.charged,
+  c.run_switch-done.ensures.counts done,
+))
+
+pub run_stmt-returns-in-Switch-clause-names : goal.run_stmt-returns-in-Switch-clause-names
+run_stmt-returns-in-Switch-clause-names g t c = on_done _ _ c.finish.ensures.done (λ done.
+    c.run_switch-done.ensures.names done ∙ sym (names_left c.args.stmt.now
+    (layer.Switch c.in-Switch.expr c.in-Switch.expressions c.in-Switch.cases c.in-Switch.ranges c.in-Switch.def_case c.in-Switch.pos) (names c.args.run.now)
+    (rw (c.in-Switch.is, stmts.outs-Switch) refl) refl))
+
+pub run_stmt-run_for-done-requires : goal.run_stmt-run_for-done-requires
+run_stmt-run_for-done-requires g t c =
+    let resolves = for_resolves c.args.stmt.now (names c.args.run.now) c.requires.resolves
+    c.in-For.name c.in-For.counter c.in-For.expr c.in-For.body c.in-For.pos
+    (rw (c.in-For.is, stmts.outs-For) refl) in
+    λ κs lives. (
+      omega (
+        arith,
+        c.in_ok-track_operation.ensures.room,
+        ap (λ (global : GlobalRuntimeState _). global.num_operations) c.in_ok-track_operation.ensures.charged,
+      ),
+      (lives.0, (lives.1, (resolves.0, resolves.1))),
+    )
+
+pub run_stmt-returns-in-For-clause-runs : goal.run_stmt-returns-in-For-clause-runs
+run_stmt-returns-in-For-clause-runs g t c =
+    let rules = under g.H.Host.name_of c.args.self.now g.T.NativeTable.natives in
+    opens_stmt rules _ c.args.run.now.global c.track_operation.new.global _ _ c.in_ok-track_operation.ensures.room
+    c.in_ok-track_operation.ensures.charged _ _ _ _ (layer.For c.in-For.name c.in-For.counter c.in-For.expr c.in-For.body c.in-For.pos)
+    (rw (← c.finish-in-For.ensures.came) at c.run_for-done.ensures.runs c.in-For.pos c.args.restoring)
+    (rw (c.in-For.is, stmts.outs-For) refl)
+
+pub run_stmt-returns-in-For-clause-charges : goal.run_stmt-returns-in-For-clause-charges
+run_stmt-returns-in-For-clause-charges g t c = on_done _ _ c.finish-in-For.ensures.done (λ done. omega (
+  arith,
+  c.in_ok-track_operation.ensures.room,
+  ap (λ (global : GlobalRuntimeState _). global.num_operations) c.in_ok-track_operation.ensures.charged,
+  c.run_for-done.ensures.counts done,
+))
+
+pub run_stmt-returns-in-For-clause-names : goal.run_stmt-returns-in-For-clause-names
+run_stmt-returns-in-For-clause-names g t c = on_done _ _ c.finish-in-For.ensures.done (λ done.
+    c.run_for-done.ensures.names done ∙ sym (names_left c.args.stmt.now
+    (layer.For c.in-For.name c.in-For.counter c.in-For.expr c.in-For.body c.in-For.pos) (names c.args.run.now)
+    (rw (c.in-For.is, stmts.outs-For) refl) refl))
+
+pub run_stmt-run_try-done-requires : goal.run_stmt-run_try-done-requires
+run_stmt-run_try-done-requires g t c =
+    let resolves = try_resolves c.args.stmt.now (names c.args.run.now) c.requires.resolves
+    c.in-TryCatch.body c.in-TryCatch.variable c.in-TryCatch.branch c.in-TryCatch.field-3
+    (rw (c.in-TryCatch.is, stmts.outs-TryCatch) refl) in
+    λ κs lives. (
+      omega (
+        arith,
+        c.in_ok-track_operation.ensures.room,
+        ap (λ (global : GlobalRuntimeState _). global.num_operations) c.in_ok-track_operation.ensures.charged,
+      ),
+      (lives.0, (lives.1, (resolves.0, resolves.1))),
+    )
+
+pub run_stmt-returns-in-TryCatch-clause-runs : goal.run_stmt-returns-in-TryCatch-clause-runs
+run_stmt-returns-in-TryCatch-clause-runs g t c =
+    let rules = under g.H.Host.name_of c.args.self.now g.T.NativeTable.natives in
+    opens_stmt rules _ c.args.run.now.global c.track_operation.new.global _ _ c.in_ok-track_operation.ensures.room
+    c.in_ok-track_operation.ensures.charged _ _ _ _ (layer.TryCatch c.in-TryCatch.body c.in-TryCatch.variable c.in-TryCatch.branch c.in-TryCatch.field-3)
+    (rw (← c.finish-in-TryCatch.ensures.came) at c.run_try-done.ensures.runs c.in-TryCatch.field-3 c.args.restoring)
+    (rw (c.in-TryCatch.is, stmts.outs-TryCatch) refl)
+
+pub run_stmt-returns-in-TryCatch-clause-charges : goal.run_stmt-returns-in-TryCatch-clause-charges
+run_stmt-returns-in-TryCatch-clause-charges g t c = on_done _ _ c.finish-in-TryCatch.ensures.done (λ done. omega (
+  arith,
+  c.in_ok-track_operation.ensures.room,
+  ap (λ (global : GlobalRuntimeState _). global.num_operations) c.in_ok-track_operation.ensures.charged,
+  c.run_try-done.ensures.counts done,
+))
+
+pub run_stmt-returns-in-TryCatch-clause-names : goal.run_stmt-returns-in-TryCatch-clause-names
+run_stmt-returns-in-TryCatch-clause-names g t c = on_done _ _ c.finish-in-TryCatch.ensures.done (λ done.
+    c.run_try-done.ensures.names done ∙ sym (names_left c.args.stmt.now
+    (layer.TryCatch c.in-TryCatch.body c.in-TryCatch.variable c.in-TryCatch.branch c.in-TryCatch.field-3) (names c.args.run.now)
+    (rw (c.in-TryCatch.is, stmts.outs-TryCatch) refl) refl))
+
+pub run_stmt-share_variables-requires : goal.run_stmt-share_variables-requires
+run_stmt-share_variables-requires g t c =
+    let resolves = share_resolves c.args.stmt.now (names c.args.run.now) c.requires.resolves c.in-Share.variables
+    (rw (c.in-Share.is, stmts.outs-Share) refl) in
+    rw c.as_slice-in-Share.ensures resolves
+
+pub run_stmt-returns-in-Share-clause-runs : goal.run_stmt-returns-in-Share-clause-runs
+unfolding after Steps
+run_stmt-returns-in-Share-clause-runs g t c k =
+    let rules = under g.H.Host.name_of c.args.self.now g.T.NativeTable.natives in
+    begins_stmt rules _ c.args.run.now.global c.track_operation.new.global _ _ c.in_ok-track_operation.ensures.room
+    c.in_ok-track_operation.ensures.charged _ _ (layer.Share c.in-Share.variables) (rw (c.in-Share.is, stmts.outs-Share) refl) k
+    ⨾ next ((rw c.as_slice-in-Share.ensures at c.share_variables.ensures.runs (offer_of c.args.self.now)
+    (holding c.args.run.now.this)) k)
 
 pub run_stmt-returns-in-Var-default-default-None-default-default-clause-runs : goal.run_stmt-returns-in-Var-default-default-None-default-default-clause-runs
 run_stmt-returns-in-Var-default-default-None-default-default-clause-runs g t c =

@@ -1,0 +1,59 @@
+//! A variable whose function finds others than the script's.
+
+use rhai::library_of;
+use rhai_build::functions::TreeParts;
+use rhai_eval::base::{
+    AccessMode, Boxed, Dynamic, FnPtr, FnPtrKind, Items, Scope, Shared, Text, Union,
+};
+use rhai_eval::check::{CheckedFn, CheckedTree, check_tree};
+use rhai_eval::script::EncapsulatedEnviron;
+use rhai_samples::functions::{function_g, function_h};
+use rhai_tables::host::Pair;
+use std::alloc::{AllocError, Global};
+
+/// The variable `p`, a pointer to `fn h() { g() }` with an environment, whose library has `fn g() { 1 }`.
+pub(crate) fn pointer_with_a_library(alloc: Global) -> Result<Scope<Pair>, AllocError> {
+    let environ = Shared::new(alloc, environ_of_g(alloc)?)?;
+    let pointer = FnPtr {
+        name: Shared::new(alloc, Text::from_str(alloc, "h")?)?,
+        curry: Items::new(alloc),
+        kind: FnPtrKind::Script(checked_h(alloc)?, Some(environ)),
+    };
+    let pointer = Dynamic::new(Union::FnPtr(Boxed::new(alloc, pointer)?));
+    let mut scope = Scope::new(alloc);
+    scope.push_entry(
+        String::from_str(alloc, "p")?,
+        AccessMode::ReadWrite,
+        pointer,
+    )?;
+    Ok(scope)
+}
+
+/// What is around the function: a library with the other.
+fn environ_of_g(alloc: Global) -> Result<EncapsulatedEnviron<Pair>, AllocError> {
+    let tree = checked(alloc, function_g(alloc)?)?;
+    let mut lib = Items::new(alloc);
+    lib.push(Shared::new(alloc, library_of(alloc, &tree)?)?)?;
+    Ok(EncapsulatedEnviron {
+        lib,
+        imports: Items::new(alloc),
+        constants: 0,
+    })
+}
+
+fn checked_h(alloc: Global) -> Result<Shared<CheckedFn>, AllocError> {
+    let tree = checked(alloc, function_h(alloc)?)?;
+    match tree.functions() {
+        [function, ..] => function.share(),
+        [] => Err(AllocError),
+    }
+}
+
+/// The tree of parts that are well formed.
+fn checked(alloc: Global, parts: TreeParts) -> Result<CheckedTree, AllocError> {
+    let TreeParts {
+        statements,
+        functions,
+    } = parts;
+    check_tree(alloc, statements, functions).map_err(|_| AllocError)
+}

@@ -1,0 +1,26 @@
+-- A branch is entered and left.
+use Rattle.std.specs.Prelude.{ℕ, Bool, true, false, List, [], ◌∷◌, Option, Some, None, Result, Ok, Err}
+use Rattle.rhai_machine.specs.Types.{Dynamic, EvalAltResult, Ident, ScopeEntry}
+use Rattle.rhai_values.specs.declared.base.value.AccessMode.TheVariants.{ReadWrite}
+use Rattle.rhai_state.specs.declared.error.EvalAltResult.TheVariants as error
+use Rattle.rhai_state.specs.Scope.{new_entry}
+use Rattle.rhai_machine.specs.language.Caught.{caught_value, raised, thrown}
+use Rattle.rhai_machine.specs.language.Values.{Cells, unit_value}
+
+module _ {H : Type 0} where
+  -- the entry of the catch variable, if there is one
+  abbrev pub bound : Option Ident → (source : Option (List ℕ)) → EvalAltResult H → List (ScopeEntry H)
+  bound None source caught = []
+  bound (Some variable) source caught =
+      new_entry variable.name ReadWrite (caught_value (thrown caught) source caught) ∷ []
+
+  -- there has to be room for it
+  abbrev pub unbound : Option Ident → (full : Bool) → Result (Unit {0}) (EvalAltResult H)
+  unbound None full = Ok tt
+  unbound (Some variable) true = Err (error.ErrorTooManyVariables variable.pos)
+  unbound (Some variable) false = Ok tt
+
+  -- the value of a branch is `()`
+  abbrev pub left_by : Cells H → (caught : EvalAltResult H) → Result (Dynamic H) (EvalAltResult H) → Result (Dynamic H) (EvalAltResult H)
+  left_by cells caught (Ok v) = Ok unit_value
+  left_by cells caught (Err e) = Err (raised cells caught e)

@@ -1,0 +1,28 @@
+-- How a part of a run ended, from what stands in the run.
+use Rattle.std.specs.Prelude.{Bool, true, false, Option, Some, None, Result, Ok, Err}
+use Rattle.rhai_tree.specs.Position.{none}
+use Rattle.rhai_values.specs.declared.base.value.Dynamic.{Dynamic}
+use Rattle.rhai_values.specs.declared.base.value.Union.TheVariants as value
+use Rattle.rhai_values.specs.Copy.{plain}
+use Rattle.rhai_state.specs.declared.error.EvalAltResult.{EvalAltResult}
+use Rattle.rhai_state.specs.declared.error.EvalAltResult.TheVariants as error
+
+module _ {H : Type 0} where
+  abbrev pub unit : Dynamic H
+  unit = plain value.Unit
+
+  -- the error that a run stopped with
+  abbrev pub error_in : Option (EvalAltResult H) → EvalAltResult H
+  error_in (Some e) = e
+  error_in None = error.ErrorOutOfMemory none
+
+  -- where it went well its value, and else its error
+  abbrev pub came : (well : Bool) → Dynamic H → Option (EvalAltResult H) → Result (Dynamic H) (EvalAltResult H)
+  came true v e = Ok v
+  came false v e = Err (error_in e)
+
+  -- of a turn of a loop: another one follows, or the loop came to this
+  abbrev pub came_turn : (well : Option Bool) → Dynamic H → Option (EvalAltResult H) → Result (Option (Dynamic H)) (EvalAltResult H)
+  came_turn None v e = Ok None
+  came_turn (Some true) v e = Ok (Some v)
+  came_turn (Some false) v e = Err (error_in e)

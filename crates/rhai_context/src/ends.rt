@@ -1,0 +1,102 @@
+//! What a part of a run came to, which stands in the run. A function of the evaluator answers whether it went
+//! well: its value stands in `run.value` then, and else its error in `run.error`.
+
+ghost use Rattle.std.specs.Prelude.{◌≡◌, OnOk, false, true};
+ghost use Rattle.rhai_context.specs.Ends.{came, came_turn, error_in, unit};
+
+use rhai_state::error::EvalAltResult;
+use rhai_tree::position::Position;
+use rhai_values::base::value::{Dynamic, Host, Union};
+use std::mem::replace;
+
+/// A value goes into its place.
+pub fn put<H: Host>(out: &mut Dynamic<H>, value: Dynamic<H>)
+    ensures { out.new ≡ value }
+{
+    drop(replace(out, value));
+}
+
+/// `()` goes into the place of a value.
+pub fn put_unit<H: Host>(out: &mut Dynamic<H>)
+    ensures { out.new ≡ unit }
+{
+    put(out, Dynamic::new(Union::Unit));
+}
+
+/// Takes a value out of its place, which has `()` then.
+pub fn take_value<H: Host>(out: &mut Dynamic<H>) -> Dynamic<H>
+    ensures taken { result ≡ out.old }
+    ensures left { out.new ≡ unit }
+{
+    replace(out, Dynamic::new(Union::Unit))
+}
+
+/// A run stops by an error.
+pub fn stop<H: Host>(place: &mut Option<EvalAltResult<H>>, error: EvalAltResult<H>) -> bool
+    ensures stopped { result ≡ false }
+    ensures told { error_in place.new ≡ error }
+{
+    drop(replace(place, Some(error)));
+    false
+}
+
+/// Takes the error that a run stopped with.
+pub fn stopped<H: Host>(place: &mut Option<EvalAltResult<H>>) -> EvalAltResult<H>
+    ensures { result ≡ error_in place.old }
+{
+    match replace(place, None) {
+        Some(error) => error,
+        None => EvalAltResult::ErrorOutOfMemory(Position::NONE),
+    }
+}
+
+/// How a part ended, for a caller that answers a `Result`.
+pub fn finish<H: Host>(
+    done: bool,
+    out: &mut Dynamic<H>,
+    place: &mut Option<EvalAltResult<H>>,
+) -> Result<Dynamic<H>, EvalAltResult<H>>
+    ensures came { result ≡ came done out.old place.old }
+    ensures done { OnOk result (done ≡ true) }
+{
+    if done {
+        Ok(take_value(out))
+    } else {
+        Err(stopped(place))
+    }
+}
+
+/// How a turn of a loop ended goes where it belongs: None where another one follows.
+pub fn settle_turn<H: Host>(
+    place: &mut Option<EvalAltResult<H>>,
+    out: &mut Dynamic<H>,
+    turn: Result<Option<Dynamic<H>>, EvalAltResult<H>>,
+) -> Option<bool>
+    ensures { came_turn result out.new place.new ≡ turn }
+{
+    match turn {
+        Ok(None) => None,
+        Ok(Some(value)) => {
+            put(out, value);
+            Some(true)
+        }
+        Err(error) => Some(stop(place, error)),
+    }
+}
+
+/// How a part that answers a `Result` ended goes where it belongs.
+pub fn settle<H: Host>(
+    place: &mut Option<EvalAltResult<H>>,
+    out: &mut Dynamic<H>,
+    answer: Result<Dynamic<H>, EvalAltResult<H>>,
+) -> bool
+    ensures { came result out.new place.new ≡ answer }
+{
+    match answer {
+        Ok(value) => {
+            put(out, value);
+            true
+        }
+        Err(error) => stop(place, error),
+    }
+}

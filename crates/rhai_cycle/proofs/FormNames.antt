@@ -1,0 +1,103 @@
+-- The names above which the body of a `for` and the branch of a `try` run.
+use Rattle.std.proofs.Common.{◌≡◌, ◌≤◌, ◌+◌, ℕ, Bool, true, false, IsTrue, List, [], ◌∷◌, ◌++◌, Option, Some, None, ap, arith, length, map, refl, sym}
+use Rattle.std.proofs.Common.{subst, take, if◌then◌else◌, ◌∙◌}
+use Rattle.std.proofs.lemmas.List.{append_assoc, append-nil, length-append, length-map, map-append, take_all}
+use Rattle.std.specs.Prelude.{IsSomeAnd}
+use Rattle.rhai_tree.specs.declared.expr.Expr.{Expr, out-Expr}
+use Rattle.rhai_tree.specs.declared.expr.Expr.TheOpen as layer
+use Rattle.rhai_tree.specs.declared.expr.Ident.{Ident}
+use Rattle.rhai_tree.specs.declared.expr.StmtBlock.{StmtBlock}
+use Rattle.rhai_tree.specs.Forms.{catch_name, catch_of, is_unqualified}
+use Rattle.rhai_tree.specs.declared.expr.Expr.TheFolds.{fold_out-StmtBlock}
+use Rattle.rhai_tree.specs.Frame.{all_resolve, resolves_block, resolves_stmt, turn_names, with_name}
+use Rattle.rhai_tree.specs.Reading as walk
+use Rattle.rhai_tree.specs.Reading.{sound}
+use Rattle.rhai_tree.specs.Layers.{ExprLayer}
+use Rattle.rhai_tree.specs.Names.{Begins, Name}
+use Rattle.rhai_state.specs.declared.error.EvalAltResult.{EvalAltResult}
+use Rattle.rhai_state.specs.declared.scope.ScopeEntry.{ScopeEntry}
+use Rattle.rhai_state.specs.Scope.{name_of}
+use Rattle.rhai_machine.specs.language.Tries.{catch_variable}
+use Rattle.rhai_machine.specs.language.Turns.{ForLoop}
+use Rattle.rhai_machine.specs.language.Walks.{counters, loop_entries}
+use Rattle.rhai_catches.specs.Branches.{bound}
+
+-- a block may run where its statements may
+pub block_value : (block : StmtBlock) (names : List Name) →
+    resolves_block block names ≡ (all_resolve (map resolves_stmt block.statements) names).0
+block_value block names = ap (λ (seen : walk.Seen sound). seen.value names) (fold_out-StmtBlock (walk.Seen sound) (walk.SeenStmt sound)
+    (walk.SeenConditional sound) (walk.SeenCall sound) (walk.SeenEntry sound) (walk.Seen sound) (walk.expr_step sound) (walk.stmt_step sound)
+    (walk.conditional_step sound) (walk.call_step sound) (walk.entry_step sound) (walk.block_step sound) block)
+
+-- ---- a `for`
+
+pub turn_count : (variable : Ident) (counter : Option Ident) (names : List Name) →
+    length (turn_names variable counter names) ≡ length names + counters counter + 1
+turn_count variable None names = omega (arith, length-append names (variable.name ∷ []))
+turn_count variable (Some counter) names = omega (
+  arith,
+  length-append (names ++ counter.name ∷ []) (variable.name ∷ []),
+  length-append names (counter.name ∷ []),
+)
+
+pub turn_begins : (variable : Ident) (counter : Option Ident) (names after : List Name) → after ≡ turn_names variable counter names →
+    Begins names after
+turn_begins variable None names after is = (variable.name ∷ [], is)
+turn_begins variable (Some counter) names after is =
+    (counter.name ∷ variable.name ∷ [], is ∙ append_assoc names (counter.name ∷ []) (variable.name ∷ []))
+
+names_pushed : (H : Type 0) (loop : ForLoop) (counter : Option Ident) (names : List Name) → loop.counter ≡ counter →
+    names ++ map name_of (loop_entries {H = H} loop) ≡ turn_names loop.variable loop.counter names
+names_pushed H loop None names is = rw is refl
+names_pushed H loop (Some counter) names is = rw is (sym (append_assoc names (counter.name ∷ []) (loop.variable.name ∷ [])))
+
+module _ {H : Type 0} where
+  -- the names behind its variables
+  pub loop_names : (loop : ForLoop) (old new : List (ScopeEntry H)) → new ≡ old ++ loop_entries loop →
+      map name_of new ≡ turn_names loop.variable loop.counter (map name_of old)
+  loop_names loop old new is = ap (map name_of) is ∙ map-append name_of old (loop_entries loop)
+      ∙ names_pushed H loop loop.counter (map name_of old) refl
+
+  -- ---- a branch
+
+  module _ (branch : StmtBlock) (source : Option (List ℕ)) (caught : EvalAltResult H) where
+    abbrev Runs : Option Name → List Name → Type 0
+    Runs name names = IsTrue (resolves_block branch (with_name name names))
+
+    named : (plain : Bool) (name : Name) (names : List Name) →
+        IsSomeAnd (if plain then Some (Some name) else None) (λ name. Runs name names) → Runs (Some name) names
+    named true name names h = h
+    named false name names h = absurd h
+
+    runs_behind : (l : ExprLayer) (names : List Name) → IsSomeAnd (catch_name l) (λ name. Runs name names) →
+        IsTrue (resolves_block branch (names ++ map name_of (bound (catch_variable l) source caught)))
+    runs_behind (layer.Unit pos) names h = rw (append-nil names) h
+    runs_behind (layer.Variable offset name namespace pos) names h = named (is_unqualified namespace.path) name names h
+    runs_behind _ names h = absurd h
+
+    -- it may run behind its variable
+    pub branch_runs : (variable : Expr) (old new : List (ScopeEntry H)) →
+        IsSomeAnd (catch_of variable) (λ name. Runs name (map name_of old)) →
+        new ≡ old ++ bound (catch_variable (out-Expr variable)) source caught → IsTrue (resolves_block branch (map name_of new))
+    branch_runs variable old new h is =
+        let pushed = bound (catch_variable (out-Expr variable)) source caught in
+        subst (λ (names : List Name). IsTrue (resolves_block branch names))
+        (sym (ap (map name_of) is ∙ map-append name_of old pushed)) (runs_behind (out-Expr variable) (map name_of old) h)
+
+  module _ (variable : Option Ident) (source : Option (List ℕ)) (caught : EvalAltResult H) (old mid new : List (ScopeEntry H))
+      (is : mid ≡ old ++ bound variable source caught) (stay : map name_of new ≡ map name_of mid) where
+    pub branch_begins : Begins (map name_of old) (map name_of new)
+    branch_begins = (
+      map name_of (bound variable source caught),
+      stay ∙ ap (map name_of) is ∙ map-append name_of old (bound variable source caught),
+    )
+
+    same_length : length new ≡ length mid
+    same_length = sym (length-map new name_of) ∙ ap length stay ∙ length-map mid name_of
+
+    -- without a variable nothing is to be taken back
+    pub nothing_bound : (n : ℕ) → n ≡ length old → variable ≡ None → take n new ≡ new
+    nothing_bound n count none =
+        let added : bound variable source caught ≡ [] = rw none refl in
+        let mid_length : length mid ≡ length old = ap length (is ∙ ap (λ entries. old ++ entries) added ∙ append-nil old) in
+        take_all n new (omega (arith, same_length, mid_length, count))

@@ -1,0 +1,213 @@
+use Rattle.std.proofs.Common.{◌≡◌, ◌≢◌, ◌≤◌, ◌<◌, ◌+◌, ◌∷◌, ◌∙◌, [], ap, arith, length, refl, subst, sym, true, false, IsTrue, Option, Some, None}
+use Rattle.std.proofs.lemmas.Bool.{true≢false}
+use Rattle.std.proofs.lemmas.List.{length-map}
+use Rattle.rhai_tree.specs.Frame.{turn_names}
+use Rattle.rhai_state.specs.declared.state.GlobalRuntimeState.{GlobalRuntimeState}
+use Rattle.rhai_state.specs.Limits.{limit_of}
+use Rattle.rhai_state.specs.Scope.{entries_of, name_of}
+use Rattle.rhai_machine.specs.machine.Point.{after}
+use Rattle.rhai_machine.specs.machine.Memory.{here, next, ◌⨾◌}
+use Rattle.rhai_machine.specs.language.Frames.{Enter, Eval, ForBody, ForItems, RestoreScope, ended}
+use Rattle.rhai_machine.specs.language.Runs.{Steps}
+use Rattle.rhai_laws.proofs.KeptLaws.{counted, names_stay}
+use Rattle.rhai_steps.specs.States.{holding}
+use Rattle.rhai_walks.specs.Left.{turns_in}
+use Rattle.rhai_walks.specs.Loops.{loop_in}
+use Rattle.rhai_cycle.specs.States.{names, offer_of, under}
+use Rattle.rhai_cycle.proofs.Turns.{body_charges}
+use Rattle.rhai_cycle.proofs.LoopSteps.{stays_full}
+use Rattle.rhai_cycle.proofs.NameLemmas.{names_restored}
+use Rattle.rhai_cycle.proofs.FormNames.{block_value, loop_names, turn_begins, turn_count}
+use Rattle.rhai_cycle.proofs.ForSteps.{body_ends, empty_charged, empty_refused, has_none, has_room, items_fail, leaves_scope, starts}
+use Rattle.rhai_cycle.proofs.ForSteps.{if_well, on_turn, starts_not, turn_ended, turns_end}
+use Rattle.rhai_cycle.proofs.evaluator.Evaluator.+eval.Goals as goal
+
+pub run_for-returns-then-has_no_room-clause-runs : goal.run_for-returns-then-has_no_room-clause-runs
+unfolding after Steps
+run_for-returns-then-has_no_room-clause-runs g t c pos restoring k =
+    let rules = under g.H.Host.name_of c.args.self.now g.T.NativeTable.natives in
+    rw (c.stop.ensures.stopped, c.stop.ensures.told)
+    (has_none rules (loop_in c.args.parts) k pos restoring _ (sym c.has_no_room.ensures ∙ c.if-has_no_room.true))
+
+pub run_for-returns-in-Err-clause-runs : goal.run_for-returns-in-Err-clause-runs
+unfolding after Steps
+run_for-returns-in-Err-clause-runs g t c pos restoring k =
+    let rules = under g.H.Host.name_of c.args.self.now g.T.NativeTable.natives in
+    let loop = loop_in c.args.parts in
+    has_room rules loop k pos restoring _ (sym c.has_no_room.ensures ∙ c.if-has_no_room.false)
+    ⨾ c.run_expr-answer.ensures.runs (ForItems loop ∷ k)
+    ⨾ rw (c.stop-in-Err.ensures.stopped, c.stop-in-Err.ensures.told)
+    (items_fail rules loop k c.run_expr-answer.result c.in-Err.error _ (rw c.position.ensures at c.in-Err.ensures))
+
+pub run_for-returns-in-Err-start_turns-clause-runs : goal.run_for-returns-in-Err-start_turns-clause-runs
+unfolding after Steps
+run_for-returns-in-Err-start_turns-clause-runs g t c pos restoring k =
+    let rules = under g.H.Host.name_of c.args.self.now g.T.NativeTable.natives in
+    let loop = loop_in c.args.parts in
+    has_room rules loop k pos restoring _ (sym c.has_no_room.ensures ∙ c.if-has_no_room.false)
+    ⨾ c.run_expr-answer.ensures.runs (ForItems loop ∷ k)
+    ⨾ rw (c.stop-in-Err-start_turns.ensures.stopped, c.stop-in-Err-start_turns.ensures.told, c.in-Err-start_turns.ensures.same)
+    (starts_not rules loop k c.run_expr-answer.result c.in-Ok.value c.in-Err-start_turns.error _
+    (rw c.position.ensures at c.in-Ok.ensures tt) c.in-Err-start_turns.ensures.none c.in-Err-start_turns.ensures.told)
+
+pub run_for-turns-init : goal.run_for-turns-init
+unfolding after Steps
+run_for-turns-init g t c =
+    let rules = under g.H.Host.name_of c.args.self.now g.T.NativeTable.natives in
+    let loop = loop_in c.args.parts in
+    let old = c.run_expr-answer.new.run in
+    let counts = counted rules _ _ _ _ c.run_expr-answer.ensures.runs in
+    let stay = names_stay rules (Eval c.args.parts.items.now) (ended c.run_expr-answer.result) _ _ tt tt c.run_expr-answer.ensures.runs in
+    record {
+      counts = omega (arith, counts);
+      base = c.len-base.ensures ∙ sym (length-map (entries_of old.scope) name_of) ∙ ap length stay;
+      names = loop_names loop (entries_of old.scope) _ c.in-Ok-start_turns.ensures.variables
+          ∙ ap (λ names. turn_names c.args.parts.variable.now c.args.parts.counter.now names) stay;
+      steps = λ pos restoring k.
+          has_room rules loop k pos restoring _ (sym c.has_no_room.ensures ∙ c.if-has_no_room.false)
+          ⨾ c.run_expr-answer.ensures.runs (ForItems loop ∷ k)
+          ⨾ starts rules loop k c.run_expr-answer.result c.in-Ok.value _ _ old.global old.scope c.start_turns.new.scope (holding old.this)
+          c.len-base.result (rw c.position.ensures at c.in-Ok.ensures tt) c.in-Ok-start_turns.ensures.turns
+          c.in-Ok-start_turns.ensures.variables c.len-base.ensures;
+    }
+
+pub run_for-run_for_turn-requires : goal.run_for-run_for_turn-requires
+run_for-run_for_turn-requires g t c =
+    let parts = c.args.parts in
+    let counted = ap length c.turns.invariant.names ∙ turn_count parts.variable.now parts.counter.now (names c.args.run.now) in
+    λ κs lives. (
+      omega (arith, c.turns.invariant.counts),
+      (lives.0, (lives.1, (rw c.turns.invariant.names c.requires.resolves_body, rw c.turns.invariant.base (sym counted)))),
+    )
+
+pub run_for-next_number-turn-requires : goal.run_for-next_number-turn-requires
+run_for-next_number-turn-requires g t c = omega (arith, c.turns.invariant.counts, c.run_for_turn.ensures.charges c.in_default.is)
+
+pub run_for-turns-smaller : goal.run_for-turns-smaller
+unfolding after Steps
+run_for-turns-smaller g t c =
+    let full : limit_of c.args.self.now.limits.now.max_operations ≤ c.turns.run.global.num_operations →
+    c.run_for_turn.new.run.global.num_operations ≡ c.turns.run.global.num_operations = λ le. stays_full _ _ (c.run_for_turn.ensures.runs [])
+    le in
+    grind (arith, full, c.run_for_turn.ensures.charges)
+
+pub run_for-turns-preserved : goal.run_for-turns-preserved
+unfolding after Steps
+run_for-turns-preserved g t c =
+    record {
+      counts = omega (arith, c.turns.invariant.counts, c.run_for_turn.ensures.charges c.in_default.is, c.next_number-turn.ensures);
+      base = c.turns.invariant.base;
+      names = c.run_for_turn.ensures.names_stay c.in_default.is ∙ c.turns.invariant.names;
+      steps = λ pos restoring k.
+          c.turns.invariant.steps pos restoring k
+          ⨾ rw c.next_number-turn.ensures ((rw c.in_default.is at c.run_for_turn.ensures.runs) (RestoreScope c.len-base.result ∷ k));
+    }
+
+pub run_for-returns-in-Some-clause-runs : goal.run_for-returns-in-Some-clause-runs
+unfolding after Steps
+run_for-returns-in-Some-clause-runs g t c pos restoring k =
+    let rules = under g.H.Host.name_of c.args.self.now g.T.NativeTable.natives in
+    let loop = loop_in c.args.parts in
+    let new = c.run_for_turn.new.run in
+    c.turns.invariant.steps pos restoring k
+    ⨾ (rw (turn_ended rules loop k c.in-Some.done _ _ _) at c.in-Some.ensures.runs) (RestoreScope c.len-base.result ∷ k)
+    ⨾ leaves_scope rules loop k _ c.len-base.result _ new.global new.scope c.rewind.new.self (holding new.this) c.rewind.ensures
+
+pub run_for-returns-in-Some-clause-counts : goal.run_for-returns-in-Some-clause-counts
+run_for-returns-in-Some-clause-counts g t c done = omega (arith, c.turns.invariant.counts, c.in-Some.ensures.counts done)
+
+pub run_for-returns-in-Some-clause-names : goal.run_for-returns-in-Some-clause-names
+run_for-returns-in-Some-clause-names g t c done =
+    let parts = c.args.parts in
+    names_restored c.args.run.now.scope.entries c.run_for_turn.new.run.scope.entries c.rewind.new.self.entries c.len-base.result c.rewind.ensures
+    (c.turns.invariant.base ∙ length-map (entries_of c.args.run.now.scope) name_of)
+    (turn_begins parts.variable.now parts.counter.now (names c.args.run.now) _ (c.in-Some.ensures.names done ∙ c.turns.invariant.names))
+
+pub run_for_turn-returns-in_default-clause-runs : goal.run_for_turn-returns-in_default-clause-runs
+unfolding after Steps
+run_for_turn-returns-in_default-clause-runs g t c k =
+    let rules = under g.H.Host.name_of c.args.self.now g.T.NativeTable.natives in
+    rw c.put_unit.ensures (turns_end rules (loop_in c.args.parts) k c.args.turn c.args.base _ _ (c.next.ensures.none c.in_default.is))
+
+pub run_for_turn-returns-in-Ok-clause-runs : goal.run_for_turn-returns-in-Ok-clause-runs
+unfolding after Steps
+run_for_turn-returns-in-Ok-clause-runs g t c k =
+    let rules = under g.H.Host.name_of c.args.self.now g.T.NativeTable.natives in
+    empty_charged rules (loop_in c.args.parts) k c.args.turn c.args.base _ _ _ c.in-Some.ensures.some (c.is_empty.ensures.0 c.if-is_empty.true)
+    _ c.args.run.now.global c.track_operation.new.global _ _ c.in-Ok.ensures.room c.in-Ok.ensures.charged
+
+pub run_for_turn-returns-in-Err-clause-runs : goal.run_for_turn-returns-in-Err-clause-runs
+unfolding after Steps
+run_for_turn-returns-in-Err-clause-runs g t c k =
+    let rules = under g.H.Host.name_of c.args.self.now g.T.NativeTable.natives in
+    rw (c.stop.ensures.stopped, c.stop.ensures.told)
+    (empty_refused rules (loop_in c.args.parts) k c.args.turn c.args.base _ _ _ c.in-Some.ensures.some (c.is_empty.ensures.0 c.if-is_empty.true)
+    _ c.args.run.now.global c.track_operation.new.global _ _ _ c.in-Err.ensures.full c.in-Err.ensures.refused c.in-Err.ensures.same)
+
+pub run_for_turn-enter_turn-entered-requires : goal.run_for_turn-enter_turn-entered-requires
+run_for_turn-enter_turn-entered-requires g t c = c.requires.variables ∙ length-map (entries_of c.args.run.now.scope) name_of
+
+pub run_for_turn-returns-in-Err-entered-clause-runs : goal.run_for_turn-returns-in-Err-entered-clause-runs
+unfolding after Steps
+run_for_turn-returns-in-Err-entered-clause-runs g t c k =
+    rw (c.stop-in-Err-entered.ensures.stopped, c.stop-in-Err-entered.ensures.told)
+    (c.in-Err-entered.ensures.enters (offer_of c.args.self.now) (holding c.args.run.now.this) _ _ k c.in-Some.ensures.some
+    (λ empty. absurd (true≢false (sym (c.is_empty.ensures.1 empty) ∙ c.if-is_empty.false))))
+
+pub run_for_turn-run_stmt_block-outcome-requires : goal.run_for_turn-run_stmt_block-outcome-requires
+run_for_turn-run_stmt_block-outcome-requires g t c =
+    let count = ap (λ (global : GlobalRuntimeState _). global.num_operations) c.enter_turn-entered.ensures.rest in
+    λ κs lives. (
+      omega (arith, count),
+      (
+        lives.0,
+        (
+          lives.1,
+          rw (c.as_slice-statements.ensures, c.enter_turn-entered.ensures.names)
+              (subst IsTrue (block_value c.args.parts.body.now (names c.args.run.now)) c.requires.resolves),
+        ),
+      ),
+    )
+
+pub run_for_turn-returns-clause-runs : goal.run_for_turn-returns-clause-runs
+unfolding after Steps
+run_for_turn-returns-clause-runs g t c k =
+    let rules = under g.H.Host.name_of c.args.self.now g.T.NativeTable.natives in
+    let loop = loop_in c.args.parts in
+    let rest = turns_in c.next.new.self in
+    c.in_default-entered.ensures.enters (offer_of c.args.self.now) (holding c.args.run.now.this) _ rest k c.in-Some.ensures.some
+    (λ empty. absurd (true≢false (sym (c.is_empty.ensures.1 empty) ∙ c.if-is_empty.false)))
+    ⨾ (rw c.as_slice-statements.ensures at c.run_stmt_block-outcome.ensures.runs) (ForBody loop rest c.args.turn c.args.base ∷ k)
+    ⨾ rw (c.settle_turn.ensures, c.while_next.ensures)
+    (body_ends rules loop k c.args.turn c.args.base c.run_stmt_block-outcome.result rest _)
+
+pub run_for_turn-returns-clause-charges : goal.run_for_turn-returns-clause-charges
+run_for_turn-returns-clause-charges g t c none =
+    let rules = under g.H.Host.name_of c.args.self.now g.T.NativeTable.natives in
+    let count = ap (λ (global : GlobalRuntimeState _). global.num_operations) c.enter_turn-entered.ensures.rest in
+    let charged = on_turn rules (loop_in c.args.parts) [] _ _ _ _ _ (c.settle_turn.ensures ∙ c.while_next.ensures) none
+    (body_charges rules c.args.parts.body.now.statements _ _ c.run_stmt_block-outcome.result (λ empty. absurd
+    (true≢false (sym (c.is_empty.ensures.1 empty) ∙ c.if-is_empty.false)))
+    (rw c.as_slice-statements.ensures at c.run_stmt_block-outcome.ensures.runs)) in
+    omega (arith, charged, count)
+
+pub run_for_turn-returns-clause-counts : goal.run_for_turn-returns-clause-counts
+run_for_turn-returns-clause-counts g t c =
+    let rules = under g.H.Host.name_of c.args.self.now g.T.NativeTable.natives in
+    let count = ap (λ (global : GlobalRuntimeState _). global.num_operations) c.enter_turn-entered.ensures.rest in
+    let later = counted rules _ _ _ _ c.run_stmt_block-outcome.ensures.runs in
+    let counts : c.args.run.now.global.num_operations ≤ c.run_stmt_block-outcome.new.run.global.num_operations =
+    omega (arith, later, count) in
+    if_well _ counts
+
+pub run_for_turn-returns-clause-names_stay : goal.run_for_turn-returns-clause-names_stay
+run_for_turn-returns-clause-names_stay g t c none =
+    let rules = under g.H.Host.name_of c.args.self.now g.T.NativeTable.natives in
+    names_stay rules (Enter c.args.parts.body.now.statements true) (ended c.run_stmt_block-outcome.result) _ _ tt tt
+    (rw c.as_slice-statements.ensures at c.run_stmt_block-outcome.ensures.runs) ∙ c.enter_turn-entered.ensures.names
+
+pub run_for_turn-returns-clause-names : goal.run_for_turn-returns-clause-names
+run_for_turn-returns-clause-names g t c =
+    let rules = under g.H.Host.name_of c.args.self.now g.T.NativeTable.natives in
+    if_well _ (names_stay rules (Enter c.args.parts.body.now.statements true) (ended c.run_stmt_block-outcome.result) _ _ tt tt
+    (rw c.as_slice-statements.ensures at c.run_stmt_block-outcome.ensures.runs) ∙ c.enter_turn-entered.ensures.names)

@@ -1,0 +1,72 @@
+//! `switch`. Ports this form of upstream's `eval/stmt.rs`; the contracts speak of the machine's runs.
+
+ghost use Rattle.std.specs.Prelude.{◌≡◌, ◌≤◌, IsTrue, map};
+ghost use Rattle.rhai_tree.specs.Frame.{conditionals_resolve, resolves_conditional, resolves_expr};
+ghost use Rattle.rhai_tree.specs.declared.expr.Expr.TheOpen as layer;
+ghost use Rattle.rhai_machine.specs.language.Frames.{OpenStmt};
+ghost use Rattle.rhai_machine.specs.language.Runs.{Runs};
+ghost use Rattle.rhai_context.specs.Ends.{came};
+ghost use Rattle.rhai_cycle.specs.States.{names, state_in, under};
+
+use crate::evaluator::Evaluator;
+use crate::walks::flat_answer;
+use rhai_choices::{SwitchParts, candidates_for, default_result, written_truth};
+use rhai_context::Context;
+use rhai_context::ends::{put_unit, settle, stop};
+use rhai_state::table::NativeTable;
+use rhai_values::base::value::Host;
+use std::alloc::Global;
+
+impl<'e, H: Host> Evaluator<'e, H> {
+    /// A `switch`: the first of the results that its value leads to whose condition holds, and else its
+    /// default. How it ended stands in the run.
+    #[cycle(eval)]
+    pub(crate) fn run_switch<T: NativeTable<H>>(
+        &self,
+        alloc: Global,
+        run: &mut Context<H>,
+        table: &mut T,
+        parts: SwitchParts<'_>,
+    ) -> bool
+        requires resolves_value { IsTrue (resolves_expr parts.value.now (names run.old)) }
+        requires resolves_results { IsTrue (conditionals_resolve
+            (map resolves_conditional parts.results.now) (names run.old)) }
+        ensures counts { IsTrue result → run.old.global.num_operations ≤ run.new.global.num_operations }
+        ensures names { IsTrue result → names run.new ≡ names run.old }
+        ensures runs { (pos : _) (restoring : _) → Runs (under H.name_of self.now T.natives)
+            (OpenStmt (layer.Switch parts.entry.value.now parts.entry.results.now parts.entry.cases.now
+            parts.entry.ranges.now parts.entry.default pos) restoring) (state_in (T.state table.old) run.old)
+            (came result run.new.value run.new.error) (state_in (T.state table.new) run.new) }
+    {
+        let answer = self.run_expr(alloc, run, table, parts.value);
+        let flat = flat_answer(alloc, &run.global.cells, answer, parts.value.position());
+        if !settle(&mut run.error, &mut run.value, flat) {
+            return false;
+        }
+        let mut left = candidates_for(&run.value, parts.cases, parts.ranges);
+        put_unit(&mut run.value);
+        'each_candidate: while let Some(candidate) = left.next(parts.results) {
+            let holds = match written_truth(&candidate.condition) {
+                Some(holds) => holds,
+                None => match self.run_condition(alloc, run, table, &candidate.condition) {
+                    Ok(holds) => holds,
+                    Err(error) => return stop(&mut run.error, error),
+                },
+            };
+            if holds {
+                let answer = self.run_expr(alloc, run, table, &candidate.expr);
+                return settle(&mut run.error, &mut run.value, answer);
+            }
+        }
+        match default_result(parts.results, parts.default) {
+            Some(result) => {
+                let answer = self.run_expr(alloc, run, table, result);
+                settle(&mut run.error, &mut run.value, answer)
+            }
+            None => {
+                put_unit(&mut run.value);
+                true
+            }
+        }
+    }
+}

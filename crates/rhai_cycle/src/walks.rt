@@ -1,0 +1,156 @@
+//! `for`. Ports this form of upstream's `eval/stmt.rs`; the contracts speak of the machine's runs.
+
+ghost use Rattle.std.specs.Prelude.{◌≡◌, ◌≤◌, ◌<◌, ◌+◌, IsTrue, IfSome, None, length};
+ghost use Rattle.rhai_tree.specs.Frame.{resolves_block, resolves_expr, turn_names};
+ghost use Rattle.rhai_tree.specs.declared.expr.Expr.TheOpen as layer;
+ghost use Rattle.rhai_values.specs.Cells.{cells_of};
+ghost use Rattle.rhai_machine.specs.language.State.{Answers};
+ghost use Rattle.rhai_machine.specs.language.Frames.{ForTurn, OpenStmt};
+ghost use Rattle.rhai_machine.specs.language.Runs.{Runs, Steps};
+ghost use Rattle.rhai_machine.specs.language.Walks.{counters};
+ghost use Rattle.rhai_steps.specs.Loops.{after_turn};
+ghost use Rattle.rhai_walks.specs.Left.{turns_in};
+ghost use Rattle.rhai_walks.specs.Loops.{loop_in};
+ghost use Rattle.rhai_context.specs.Ends.{came, came_turn};
+ghost use Rattle.rhai_cycle.specs.Ends.{flat_end};
+ghost use Rattle.rhai_cycle.specs.States.{names, state_in, under};
+
+use crate::evaluator::Evaluator;
+use rhai_context::Context;
+use rhai_context::ends::{put_unit, settle_turn, stop};
+use rhai_state::error::EvalAltResult;
+use rhai_state::table::NativeTable;
+use rhai_steps::charges::track_operation;
+use rhai_steps::loops::while_next;
+use rhai_steps::values::{flatten, let_go};
+use rhai_tree::position::Position;
+use rhai_values::base::value::{Dynamic, Host};
+use rhai_values::cells::CellStore;
+use rhai_walks::entering::enter_turn;
+use rhai_walks::parts::{ForParts, has_no_room, start_turns};
+use rhai_walks::turns::Turns;
+use std::alloc::Global;
+
+/// What an expression came to, without its handle.
+pub(crate) fn flat_answer<H: Host>(
+    alloc: Global,
+    cells: &CellStore<H>,
+    answer: Result<Dynamic<H>, EvalAltResult<H>>,
+    pos: Position,
+) -> Result<Dynamic<H>, EvalAltResult<H>>
+    ensures { Answers result (flat_end (cells_of cells.now) answer pos) }
+{
+    flatten(alloc, cells, answer?, pos)
+}
+
+/// The number of the turn after this one. It has 64 bits, since each turn was charged.
+fn next_number(turn: u64, num_operations: u64) -> u64
+    requires { turn < num_operations }
+    ensures { result ≡ turn + 1 }
+{
+    turn + 1
+}
+
+impl<'e, H: Host> Evaluator<'e, H> {
+    /// A `for`, turn by turn. How it ended stands in the run. Its variables are gone on every way out.
+    #[cycle(eval)]
+    pub(crate) fn run_for<T: NativeTable<H>>(
+        &self,
+        alloc: Global,
+        run: &mut Context<H>,
+        table: &mut T,
+        parts: ForParts<'_>,
+    ) -> bool
+        requires resolves_items { IsTrue (resolves_expr parts.items.now (names run.old)) }
+        requires resolves_body { IsTrue (resolves_block parts.body.now
+            (turn_names parts.variable.now parts.counter.now (names run.old))) }
+        ensures counts { IsTrue result → run.old.global.num_operations ≤ run.new.global.num_operations }
+        ensures names { IsTrue result → names run.new ≡ names run.old }
+        ensures runs { (pos : _) (restoring : _) → Runs (under H.name_of self.now T.natives)
+            (OpenStmt (layer.For parts.entry.variable.now parts.entry.counter.now parts.entry.items.now
+            parts.entry.body.now pos) restoring) (state_in (T.state table.old) run.old)
+            (came result run.new.value run.new.error) (state_in (T.state table.new) run.new) }
+    {
+        if has_no_room(self.limits, &run.scope, parts.counter) {
+            let error = EvalAltResult::ErrorTooManyVariables(parts.variable.pos);
+            return stop(&mut run.error, error);
+        }
+        let answer = self.run_expr(alloc, run, table, parts.items);
+        let flat = flat_answer(alloc, &run.global.cells, answer, parts.items.position());
+        let value = match flat {
+            Ok(value) => value,
+            Err(error) => return stop(&mut run.error, error),
+        };
+        let base = run.scope.len();
+        let mut turns = match start_turns(&mut run.scope, parts, value) {
+            Ok(turns) => turns,
+            Err(error) => return stop(&mut run.error, error),
+        };
+        let mut turn = 0;
+        'turns: loop {
+            if let Some(done) = self.run_for_turn(
+                alloc, run, table, parts, &mut turns, turn, base,
+            ) {
+                run.scope.rewind(base);
+                return done;
+            }
+            turn = next_number(turn, run.global.num_operations);
+        }
+    }
+
+    /// A turn of a `for`, by its number: None where another one follows. An empty body is charged at its
+    /// brace, and its variables are left alone.
+    #[cycle(eval)]
+    fn run_for_turn<T: NativeTable<H>>(
+        &self,
+        alloc: Global,
+        run: &mut Context<H>,
+        table: &mut T,
+        parts: ForParts<'_>,
+        turns: &mut Turns<H>,
+        turn: u64,
+        base: usize,
+    ) -> Option<bool>
+        requires resolves { IsTrue (resolves_block parts.body.now (names run.old)) }
+        requires variables { base + counters parts.counter.now + 1 ≡ length (names run.old) }
+        ensures charges { result ≡ None → run.old.global.num_operations < run.new.global.num_operations }
+        ensures counts { IfSome result (λ done. IsTrue done →
+            run.old.global.num_operations ≤ run.new.global.num_operations) }
+        ensures names_stay { result ≡ None → names run.new ≡ names run.old }
+        ensures names { IfSome result (λ done. IsTrue done → names run.new ≡ names run.old) }
+        ensures runs { Steps (under H.name_of self.now T.natives)
+            (ForTurn (loop_in parts.entry) (turns_in turns.old) turn base) (state_in (T.state table.old) run.old)
+            (after_turn (came_turn result run.new.value run.new.error)
+            (ForTurn (loop_in parts.entry) (turns_in turns.new) (turn + 1) base))
+            (state_in (T.state table.new) run.new) }
+    {
+        let Some(item) = turns.next() else {
+            put_unit(&mut run.value);
+            return Some(true);
+        };
+        if parts.body.statements.is_empty() {
+            let_go(item);
+            return match track_operation(self.limits, &mut run.global, parts.body.position) {
+                Ok(()) => None,
+                Err(error) => Some(stop(&mut run.error, error)),
+            };
+        }
+        let entered = enter_turn(
+            self.limits,
+            alloc,
+            &mut run.global,
+            &*table,
+            &mut run.scope,
+            parts,
+            item,
+            turn,
+            base,
+        );
+        if let Err(error) = entered {
+            return Some(stop(&mut run.error, error));
+        }
+        let statements = parts.body.statements.as_slice();
+        let outcome = self.run_stmt_block(alloc, run, table, statements, true);
+        settle_turn(&mut run.error, &mut run.value, while_next(outcome))
+    }
+}

@@ -1,0 +1,332 @@
+-- The rules of expressions, of statements and of their lists lead to cores that fit.
+use Rattle.std.proofs.Common.{ℕ, List, [], ◌∷◌, ◌++◌, length, map}
+use Rattle.std.specs.Prelude.{Bool, true, false, not, ◌&&◌, nat_le, Option, Some, None, Result, Ok, Err, is_some}
+use Rattle.rhai_tree.specs.declared.expr.Expr.TheOpen as layer
+use Rattle.rhai_tree.specs.declared.expr.FnCallExpr.{FnCallExpr}
+use Rattle.rhai_tree.specs.declared.expr.MapEntry.{MapEntry}
+use Rattle.rhai_tree.specs.Forms.{is_unqualified, is_exported}
+use Rattle.rhai_tree.specs.Keys.{key_of}
+use Rattle.rhai_tree.specs.Layers.{ExprLayer, StmtLayer}
+use Rattle.rhai_machine.specs.Types.{ASTFlags, Dynamic, EvalAltResult, Expr, out-Expr, Ident, Limits, Position, Stmt, StmtBlock, Token}
+use Rattle.rhai_machine.specs.Types.{Union}
+use Rattle.rhai_values.specs.declared.base.value.Union.TheVariants as value
+use Rattle.rhai_values.specs.DataSize.{data_sizes}
+use Rattle.rhai_state.specs.declared.error.EvalAltResult.TheVariants as error
+use Rattle.rhai_state.specs.Reach.{Reached}
+use Rattle.rhai_state.specs.Scope.{index_of, new_entry}
+use Rattle.rhai_machine.specs.language.Setting.{Setting}
+use Rattle.rhai_machine.specs.language.State.{Local}
+use Rattle.rhai_machine.specs.language.Values.{copied, unit_value}
+use Rattle.rhai_machine.specs.language.Names.{bound_this, read}
+use Rattle.rhai_machine.specs.language.Frames.{Control, Frame, Core, core}
+use Rattle.rhai_machine.specs.language.Data.{array_of, text_of, filled, map_of, entry_sizes, with_item, with_value, with_part, items_core}
+use Rattle.rhai_machine.specs.language.Data.{entries_core, parts_core, part_core, joined_core, unprinted_core}
+use Rattle.rhai_machine.specs.language.Expressions.{argument_move, call_move, and_core, and_next, or_core, or_next, coalesce_core}
+use Rattle.rhai_machine.specs.language.Expressions.{coalesce_seen, coalesce_next, expr_move}
+use Rattle.rhai_machine.specs.language.Loops.{goes_on, while_move, while_core, if_goes_on, do_control, caught}
+use Rattle.rhai_machine.specs.language.Statements.{has_option, mode_of, loop_of, enter_core, run_core, chosen_core, enters, constant_core}
+use Rattle.rhai_machine.specs.language.Statements.{added, defined_core, break_core, return_move, define_core, stmt_move}
+use Rattle.rhai_machine.specs.language.Walks.{has_no_room}
+use Rattle.rhai_fits.specs.Contents.{of_values}
+use Rattle.rhai_fits.proofs.Values.{Fit, fit_unit, fit_bool, fit_int, fit_char, fit_text, fit_array, fit_map}
+use Rattle.rhai_fits.proofs.Copies.{fit_copy, fit_mode}
+use Rattle.rhai_fits.proofs.Literals.{FitsMaybe, fit_literal}
+use Rattle.rhai_fits.proofs.Errors.{FitError, fit_error, error_fits}
+use Rattle.rhai_fits.proofs.Fitting.{AllFit, FitBelow, FitCore, FitLocal, Gives, Flat, to, back, fail, unit, push, on, ended_fits}
+use Rattle.rhai_fits.proofs.Fitting.{values_joined, scope_joined}
+use Rattle.rhai_fits.proofs.Seeing.{Any, copied_gives, given_fits, read_fits, bound_gives, within_sizes_gives}
+use Rattle.rhai_fits.proofs.Spots.{entry_fits}
+use Rattle.rhai_fits.proofs.Arguments.{fit_all, call_good}
+use Rattle.rhai_fits.proofs.Natives.{Moves}
+use Rattle.rhai_fits.proofs.Assignments.{there_good, assignment_good}
+use Rattle.rhai_fits.proofs.Forms.{for_good}
+
+module _ {H : Type 0} (own : H → List Reached) (P : Reached → Type 0) (least : ℕ) where
+  abbrev Good : Core H → Type 0
+  Good c = FitCore own P least c
+
+  abbrev Below : List (Frame H) → Local H → Type 0
+  Below k l = FitBelow own P least k l
+
+  abbrev All : List (Dynamic H) → Type 0
+  All vs = AllFit own P least (of_values vs)
+
+  -- ---- lists of statements
+
+  pub enter_good : (stmts : List Stmt) (restoring : Bool) (k : List (Frame H)) (l : Local H) → Below k l →
+      Good (enter_core stmts restoring k l)
+  enter_good [] restoring k l b = unit own P least k l b
+  enter_good (stmt ∷ stmts) true k l b = to own P least _ _ _ (fit_unit own P) tt (record {
+    stack = (tt, b.stack);
+    sealed = (tt, b.sealed);
+    back = b.back;
+    local = record {
+      scope = b.local.scope;
+      this = b.local.this;
+      focus = b.local.focus;
+      cells = b.local.cells;
+      sealed = b.local.sealed;
+      enough = b.local.enough;
+    };
+  })
+  enter_good (stmt ∷ stmts) false k l b = to own P least _ k l (fit_unit own P) tt b
+
+  pub run_good : (stmts : List Stmt) (restoring : Bool) (last : Dynamic H) (k : List (Frame H)) (l : Local H) → Fit own P last → Below k l →
+      Good (run_core stmts restoring last k l)
+  run_good [] restoring last k l f b = back own P least last k l f b
+  run_good (stmt ∷ stmts) restoring last k l f b = to own P least _ _ l tt tt (push own P least _ k l tt tt b.back b)
+
+  -- ---- arrays, maps and texts
+
+  array_fits : (made : List (Dynamic H)) → All made → Fit own P (array_of made)
+  array_fits made h = fit_array own P made (fit_all own P least made h)
+
+  filled_fits : (keys : List (List ℕ)) (values : List (Dynamic H)) (entries : List (List ℕ) × List (Dynamic H)) → All values →
+      All entries.1 → All (filled keys values entries).1
+  filled_fits [] values entries h g = g
+  filled_fits (key ∷ keys) [] entries h g = g
+  filled_fits (key ∷ keys) (v ∷ values) entries h g = filled_fits keys values _ h.1 (entry_fits own P least key v entries g h.0)
+
+  map_fits : (keys : List (List ℕ)) (values : List (Dynamic H)) → All values → Fit own P (map_of keys values)
+  map_fits keys values h = fit_map own P (filled keys values ([], []))
+      (fit_all own P least (filled keys values ([], [])).1 (filled_fits keys values ([], []) h tt))
+
+  pub item_gives : (limits : Limits) (made : List (Dynamic H)) (r : Result (Dynamic H) (EvalAltResult H)) (at : Position) → All made →
+      Gives own P least (Flat own P least) r → Gives own P least All (with_item limits made r at)
+  item_gives limits made (Ok x) at h f = within_sizes_gives own P least All limits (data_sizes (array_of (made ++ x ∷ []))) (made ++ x ∷
+      []) at
+      (values_joined own P least made (x ∷ []) h (f.0, tt))
+  item_gives limits made (Err e) at h f = f
+
+  pub value_gives : (limits : Limits) (made : List (Dynamic H)) (r : Result (Dynamic H) (EvalAltResult H)) (at : Position) → All made →
+      Gives own P least (Flat own P least) r → Gives own P least All (with_value limits made r at)
+  value_gives limits made (Ok x) at h f = within_sizes_gives own P least All limits (entry_sizes (made ++ x ∷ [])) (made ++ x ∷ []) at
+      (values_joined own P least made (x ∷ []) h (f.0, tt))
+  value_gives limits made (Err e) at h f = f
+
+  pub items_good : (made : List (Dynamic H)) (items : List Expr) (k : List (Frame H)) (l : Local H) → All made → Below k l →
+      Good (items_core made items k l)
+  items_good made [] k l h b = back own P least _ k l (array_fits made h) b
+  items_good made (item ∷ items) k l h b = to own P least _ _ l tt tt (push own P least _ k l h tt b.back b)
+
+  pub entries_good : (keys : List (List ℕ)) (made : List (Dynamic H)) (entries : List MapEntry) (k : List (Frame H)) (l : Local H) →
+      All made → Below k l → Good (entries_core keys made entries k l)
+  entries_good keys made [] k l h b = back own P least _ k l (map_fits keys made h) b
+  entries_good keys made (entry ∷ entries) k l h b = to own P least _ _ l tt tt (push own P least _ k l h tt b.back b)
+
+  parts_good : (text : List ℕ) (parts : List Expr) (k : List (Frame H)) (l : Local H) → Below k l → Good (parts_core text parts k l)
+  parts_good text [] k l b = back own P least _ k l (fit_text own P text) b
+  parts_good text (part ∷ parts) k l b = to own P least _ _ l tt tt (push own P least _ k l tt tt b.back b)
+
+  pub part_good : (s : Setting H) (text part : List ℕ) (at : Position) (rest : List Expr) (k : List (Frame H)) (l : Local H) → Below k l →
+      Good (part_core s text part at rest k l)
+  part_good s text part at rest k l b = on own P least (Any own P least (List ℕ)) (with_part s.limits text part at) _ k l
+      (within_sizes_gives own P least (Any own P least (List ℕ)) s.limits (data_sizes {H = H} (text_of (text ++ part))) (text ++ part) at
+      tt) b
+      (λ more h. parts_good more rest k l b)
+
+  pub joined_good : (s : Setting H) (u : Union H) (v : Dynamic H) (text : List ℕ) (at : Position) (rest : List Expr) (k : List (Frame H))
+      (l : Local H) → Fit own P v → Below k l → Good (joined_core s u v text at rest k l)
+  joined_good s (value.Str part) v text at rest k l f b = part_good s text part at rest k l b
+  joined_good s _ v text at rest k l f b =
+      to own P least _ _ l (fit_copy own P v f, tt) tt (push own P least _ k l tt tt b.back b)
+
+  pub unprinted_good : (s : Setting H) (passes : Bool) (e : EvalAltResult H) (text type : List ℕ) (at : Position) (rest : List Expr)
+      (k : List (Frame H)) (l : Local H) → FitError own P e → Below k l → Good (unprinted_core s passes e text type at rest k l)
+  unprinted_good s true e text type at rest k l h b = fail own P least e k l h b
+  unprinted_good s false e text type at rest k l h b = part_good s text type at rest k l b
+
+  -- ---- expressions
+
+  pub argument_good : (literal : Option (Dynamic H)) (e : Expr) (k : List (Frame H)) (l : Local H) → FitsMaybe own P literal → Below k l →
+      Moves own P least (argument_move literal e k l)
+  argument_good (Some v) e k l h b = back own P least v k l h b
+  argument_good None e k l h b = to own P least _ k l tt tt b
+
+  operand_good : (fast : Bool) (token : Option Token) (call : FnCallExpr) (args : List Expr) (pos : Position) (k : List (Frame H))
+      (l : Local H) → Below k l → Moves own P least (call_move fast token call args pos k l)
+  operand_good true (Some token) call (operand ∷ []) pos k l b =
+      to own P least _ _ l tt tt (push own P least _ k l tt tt b.back b)
+  operand_good true (Some token) call (left ∷ right ∷ []) pos k l b =
+      to own P least _ _ l tt tt (push own P least _ k l tt tt b.back b)
+  operand_good _ _ call args pos k l b =
+      there_good own P least (is_unqualified call.namespace.path) _ (call_good own P least call pos k l b)
+
+  and_good : (parts : List Expr) (k : List (Frame H)) (l : Local H) → Below k l → Good (and_core parts k l)
+  and_good [] k l b = back own P least _ k l (fit_bool own P true) b
+  and_good (part ∷ parts) k l b = to own P least _ _ l tt tt (push own P least _ k l tt tt b.back b)
+
+  pub and_next_good : (holds : Bool) (parts : List Expr) (k : List (Frame H)) (l : Local H) → Below k l → Good (and_next holds parts k l)
+  and_next_good true parts k l b = and_good parts k l b
+  and_next_good false parts k l b = back own P least _ k l (fit_bool own P false) b
+
+  or_good : (parts : List Expr) (k : List (Frame H)) (l : Local H) → Below k l → Good (or_core parts k l)
+  or_good [] k l b = back own P least _ k l (fit_bool own P false) b
+  or_good (part ∷ parts) k l b = to own P least _ _ l tt tt (push own P least _ k l tt tt b.back b)
+
+  pub or_next_good : (holds : Bool) (parts : List Expr) (k : List (Frame H)) (l : Local H) → Below k l → Good (or_next holds parts k l)
+  or_next_good true parts k l b = back own P least _ k l (fit_bool own P true) b
+  or_next_good false parts k l b = or_good parts k l b
+
+  coalesce_good : (last : Dynamic H) (parts : List Expr) (k : List (Frame H)) (l : Local H) → Fit own P last → Below k l →
+      Good (coalesce_core last parts k l)
+  coalesce_good last [] k l f b = back own P least last k l f b
+  coalesce_good last (part ∷ parts) k l f b = to own P least _ _ l tt tt (push own P least _ k l tt tt b.back b)
+
+  coalesce_seen_good : (u : Union H) (v : Dynamic H) (parts : List Expr) (k : List (Frame H)) (l : Local H) → Fit own P v → Below k l →
+      Good (coalesce_seen u v parts k l)
+  coalesce_seen_good value.Unit v parts k l f b = coalesce_good v parts k l f b
+  coalesce_seen_good _ v parts k l f b = back own P least v k l f b
+
+  pub coalesce_next_good : (r : Result (Dynamic H) (EvalAltResult H)) (v : Dynamic H) (parts : List Expr) (k : List (Frame H)) (l : Local
+      H) →
+      Gives own P least (Flat own P least) r → Fit own P v → Below k l → Good (coalesce_next r v parts k l)
+  coalesce_next_good r v parts k l h f b = on own P least (Flat own P least) r _ k l h b
+      (λ seen g. coalesce_seen_good seen.value v parts k l f b)
+
+  pub expr_good : (fast : Bool) (form : ExprLayer) (k : List (Frame H)) (l : Local H) → Below k l →
+      Moves own P least (expr_move fast form k l)
+  expr_good fast (layer.DynamicConstant literal pos) k l b = back own P least _ k l (fit_literal own P literal) b
+  expr_good fast (layer.BoolConstant truth pos) k l b = back own P least _ k l (fit_bool own P truth) b
+  expr_good fast (layer.IntegerConstant n pos) k l b = back own P least _ k l (fit_int own P n) b
+  expr_good fast (layer.CharConstant letter pos) k l b = back own P least _ k l (fit_char own P letter) b
+  expr_good fast (layer.StringConstant text pos) k l b = back own P least _ k l (fit_text own P text) b
+  expr_good fast (layer.Unit pos) k l b = unit own P least k l b
+  expr_good fast (layer.InterpolatedString parts pos) k l b = parts_good [] parts k l b
+  expr_good fast (layer.Array items pos) k l b = items_good [] items k l tt b
+  expr_good fast (layer.Map entries template pos) k l b = entries_good (map key_of entries) [] entries k l tt b
+  expr_good fast (layer.Variable offset name namespace pos) k l b = there_good own P least (is_unqualified namespace.path) _
+      (ended_fits own P least (read l.around.cells l.around.lib name pos l.scope) k l (read_fits own P least name pos l b.local) b)
+  expr_good fast (layer.ThisPtr pos) k l b = ended_fits own P least (copied (bound_this pos l.this)) k l
+      (given_fits own P least _ (copied_gives own P least (bound_this pos l.this) (bound_gives own P least pos l.this b.local.this))) b
+  expr_good fast (layer.Expr::FnCall call pos) k l b = operand_good fast call.op_token call call.args pos k l b
+  expr_good fast (layer.Stmt block) k l b = to own P least _ k l tt tt b
+  expr_good fast (layer.Index lhs rhs options pos) k l b = to own P least _ k l (tt, tt) tt b
+  expr_good fast (layer.Dot lhs rhs options pos) k l b = to own P least _ k l (tt, tt) tt b
+  expr_good fast (layer.And parts pos) k l b = and_good parts k l b
+  expr_good fast (layer.Or parts pos) k l b = or_good parts k l b
+  expr_good fast (layer.Coalesce parts pos) k l b = coalesce_good unit_value parts k l (fit_unit own P) b
+  expr_good fast _ k l b = tt
+
+  -- ---- loops
+
+  pub while_good : (endless : Bool) (stmts : List Stmt) (test : Expr) (body : StmtBlock) (k : List (Frame H)) (l : Local H) → Below k l →
+      Moves own P least (while_move endless stmts test body k l)
+  while_good false stmts test body k l b = to own P least _ _ l tt tt (push own P least _ k l tt tt b.back b)
+  while_good true [] test body k l b = to own P least _ k l tt tt b
+  while_good true (stmt ∷ stmts) test body k l b = to own P least _ _ l tt tt (push own P least _ k l tt tt b.back b)
+
+  pub while_core_good : (holds : Bool) (test : Expr) (body : StmtBlock) (k : List (Frame H)) (l : Local H) → Below k l →
+      Good (while_core holds test body k l)
+  while_core_good true test body k l b = to own P least _ _ l tt tt (push own P least _ k l tt tt b.back b)
+  while_core_good false test body k l b = unit own P least k l b
+
+  goes_on_good : (on : Bool) (turn : Control H) (k : List (Frame H)) (l : Local H) → Good (core turn k l) → Below k l →
+      Good (core (if_goes_on on turn) k l)
+  goes_on_good true turn k l t b = t
+  goes_on_good false turn k l t b = unit own P least k l b
+
+  pub do_good : (r : Result Bool (EvalAltResult H)) (until : Bool) (turn : Control H) (k : List (Frame H)) (l : Local H) →
+      Gives own P least (Any own P least Bool) r → Good (core turn k l) → Below k l → Good (core (do_control r until turn) k l)
+  do_good (Ok holds) until turn k l h t b = goes_on_good (goes_on until holds) turn k l t b
+  do_good (Err e) until turn k l h t b = fail own P least e k l h b
+
+  pub caught_good : (turn : Control H) (e : EvalAltResult H) (k : List (Frame H)) (l : Local H) → FitError own P e → Good (core turn k l) →
+      Below k l → Good (core (caught turn e) k l)
+  caught_good turn (error.LoopBreak v false at) k l h t b = t
+  caught_good turn (error.LoopBreak v true at) k l h t b = back own P least v k l (error_fits own P (error.LoopBreak v true at) h) b
+  caught_good turn e k l h t b = fail own P least e k l h b
+
+  -- ---- statements
+
+  pub chosen_good : (holds : Bool) (body branch : StmtBlock) (k : List (Frame H)) (l : Local H) → Below k l →
+      Good (chosen_core holds body branch k l)
+  chosen_good true body branch k l b = to own P least _ k l tt tt b
+  chosen_good false body branch k l b = to own P least _ k l tt tt b
+
+  -- a constant is entered beside the cells
+  constant_fits : (enters : Bool) (name : List ℕ) (v : Dynamic H) (l : Local H) → FitLocal own P least l →
+      FitLocal own P least (constant_core enters name v l)
+  constant_fits true name v l h =
+      record { scope = h.scope; this = h.this; focus = h.focus; cells = h.cells; sealed = h.sealed; enough = h.enough }
+  constant_fits false name v l h = h
+
+  added_below : (enters : Bool) (v : Dynamic H) (ident : Ident) (options : ASTFlags) (k : List (Frame H)) (l : Local H) → Fit own P v →
+      Below k l → Below k (added v ident options (constant_core enters ident.name v l))
+  added_below true v ident options k l f b = record {
+    stack = b.stack;
+    sealed = b.sealed;
+    back = b.back;
+    local = record {
+      scope = scope_joined own P least l.scope (new_entry ident.name (mode_of options) v ∷ []) b.local.scope
+          (fit_mode own P (mode_of options) v f, tt);
+      this = b.local.this;
+      focus = b.local.focus;
+      cells = b.local.cells;
+      sealed = b.local.sealed;
+      enough = b.local.enough;
+    };
+  }
+  added_below false v ident options k l f b = record {
+    stack = b.stack;
+    sealed = b.sealed;
+    back = b.back;
+    local = record {
+      scope = scope_joined own P least l.scope (new_entry ident.name (mode_of options) v ∷ []) b.local.scope
+          (fit_mode own P (mode_of options) v f, tt);
+      this = b.local.this;
+      focus = b.local.focus;
+      cells = b.local.cells;
+      sealed = b.local.sealed;
+      enough = b.local.enough;
+    };
+  }
+
+  pub defined_good : (v : Dynamic H) (ident : Ident) (options : ASTFlags) (restoring : Bool) (k : List (Frame H)) (l : Local H) →
+      Fit own P v → Below k l → Good (defined_core v ident options restoring k l)
+  defined_good v ident options restoring k l f b =
+      unit own P least k _ (added_below (enters options restoring l) v ident options k l f b)
+
+  break_good : (value : Option Expr) (is_break : Bool) (pos : Position) (k : List (Frame H)) (l : Local H) → Below k l →
+      Good (break_core value is_break pos k l)
+  break_good None is_break pos k l b = fail own P least _ k l (fit_error own P _ (fit_unit own P)) b
+  break_good (Some value) is_break pos k l b = to own P least _ _ l tt tt (push own P least _ k l tt tt b.back b)
+
+  return_good : (throws : Bool) (value : Option Expr) (pos : Position) (k : List (Frame H)) (l : Local H) → Below k l →
+      Moves own P least (return_move throws value pos k l)
+  return_good true None pos k l b = fail own P least _ k l (fit_error own P _ (fit_unit own P)) b
+  return_good true (Some value) pos k l b = to own P least _ _ l tt tt (push own P least _ k l tt tt b.back b)
+  return_good false None pos k l b = fail own P least _ k l (fit_error own P _ (fit_unit own P)) b
+  return_good false (Some value) pos k l b = to own P least _ _ l tt tt (push own P least _ k l tt tt b.back b)
+
+  module _ (s : Setting H) where
+    define_good : (shadows full : Bool) (ident : Ident) (value : Expr) (options : ASTFlags) (restoring : Bool) (pos : Position)
+        (k : List (Frame H)) (l : Local H) → Below k l → Good (define_core s shadows full ident value options restoring pos k l)
+    define_good true full ident value options restoring pos k l b = fail own P least _ k l (fit_error own P _ tt) b
+    define_good false true ident value options restoring pos k l b = fail own P least _ k l (fit_error own P _ tt) b
+    define_good false false ident value options restoring pos k l b =
+        to own P least _ _ l tt tt (push own P least _ k l tt tt b.back b)
+
+    pub stmt_good : (form : StmtLayer) (restoring : Bool) (k : List (Frame H)) (l : Local H) → Below k l →
+        Moves own P least (stmt_move s form restoring k l)
+    stmt_good (layer.Noop pos) restoring k l b = unit own P least k l b
+    stmt_good (layer.Expr value) restoring k l b = to own P least _ _ l tt tt (push own P least _ k l tt tt b.back b)
+    stmt_good (layer.Stmt::FnCall call pos) restoring k l b = to own P least _ k l tt tt b
+    stmt_good (layer.Block block) restoring k l b = to own P least _ k l tt tt b
+    stmt_good (layer.Assignment op lhs rhs) restoring k l b = assignment_good own P least (out-Expr lhs) op rhs k l b
+    stmt_good (layer.Var ident value None options pos) restoring k l b = there_good own P least (not (is_exported options)) _
+        (define_good (not s.offer.allow_shadowing && is_some (index_of ident.name l.scope))
+        (nat_le s.limits.max_variables (length l.scope)) ident value options restoring pos k l b)
+    stmt_good (layer.If test body branch pos) restoring k l b = to own P least _ _ l tt tt (push own P least _ k l tt tt b.back b)
+    stmt_good (layer.Switch value results cases ranges default pos) restoring k l b =
+        to own P least _ _ l tt tt (push own P least _ k l tt tt b.back b)
+    stmt_good (layer.While test body pos) restoring k l b = to own P least _ k l tt tt b
+    stmt_good (layer.Do test body options pos) restoring k l b = to own P least _ k l tt tt b
+    stmt_good (layer.For variable counter items body pos) restoring k l b =
+        for_good own P least (has_no_room s.limits (loop_of variable counter items body) l) (loop_of variable counter items body) k l b
+    stmt_good (layer.BreakLoop value options pos) restoring k l b = break_good value (has_option 2 options) pos k l b
+    stmt_good (layer.TryCatch body variable branch pos) restoring k l b =
+        to own P least _ _ l tt tt (push own P least _ k l tt tt b.back b)
+    stmt_good (layer.Share variables) restoring k l b = to own P least _ k l tt tt b
+    stmt_good (layer.Return value options pos) restoring k l b = return_good (has_option 2 options) value pos k l b
+    stmt_good _ restoring k l b = tt

@@ -1,0 +1,174 @@
+-- What a run has in hand: the values and errors in its control, on its stack, and among its variables and cells; and what those hold.
+use Rattle.std.specs.Prelude.{◌⊎◌, List, [], ◌∷◌, Option, Some, None, Result, Ok, Err, Contains}
+use Rattle.rhai_values.specs.declared.base.value.Dynamic.{Dynamic}
+use Rattle.rhai_values.specs.declared.base.value.Union.TheVariants as value
+use Rattle.rhai_values.specs.Copy.{plain}
+use Rattle.rhai_state.specs.declared.error.EvalAltResult.{EvalAltResult}
+use Rattle.rhai_state.specs.declared.scope.ScopeEntry.{ScopeEntry}
+use Rattle.rhai_state.specs.Native.{Natives}
+use Rattle.rhai_state.specs.Reach.{Reached, held_by, held_by_error}
+use Rattle.rhai_machine.specs.machine.Point.{Point}
+use Rattle.rhai_machine.specs.language.State.{Local}
+use Rattle.rhai_machine.specs.language.Values.{Cells}
+use Rattle.rhai_machine.specs.language.Activations.{Variables, Caller, CallExit}
+use Rattle.rhai_machine.specs.language.Turns.{Turns, OfItems, OfIntegers}
+use Rattle.rhai_machine.specs.language.Frames.{NewValue, Chain, Member, Property, Item, MemberAccess, Update, Core, Purpose, ToCall}
+use Rattle.rhai_machine.specs.language.Frames.{ToCallFunction, ToCallNumber, ToCurry, ToChain, Control, Ask, CallNamed, EnterFunction}
+use Rattle.rhai_machine.specs.language.Frames.{Assign, AssignThis, AskUpdate, Question, Fire, QuestionUpdate, FireUpdate, EnterOnFocus, Run}
+use Rattle.rhai_machine.specs.language.Frames.{Store, StoreThis, ForTurn, ForItem, OpenChain, ChainArguments, ChainRoot, ReadRoot, Walk}
+use Rattle.rhai_machine.specs.language.Frames.{Locate, Back, Changed, Fail, Frame, RightOperand, CallArgument, ArrayItem, EntryValue}
+use Rattle.rhai_machine.specs.language.Frames.{ForBody, CatchBranch, RootValue, ChainEnd, StepDown, Temporary, PartMethod, PartAssigned}
+use Rattle.rhai_machine.specs.language.Frames.{MethodLink, MemberLink, MemberGot, MemberOperated, GetterTried, SetterTried, IndexerTried}
+use Rattle.rhai_machine.specs.language.Frames.{MemberSet, CallEnd}
+
+-- values and errors, one after the other
+pub data Contents (H : Type 0) : Type 0 where
+  Nothing : Contents H
+  OneValue : Dynamic H → Contents H
+  OneError : EvalAltResult H → Contents H
+  Both : Contents H → Contents H → Contents H
+
+module _ {H : Type 0} where
+  -- ---- lists, and what may be there
+
+  abbrev pub of_values : List (Dynamic H) → Contents H
+  of_values [] = Nothing
+  of_values (v ∷ vs) = Both (OneValue v) (of_values vs)
+
+  abbrev pub of_maybe : Option (Dynamic H) → Contents H
+  of_maybe None = Nothing
+  of_maybe (Some v) = OneValue v
+
+  abbrev pub of_result : Result (Dynamic H) (EvalAltResult H) → Contents H
+  of_result (Ok v) = OneValue v
+  of_result (Err e) = OneError e
+
+  abbrev pub of_scope : List (ScopeEntry H) → Contents H
+  of_scope [] = Nothing
+  of_scope (entry ∷ entries) = Both (OneValue entry.value) (of_scope entries)
+
+  -- the values of the cells that are not held
+  abbrev pub of_cells : Cells H → Contents H
+  of_cells [] = Nothing
+  of_cells (cell ∷ cells) = Both (of_maybe cell) (of_cells cells)
+
+  -- ---- parts of controls and frames
+
+  abbrev pub of_new : Option (NewValue H) → Contents H
+  of_new None = Nothing
+  of_new (Some new) = OneValue new.value
+
+  abbrev pub of_chain : Chain H → Contents H
+  of_chain chain = Both (of_new chain.new) (of_values chain.args)
+
+  abbrev pub of_member : Member H → Contents H
+  of_member (Property name at) = Nothing
+  of_member (Item index) = OneValue index
+
+  abbrev pub of_way_back : Option (MemberAccess H) → Contents H
+  of_way_back None = Nothing
+  of_way_back (Some access) = of_member access.member
+
+  abbrev pub of_update : Update H → Contents H
+  of_update u = Both (OneValue u.target) (OneValue u.operand)
+
+  abbrev pub of_turns : Turns H → Contents H
+  of_turns (OfItems items) = of_values items
+  of_turns (OfIntegers next count) = Nothing
+
+  abbrev pub of_purpose : Purpose H → Contents H
+  of_purpose (ToCall operation curried how) = of_values curried
+  of_purpose (ToCallFunction function at curried) = of_values curried
+  of_purpose (ToCallNumber number operation curried) = of_values curried
+  of_purpose (ToCurry pointer) = OneValue (plain (value.FnPtr pointer))
+  of_purpose (ToChain chain behind) = of_chain chain
+  of_purpose _ = Nothing
+
+  -- the caller's variables, where a function has its own
+  abbrev pub of_variables : Variables H → Contents H
+  of_variables (Caller scope) = of_scope scope
+  of_variables _ = Nothing
+
+  abbrev pub of_exit : CallExit H → Contents H
+  of_exit exit = Both (of_variables exit.variables) (Both (of_maybe exit.this) (of_maybe exit.focus))
+
+  -- ---- the control
+
+  abbrev pub of_control : Control H → Contents H
+  of_control (Ask call) = of_values call.args
+  of_control (Question call) = of_values call.args
+  of_control (Fire call) = of_values call.args
+  of_control (CallNamed operation curried args captures natives_alone) = of_values curried
+  of_control (EnterFunction e) = of_values e.args
+  of_control (EnterOnFocus function is_fresh args at) = of_values args
+  of_control (Assign assignment v) = OneValue v
+  of_control (Store assignment v) = OneValue v
+  of_control (AssignThis op at v) = OneValue v
+  of_control (StoreThis op at v) = OneValue v
+  of_control (AskUpdate u) = of_update u
+  of_control (QuestionUpdate u) = of_update u
+  of_control (FireUpdate u) = of_update u
+  of_control (Run stmts restoring last) = OneValue last
+  of_control (ForTurn loop left turn base) = of_turns left
+  of_control (ForItem loop item rest turn base) = Both (OneValue item) (of_turns rest)
+  of_control (OpenChain chain) = of_chain chain
+  of_control (ChainArguments chain rest made) = Both (of_chain chain) (of_values made)
+  of_control (ChainRoot chain) = of_chain chain
+  of_control (ReadRoot name at chain) = of_chain chain
+  of_control (Walk chain) = of_chain chain
+  of_control (Locate link chain) = of_chain chain
+  of_control (Back v) = OneValue v
+  of_control (Changed v) = OneValue v
+  of_control (Fail e) = OneError e
+  of_control _ = Nothing
+
+  -- ---- the stack
+
+  abbrev pub of_frame : Frame H → Contents H
+  of_frame (RightOperand operation left right_at) = OneValue left
+  of_frame (CallArgument purpose made argument_at rest) = Both (of_purpose purpose) (of_values made)
+  of_frame (ArrayItem made item_at rest) = of_values made
+  of_frame (EntryValue keys made value_at rest) = of_values made
+  of_frame (ForBody loop rest turn base) = of_turns rest
+  of_frame (CatchBranch caught) = OneError caught
+  of_frame (RootValue chain) = of_chain chain
+  of_frame (ChainEnd lender outer) = of_maybe outer
+  of_frame (StepDown above step) = OneValue above
+  of_frame (Temporary above back) = Both (of_maybe above) (of_way_back back)
+  of_frame (PartMethod above spot at) = OneValue above
+  of_frame (PartAssigned above spot at) = OneValue above
+  of_frame (MethodLink chain) = of_chain chain
+  of_frame (MemberLink access chain) = Both (of_member access.member) (of_chain chain)
+  of_frame (MemberGot access root new) = Both (of_member access.member) (OneValue new.value)
+  of_frame (MemberOperated access above at) = Both (of_member access.member) (of_maybe above)
+  of_frame (GetterTried access name) = of_member access.member
+  of_frame (SetterTried access name v ignores) = Both (of_member access.member) (OneValue v)
+  of_frame (IndexerTried otherwise) = of_result otherwise
+  of_frame (MemberSet v) = OneValue v
+  of_frame (CallEnd exit) = of_exit exit
+  of_frame _ = Nothing
+
+  abbrev pub of_stack : List (Frame H) → Contents H
+  of_stack [] = Nothing
+  of_stack (frame ∷ k) = Both (of_frame frame) (of_stack k)
+
+  -- ---- the whole
+
+  -- the variables, `this`, the value that a chain works on, and the cells
+  abbrev pub of_local : Local H → Contents H
+  of_local l = Both (of_scope l.scope) (Both (of_maybe l.this) (Both (of_maybe l.focus) (of_cells l.around.cells)))
+
+  abbrev pub of_core : Core H → Contents H
+  of_core c = Both (of_control c.control) (Both (of_stack c.stack) (of_local c.local))
+
+module _ {H : Type 0} (own : H → List Reached) where
+  -- a value or an error among them holds this: a cell, a script function, or a table of constants
+  abbrev pub Holds : Contents H → Reached → Type 0
+  Holds Nothing r = ⊥
+  Holds (OneValue v) r = Contains (held_by own v) r
+  Holds (OneError e) r = Contains (held_by_error own e) r
+  Holds (Both a b) r = Holds a r ⊎ Holds b r
+
+-- a run holds this at a point: what it has in hand does, or the table's state
+abbrev pub HeldAt : {S H : Type 0} → Natives S H → Point S (Core H) → Reached → Type 0
+HeldAt natives p r = Holds natives.holds.of_host (of_core p.core) r ⊎ Contains (natives.holds.of_state p.table) r

@@ -1,0 +1,58 @@
+use Rattle.std.proofs.Common.{◌≡◌, ◌∙◌, ◌∷◌, Some, arith, length, refl, sym}
+use Rattle.std.specs.Prelude.{IfSome, OnOk}
+use Rattle.rhai_tree.proofs.Statements.{shared_at}
+use Rattle.rhai_state.specs.Scope.{entries_of, names_in, value_of}
+use Rattle.rhai_machine.specs.machine.Memory.{here, ◌⨾◌}
+use Rattle.rhai_machine.specs.language.Runs.{Steps}
+use Rattle.rhai_machine.specs.language.Setting.{rules_of}
+use Rattle.rhai_steps.specs.States.{local_of}
+use Rattle.rhai_steps.proofs.Pieces.{exits}
+use Rattle.rhai_sharing.proofs.Steps.{drop_all, drop_item, is_none, item_there, left_so, shares_none, shares_not, shares_one, shares_wanting}
+use Rattle.rhai_sharing.proofs.share_variables.Goals as goal
+
+pub each_variable-init : goal.each_variable-init
+unfolding Steps
+each_variable-init g c = record { rest = refl; names = refl; steps = λ offer held k. here }
+
+pub place_of_variable-requires : goal.place_of_variable-requires
+place_of_variable-requires g c = rw (c.variable-item.is, c.each_variable.invariant.names)
+    (shared_at c.args.variables.now c.each_variable.variable-index _ (names_in c.args.scope.now) c.each_variable-test.true c.requires)
+
+pub returns-in_default-clause-runs : goal.returns-in_default-clause-runs
+unfolding Steps
+returns-in_default-clause-runs g c offer held k =
+    let rules = rules_of c.args.limits.now g.H.Host.name_of offer g.T.NativeTable.natives in
+    c.each_variable.invariant.steps offer held k ⨾ rw (drop_item _ _ _ c.each_variable-test.true c.variable-item.is)
+    (shares_not rules k _ _ _ _ (sym c.place_of_variable.ensures.exact ∙ is_none c.place_of_variable.result c.in_default.not-Some)
+    c.variable_not_found.ensures)
+
+pub returns-in_err-share_value-clause-runs : goal.returns-in_err-share_value-clause-runs
+unfolding Steps
+returns-in_err-share_value-clause-runs g c offer held =
+    let rules = rules_of c.args.limits.now g.H.Host.name_of offer g.T.NativeTable.natives in
+    exits rules _ _ _ _ _ c.from_residual.ensures (λ k.
+    c.each_variable.invariant.steps offer held k ⨾ rw (drop_item _ _ _ c.each_variable-test.true c.variable-item.is)
+    (rw (c.in_err-share_value.ensures.rest, c.in_err-share_value.ensures.same_cells, c.in_err-share_value.ensures.same_scope)
+    (shares_wanting rules k _ _ _ _ c.in_err-share_value.ensures.refused)))
+
+pub each_variable-preserved : goal.each_variable-preserved
+unfolding Steps
+each_variable-preserved g c =
+    let there = item_there (entries_of c.each_variable.scope) c.in-Some.index c.in-Some.ensures.within in
+    record {
+      rest = rw (c.in_ok-share_value.ensures.rest, c.each_variable.invariant.rest) refl;
+      names = c.in_ok-share_value.ensures.names ∙ c.each_variable.invariant.names;
+      steps = λ offer held k.
+          let rules = rules_of c.args.limits.now g.H.Host.name_of offer g.T.NativeTable.natives in
+          c.each_variable.invariant.steps offer held k ⨾ rw (drop_item _ _ _ c.each_variable-test.true c.variable-item.is)
+          (shares_one rules k _ _ _ c.in-Some.index (value_of there.0) _ (sym c.in-Some.ensures.exact) (rw there.1 refl) (left_so _ c.each_variable.global c.share_value.new.global
+          c.each_variable.scope c.share_value.new.scope held _
+          c.in_ok-share_value.ensures.rest (rw there.1 at (c.in_ok-share_value.ensures.shared held))));
+    }
+
+pub returns-clause-runs : goal.returns-clause-runs
+unfolding Steps
+returns-clause-runs g c offer held k =
+    let rules = rules_of c.args.limits.now g.H.Host.name_of offer g.T.NativeTable.natives in
+    c.each_variable.invariant.steps offer held k ⨾ rw (drop_all _ _ c.each_variable-test.false, c.unit_value.ensures)
+    (shares_none rules k _)

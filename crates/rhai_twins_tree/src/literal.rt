@@ -1,0 +1,15 @@
+//! Constants of the tree.
+
+ghost use Rattle.std.specs.Prelude.{◌≡◌};
+
+use rhai_tree::literal::Literal;
+
+/// Of `literal::same_literal`.
+pub fn same_literal(this: &Literal, that: &Literal) -> (bool, bool)
+    ensures { result.0 ≡ result.1 }
+{
+    (
+        rhai_tree::literal::same_literal(this, that),
+        rhai_tree::literal::same_literal(this, that),
+    )
+}

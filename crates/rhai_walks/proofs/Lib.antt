@@ -1,0 +1,2 @@
+mod ItemLemmas
+mod TurnLemmas

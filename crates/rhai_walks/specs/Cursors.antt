@@ -1,0 +1,6 @@
+-- What cursors keep.
+use Rattle.std.specs.Prelude.{ℤ, pos, negsuc, ◌^◌, ◌-◌, ◌≤ℤ◌}
+
+-- both ends are integers of 64 bits, or the one past the greatest
+abbrev pub AreIntegers : (next last : ℤ) → Type 0
+AreIntegers next last = (negsuc (2 ^ 63 - 1) ≤ℤ next) × (last ≤ℤ pos (2 ^ 63))

@@ -1,0 +1,167 @@
+//! How a turn of a `for` is entered: its variables are written.
+
+ghost use Rattle.std.specs.Prelude.{◌≡◌, ◌≢◌, ◌+◌, ◌^◌, ◌∷◌, [], IfErr, IfSome, None, OnErr, OnOk, Some};
+ghost use Rattle.std.specs.Prelude.{false, length, nat_le, pos, true};
+ghost use Rattle.rhai_values.specs.Cells.{cells_of};
+ghost use Rattle.rhai_state.specs.declared.error.EvalAltResult.TheVariants as error;
+ghost use Rattle.rhai_state.specs.Errors.{is_out_of_memory};
+ghost use Rattle.rhai_state.specs.Scope.{entries_of, names_in};
+ghost use Rattle.rhai_machine.specs.language.Frames.{Enter, Fail, ForBody, ForItem, ForTurn, core};
+ghost use Rattle.rhai_machine.specs.language.Runs.{Goes, at};
+ghost use Rattle.rhai_machine.specs.language.Setting.{rules_of};
+ghost use Rattle.rhai_machine.specs.language.Turns.{next_turn};
+ghost use Rattle.rhai_machine.specs.language.Walks.{counter_overflow as text_of_overflow, counters, item_core};
+ghost use Rattle.rhai_machine.specs.language.Walks.{turn_core};
+ghost use Rattle.rhai_steps.specs.States.{state_of};
+ghost use Rattle.rhai_walks.specs.Loops.{entered_at, loop_in};
+ghost use Rattle.rhai_walks.specs.Variables.{seen_as};
+
+use crate::parts::ForParts;
+use crate::variables::write_variable;
+use rhai_state::error::EvalAltResult;
+use rhai_state::limits::Limits;
+use rhai_state::scope::Scope;
+use rhai_state::state::GlobalRuntimeState;
+use rhai_state::table::NativeTable;
+use rhai_steps::errors::shared_text;
+use rhai_steps::values::{flatten, let_go};
+use rhai_tree::position::Position;
+use rhai_values::base::value::{Dynamic, Host, Union};
+use std::alloc::Global;
+
+/// A counter that no integer counts on.
+#[cold]
+#[inline(never)]
+fn counter_overflow<H>(alloc: Global, pos: Position) -> EvalAltResult<H>
+    ensures { is_out_of_memory result ≡ false → result ≡ error.ErrorArithmetic text_of_overflow pos }
+{
+    match shared_text(alloc, "for-loop counter overflow: 9223372036854775807") {
+        Ok(text) => EvalAltResult::ErrorArithmetic(text, pos),
+        Err(_) => EvalAltResult::ErrorOutOfMemory(pos),
+    }
+}
+
+/// The integer that a turn's number is, if there is one.
+fn integer_of(turn: u64) -> Option<i64>
+    ensures none { result ≡ None → nat_le (2 ^ 63) turn ≡ true }
+    ensures some { IfSome result (λ n. n ≡ pos turn) }
+    ensures fits { IfSome result (λ _. nat_le (2 ^ 63) turn ≡ false) }
+{
+    if turn <= i64::MAX as u64 {
+        Some(turn as i64)
+    } else {
+        None
+    }
+}
+
+/// Writes the number of a turn into the counter, if there is one.
+///
+/// # Errors
+/// `ErrorArithmetic` at the variable where no integer is the number, with or without a counter, and those of
+/// `write_variable`.
+fn count_turn<H: Host>(
+    alloc: Global,
+    global: &mut GlobalRuntimeState<H>,
+    scope: &mut Scope<H>,
+    parts: ForParts<'_>,
+    turn: u64,
+    base: usize,
+) -> Result<(), EvalAltResult<H>>
+    requires { base + counters parts.counter.now + 1 ≡ length (entries_of scope.old) }
+    ensures rest { global.new ≡ record global.old { cells = global.new.cells } }
+    ensures names { names_in scope.new ≡ names_in scope.old }
+    ensures counted { (item : _) (rest : _) (k : _) (l : _) →
+        seen_as (entries_of scope.old) (cells_of global.old.cells) l ≡ l →
+        OnOk result (turn_core (nat_le (2 ^ 63) turn) (loop_in parts.entry) item rest turn base k l
+        ≡ core (ForItem (loop_in parts.entry) item rest turn base) k
+        (seen_as (entries_of scope.new) (cells_of global.new.cells) l)) }
+    ensures refused { (item : _) (rest : _) (k : _) (l : _) →
+        seen_as (entries_of scope.old) (cells_of global.old.cells) l ≡ l →
+        IfErr result (λ e. is_out_of_memory e ≡ false →
+        turn_core (nat_le (2 ^ 63) turn) (loop_in parts.entry) item rest turn base k l ≡ core (Fail e) k l) }
+    ensures same_scope { OnErr result (entries_of scope.new ≡ entries_of scope.old) }
+    ensures same_cells { OnErr result (cells_of global.new.cells ≡ cells_of global.old.cells) }
+{
+    let pos = parts.variable.pos;
+    let Some(number) = integer_of(turn) else {
+        return Err(counter_overflow(alloc, pos));
+    };
+    let Some(counter) = parts.counter else {
+        return Ok(());
+    };
+    let number = Dynamic::new(Union::Int(number));
+    write_variable(scope, &mut global.cells, base, number, &counter.name, pos)
+}
+
+/// Writes the item of a turn into the variable, which is the newest, flattened and with its mode.
+///
+/// # Errors
+/// `ErrorDataRace` where the item leads to a cell that is held, and those of `write_variable`.
+fn enter_item<H: Host>(
+    alloc: Global,
+    global: &mut GlobalRuntimeState<H>,
+    scope: &mut Scope<H>,
+    parts: ForParts<'_>,
+    item: Dynamic<H>,
+    base: usize,
+) -> Result<(), EvalAltResult<H>>
+    requires { base + counters parts.counter.now + 1 ≡ length (entries_of scope.old) }
+    ensures rest { global.new ≡ record global.old { cells = global.new.cells } }
+    ensures names { names_in scope.new ≡ names_in scope.old }
+    ensures entered { (rest : _) (turn : _) (k : _) (l : _) →
+        seen_as (entries_of scope.old) (cells_of global.old.cells) l ≡ l →
+        OnOk result (item_core (loop_in parts.entry) item rest turn base k l
+        ≡ core (Enter parts.entry.body.now.statements true) (ForBody (loop_in parts.entry) rest turn base ∷ k)
+        (seen_as (entries_of scope.new) (cells_of global.new.cells) l)) }
+    ensures refused { (rest : _) (turn : _) (k : _) (l : _) →
+        seen_as (entries_of scope.old) (cells_of global.old.cells) l ≡ l →
+        IfErr result (λ e. is_out_of_memory e ≡ false →
+        item_core (loop_in parts.entry) item rest turn base k l ≡ core (Fail e) k l) }
+    ensures same_scope { OnErr result (entries_of scope.new ≡ entries_of scope.old) }
+    ensures same_cells { OnErr result (cells_of global.new.cells ≡ cells_of global.old.cells) }
+{
+    let value = flatten(alloc, &global.cells, item, parts.items.position())?;
+    let index = scope.len() - 1;
+    let variable = parts.variable;
+    write_variable(
+        scope,
+        &mut global.cells,
+        index,
+        value,
+        &variable.name,
+        variable.pos,
+    )
+}
+
+/// Enters a turn whose body is not empty: its counter and then its variable are written. The table is not
+/// called.
+///
+/// # Errors
+/// Those of `count_turn`, and then those of `enter_item`.
+pub fn enter_turn<H: Host, T: NativeTable<H>>(
+    limits: &Limits,
+    alloc: Global,
+    global: &mut GlobalRuntimeState<H>,
+    table: &T,
+    scope: &mut Scope<H>,
+    parts: ForParts<'_>,
+    item: Dynamic<H>,
+    turn: u64,
+    base: usize,
+) -> Result<(), EvalAltResult<H>>
+    requires { base + counters parts.counter.now + 1 ≡ length (entries_of scope.old) }
+    ensures rest { global.new ≡ record global.old { cells = global.new.cells } }
+    ensures names { names_in scope.new ≡ names_in scope.old }
+    ensures enters { (offer : _) (held : _) (left : _) (rest : _) (k : _) →
+        next_turn left ≡ Some (item, rest) → parts.entry.body.now.statements ≢ [] →
+        Goes (rules_of limits.now H.name_of offer T.natives)
+        (at (ForTurn (loop_in parts.entry) left turn base) k (state_of (T.state table.now) global.old scope.old held))
+        (entered_at result (loop_in parts.entry) rest turn base k
+        (state_of (T.state table.now) global.new scope.new held)) }
+{
+    if let Err(error) = count_turn(alloc, global, scope, parts, turn, base) {
+        let_go(item);
+        return Err(error);
+    }
+    enter_item(alloc, global, scope, parts, item, base)
+}

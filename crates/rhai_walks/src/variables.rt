@@ -1,0 +1,56 @@
+//! The counter and the variable of a `for`, as its turns write them.
+
+ghost use Rattle.std.specs.Prelude.{◌≡◌, ◌<◌, OnErr, length};
+ghost use Rattle.rhai_values.specs.Cells.{cells_of};
+ghost use Rattle.rhai_state.specs.Scope.{entries_of};
+ghost use Rattle.rhai_machine.specs.language.Walks.{place_of_entry};
+ghost use Rattle.rhai_walks.specs.Variables.{Wrote, cell_in, seen_as};
+
+use rhai_state::error::EvalAltResult;
+use rhai_state::scope::Scope;
+use rhai_steps::errors::data_race_of;
+use rhai_steps::values::let_go;
+use rhai_tree::position::Position;
+use rhai_tree::{Shared, Text};
+use rhai_values::base::value::{CellId, Dynamic, Host, Union};
+use rhai_values::cells::{CellStore, put_back};
+
+/// The cell that a variable is the handle of, if the body of its `for` shared it.
+fn cell_of<H: Host>(value: &Dynamic<H>) -> Option<CellId>
+    ensures { result ≡ cell_in value.now.value }
+{
+    match &value.value {
+        Union::Cell(id) => Some(*id),
+        _ => None,
+    }
+}
+
+/// Writes a variable of a `for`, as it is: the entry, or the cell that the entry is the handle of.
+///
+/// # Errors
+/// `ErrorDataRace` at the place where its cell is held. Then nothing was written.
+pub fn write_variable<H: Host>(
+    scope: &mut Scope<H>,
+    cells: &mut CellStore<H>,
+    index: usize,
+    value: Dynamic<H>,
+    name: &Shared<Text>,
+    pos: Position,
+) -> Result<(), EvalAltResult<H>>
+    requires { index < length (entries_of scope.old) }
+    ensures wrote { (l : _) → seen_as (entries_of scope.old) (cells_of cells.old) l ≡ l →
+        Wrote result (place_of_entry name.now pos index l) value l (entries_of scope.new) (cells_of cells.new) }
+    ensures scope { OnErr result (entries_of scope.new ≡ entries_of scope.old) }
+    ensures cells { OnErr result (cells_of cells.new ≡ cells_of cells.old) }
+{
+    let Some(id) = cell_of(scope.value_at(index)) else {
+        let_go(scope.replace_value(index, value));
+        return Ok(());
+    };
+    if cells.get(id).is_none() {
+        let_go(value);
+        return Err(data_race_of(name, pos));
+    }
+    put_back(cells, id, value);
+    Ok(())
+}
