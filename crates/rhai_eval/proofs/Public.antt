@@ -15,6 +15,7 @@ use Rattle.rhai_machine.proofs.LanguageLaws.{script_limits_agree}
 use Rattle.rhai_laws.proofs.WantLaws.{runs_up_to_memory, steps_with_memory}
 use Rattle.rhai_steps.specs.States.{holding, state_of}
 use Rattle.rhai_context.specs.declared.Context.{Context}
+use Rattle.rhai_context.specs.Ends.{unit}
 use Rattle.rhai_cycle.specs.declared.evaluator.Evaluator.{Evaluator}
 use Rattle.rhai_cycle.specs.States.{offer_of as offered, state_in, under as under_what_is_read}
 use Rattle.rhai_cycle.proofs.Chain.{still_none}

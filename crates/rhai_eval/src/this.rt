@@ -1,6 +1,7 @@
 //! `this` of a caller, which a run has meanwhile. It is moved out of its place and back, on every way out.
 
-ghost use Rattle.std.specs.Prelude.{◌≡◌, [], IfSome, Some};
+ghost use Rattle.std.specs.Prelude.{◌≡◌, [], IfSome, None, Some};
+ghost use Rattle.rhai_context.specs.Ends.{unit};
 
 use rhai_context::{Context, give_back, take};
 use rhai_state::scope::Scope;
@@ -18,8 +19,14 @@ pub(crate) fn take_with<H: Host>(
     scope: &mut Scope<H>,
     this: &mut Dynamic<H>,
 ) -> Context<H>
-    ensures run { result
-        ≡ record { global = global.old; scope = scope.old; this = Some this.old; spare = tt } }
+    ensures run { result ≡ record {
+      global = global.old;
+      scope = scope.old;
+      this = Some this.old;
+      value = unit;
+      error = None;
+      spare = tt;
+    } }
     ensures search { global.new.always_search_scope ≡ global.old.always_search_scope }
 {
     let mut run = take(alloc, global, scope);
