@@ -1,0 +1,5 @@
+mod Steps
+mod Ends
+mod Starts
+mod Places
+mod Targets

@@ -1,0 +1,60 @@
+-- What a caller has in hand before a call and behind it, and what the call keeps of that.
+use Rattle.std.specs.Prelude.{◌⊎◌, ◌≤◌, ◌<◌, ℕ, Bool, Result, Ok, Err, Contains, length}
+use Rattle.rhai_values.specs.declared.base.value.Dynamic.{Dynamic}
+use Rattle.rhai_state.specs.declared.error.EvalAltResult.{EvalAltResult}
+use Rattle.rhai_state.specs.Native.{Natives}
+use Rattle.rhai_state.specs.Reach.{Reached, Cell}
+use Rattle.rhai_places.specs.declared.target.Part.{Part}
+use Rattle.rhai_places.specs.Targets.{shown}
+use Rattle.rhai_machine.specs.language.State.{State}
+use Rattle.rhai_fits.specs.Contents.{Contents, Nothing, OneValue, OneError, Both, of_maybe, of_scope, of_cells, Holds}
+use Rattle.rhai_fits.specs.Sealed.{AreSealed}
+use Rattle.rhai_methods.specs.Targets.{stands}
+
+module _ {H : Type 0} where
+  -- ---- what a caller has in hand
+
+  -- a value that comes with a mark, or an error
+  abbrev pub of_marked : Result (Dynamic H × Bool) (EvalAltResult H) → Contents H
+  of_marked (Ok marked) = OneValue marked.0
+  of_marked (Err e) = OneError e
+
+  -- an answer that tells no value, or an error
+  abbrev pub of_done : Result (Unit {0}) (EvalAltResult H) → Contents H
+  of_done (Ok done) = Nothing
+  of_done (Err e) = OneError e
+
+  -- what a chain goes on with behind a target, and what the target shows: a temporary's place is touched by no call
+  abbrev pub of_target : Part H → (place : Dynamic H) → Contents H
+  of_target what place = Both (OneValue (stands what place)) (OneValue (shown what place))
+
+  -- ---- what a state has
+
+  -- its variables, its `this` and its cells
+  abbrev pub of_state : {S : Type 0} → State S H → Contents H
+  of_state s = Both (of_scope s.local.scope) (Both (of_maybe s.local.this) (of_cells s.local.around.cells))
+
+  abbrev pub cells_in : {S : Type 0} → State S H → ℕ
+  cells_in s = length s.local.around.cells
+
+  -- a cell of one state that an earlier one has not
+  abbrev pub IsNew : {S : Type 0} → (old new : State S H) → Reached → Type 0
+  IsNew old new (Cell n) = (cells_in old ≤ n) × (n < cells_in new)
+  IsNew old new _ = ⊥
+
+module _ {S H : Type 0} (natives : Natives S H) where
+  -- what is in hand holds this, or a state does, or the table in that state: a cell, a script function, a table of constants
+  abbrev pub IsHeld : Contents H → State S H → Reached → Type 0
+  IsHeld hand s r = Holds natives.holds.of_host (Both hand (of_state s)) r ⊎ Contains (natives.holds.of_state s.table) r
+
+  -- each cell that is held is one of the store
+  abbrev pub IsWithin : Contents H → State S H → Type 0
+  IsWithin hand s = (n : ℕ) → IsHeld hand s (Cell n) → n < cells_in s
+
+  -- What a call leaves of what it was given in a state: no cell with a bare handle, and no fewer cells. What is held then was held
+  -- before, or is a cell that was added; and where cells of the store alone were held, it is so again.
+  pub record FitsAgain (given : Contents H) (old : State S H) (left : Contents H) (new : State S H) : Type 0 where
+    pub sealed : AreSealed new.local.around.cells
+    pub grows : cells_in old ≤ cells_in new
+    pub held : (r : Reached) → IsHeld left new r → IsHeld given old r ⊎ IsNew old new r
+    pub fits : IsWithin given old → IsWithin left new

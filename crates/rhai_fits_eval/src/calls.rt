@@ -1,0 +1,254 @@
+//! Calls on a first argument, an object or a target.
+
+ghost use Rattle.std.specs.Prelude.{◌≡◌, ◌∷◌, ◌||◌, Some, false, true};
+ghost use Rattle.rhai_values.specs.Cells.{cells_of, IsNoHandle};
+ghost use Rattle.rhai_places.specs.Targets.{shown};
+ghost use Rattle.rhai_machine.specs.language.State.{HasMemory};
+ghost use Rattle.rhai_fits.specs.Contents.{Both, OneValue, of_result, of_values};
+ghost use Rattle.rhai_fits.specs.Sealed.{AreSealed};
+ghost use Rattle.rhai_methods.specs.Targets.{stands};
+ghost use Rattle.rhai_steps.specs.States.{holding, state_of};
+ghost use Rattle.rhai_eval.specs.Plain.{Plain};
+ghost use Rattle.rhai_fits_eval.specs.InHand.{FitsAgain, of_done, of_marked, of_target};
+
+use rhai_eval::engine::Engine;
+use rhai_places::target::Target;
+use rhai_state::caches::Caches;
+use rhai_state::error::EvalAltResult;
+use rhai_state::scope::Scope;
+use rhai_state::state::GlobalRuntimeState;
+use rhai_state::table::NativeTable;
+use rhai_tree::expr::{Expr, OpAssignment};
+use rhai_tree::position::Position;
+use rhai_tree::token::Token;
+use rhai_values::base::value::{Dynamic, Host};
+use std::alloc::Global;
+
+/// Of `Engine::exec_native_fn_call` on a first argument.
+pub fn exec_native_fn_call<H: Host, T: NativeTable<H>>(
+    engine: &Engine<H>,
+    alloc: Global,
+    global: &mut GlobalRuntimeState<H>,
+    caches: &mut Caches<H>,
+    table: &mut T,
+    name: &str,
+    op_token: Option<&Token>,
+    first: &mut Dynamic<H>,
+    rest: &mut [Dynamic<H>],
+    is_ref_mut: bool,
+    position: Position,
+) -> Result<(Dynamic<H>, bool), EvalAltResult<H>>
+    requires sealed { AreSealed (cells_of global.old.cells) }
+    ensures fits { (scope : _) (this : _) → FitsAgain T.natives (of_values (first.old ∷ rest.old))
+        (state_of (T.state table.old) global.old scope (holding this))
+        (Both (of_marked result) (of_values (first.new ∷ rest.new)))
+        (state_of (T.state table.new) global.new scope (holding this)) }
+{
+    engine.exec_native_fn_call(
+        alloc,
+        global,
+        caches,
+        table,
+        name,
+        op_token,
+        Some(first),
+        rest,
+        is_ref_mut,
+        position,
+    )
+}
+
+/// Of `Engine::call_indexer_get`.
+pub fn call_indexer_get<H: Host, T: NativeTable<H>>(
+    engine: &Engine<H>,
+    alloc: Global,
+    global: &mut GlobalRuntimeState<H>,
+    caches: &mut Caches<H>,
+    table: &mut T,
+    object: &mut Dynamic<H>,
+    index: &mut Dynamic<H>,
+    pos: Position,
+) -> Result<Dynamic<H>, EvalAltResult<H>>
+    requires sealed { AreSealed (cells_of global.old.cells) }
+    ensures fits { (scope : _) (this : _) → FitsAgain T.natives
+        (Both (OneValue object.old) (OneValue index.old))
+        (state_of (T.state table.old) global.old scope (holding this))
+        (Both (of_result result) (Both (OneValue object.new) (OneValue index.new)))
+        (state_of (T.state table.new) global.new scope (holding this)) }
+{
+    engine.call_indexer_get(alloc, global, caches, table, object, index, pos)
+}
+
+/// Of `Engine::call_indexer_set`.
+pub fn call_indexer_set<H: Host, T: NativeTable<H>>(
+    engine: &Engine<H>,
+    alloc: Global,
+    global: &mut GlobalRuntimeState<H>,
+    caches: &mut Caches<H>,
+    table: &mut T,
+    object: &mut Dynamic<H>,
+    index: &mut Dynamic<H>,
+    new_val: &mut Dynamic<H>,
+    is_ref_mut: bool,
+    pos: Position,
+) -> Result<(Dynamic<H>, bool), EvalAltResult<H>>
+    requires sealed { AreSealed (cells_of global.old.cells) }
+    ensures fits { (scope : _) (this : _) → FitsAgain T.natives
+        (Both (OneValue object.old) (Both (OneValue index.old) (OneValue new_val.old)))
+        (state_of (T.state table.old) global.old scope (holding this))
+        (Both (of_marked result) (Both (OneValue object.new) (Both (OneValue index.new)
+        (OneValue new_val.new))))
+        (state_of (T.state table.new) global.new scope (holding this)) }
+{
+    engine.call_indexer_set(
+        alloc, global, caches, table, object, index, new_val, is_ref_mut, pos,
+    )
+}
+
+/// Of `Engine::make_method_call`: what is left of a part that the target shows is known where memory was not
+/// wanting.
+pub fn make_method_call<H: Host, T: NativeTable<H>>(
+    engine: &Engine<H>,
+    alloc: Global,
+    global: &mut GlobalRuntimeState<H>,
+    caches: &mut Caches<H>,
+    table: &mut T,
+    fn_name: &str,
+    target: &mut Target<'_, H>,
+    call_args: &mut [Dynamic<H>],
+    first_arg_pos: Position,
+    pos: Position,
+) -> Result<(Dynamic<H>, bool), EvalAltResult<H>>
+    requires plain { Plain engine.now global.old }
+    requires sealed { AreSealed (cells_of global.old.cells) }
+    ensures fits { (scope : _) (this : _) → FitsAgain T.natives
+        (Both (of_values call_args.old) (of_target target.old.part target.old.at.now))
+        (state_of (T.state table.old) global.old scope (holding this))
+        (Both (of_marked result) (Both (of_values call_args.new)
+        (OneValue (stands target.new.part target.new.at.now))))
+        (state_of (T.state table.new) global.new scope (holding this)) }
+    ensures shown { (scope : _) (this : _) → HasMemory result → FitsAgain T.natives
+        (Both (of_values call_args.old) (of_target target.old.part target.old.at.now))
+        (state_of (T.state table.old) global.old scope (holding this))
+        (OneValue (shown target.new.part target.new.at.now))
+        (state_of (T.state table.new) global.new scope (holding this)) }
+{
+    engine.make_method_call(
+        alloc,
+        global,
+        caches,
+        table,
+        fn_name,
+        target,
+        call_args,
+        first_arg_pos,
+        pos,
+    )
+}
+
+/// Of `Engine::eval_op_assignment`: what is left of a part that the target shows is known where memory was
+/// not wanting.
+pub fn eval_op_assignment<H: Host, T: NativeTable<H>>(
+    engine: &Engine<H>,
+    alloc: Global,
+    global: &mut GlobalRuntimeState<H>,
+    caches: &mut Caches<H>,
+    table: &mut T,
+    op_info: &OpAssignment,
+    root: &Expr,
+    target: &mut Target<'_, H>,
+    new_val: Dynamic<H>,
+) -> Result<(), EvalAltResult<H>>
+    requires value { IsNoHandle new_val.value }
+    requires sealed { AreSealed (cells_of global.old.cells) }
+    ensures fits { (scope : _) (this : _) → FitsAgain T.natives
+        (Both (OneValue new_val) (of_target target.old.part target.old.at.now))
+        (state_of (T.state table.old) global.old scope (holding this))
+        (Both (of_done result) (OneValue (stands target.new.part target.new.at.now)))
+        (state_of (T.state table.new) global.new scope (holding this)) }
+    ensures shown { (scope : _) (this : _) → HasMemory result → FitsAgain T.natives
+        (Both (OneValue new_val) (of_target target.old.part target.old.at.now))
+        (state_of (T.state table.old) global.old scope (holding this))
+        (OneValue (shown target.new.part target.new.at.now))
+        (state_of (T.state table.new) global.new scope (holding this)) }
+{
+    engine.eval_op_assignment(alloc, global, caches, table, op_info, root, target, new_val)
+}
+
+/// Of `Engine::exec_fn_call` on a scope and a first argument that is lent: one in a place of the caller, or
+/// the object of a method.
+pub fn exec_fn_call<H: Host, T: NativeTable<H>>(
+    engine: &Engine<H>,
+    alloc: Global,
+    global: &mut GlobalRuntimeState<H>,
+    caches: &mut Caches<H>,
+    table: &mut T,
+    scope: &mut Scope<H>,
+    name: &str,
+    op_token: Option<&Token>,
+    first: &mut Dynamic<H>,
+    rest: &mut [Dynamic<H>],
+    is_ref_mut: bool,
+    is_method_call: bool,
+    position: Position,
+) -> Result<(Dynamic<H>, bool), EvalAltResult<H>>
+    requires lent { (is_ref_mut || is_method_call) ≡ true }
+    requires plain { Plain engine.now global.old }
+    requires sealed { AreSealed (cells_of global.old.cells) }
+    ensures fits { (this : _) → FitsAgain T.natives (of_values (first.old ∷ rest.old))
+        (state_of (T.state table.old) global.old scope.old (holding this))
+        (Both (of_marked result) (of_values (first.new ∷ rest.new)))
+        (state_of (T.state table.new) global.new scope.new (holding this)) }
+{
+    engine.exec_fn_call(
+        alloc,
+        global,
+        caches,
+        table,
+        Some(scope),
+        name,
+        op_token,
+        Some(first),
+        rest,
+        is_ref_mut,
+        is_method_call,
+        position,
+    )
+}
+
+/// Of `Engine::exec_fn_call` on a scope and a first argument that is handed in by value.
+pub fn exec_fn_call_by_value<H: Host, T: NativeTable<H>>(
+    engine: &Engine<H>,
+    alloc: Global,
+    global: &mut GlobalRuntimeState<H>,
+    caches: &mut Caches<H>,
+    table: &mut T,
+    scope: &mut Scope<H>,
+    name: &str,
+    op_token: Option<&Token>,
+    first: &mut Dynamic<H>,
+    rest: &mut [Dynamic<H>],
+    position: Position,
+) -> Result<(Dynamic<H>, bool), EvalAltResult<H>>
+    requires plain { Plain engine.now global.old }
+    requires sealed { AreSealed (cells_of global.old.cells) }
+    ensures fits { (this : _) → FitsAgain T.natives (of_values (first.old ∷ rest.old))
+        (state_of (T.state table.old) global.old scope.old (holding this))
+        (Both (of_marked result) (of_values (first.new ∷ rest.new)))
+        (state_of (T.state table.new) global.new scope.new (holding this)) }
+{
+    engine.exec_fn_call(
+        alloc,
+        global,
+        caches,
+        table,
+        Some(scope),
+        name,
+        op_token,
+        Some(first),
+        rest,
+        false,
+        false,
+        position,
+    )
+}

@@ -1,0 +1,15 @@
+//! What the evaluator's public calls keep of what they hold, on every way out, want of memory included: what
+//! is held behind a call was held before it, or is a cell of the store that the call added, and no cell gets
+//! a bare handle. Nothing here is run: a function makes the call that its law is of, and its proof sees the
+//! contract of the call alone.
+//!
+//! Asked of a caller: no cell of the store has a bare handle, and what a call assigns is none. An empty store
+//! has no cell, and behind each call the next one may be made.
+//!
+//! Where a call has a `this`, a first argument or a scope that may be missing, its law has one. The lemmas of
+//! proofs/Ends.antt, by which the laws are proved, hold for none too.
+#![tactic(auto)]
+
+pub mod calls;
+pub mod parts;
+pub mod scripts;
