@@ -37,10 +37,11 @@ use Rattle.rhai_machine.specs.language.Assignment.{written_core}
 use Rattle.rhai_machine.specs.language.Frames.{OpenStmt, Back, core}
 use Rattle.rhai_machine.specs.language.Runs.{Runs}
 use Rattle.rhai_steps.specs.States.{local_of, state_of}
-use Rattle.rhai_operands.specs.Standing.{integer_of, standing}
+use Rattle.rhai_operands.specs.Standing.{assigned_known, integer_of, integer_valued, standing}
 use Rattle.rhai_operands.proofs.InPlace.{integer_sized}
+use Rattle.rhai_operands.proofs.Integers.{number_given}
 use Rattle.rhai_assign.specs.declared.place.Place.TheVariants as place
-use Rattle.rhai_assign.specs.InPlace.{assigned, assigned_known, integer_valued, writable_in}
+use Rattle.rhai_assign.specs.InPlace.{assigned, writable_in}
 use Rattle.rhai_assign.specs.Keeps.{Keeps}
 use Rattle.rhai_assign.specs.Updates.{Becomes}
 use Rattle.rhai_assign.proofs.Places.{keeps_names, local_put, standing_is}
@@ -60,19 +61,6 @@ module _ {H : Type 0} where
   integer_stands : (o : Option (Dynamic H)) (n : ℤ) → integer_of o ≡ Some n → (y : Dynamic H) × (o ≡ Some y) × (y.value ≡ value.Int n)
   integer_stands None n is = cc
   integer_stands (Some y) n is = (y, refl, integer_from y.value n is)
-
-  -- an operator gave an integer
-  number_in : (u : Union H) (w : Dynamic H) → integer_valued (integer_in u) ≡ Some w →
-      (z : ℤ) × (u ≡ value.Int z) × (w ≡ values.plain (value.Int z))
-  number_in (value.Int z) w is = let same : values.plain (value.Int z) ≡ w = cc in (z, refl, sym same)
-  number_in _ w is = cc
-
-  number_given : (o : Outcome H) (w : Dynamic H) → integer_valued (integer_given o) ≡ Some w →
-      (z : ℤ) × (o ≡ Some (Ok (value.Int z))) × (w ≡ values.plain (value.Int z))
-  number_given None w is = cc
-  number_given (Some (Err why)) w is = cc
-  number_given (Some (Ok u)) w is =
-      let given = number_in u w is in (given.0, ap (λ (v : Union H). Some (Ok v)) given.1, given.2)
 
   -- what is known of two integers whose operator gives one
   record Knows (token : Token) (v : Dynamic H) (o : Option (Dynamic H)) (w : Dynamic H) : Type 0 where

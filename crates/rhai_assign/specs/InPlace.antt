@@ -5,8 +5,6 @@ use Rattle.rhai_tree.specs.declared.token.Token.{Token}
 use Rattle.rhai_tree.specs.declared.expr.Expr.TheOpen as layer
 use Rattle.rhai_tree.specs.Layers.{ExprLayer}
 use Rattle.rhai_values.specs.declared.base.value.Dynamic.{Dynamic}
-use Rattle.rhai_values.specs.declared.base.value.Union.TheVariants as value
-use Rattle.rhai_values.specs.Copy.{plain}
 use Rattle.rhai_values.specs.declared.cells.CellStore.{CellStore}
 use Rattle.rhai_values.specs.Cells.{cells_of}
 use Rattle.rhai_state.specs.declared.scope.Scope.{Scope}
@@ -15,8 +13,7 @@ use Rattle.rhai_state.specs.declared.scope.ScopeEntry.{ScopeEntry}
 use Rattle.rhai_values.specs.declared.base.value.Module.{Module}
 use Rattle.rhai_state.specs.declared.error.EvalAltResult.{EvalAltResult}
 use Rattle.rhai_operators.specs.Answers.{Answer, IsAnswer, op_assign_of}
-use Rattle.rhai_operators.specs.Direct.{integer_given, integer_in}
-use Rattle.rhai_operators.specs.Operators.{op_assign_at}
+use Rattle.rhai_operators.specs.Direct.{integer_in}
 use Rattle.rhai_machine.specs.language.Places.{Target, is_constant, target, target_of}
 use Rattle.rhai_machine.specs.language.Values.{Cells}
 use Rattle.rhai_operands.specs.Standing.{standing}
@@ -37,15 +34,6 @@ module _ {H : Type 0} where
   -- the integer of a value that may be assigned to
   abbrev pub writable_in : Dynamic H → Option ℤ
   writable_in v = if is_constant v.mode then None else integer_in v.value
-
-  abbrev pub integer_valued : Option ℤ → Option (Dynamic H)
-  integer_valued (Some z) = Some (plain (value.Int z))
-  integer_valued None = None
-
-  -- what an operator before an `=` gives for two integers, where that is an integer
-  abbrev pub assigned_known : Token → Option ℤ → Option ℤ → Option (Dynamic H)
-  assigned_known token (Some x) (Some y) = integer_valued (integer_given {H = H} (op_assign_at token (value.Int x) (value.Int y)))
-  assigned_known token _ _ = None
 
   -- what an operator before an `=` gives for a target that there is and an operand that stands, None too where it has no built-in
   abbrev pub assigned_by : Option Token → Result (Target H) (EvalAltResult H) → Option (Dynamic H) → Answer H

@@ -15,21 +15,21 @@ ghost use Rattle.rhai_machine.specs.language.Setting.{rules_of};
 ghost use Rattle.rhai_machine.specs.language.Values.{unit_value as unit};
 ghost use Rattle.rhai_steps.specs.States.{state_of};
 ghost use Rattle.rhai_operands.specs.Standing.{standing};
-ghost use Rattle.rhai_assign.specs.InPlace.{IsReady, assigned, assigned_by, assigned_known, writable_in};
+ghost use Rattle.rhai_assign.specs.InPlace.{IsReady, assigned, assigned_by, writable_in};
 ghost use Rattle.rhai_assign.specs.Keeps.{Keeps};
 
 use crate::place::{Place, find_target, value_at};
 use crate::write::write_outcome;
 use rhai_operands::operands::{integer_at, integer_in_place, operand_in_place};
+use rhai_operands::operators::assign_known;
 use rhai_operators::builtin_op_assign;
-use rhai_operators::direct::assign_integers;
 use rhai_state::error::EvalAltResult;
 use rhai_state::limits::Limits;
 use rhai_state::scope::Scope;
 use rhai_state::state::GlobalRuntimeState;
 use rhai_state::table::NativeTable;
 use rhai_steps::charges::{charge_all, track_operation};
-use rhai_steps::values::{int_value, let_go, unit_value};
+use rhai_steps::values::{let_go, unit_value};
 use rhai_steps::variables::place_of_variable;
 use rhai_tree::expr::{Expr, OpAssignment};
 use rhai_tree::position::Position;
@@ -89,18 +89,10 @@ fn writable_integer<H: Host>(value: &Dynamic<H>) -> Option<i64>
     }
 }
 
-/// The value that an operator before an `=` gives for two integers, None where one of them is none or the
-/// operator gives no integer.
-fn assign_known<H: Host>(token: Token, x: Option<i64>, y: Option<i64>) -> Option<Dynamic<H>>
-    ensures { result ≡ assigned_known token x y }
-{
-    let number = assign_integers::<H>(token, x?, y?)?;
-    Some(int_value(&number))
-}
-
 /// Assigns to a variable that holds an integer, by an operator whose value is an integer as it stands,
 /// and charges the value and the variable at once. False where that is not so, or the limit has no room
 /// for both charges: then nothing is changed. The table is not called.
+#[inline(always)]
 fn assign_integer<H: Host, T: NativeTable<H>>(
     limits: &Limits,
     global: &mut GlobalRuntimeState<H>,
@@ -147,6 +139,7 @@ fn assign_integer<H: Host, T: NativeTable<H>>(
 
 /// An assignment by a built-in operator of values of any type, charged at the value and then at the
 /// variable.
+#[inline(never)]
 fn assign_prepared<H: Host, T: NativeTable<H>>(
     limits: &Limits,
     alloc: Global,
@@ -201,6 +194,7 @@ fn assign_prepared<H: Host, T: NativeTable<H>>(
 /// # Errors
 /// `ErrorTooManyOperations` at the value or the variable where the count has reached the limit. At the
 /// operator: what the operator answers, and `ErrorDataTooLarge` for a value above a limit.
+#[inline(always)]
 pub fn assign_in_place<H: Host, T: NativeTable<H>>(
     limits: &Limits,
     alloc: Global,

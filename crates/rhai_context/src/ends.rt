@@ -2,6 +2,7 @@
 //! well: its value stands in `run.value` then, and else its error in `run.error`.
 
 ghost use Rattle.std.specs.Prelude.{◌≡◌, OnOk, false, true};
+ghost use Rattle.rhai_state.specs.Errors.{is_catchable};
 ghost use Rattle.rhai_context.specs.Ends.{came, came_turn, error_in, unit};
 
 use rhai_state::error::EvalAltResult;
@@ -98,5 +99,15 @@ pub fn settle<H: Host>(
             true
         }
         Err(error) => stop(place, error),
+    }
+}
+
+/// Whether a script may catch the error that a run stopped with.
+pub fn may_catch<H: Host>(place: &Option<EvalAltResult<H>>) -> bool
+    ensures { result ≡ is_catchable (error_in place.now) }
+{
+    match place {
+        Some(error) => error.is_catchable(),
+        None => false,
     }
 }

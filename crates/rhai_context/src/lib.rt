@@ -7,6 +7,7 @@ ghost use Rattle.rhai_state.specs.Scope.{entries_of};
 ghost use Rattle.rhai_context.specs.Ends.{unit};
 
 pub mod ends;
+pub mod outcomes;
 pub mod spare;
 
 use crate::spare::Spare;

@@ -1,5 +1,5 @@
 -- How a `for` leads on.
-use Rattle.std.proofs.Common.{◌≡◌, ◌<◌, ◌≤◌, ◌+◌, ℕ, Bool, true, false, List, [], ◌∷◌, ◌++◌, Option, Some, None, Result, Ok, Err, ap, length, refl, take}
+use Rattle.std.proofs.Common.{◌≡◌, ◌<◌, ◌≤◌, ◌+◌, ℕ, Bool, true, false, List, [], ◌∷◌, ◌++◌, Option, Some, None, Result, Ok, Err, length, refl, take}
 use Rattle.std.proofs.lemmas.Bool.{lt-ltb, le-ltb}
 use Rattle.std.specs.Prelude.{IfSome, IsTrue, OnOk}
 use Rattle.rhai_tree.specs.declared.expr.Expr.TheOpen as layer
@@ -17,17 +17,17 @@ use Rattle.rhai_state.specs.Errors.{is_out_of_memory}
 use Rattle.rhai_machine.specs.machine.Machine.{Go}
 use Rattle.rhai_machine.specs.machine.Point.{after}
 use Rattle.rhai_machine.specs.machine.Memory.{here, next}
-use Rattle.rhai_machine.specs.language.Frames.{Back, Control, Core, core, ended, Eval, Fail, ForBody, ForItems, ForTurn, Frame, OpenStmt, RestoreScope}
-use Rattle.rhai_machine.specs.language.Runs.{at, with_core, Goes}
+use Rattle.rhai_machine.specs.language.Frames.{Back, core, ended, Eval, Fail, ForBody, ForItems, ForTurn, Frame, OpenStmt, RestoreScope}
+use Rattle.rhai_machine.specs.language.Runs.{at, Goes}
 use Rattle.rhai_machine.specs.language.Setting.{Rules, limit_under}
 use Rattle.rhai_machine.specs.language.State.{Answers, Held, State}
 use Rattle.rhai_machine.specs.language.Turns.{ForLoop, Turns, next_turn, turns_of}
 use Rattle.rhai_machine.specs.language.Values.{unit_value}
-use Rattle.rhai_machine.specs.language.Walks.{counters, for_core, has_no_room, loop_entries}
+use Rattle.rhai_machine.specs.language.Walks.{for_core, has_no_room, loop_entries}
 use Rattle.rhai_steps.specs.Loops.{after_body, after_turn, turn_in}
 use Rattle.rhai_steps.specs.States.{state_of}
 use Rattle.rhai_steps.proofs.Pieces.{faulted, step_by}
-use Rattle.rhai_context.specs.Ends.{came, came_turn}
+use Rattle.rhai_context.specs.Ends.{came_turn}
 use Rattle.rhai_cycle.specs.Ends.{flat_end}
 use Rattle.rhai_cycle.proofs.Chain.{fails_on, flat_fails}
 
@@ -84,12 +84,6 @@ module _ {S H : Type 0} (rules : Rules S H) (loop : ForLoop) (k : List (Frame H)
   unfolding after
   leaves_scope (Ok v) base t global old new held is = next (rw is here)
   leaves_scope (Err e) base t global old new held is = next (rw is here)
-
-  -- a turn that ends the loop ends it by what it came to
-  pub turn_ended : (done : Bool) (v : Dynamic H) (e : Option (EvalAltResult H)) (turn : Control H) →
-      after_turn (came_turn (Some done) v e) turn ≡ ended (came done v e)
-  turn_ended true v e turn = refl
-  turn_ended false v e turn = refl
 
   module _ (turn base : ℕ) where
     -- no turn is left

@@ -1,8 +1,8 @@
 -- How a body's outcome leads its loop on.
 use Rattle.std.proofs.Common.{◌≡◌, ◌≢◌, ◌<◌, ◌≤◌, ◌+◌, Bool, [], true, false, List, ◌∷◌, Option, Some, None, Result, Ok, Err, refl, sym}
-use Rattle.std.proofs.Common.{subst, ap, ◌∙◌, ℕ}
+use Rattle.std.proofs.Common.{subst, ◌∙◌, ℕ}
 use Rattle.std.proofs.lemmas.Bool.{lt-ltb, le-ltb}
-use Rattle.std.specs.Result.{IsErr, IsErrAnd}
+use Rattle.std.specs.Prelude.{IsTrue, OnOk}
 use Rattle.rhai_tree.specs.declared.position.Position.{Position}
 use Rattle.rhai_tree.specs.declared.expr.Expr.{Expr, out-Expr}
 use Rattle.rhai_tree.specs.declared.expr.Stmt.{Stmt}
@@ -26,12 +26,13 @@ use Rattle.rhai_machine.specs.language.Frames.{WhileCondition, WhileBody, DoBody
 use Rattle.rhai_machine.specs.language.Loops.{is_endless, while_move}
 use Rattle.rhai_machine.specs.language.Statements.{has_option, return_move}
 use Rattle.rhai_machine.specs.language.Values.{flat, unit_value}
-use Rattle.rhai_machine.specs.language.Runs.{at, Goes, Steps}
+use Rattle.rhai_machine.specs.language.Runs.{at, Goes}
 use Rattle.rhai_steps.specs.declared.loops.BodyEnd.{BodyEnd}
 use Rattle.rhai_steps.specs.declared.loops.BodyEnd.TheVariants.{Done, Continue, Break}
 use Rattle.rhai_steps.specs.Loops.{turn_in, after_body, after_turn}
 use Rattle.rhai_steps.specs.States.{state_of}
-use Rattle.rhai_steps.proofs.Pieces.{or_wants, passed, step_by}
+use Rattle.rhai_steps.proofs.Pieces.{or_wants, step_by}
+use Rattle.rhai_context.specs.Ends.{came, came_turn}
 use Rattle.rhai_cycle.specs.Ends.{left_with}
 use Rattle.rhai_cycle.proofs.Chain.{flattens}
 
@@ -52,6 +53,18 @@ module _ {S H C : Type 0} (M : Machine S H C) (limit : ℕ) where
       stays_full steps (subst (λ (n : ℕ). limit ≤ n) (sym same) full) ∙ same
   stays_full (wanting steps) full = stays_full steps full
   stays_full (starved is e first state may steps) full = stays_full steps full
+
+-- a turn that ends its loop ends it by what it came to
+pub turn_ended : {H : Type 0} (done : Bool) (v : Dynamic H) (e : Option (EvalAltResult H)) (turn : Control H) →
+    after_turn (came_turn (Some done) v e) turn ≡ ended (came done v e)
+turn_ended true v e turn = refl
+turn_ended false v e turn = refl
+
+-- and what holds of it then holds where it went well
+pub on_end : {H P : Type 0} (done : Bool) (v : Dynamic H) (e : Option (EvalAltResult H)) → OnOk (came_turn (Some done) v e) P →
+    IsTrue done → P
+on_end true v e p well = p
+on_end false v e p well = cc
 
 module _ {S H : Type 0} (rules : Rules S H) where
   -- a body's end at its `while`
@@ -85,11 +98,6 @@ module _ {S H : Type 0} (rules : Rules S H) where
   do_leads r test body options k l x is =
       subst (λ (y : Result (BodyEnd H) (EvalAltResult H)). Goes rules (at (ended r) (DoBody test body options ∷ k) l)
       (do_goes y test body options k l)) is (do_ends r test body options k l)
-
-  -- a way out of a turn by `?`
-  pub turn_exits : (c turn : Control H) (old new : State S H) (r : Result (Option (Dynamic H)) (EvalAltResult H)) (e : EvalAltResult H) →
-      IsErr r × IsErrAnd r (λ y. y ≡ e) → Steps rules c old (Fail e) new → Steps rules c old (after_turn r turn) new
-  turn_exits c turn old new r e is go = rw (passed r is) go
 
   module _ (test : Expr) (body : StmtBlock) (k : List (Frame H)) where
     -- a turn with a condition begins with it

@@ -23,6 +23,7 @@ use crate::evaluator::Evaluator;
 use rhai_bodies::closing::close_function;
 use rhai_bodies::opening::{open_function, statements_of};
 use rhai_calls::dispatch::{Called, is_held, races};
+use rhai_context::ends::finish;
 use rhai_context::{Context, keep_list, put_aside, take_up};
 use rhai_functions::function::{Function, Offered};
 use rhai_methods::calls::MethodCall;
@@ -115,7 +116,8 @@ impl<'e, H: Host> Evaluator<'e, H> {
             None => Ok(unit_value()),
             Some(exit) => {
                 let statements = statements_of(def);
-                let result = self.run_stmt_block(alloc, run, table, statements, restores);
+                let done = self.run_stmt_block(alloc, run, table, statements, restores);
+                let result = finish(done, &mut run.value, &mut run.error);
                 close_function(alloc, &mut run.global, def, environ, exit, result, pos)
             }
         }

@@ -17,6 +17,7 @@ ghost use Rattle.rhai_cycle.specs.States.{names, state_in, under};
 
 use crate::evaluator::Evaluator;
 use rhai_context::Context;
+use rhai_context::ends::finish;
 use rhai_operands::operators::holds_in_place;
 use rhai_state::error::EvalAltResult;
 use rhai_state::limits::Limits;
@@ -101,7 +102,9 @@ impl<'e, H: Host> Evaluator<'e, H> {
             Expr::ThisPtr(pos) => read_this(alloc, &run.this, *pos),
             Expr::FnCall(call, pos) => self.run_fn_call_expr(alloc, run, table, call, *pos),
             Expr::Stmt(block) => {
-                self.run_stmt_block(alloc, run, table, block.statements.as_slice(), true)
+                let statements = block.statements.as_slice();
+                let done = self.run_stmt_block(alloc, run, table, statements, true);
+                finish(done, &mut run.value, &mut run.error)
             }
             Expr::And(parts, _) => self.run_until(alloc, run, table, parts.as_slice(), false),
             Expr::Or(parts, _) => self.run_until(alloc, run, table, parts.as_slice(), true),

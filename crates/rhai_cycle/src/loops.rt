@@ -1,7 +1,7 @@
 //! Loops, and the ways out of them. Ports the loops of upstream's `eval/stmt.rs`; the contracts
 //! speak of the machine's runs.
 
-ghost use Rattle.std.specs.Prelude.{◌≡◌, ◌<◌, ◌≤◌, OnOk, IsTrue, false};
+ghost use Rattle.std.specs.Prelude.{◌≡◌, ◌<◌, ◌≤◌, Err, OnOk, IsTrue, false};
 ghost use Rattle.std.specs.Option.{option_map};
 ghost use Rattle.rhai_tree.specs.Frame.{tests_of, option_resolves, resolves_expr, resolves_block};
 ghost use Rattle.rhai_tree.specs.declared.expr.Expr.TheOpen as layer;
@@ -11,17 +11,19 @@ ghost use Rattle.rhai_machine.specs.language.Statements.{has_option};
 ghost use Rattle.rhai_state.specs.Errors.{is_out_of_memory};
 ghost use Rattle.rhai_state.specs.declared.error.EvalAltResult.TheVariants as error;
 ghost use Rattle.rhai_steps.specs.Loops.{after_turn};
+ghost use Rattle.rhai_context.specs.Ends.{came, came_turn, error_in};
 ghost use Rattle.rhai_cycle.specs.Ends.{left_with};
 ghost use Rattle.rhai_cycle.specs.States.{names, state_in, under};
 
 use crate::evaluator::Evaluator;
 use rhai_context::Context;
+use rhai_context::ends::{put_unit, settle, settle_turn, stop, take_value};
+use rhai_context::outcomes::{BodyWay, body_way, charge, flatten_value, turn_end};
 use rhai_state::error::EvalAltResult;
 use rhai_state::table::NativeTable;
-use rhai_steps::charges::track_operation;
 use rhai_steps::errors::{loop_break, returned};
-use rhai_steps::loops::{BodyEnd, body_end, breaks, do_next, is_endless, while_next};
-use rhai_steps::values::{flatten, unit_value};
+use rhai_steps::loops::{breaks, do_next, is_endless};
+use rhai_steps::values::unit_value;
 use rhai_tree::Boxed;
 use rhai_tree::expr::{Expr, StmtBlock};
 use rhai_tree::flags::ASTFlags;
@@ -56,7 +58,7 @@ fn left_by<H: Host>(
 }
 
 impl<'e, H: Host> Evaluator<'e, H> {
-    /// A `while`, turn by turn.
+    /// A `while`, turn by turn. How it ended stands in the run.
     #[cycle(eval)]
     pub(crate) fn run_while<T: NativeTable<H>>(
         &self,
@@ -65,24 +67,24 @@ impl<'e, H: Host> Evaluator<'e, H> {
         table: &mut T,
         test: &Expr,
         body: &StmtBlock,
-    ) -> Result<Dynamic<H>, EvalAltResult<H>>
+    ) -> bool
         requires resolves_test { IsTrue (resolves_expr test.now (names run.old)) }
         requires resolves_body { IsTrue (resolves_block body.now (names run.old)) }
-        ensures counts { OnOk result (run.old.global.num_operations ≤ run.new.global.num_operations) }
-        ensures names { OnOk result (names run.new ≡ names run.old) }
+        ensures counts { IsTrue result → run.old.global.num_operations ≤ run.new.global.num_operations }
+        ensures names { IsTrue result → names run.new ≡ names run.old }
         ensures runs { Runs (under H.name_of self.now T.natives) (WhileTurn test.now body.now)
-            (state_in (T.state table.old) run.old) result (state_in (T.state table.new) run.new) }
+            (state_in (T.state table.old) run.old) (came result run.new.value run.new.error)
+            (state_in (T.state table.new) run.new) }
     {
         'turns: loop {
-            let turn = self.while_turn(alloc, run, table, test, body)?;
-            if let Some(value) = turn {
-                return Ok(value);
+            if let Some(done) = self.while_turn(alloc, run, table, test, body) {
+                return done;
             }
         }
     }
 
-    /// A turn of a `while`: None where another one follows, else the loop's value. Without a condition an
-    /// empty body is charged at its brace.
+    /// A turn of a `while`: None where another one follows. Without a condition an empty body is charged at its
+    /// brace.
     #[cycle(eval)]
     fn while_turn<T: NativeTable<H>>(
         &self,
@@ -91,32 +93,43 @@ impl<'e, H: Host> Evaluator<'e, H> {
         table: &mut T,
         test: &Expr,
         body: &StmtBlock,
-    ) -> Result<Option<Dynamic<H>>, EvalAltResult<H>>
+    ) -> Option<bool>
         requires resolves_test { IsTrue (resolves_expr test.now (names run.old)) }
         requires resolves_body { IsTrue (resolves_block body.now (names run.old)) }
-        ensures charges { OnOk result (run.old.global.num_operations < run.new.global.num_operations) }
-        ensures names { OnOk result (names run.new ≡ names run.old) }
+        ensures charges { OnOk (came_turn result run.new.value run.new.error)
+            (run.old.global.num_operations < run.new.global.num_operations) }
+        ensures names { OnOk (came_turn result run.new.value run.new.error) (names run.new ≡ names run.old) }
         ensures runs { Steps (under H.name_of self.now T.natives) (WhileTurn test.now body.now)
             (state_in (T.state table.old) run.old)
-            (after_turn result (WhileTurn test.now body.now)) (state_in (T.state table.new) run.new) }
+            (after_turn (came_turn result run.new.value run.new.error) (WhileTurn test.now body.now))
+            (state_in (T.state table.new) run.new) }
     {
         if is_endless(test) {
             if body.statements.is_empty() {
-                track_operation(self.limits, &mut run.global, body.position)?;
-                return Ok(None);
+                if charge(self.limits, &mut run.global, &mut run.error, body.position) {
+                    return None;
+                }
+                return Some(false);
             }
-            let outcome = self.run_stmt_block(alloc, run, table, body.statements.as_slice(), true);
-            return while_next(outcome);
+            let done = self.run_stmt_block(alloc, run, table, body.statements.as_slice(), true);
+            return turn_end(done, &mut run.value, &mut run.error);
         }
-        let holds = self.run_condition(alloc, run, table, test)?;
-        if holds {
-            let outcome = self.run_stmt_block(alloc, run, table, body.statements.as_slice(), true);
-            return while_next(outcome);
+        match self.run_condition(alloc, run, table, test) {
+            Ok(holds) => {
+                if holds {
+                    let statements = body.statements.as_slice();
+                    let done = self.run_stmt_block(alloc, run, table, statements, true);
+                    turn_end(done, &mut run.value, &mut run.error)
+                } else {
+                    put_unit(&mut run.value);
+                    Some(true)
+                }
+            }
+            Err(error) => Some(stop(&mut run.error, error)),
         }
-        Ok(Some(unit_value()))
     }
 
-    /// A `do`, turn by turn.
+    /// A `do`, turn by turn. How it ended stands in the run.
     #[cycle(eval)]
     pub(crate) fn run_do<T: NativeTable<H>>(
         &self,
@@ -126,23 +139,24 @@ impl<'e, H: Host> Evaluator<'e, H> {
         test: &Expr,
         body: &StmtBlock,
         options: ASTFlags,
-    ) -> Result<Dynamic<H>, EvalAltResult<H>>
+    ) -> bool
         requires resolves_test { IsTrue (resolves_expr test.now (names run.old)) }
         requires resolves_body { IsTrue (resolves_block body.now (names run.old)) }
-        ensures counts { OnOk result (run.old.global.num_operations ≤ run.new.global.num_operations) }
-        ensures names { OnOk result (names run.new ≡ names run.old) }
+        ensures counts { IsTrue result → run.old.global.num_operations ≤ run.new.global.num_operations }
+        ensures names { IsTrue result → names run.new ≡ names run.old }
         ensures runs { Runs (under H.name_of self.now T.natives) (DoTurn test.now body.now options)
-            (state_in (T.state table.old) run.old) result (state_in (T.state table.new) run.new) }
+            (state_in (T.state table.old) run.old) (came result run.new.value run.new.error)
+            (state_in (T.state table.new) run.new) }
     {
         'turns: loop {
-            let turn = self.do_turn(alloc, run, table, test, body, options)?;
-            if let Some(value) = turn {
-                return Ok(value);
+            if let Some(done) = self.do_turn(alloc, run, table, test, body, options) {
+                return done;
             }
         }
     }
 
-    /// A turn of a `do`: the body, then the condition; a `continue` skips the condition.
+    /// A turn of a `do`: the body, then the condition; a `continue` skips the condition. None where another turn
+    /// follows.
     #[cycle(eval)]
     fn do_turn<T: NativeTable<H>>(
         &self,
@@ -152,24 +166,30 @@ impl<'e, H: Host> Evaluator<'e, H> {
         test: &Expr,
         body: &StmtBlock,
         options: ASTFlags,
-    ) -> Result<Option<Dynamic<H>>, EvalAltResult<H>>
+    ) -> Option<bool>
         requires resolves_test { IsTrue (resolves_expr test.now (names run.old)) }
         requires resolves_body { IsTrue (resolves_block body.now (names run.old)) }
-        ensures charges { OnOk result (run.old.global.num_operations < run.new.global.num_operations) }
-        ensures names { OnOk result (names run.new ≡ names run.old) }
+        ensures charges { OnOk (came_turn result run.new.value run.new.error)
+            (run.old.global.num_operations < run.new.global.num_operations) }
+        ensures names { OnOk (came_turn result run.new.value run.new.error) (names run.new ≡ names run.old) }
         ensures runs { Steps (under H.name_of self.now T.natives) (DoTurn test.now body.now options)
             (state_in (T.state table.old) run.old)
-            (after_turn result (DoTurn test.now body.now options)) (state_in (T.state table.new) run.new) }
+            (after_turn (came_turn result run.new.value run.new.error) (DoTurn test.now body.now options))
+            (state_in (T.state table.new) run.new) }
     {
         let statements = body.statements.as_slice();
-        let outcome = self.run_stmt_block(alloc, run, table, statements, true);
-        match body_end(outcome)? {
-            BodyEnd::Break(value) => Ok(Some(value)),
-            BodyEnd::Continue => Ok(None),
-            BodyEnd::Done => {
-                let holds = self.run_condition(alloc, run, table, test)?;
-                Ok(do_next(options, holds))
-            }
+        let done = self.run_stmt_block(alloc, run, table, statements, true);
+        match body_way(done, &mut run.value, &mut run.error) {
+            BodyWay::Stopped => Some(false),
+            BodyWay::Break => Some(true),
+            BodyWay::Continue => None,
+            BodyWay::Done => match self.run_condition(alloc, run, table, test) {
+                Ok(holds) => {
+                    let turn = do_next(options, holds);
+                    settle_turn(&mut run.error, &mut run.value, Ok(turn))
+                }
+                Err(error) => Some(stop(&mut run.error, error)),
+            },
         }
     }
 
@@ -183,19 +203,29 @@ impl<'e, H: Host> Evaluator<'e, H> {
         value: &Option<Expr>,
         options: ASTFlags,
         pos: Position,
-    ) -> Result<Dynamic<H>, EvalAltResult<H>>
+    ) -> bool
         requires resolves { IsTrue (option_resolves (option_map tests_of value.now) (names run.old)) }
-        ensures counts { OnOk result (run.old.global.num_operations ≤ run.new.global.num_operations) }
-        ensures names { OnOk result (names run.new ≡ names run.old) }
+        ensures stops { result ≡ false }
         ensures runs { (restoring : _) → Runs (under H.name_of self.now T.natives)
             (OpenStmt (layer.BreakLoop value.now options pos) restoring)
-            (state_in (T.state table.old) run.old) result (state_in (T.state table.new) run.new) }
+            (state_in (T.state table.old) run.old) (Err (error_in run.new.error))
+            (state_in (T.state table.new) run.new) }
     {
         match value {
-            None => Err(loop_break(alloc, unit_value(), breaks(options), pos)),
+            None => {
+                let error = loop_break(alloc, unit_value(), breaks(options), pos);
+                stop(&mut run.error, error)
+            }
             Some(value) => {
-                let value = self.run_expr(alloc, run, table, value)?;
-                Err(loop_break(alloc, value, breaks(options), pos))
+                let answer = self.run_expr(alloc, run, table, value);
+                if !settle(&mut run.error, &mut run.value, answer) {
+                    return false;
+                }
+                let value = take_value(&mut run.value);
+                stop(
+                    &mut run.error,
+                    loop_break(alloc, value, breaks(options), pos),
+                )
             }
         }
     }
@@ -211,21 +241,30 @@ impl<'e, H: Host> Evaluator<'e, H> {
         value: &Option<Expr>,
         options: ASTFlags,
         pos: Position,
-    ) -> Result<Dynamic<H>, EvalAltResult<H>>
+    ) -> bool
         requires resolves { IsTrue (option_resolves (option_map tests_of value.now) (names run.old)) }
-        ensures counts { OnOk result (run.old.global.num_operations ≤ run.new.global.num_operations) }
-        ensures names { OnOk result (names run.new ≡ names run.old) }
+        ensures stops { result ≡ false }
         ensures runs { (restoring : _) → Runs (under H.name_of self.now T.natives)
             (OpenStmt (layer.Return value.now options pos) restoring)
-            (state_in (T.state table.old) run.old) result (state_in (T.state table.new) run.new) }
+            (state_in (T.state table.old) run.old) (Err (error_in run.new.error))
+            (state_in (T.state table.new) run.new) }
     {
         match value {
-            None => Err(left_by(alloc, unit_value(), options, pos)),
+            None => {
+                let error = left_by(alloc, unit_value(), options, pos);
+                stop(&mut run.error, error)
+            }
             Some(value) => {
-                let place = value.position();
-                let value = self.run_expr(alloc, run, table, value)?;
-                let value = flatten(alloc, &run.global.cells, value, place)?;
-                Err(left_by(alloc, value, options, pos))
+                let at = value.position();
+                let answer = self.run_expr(alloc, run, table, value);
+                if !settle(&mut run.error, &mut run.value, answer) {
+                    return false;
+                }
+                if !flatten_value(alloc, &run.global.cells, &mut run.value, &mut run.error, at) {
+                    return false;
+                }
+                let value = take_value(&mut run.value);
+                stop(&mut run.error, left_by(alloc, value, options, pos))
             }
         }
     }

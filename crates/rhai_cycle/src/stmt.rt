@@ -1,6 +1,6 @@
 //! Statements. Ports upstream's `eval/stmt.rs`; the contracts speak of the machine's runs.
 
-ghost use Rattle.std.specs.Prelude.{◌≡◌, ◌<◌, ◌≤◌, ◌++◌, ◌∷◌, [], ◌&&◌, OnOk, IfErr, IfSome, IsTrue, true, false};
+ghost use Rattle.std.specs.Prelude.{◌≡◌, ◌<◌, ◌≤◌, ◌++◌, ◌∷◌, [], ◌&&◌, IfErr, IfSome, IsTrue, true, false};
 ghost use Rattle.std.specs.Prelude.{None, is_some, map};
 ghost use Rattle.rhai_tree.specs.Forms.{is_exported};
 ghost use Rattle.rhai_tree.specs.Frame.{tests_of, target_resolves, resolves_expr, resolves_stmt};
@@ -17,6 +17,7 @@ ghost use Rattle.rhai_machine.specs.language.Setting.{rules_of};
 ghost use Rattle.rhai_steps.specs.States.{state_of};
 ghost use Rattle.rhai_assign.specs.InPlace.{assigned};
 ghost use Rattle.rhai_assign.specs.Keeps.{Keeps};
+ghost use Rattle.rhai_context.specs.Ends.{came};
 ghost use Rattle.rhai_cycle.specs.Memory.{asks_stmt, may_ask};
 ghost use Rattle.rhai_cycle.specs.States.{names, state_in, under};
 
@@ -26,19 +27,18 @@ use rhai_assign::in_place::assign_in_place;
 use rhai_assign::this::assign_this;
 use rhai_choices::SwitchParts;
 use rhai_context::Context;
-use rhai_context::ends::finish;
+use rhai_context::ends::{put_unit, settle, stop, take_value};
+use rhai_context::outcomes::{charge, charge_stmt, flatten_value};
 use rhai_sharing::share_variables;
 use rhai_state::error::EvalAltResult;
 use rhai_state::limits::Limits;
 use rhai_state::scope::Scope;
 use rhai_state::state::GlobalRuntimeState;
 use rhai_state::table::NativeTable;
-use rhai_steps::charges::track_operation;
 use rhai_steps::constants::enter_constant;
 use rhai_steps::loops::chosen;
-use rhai_steps::values::{flatten, let_go, unit_value};
 use rhai_steps::variables::{define_variable, enter_list, leave_list, may_declare, mode_of};
-use rhai_tree::expr::{Expr, Ident, OpAssignment, Stmt, StmtBlock};
+use rhai_tree::expr::{Expr, Ident, OpAssignment, Stmt};
 use rhai_tree::flags::ASTFlags;
 use rhai_tree::position::Position;
 use rhai_values::base::value::{Dynamic, Host};
@@ -57,11 +57,13 @@ fn assign_at_once<H: Host, T: NativeTable<H>>(
     global: &mut GlobalRuntimeState<H>,
     table: &T,
     scope: &mut Scope<H>,
+    out: &mut Dynamic<H>,
+    place: &mut Option<EvalAltResult<H>>,
     op: OpAssignment,
     lhs: &Expr,
     rhs: &Expr,
     is_fast: bool,
-) -> Option<Result<Dynamic<H>, EvalAltResult<H>>>
+) -> Option<bool>
     requires resolves_target { IsTrue (target_resolves (tests_of lhs.now) (names_in scope.old)) }
     requires resolves { IsTrue (resolves_expr rhs.now (names_in scope.old)) }
     ensures found { is_some result ≡ (is_fast && is_some (assigned op.op (out-Expr lhs.now) (out-Expr rhs.now)
@@ -70,20 +72,22 @@ fn assign_at_once<H: Host, T: NativeTable<H>>(
     ensures left_scope { result ≡ None → scope.new ≡ scope.old }
     ensures keeps { Keeps global.old global.new scope.old scope.new }
     ensures runs { (offer : _) (held : _) (restoring : _) → offer.fast_operators ≡ is_fast →
-        IfSome result (λ result. Runs (rules_of limits.now H.name_of offer T.natives)
+        IfSome result (λ done. Runs (rules_of limits.now H.name_of offer T.natives)
         (OpenStmt (layer.Assignment op lhs.now rhs.now) restoring)
         (state_of (T.state table.now) global.old scope.old held)
-        result (state_of (T.state table.now) global.new scope.new held)) }
+        (came done out.new place.new) (state_of (T.state table.now) global.new scope.new held)) }
 {
-    if is_fast {
-        assign_in_place(limits, alloc, global, table, scope, op, lhs, rhs)
-    } else {
-        None
+    if !is_fast {
+        return None;
+    }
+    match assign_in_place(limits, alloc, global, table, scope, op, lhs, rhs) {
+        Some(answer) => Some(settle(place, out, answer)),
+        None => None,
     }
 }
 
 impl<'e, H: Host> Evaluator<'e, H> {
-    /// What a statement does, in a list that restores or not.
+    /// What a statement does, in a list that restores or not. How it ended stands in the run.
     #[cycle(eval)]
     pub fn run_stmt<T: NativeTable<H>>(
         &self,
@@ -92,22 +96,42 @@ impl<'e, H: Host> Evaluator<'e, H> {
         table: &mut T,
         stmt: &Stmt,
         restoring: bool,
-    ) -> Result<Dynamic<H>, EvalAltResult<H>>
+    ) -> bool
         requires resolves { IsTrue (resolves_stmt stmt.now (names run.old)).0 }
-        ensures charges { OnOk result (run.old.global.num_operations < run.new.global.num_operations) }
-        ensures names { OnOk result (names run.new ≡ (resolves_stmt stmt.now (names run.old)).1) }
+        ensures charges { IsTrue result → run.old.global.num_operations < run.new.global.num_operations }
+        ensures names { IsTrue result → names run.new ≡ (resolves_stmt stmt.now (names run.old)).1 }
         ensures runs { Runs (under H.name_of self.now T.natives) (Exec stmt.now restoring)
-            (state_in (T.state table.old) run.old) result (state_in (T.state table.new) run.new) }
-        ensures memory { IfErr result (λ error. is_out_of_memory error ≡ true → IsTrue (asks_stmt stmt.now)) }
+            (state_in (T.state table.old) run.old) (came result run.new.value run.new.error)
+            (state_in (T.state table.new) run.new) }
+        ensures memory { IfErr (came result run.new.value run.new.error) (λ error.
+            is_out_of_memory error ≡ true → IsTrue (asks_stmt stmt.now)) }
     {
-        track_operation(self.limits, &mut run.global, stmt.position())?;
+        if !charge_stmt(self.limits, &mut run.global, &mut run.error, stmt) {
+            return false;
+        }
         match stmt {
-            Stmt::Noop(_) => Ok(unit_value()),
-            Stmt::Expr(expr) => {
-                let value = self.run_expr(alloc, run, table, expr)?;
-                flatten(alloc, &run.global.cells, value, expr.position())
+            Stmt::Noop(_) => {
+                put_unit(&mut run.value);
+                true
             }
-            Stmt::FnCall(call, pos) => self.run_fn_call_expr(alloc, run, table, call, *pos),
+            Stmt::Expr(expr) => {
+                let answer = self.run_expr(alloc, run, table, expr);
+                if !settle(&mut run.error, &mut run.value, answer) {
+                    return false;
+                }
+                let pos = expr.position();
+                flatten_value(
+                    alloc,
+                    &run.global.cells,
+                    &mut run.value,
+                    &mut run.error,
+                    pos,
+                )
+            }
+            Stmt::FnCall(call, pos) => {
+                let answer = self.run_fn_call_expr(alloc, run, table, call, *pos);
+                settle(&mut run.error, &mut run.value, answer)
+            }
             Stmt::Block(block) => {
                 self.run_stmt_block(alloc, run, table, block.statements.as_slice(), true)
             }
@@ -115,8 +139,13 @@ impl<'e, H: Host> Evaluator<'e, H> {
                 self.run_assignment(alloc, run, table, *op, lhs, rhs, restoring)
             }
             Stmt::If(test, body, branch, _) => {
-                let holds = self.run_condition(alloc, run, table, test)?;
-                self.run_stmt_block(alloc, run, table, chosen(holds, body, branch), true)
+                match self.run_condition(alloc, run, table, test) {
+                    Ok(holds) => {
+                        let statements = chosen(holds, body, branch);
+                        self.run_stmt_block(alloc, run, table, statements, true)
+                    }
+                    Err(error) => stop(&mut run.error, error),
+                }
             }
             Stmt::Var(ident, value, None, options, pos) => {
                 self.run_var(alloc, run, table, ident, value, *options, *pos, restoring)
@@ -146,8 +175,7 @@ impl<'e, H: Host> Evaluator<'e, H> {
                     ranges: ranges.as_slice(),
                     default: *def_case,
                 };
-                let done = self.run_switch(alloc, run, table, parts);
-                finish(done, &mut run.value, &mut run.error)
+                self.run_switch(alloc, run, table, parts)
             }
             Stmt::For {
                 name,
@@ -162,23 +190,23 @@ impl<'e, H: Host> Evaluator<'e, H> {
                     items: expr,
                     body,
                 };
-                let done = self.run_for(alloc, run, table, parts);
-                finish(done, &mut run.value, &mut run.error)
+                self.run_for(alloc, run, table, parts)
             }
             Stmt::TryCatch(body, variable, branch, _) => {
-                let done = self.run_try(alloc, run, table, body, variable, branch);
-                finish(done, &mut run.value, &mut run.error)
+                self.run_try(alloc, run, table, body, variable, branch)
             }
             Stmt::Share(variables) => {
                 let (global, scope) = (&mut run.global, &mut run.scope);
-                share_variables(self.limits, global, &*table, scope, variables.as_slice())
+                let names = variables.as_slice();
+                let answer = share_variables(self.limits, global, &*table, scope, names);
+                settle(&mut run.error, &mut run.value, answer)
             }
             _ => unreachable!(),
         }
     }
 
     /// An assignment to a variable, to `this`, or to what a chain leads to. Where it is not done at once, its
-    /// value is evaluated first.
+    /// value is evaluated first. How it ended stands in the run.
     #[cycle(eval)]
     fn run_assignment<T: NativeTable<H>>(
         &self,
@@ -189,14 +217,14 @@ impl<'e, H: Host> Evaluator<'e, H> {
         lhs: &Expr,
         rhs: &Expr,
         restoring: bool,
-    ) -> Result<Dynamic<H>, EvalAltResult<H>>
+    ) -> bool
         requires resolves_target { IsTrue (target_resolves (tests_of lhs.now) (names run.old)) }
         requires resolves { IsTrue (resolves_expr rhs.now (names run.old)) }
-        ensures counts { OnOk result (run.old.global.num_operations ≤ run.new.global.num_operations) }
-        ensures names { OnOk result (names run.new ≡ names run.old) }
+        ensures counts { IsTrue result → run.old.global.num_operations ≤ run.new.global.num_operations }
+        ensures names { IsTrue result → names run.new ≡ names run.old }
         ensures runs { Runs (under H.name_of self.now T.natives)
-            (OpenStmt (layer.Assignment op lhs.now rhs.now) restoring)
-            (state_in (T.state table.old) run.old) result (state_in (T.state table.new) run.new) }
+            (OpenStmt (layer.Assignment op lhs.now rhs.now) restoring) (state_in (T.state table.old) run.old)
+            (came result run.new.value run.new.error) (state_in (T.state table.new) run.new) }
     {
         let at_once = assign_at_once(
             self.limits,
@@ -204,13 +232,15 @@ impl<'e, H: Host> Evaluator<'e, H> {
             &mut run.global,
             &*table,
             &mut run.scope,
+            &mut run.value,
+            &mut run.error,
             op,
             lhs,
             rhs,
             self.fast_operators,
         );
-        if let Some(result) = at_once {
-            return result;
+        if let Some(done) = at_once {
+            return done;
         }
         if let Expr::ThisPtr(pos) = lhs {
             return self.assign_to_this(alloc, run, table, op, lhs, *pos, rhs, restoring);
@@ -222,11 +252,18 @@ impl<'e, H: Host> Evaluator<'e, H> {
             ..
         } = lhs
         else {
-            return self.assign_chain(alloc, run, table, op, lhs, rhs, restoring);
+            let answer = self.assign_chain(alloc, run, table, op, lhs, rhs, restoring);
+            return settle(&mut run.error, &mut run.value, answer);
         };
-        let value = self.run_expr(alloc, run, table, rhs)?;
-        let value = flatten(alloc, &run.global.cells, value, rhs.position())?;
-        assign_variable(
+        let given = self.run_expr(alloc, run, table, rhs);
+        if !settle(&mut run.error, &mut run.value, given) {
+            return false;
+        }
+        let at = rhs.position();
+        if !flatten_value(alloc, &run.global.cells, &mut run.value, &mut run.error, at) {
+            return false;
+        }
+        let answer = assign_variable(
             self.limits,
             alloc,
             &mut run.global,
@@ -236,12 +273,14 @@ impl<'e, H: Host> Evaluator<'e, H> {
             name,
             *pos,
             op,
-            value,
+            take_value(&mut run.value),
             self.fast_operators,
-        )
+        );
+        settle(&mut run.error, &mut run.value, answer)
     }
 
-    /// An assignment to `this`, which has to be bound before its value is evaluated.
+    /// An assignment to `this`, which has to be bound before its value is evaluated. How it ended stands in the
+    /// run.
     #[cycle(eval)]
     fn assign_to_this<T: NativeTable<H>>(
         &self,
@@ -253,44 +292,49 @@ impl<'e, H: Host> Evaluator<'e, H> {
         pos: Position,
         rhs: &Expr,
         restoring: bool,
-    ) -> Result<Dynamic<H>, EvalAltResult<H>>
+    ) -> bool
         requires this { out-Expr lhs.now ≡ layer.ThisPtr pos }
         requires resolves { IsTrue (resolves_expr rhs.now (names run.old)) }
-        ensures counts { OnOk result (run.old.global.num_operations ≤ run.new.global.num_operations) }
-        ensures names { OnOk result (names run.new ≡ names run.old) }
+        ensures counts { IsTrue result → run.old.global.num_operations ≤ run.new.global.num_operations }
+        ensures names { IsTrue result → names run.new ≡ names run.old }
         ensures runs { Runs (under H.name_of self.now T.natives)
-            (OpenStmt (layer.Assignment op lhs.now rhs.now) restoring)
-            (state_in (T.state table.old) run.old) result (state_in (T.state table.new) run.new) }
+            (OpenStmt (layer.Assignment op lhs.now rhs.now) restoring) (state_in (T.state table.old) run.old)
+            (came result run.new.value run.new.error) (state_in (T.state table.new) run.new) }
     {
         if run.this.is_none() {
-            return Err(EvalAltResult::ErrorUnboundThis(pos));
+            return stop(&mut run.error, EvalAltResult::ErrorUnboundThis(pos));
         }
-        let value = self.run_expr(alloc, run, table, rhs)?;
-        let value = flatten(alloc, &run.global.cells, value, rhs.position())?;
-        if let Err(error) = track_operation(self.limits, &mut run.global, pos) {
-            let_go(value);
-            return Err(error);
+        let given = self.run_expr(alloc, run, table, rhs);
+        if !settle(&mut run.error, &mut run.value, given) {
+            return false;
+        }
+        let at = rhs.position();
+        if !flatten_value(alloc, &run.global.cells, &mut run.value, &mut run.error, at) {
+            return false;
+        }
+        if !charge(self.limits, &mut run.global, &mut run.error, pos) {
+            return false;
         }
         match &mut run.this {
-            Some(this) => assign_this(
-                self.limits,
-                alloc,
-                &mut run.global,
-                table,
-                this,
-                pos,
-                op,
-                value,
-                self.fast_operators,
-            ),
-            None => {
-                let_go(value);
-                Err(EvalAltResult::ErrorUnboundThis(pos))
+            Some(this) => {
+                let answer = assign_this(
+                    self.limits,
+                    alloc,
+                    &mut run.global,
+                    table,
+                    this,
+                    pos,
+                    op,
+                    take_value(&mut run.value),
+                    self.fast_operators,
+                );
+                settle(&mut run.error, &mut run.value, answer)
             }
+            None => stop(&mut run.error, EvalAltResult::ErrorUnboundThis(pos)),
         }
     }
 
-    /// A new variable.
+    /// A new variable. How it ended stands in the run.
     #[cycle(eval)]
     fn run_var<T: NativeTable<H>>(
         &self,
@@ -302,26 +346,41 @@ impl<'e, H: Host> Evaluator<'e, H> {
         options: ASTFlags,
         pos: Position,
         restoring: bool,
-    ) -> Result<Dynamic<H>, EvalAltResult<H>>
+    ) -> bool
         requires resolves { IsTrue (resolves_expr value.now (names run.old)) }
-        ensures counts { OnOk result (run.old.global.num_operations ≤ run.new.global.num_operations) }
-        ensures names { OnOk result (names run.new ≡ names run.old ++ ident.now.name ∷ []) }
+        ensures counts { IsTrue result → run.old.global.num_operations ≤ run.new.global.num_operations }
+        ensures names { IsTrue result → names run.new ≡ names run.old ++ ident.now.name ∷ [] }
         ensures runs { is_exported options ≡ false → Runs (under H.name_of self.now T.natives)
             (OpenStmt (layer.Var ident.now value.now None options pos) restoring)
-            (state_in (T.state table.old) run.old) result (state_in (T.state table.new) run.new) }
+            (state_in (T.state table.old) run.old) (came result run.new.value run.new.error)
+            (state_in (T.state table.new) run.new) }
     {
-        may_declare(
+        let may = may_declare(
             self.limits,
             self.allow_shadowing,
             &run.scope,
             &ident.name,
             pos,
-        )?;
-        let given = self.run_expr(alloc, run, table, value)?;
-        let given = flatten(alloc, &run.global.cells, given, value.position())?;
+        );
+        if let Err(error) = may {
+            return stop(&mut run.error, error);
+        }
+        let given = self.run_expr(alloc, run, table, value);
+        if !settle(&mut run.error, &mut run.value, given) {
+            return false;
+        }
+        let at = value.position();
+        if !flatten_value(alloc, &run.global.cells, &mut run.value, &mut run.error, at) {
+            return false;
+        }
         let index = run.scope.len();
-        define_variable(&mut run.scope, ident, mode_of(options), given, pos)?;
-        match enter_constant(
+        let mode = mode_of(options);
+        let flat = take_value(&mut run.value);
+        let defined = define_variable(&mut run.scope, ident, mode, flat, pos);
+        if let Err(error) = defined {
+            return stop(&mut run.error, error);
+        }
+        let entered = enter_constant(
             alloc,
             &mut run.global,
             &ident.name,
@@ -329,17 +388,16 @@ impl<'e, H: Host> Evaluator<'e, H> {
             options,
             restoring,
             pos,
-        ) {
-            Ok(()) => Ok(unit_value()),
-            Err(error) => {
-                run.scope.rewind(index);
-                Err(error)
-            }
+        );
+        if let Err(error) = entered {
+            run.scope.rewind(index);
+            return stop(&mut run.error, error);
         }
+        true
     }
 
     /// What a list of statements does. A restoring list takes back on every way out the variables that
-    /// it added, the imports and the scope level; an empty one has no effect.
+    /// it added, the imports and the scope level; an empty one has no effect. How it ended stands in the run.
     #[cycle(eval)]
     pub fn run_stmt_block<T: NativeTable<H>>(
         &self,
@@ -348,28 +406,30 @@ impl<'e, H: Host> Evaluator<'e, H> {
         table: &mut T,
         statements: &[Stmt],
         restoring: bool,
-    ) -> Result<Dynamic<H>, EvalAltResult<H>>
+    ) -> bool
         requires resolves { IsTrue (all_resolve (map resolves_stmt statements.now) (names run.old)).0 }
-        ensures counts { OnOk result (run.old.global.num_operations ≤ run.new.global.num_operations) }
-        ensures restores { OnOk result (IsTrue restoring → names run.new ≡ names run.old) }
+        ensures counts { IsTrue result → run.old.global.num_operations ≤ run.new.global.num_operations }
+        ensures restores { IsTrue result → IsTrue restoring → names run.new ≡ names run.old }
         ensures runs { Runs (under H.name_of self.now T.natives) (Enter statements.now restoring)
-            (state_in (T.state table.old) run.old) result (state_in (T.state table.new) run.new) }
-        ensures memory { IfErr result (λ error. is_out_of_memory error ≡ true →
-            IsTrue (may_ask statements.now)) }
+            (state_in (T.state table.old) run.old) (came result run.new.value run.new.error)
+            (state_in (T.state table.new) run.new) }
+        ensures memory { IfErr (came result run.new.value run.new.error) (λ error.
+            is_out_of_memory error ≡ true → IsTrue (may_ask statements.now)) }
     {
         if statements.is_empty() {
-            return Ok(unit_value());
+            put_unit(&mut run.value);
+            return true;
         }
         if !restoring {
             return self.run_statements(alloc, run, table, statements, restoring);
         }
         let saved = enter_list(&mut run.global, &run.scope);
-        let result = self.run_statements(alloc, run, table, statements, restoring);
+        let done = self.run_statements(alloc, run, table, statements, restoring);
         leave_list(&mut run.global, &mut run.scope, saved);
-        result
+        done
     }
 
-    /// What statements do, one after the other.
+    /// What statements do, one after the other. How they ended stands in the run.
     #[cycle(eval)]
     fn run_statements<T: NativeTable<H>>(
         &self,
@@ -378,18 +438,21 @@ impl<'e, H: Host> Evaluator<'e, H> {
         table: &mut T,
         statements: &[Stmt],
         restoring: bool,
-    ) -> Result<Dynamic<H>, EvalAltResult<H>>
+    ) -> bool
         requires resolves { IsTrue (all_resolve (map resolves_stmt statements.now) (names run.old)).0 }
-        ensures counts { OnOk result (run.old.global.num_operations ≤ run.new.global.num_operations) }
+        ensures counts { IsTrue result → run.old.global.num_operations ≤ run.new.global.num_operations }
         ensures runs { Runs (under H.name_of self.now T.natives) (Run statements.now restoring unit)
-            (state_in (T.state table.old) run.old) result (state_in (T.state table.new) run.new) }
-        ensures memory { IfErr result (λ error. is_out_of_memory error ≡ true →
-            IsTrue (may_ask statements.now)) }
+            (state_in (T.state table.old) run.old) (came result run.new.value run.new.error)
+            (state_in (T.state table.new) run.new) }
+        ensures memory { IfErr (came result run.new.value run.new.error) (λ error.
+            is_out_of_memory error ≡ true → IsTrue (may_ask statements.now)) }
     {
-        let mut last = unit_value();
+        put_unit(&mut run.value);
         'each_stmt: for stmt in statements {
-            last = self.run_stmt(alloc, run, table, stmt, restoring)?;
+            if !self.run_stmt(alloc, run, table, stmt, restoring) {
+                return false;
+            }
         }
-        Ok(last)
+        true
     }
 }

@@ -14,7 +14,7 @@ ghost use Rattle.rhai_cycle.specs.States.{names, state_in, under};
 use crate::evaluator::Evaluator;
 use rhai_catches::branches::{bind_caught, leave_branch};
 use rhai_context::Context;
-use rhai_context::ends::{put, settle, stop};
+use rhai_context::ends::{finish, may_catch, settle, stop, stopped};
 use rhai_state::error::EvalAltResult;
 use rhai_state::table::NativeTable;
 use rhai_tree::expr::{Expr, StmtBlock};
@@ -44,20 +44,14 @@ impl<'e, H: Host> Evaluator<'e, H> {
             (state_in (T.state table.old) run.old)
             (came result run.new.value run.new.error) (state_in (T.state table.new) run.new) }
     {
-        let outcome = self.run_stmt_block(alloc, run, table, body.statements.as_slice(), true);
-        match outcome {
-            Ok(value) => {
-                put(&mut run.value, value);
-                true
-            }
-            Err(error) => {
-                if error.is_catchable() {
-                    self.run_branch(alloc, run, table, error, variable, branch)
-                } else {
-                    stop(&mut run.error, error)
-                }
-            }
+        if self.run_stmt_block(alloc, run, table, body.statements.as_slice(), true) {
+            return true;
         }
+        if !may_catch(&run.error) {
+            return false;
+        }
+        let caught = stopped(&mut run.error);
+        self.run_branch(alloc, run, table, caught, variable, branch)
     }
 
     /// The branch of a `try`, with the error that it caught in its variable. The variable is gone on every way
@@ -96,7 +90,8 @@ impl<'e, H: Host> Evaluator<'e, H> {
             return stop(&mut run.error, error);
         }
         let statements = branch.statements.as_slice();
-        let outcome = self.run_stmt_block(alloc, run, table, statements, true);
+        let done = self.run_stmt_block(alloc, run, table, statements, true);
+        let outcome = finish(done, &mut run.value, &mut run.error);
         let left = leave_branch(&run.global.cells, caught, outcome);
         run.scope.rewind(base);
         settle(&mut run.error, &mut run.value, left)

@@ -17,11 +17,10 @@ ghost use Rattle.rhai_cycle.specs.States.{names, state_in, under};
 
 use crate::evaluator::Evaluator;
 use rhai_context::Context;
-use rhai_context::ends::{put_unit, settle_turn, stop};
+use rhai_context::ends::{put_unit, stop};
+use rhai_context::outcomes::{charge, turn_end};
 use rhai_state::error::EvalAltResult;
 use rhai_state::table::NativeTable;
-use rhai_steps::charges::track_operation;
-use rhai_steps::loops::while_next;
 use rhai_steps::values::{flatten, let_go};
 use rhai_tree::position::Position;
 use rhai_values::base::value::{Dynamic, Host};
@@ -130,10 +129,15 @@ impl<'e, H: Host> Evaluator<'e, H> {
         };
         if parts.body.statements.is_empty() {
             let_go(item);
-            return match track_operation(self.limits, &mut run.global, parts.body.position) {
-                Ok(()) => None,
-                Err(error) => Some(stop(&mut run.error, error)),
-            };
+            if charge(
+                self.limits,
+                &mut run.global,
+                &mut run.error,
+                parts.body.position,
+            ) {
+                return None;
+            }
+            return Some(false);
         }
         let entered = enter_turn(
             self.limits,
@@ -150,7 +154,7 @@ impl<'e, H: Host> Evaluator<'e, H> {
             return Some(stop(&mut run.error, error));
         }
         let statements = parts.body.statements.as_slice();
-        let outcome = self.run_stmt_block(alloc, run, table, statements, true);
-        settle_turn(&mut run.error, &mut run.value, while_next(outcome))
+        let done = self.run_stmt_block(alloc, run, table, statements, true);
+        turn_end(done, &mut run.value, &mut run.error)
     }
 }

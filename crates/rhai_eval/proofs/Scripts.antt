@@ -1,8 +1,10 @@
 -- A whole script: its statements over the frame of its end.
-use Rattle.std.proofs.Common.{◌≡◌, Bool, false, List, [], ◌∷◌, Result, Ok, Err, IfOk, IfErr}
+use Rattle.std.proofs.Common.{◌≡◌, Bool, true, false, List, [], ◌∷◌, Result, Ok, Err, IfOk, IfErr}
 use Rattle.rhai_tree.specs.declared.expr.Stmt.{Stmt}
 use Rattle.rhai_values.specs.declared.base.value.Dynamic.{Dynamic}
 use Rattle.rhai_state.specs.declared.error.EvalAltResult.{EvalAltResult}
+use Rattle.rhai_state.specs.declared.error.EvalAltResult.TheVariants as error
+use Rattle.rhai_state.specs.Errors.{is_out_of_memory}
 use Rattle.rhai_machine.specs.machine.Memory.{here, next, ◌⨾◌}
 use Rattle.rhai_machine.specs.machine.Point.{after}
 use Rattle.rhai_machine.specs.language.Setting.{Rules}
@@ -13,6 +15,21 @@ use Rattle.rhai_machine.specs.language.Unwinding.{topped}
 use Rattle.rhai_machine.specs.language.Runs.{Goes, Steps, Runs}
 use Rattle.rhai_machine.specs.language.Script.{EndsAsMachine, AgreesWithHigherLimits, start_of_script, end_of_script}
 use Rattle.rhai_machine.proofs.LanguageLaws.{limits_agree_from}
+
+-- where a script's end stands for want of memory, its statements wanted it
+module _ {H : Type 0} (P : Type 0) where
+  topped_memory : (map_exit : Bool) (e : EvalAltResult H) → (is_out_of_memory e ≡ true → P) →
+      IfErr (topped map_exit e) (λ x. is_out_of_memory x ≡ true → P)
+  topped_memory map_exit (error.Return v at) kept = tt
+  topped_memory true (error.Exit v at) kept = tt
+  topped_memory false (error.Exit v at) kept = kept
+  topped_memory map_exit _ kept = kept
+
+  pub script_memory : (map_exit : Bool) (outcome r : Result (Dynamic H) (EvalAltResult H)) →
+      IfErr outcome (λ e. is_out_of_memory e ≡ true → P) → IfOk outcome (λ v. r ≡ Ok v) → IfErr outcome (λ e. r ≡ topped map_exit e) →
+      IfErr r (λ x. is_out_of_memory x ≡ true → P)
+  script_memory map_exit (Ok v) r kept value fault = rw value tt
+  script_memory map_exit (Err e) r kept value fault = rw fault (topped_memory map_exit e kept)
 
 module _ {S H : Type 0} (rules : Rules S H)
     (statements : List Stmt) (map_exit : Bool) (old new : State S H) where

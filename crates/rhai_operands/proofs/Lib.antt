@@ -1,5 +1,6 @@
 pub mod Literals
 pub mod Conditions
 pub mod InPlace
+pub mod Integers
 pub mod Names
 pub mod Standing

@@ -5,11 +5,13 @@ use Rattle.rhai_tree.specs.declared.expr.Expr.TheOpen as layer
 use Rattle.rhai_tree.specs.Layers.{ExprLayer}
 use Rattle.rhai_tree.specs.declared.token.Token.{Token}
 use Rattle.rhai_values.specs.declared.base.value.Dynamic.{Dynamic}
+use Rattle.rhai_values.specs.declared.base.value.Union.TheVariants as value
+use Rattle.rhai_values.specs.Copy.{plain}
 use Rattle.rhai_state.specs.declared.scope.ScopeEntry.{ScopeEntry}
 use Rattle.rhai_state.specs.Scope.{found}
 use Rattle.rhai_operators.specs.Answers.{Answer, binary_of}
-use Rattle.rhai_operators.specs.Direct.{integer_in, truth_given, truth_in}
-use Rattle.rhai_operators.specs.Operators.{of_integers}
+use Rattle.rhai_operators.specs.Direct.{integer_given, integer_in, truth_given, truth_in}
+use Rattle.rhai_operators.specs.Operators.{of_integers, op_assign_at}
 use Rattle.rhai_machine.specs.language.Values.{is_handle}
 use Rattle.rhai_machine.specs.language.Expressions.{literal_of}
 use Rattle.rhai_operands.specs.declared.operands.Operand.{Operand}
@@ -71,3 +73,13 @@ module _ {H : Type 0} where
 abbrev pub compared_known : (H : Type 0) → Token → Option ℤ → Option ℤ → Option Bool
 compared_known H token (Some x) (Some y) = truth_given {H = H} (of_integers token x y)
 compared_known H token _ _ = None
+
+module _ {H : Type 0} where
+  abbrev pub integer_valued : Option ℤ → Option (Dynamic H)
+  integer_valued (Some z) = Some (plain (value.Int z))
+  integer_valued None = None
+
+  -- what an operator that may stand before an `=` gives for two integers, where that is an integer
+  abbrev pub assigned_known : Token → Option ℤ → Option ℤ → Option (Dynamic H)
+  assigned_known token (Some x) (Some y) = integer_valued (integer_given {H = H} (op_assign_at token (value.Int x) (value.Int y)))
+  assigned_known token _ _ = None

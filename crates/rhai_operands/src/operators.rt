@@ -1,22 +1,25 @@
 //! Binary operators on operands as they stand, and conditions that compare them. Ports the fast
 //! operators of upstream's `func/call.rs`.
 
-ghost use Rattle.std.specs.Prelude.{◌≡◌, ◌≤◌, ◌<◌, ◌∷◌, [], IsTrue, IfSome, IfErr, OnOk, Some, None, is_some, true, false};
+ghost use Rattle.std.specs.Prelude.{◌≡◌, ◌≤◌, ◌<◌, ◌+◌, ◌∷◌, [], IsTrue, IfSome, IfErr, OnOk};
+ghost use Rattle.std.specs.Prelude.{Some, None, is_some, true, false};
 ghost use Rattle.rhai_tree.specs.declared.expr.Expr.{out-Expr};
 ghost use Rattle.rhai_tree.specs.declared.expr.Expr.TheOpen as layer;
 ghost use Rattle.rhai_tree.specs.Frame.{resolves_expr};
 ghost use Rattle.rhai_state.specs.Errors.{is_out_of_memory};
+ghost use Rattle.rhai_state.specs.Limits.{limit_of};
 ghost use Rattle.rhai_state.specs.Scope.{entries_of, names_in};
 ghost use Rattle.rhai_machine.specs.language.Frames.{OpenExpr};
 ghost use Rattle.rhai_machine.specs.language.Runs.{Runs};
 ghost use Rattle.rhai_machine.specs.language.Setting.{rules_of};
 ghost use Rattle.rhai_steps.specs.States.{state_of};
-ghost use Rattle.rhai_operands.specs.Standing.{compared, compared_known, operated, said, standing, truth_answered};
+ghost use Rattle.rhai_operands.specs.Standing.{assigned_known, compared, compared_known, integer_of};
+ghost use Rattle.rhai_operands.specs.Standing.{operated, said, standing, truth_answered};
 ghost use Rattle.rhai_operands.specs.Tests.{Tests};
 
 use crate::operands::{integer_in_place, operand_in_place, two_operands};
 use rhai_operators::builtin_binary;
-use rhai_operators::direct::compare_integers;
+use rhai_operators::direct::{assign_integers, compare_integers};
 use rhai_state::error::EvalAltResult;
 use rhai_state::limits::Limits;
 use rhai_state::scope::Scope;
@@ -24,19 +27,25 @@ use rhai_state::state::GlobalRuntimeState;
 use rhai_state::table::NativeTable;
 use rhai_steps::charges::{charge_all, track_operation};
 use rhai_steps::replies::applied;
+use rhai_steps::values::int_value;
 use rhai_tree::expr::{Expr, FnCallExpr};
 use rhai_tree::position::Position;
 use rhai_tree::token::Token;
 use rhai_values::base::value::{Dynamic, Host, Union};
 use std::alloc::Global;
 
-/// A binary operator on two operands as they stand. None where one of them has to be evaluated, or
-/// there is no built-in for them: then nothing is charged. The table is not called.
-///
-/// # Errors
-/// `ErrorTooManyOperations` at an operand where the count has reached the limit. At the operator:
-/// what the operator answers, and `ErrorDataTooLarge` for a value above a limit.
-pub fn operate_in_place<H: Host, T: NativeTable<H>>(
+/// The value that an operator gives for two integers, None where one of them is none, or the operator gives
+/// no integer, or may not stand before an `=`.
+pub fn assign_known<H: Host>(token: Token, x: Option<i64>, y: Option<i64>) -> Option<Dynamic<H>>
+    ensures { result ≡ assigned_known token x y }
+{
+    let number = assign_integers::<H>(token, x?, y?)?;
+    Some(int_value(&number))
+}
+
+/// An operator on two operands as they stand, of any type.
+#[inline(never)]
+fn operate_values<H: Host, T: NativeTable<H>>(
     limits: &Limits,
     alloc: Global,
     global: &mut GlobalRuntimeState<H>,
@@ -77,6 +86,82 @@ pub fn operate_in_place<H: Host, T: NativeTable<H>>(
     Some(applied(alloc, limits, outcome, pos))
 }
 
+/// The value that an operator gives for two operands that are integers as they stand, which are charged at
+/// once. None where that is not so, or the limit has no room for both: then nothing is charged.
+#[inline(always)]
+fn operate_integers<H: Host>(
+    limits: &Limits,
+    global: &mut GlobalRuntimeState<H>,
+    scope: &Scope<H>,
+    token: Token,
+    left: &Expr,
+    right: &Expr,
+) -> Option<Dynamic<H>>
+    requires resolves_left { IsTrue (resolves_expr left.now (names_in scope.now)) }
+    requires resolves_right { IsTrue (resolves_expr right.now (names_in scope.now)) }
+    ensures known { IfSome result (λ value. assigned_known token
+        (integer_of (standing (out-Expr left.now) (entries_of scope.now)))
+        (integer_of (standing (out-Expr right.now) (entries_of scope.now))) ≡ Some value) }
+    ensures room { IfSome result (λ _. global.old.num_operations + 2 ≤ limit_of limits.now.max_operations) }
+    ensures charged { IfSome result (λ _. global.new ≡ record global.old
+        { num_operations = global.old.num_operations + 2 }) }
+    ensures left_alone { result ≡ None → global.new ≡ global.old }
+{
+    let first = integer_in_place(global, scope, left);
+    let second = integer_in_place(global, scope, right);
+    let Some(value) = assign_known(token, first, second) else {
+        return None;
+    };
+    if !charge_all(limits, global, 2) {
+        drop(value);
+        return None;
+    }
+    Some(value)
+}
+
+/// A binary operator on two operands as they stand. None where one of them has to be evaluated, or
+/// there is no built-in for them: then nothing is charged. The table is not called. Of two integers no value
+/// is looked at.
+///
+/// # Errors
+/// `ErrorTooManyOperations` at an operand where the count has reached the limit. At the operator:
+/// what the operator answers, and `ErrorDataTooLarge` for a value above a limit.
+#[inline(always)]
+pub fn operate_in_place<H: Host, T: NativeTable<H>>(
+    limits: &Limits,
+    alloc: Global,
+    global: &mut GlobalRuntimeState<H>,
+    _table: &T,
+    scope: &Scope<H>,
+    call: &FnCallExpr,
+    token: Token,
+    left: &Expr,
+    right: &Expr,
+    pos: Position,
+) -> Option<Result<Dynamic<H>, EvalAltResult<H>>>
+    requires token { call.now.op_token ≡ Some token }
+    requires args { call.now.args ≡ left.now ∷ right.now ∷ [] }
+    requires resolves_left { IsTrue (resolves_expr left.now (names_in scope.now)) }
+    requires resolves_right { IsTrue (resolves_expr right.now (names_in scope.now)) }
+    ensures found { is_some result ≡ is_some (operated token
+        (standing (out-Expr left.now) (entries_of scope.now))
+        (standing (out-Expr right.now) (entries_of scope.now))) }
+    ensures left_alone { result ≡ None → global.new ≡ global.old }
+    ensures counts { global.old.num_operations ≤ global.new.num_operations }
+    ensures runs { (offer : _) (held : _) → offer.fast_operators ≡ true →
+        IfSome result (λ result. Runs (rules_of limits.now H.name_of offer T.natives)
+        (OpenExpr (layer.Expr::FnCall call.now pos))
+        (state_of (T.state _table.now) global.old scope.now held)
+        result (state_of (T.state _table.now) global.new scope.now held)) }
+{
+    if let Some(value) = operate_integers(limits, global, scope, token, left, right) {
+        return Some(Ok(value));
+    }
+    operate_values(
+        limits, alloc, global, _table, scope, call, token, left, right, pos,
+    )
+}
+
 /// The truth value that an operator gave, None where it gave something else.
 fn truth_given<H: Host>(outcome: &Result<Dynamic<H>, EvalAltResult<H>>) -> Option<bool>
     ensures { result ≡ truth_answered (Some outcome.now) }
@@ -100,6 +185,7 @@ fn compare_known<H: Host>(token: Token, left: Option<i64>, right: Option<i64>) -
 
 /// What an operator says of two operands as they stand, None where one of them has to be evaluated
 /// or the operator gives no truth value.
+#[inline(never)]
 fn compare_values<H: Host>(
     alloc: Global,
     global: &GlobalRuntimeState<H>,

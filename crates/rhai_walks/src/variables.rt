@@ -29,6 +29,7 @@ fn cell_of<H: Host>(value: &Dynamic<H>) -> Option<CellId>
 ///
 /// # Errors
 /// `ErrorDataRace` at the place where its cell is held. Then nothing was written.
+#[inline(always)]
 pub fn write_variable<H: Host>(
     scope: &mut Scope<H>,
     cells: &mut CellStore<H>,

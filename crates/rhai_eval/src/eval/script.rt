@@ -14,6 +14,7 @@ ghost use Rattle.rhai_eval.specs.Plain.{Plain};
 ghost use Rattle.rhai_eval.specs.States.{under};
 
 use crate::engine::Engine;
+use rhai_context::ends::finish;
 use rhai_context::{give_back, take};
 use rhai_state::caches::Caches;
 use rhai_state::error::EvalAltResult;
@@ -70,7 +71,8 @@ impl<H: Host> Engine<H> {
         let mut run = take(alloc, global, scope);
         let limits = self.limits();
         let evaluator = self.evaluator(&limits);
-        let outcome = evaluator.run_stmt_block(alloc, &mut run, table, tree.statements(), false);
+        let done = evaluator.run_stmt_block(alloc, &mut run, table, tree.statements(), false);
+        let outcome = finish(done, &mut run.value, &mut run.error);
         give_back(run, global, scope);
         top(outcome, map_exit_to_return_value)
     }

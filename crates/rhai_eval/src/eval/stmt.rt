@@ -26,6 +26,7 @@ ghost use Rattle.rhai_eval.specs.States.{under};
 use crate::engine::Engine;
 use crate::this::{give_back_with, take_with};
 use rhai_assign::focus::assign_focus;
+use rhai_context::ends::finish;
 use rhai_context::{give_back, take};
 use rhai_places::target::{Part, Target};
 use rhai_state::caches::Caches;
@@ -245,13 +246,15 @@ impl<H: Host> Engine<H> {
         match this {
             Some(place) => {
                 let mut run = take_with(alloc, global, scope, place);
-                let result = evaluator.run_stmt(alloc, &mut run, table, stmt, rewind_scope);
+                let done = evaluator.run_stmt(alloc, &mut run, table, stmt, rewind_scope);
+                let result = finish(done, &mut run.value, &mut run.error);
                 give_back_with(run, global, scope, place);
                 result
             }
             None => {
                 let mut run = take(alloc, global, scope);
-                let result = evaluator.run_stmt(alloc, &mut run, table, stmt, rewind_scope);
+                let done = evaluator.run_stmt(alloc, &mut run, table, stmt, rewind_scope);
+                let result = finish(done, &mut run.value, &mut run.error);
                 give_back(run, global, scope);
                 result
             }
@@ -297,25 +300,27 @@ impl<H: Host> Engine<H> {
         match this {
             Some(place) => {
                 let mut run = take_with(alloc, global, scope, place);
-                let result = evaluator.run_stmt_block(
+                let done = evaluator.run_stmt_block(
                     alloc,
                     &mut run,
                     table,
                     statements,
                     restore_orig_state,
                 );
+                let result = finish(done, &mut run.value, &mut run.error);
                 give_back_with(run, global, scope, place);
                 result
             }
             None => {
                 let mut run = take(alloc, global, scope);
-                let result = evaluator.run_stmt_block(
+                let done = evaluator.run_stmt_block(
                     alloc,
                     &mut run,
                     table,
                     statements,
                     restore_orig_state,
                 );
+                let result = finish(done, &mut run.value, &mut run.error);
                 give_back(run, global, scope);
                 result
             }

@@ -44,8 +44,8 @@ run_body-returns-in_err-track_operation-clause-runs = bodies.run_body-returns-in
 pub run_body-returns-in_err-open_function-clause-runs : goal.run_body-returns-in_err-open_function-clause-runs
 run_body-returns-in_err-open_function-clause-runs = bodies.run_body-returns-in_err-open_function-clause-runs
 
-pub run_body-run_stmt_block-result-requires : goal.run_body-run_stmt_block-result-requires
-run_body-run_stmt_block-result-requires = bodies.run_body-run_stmt_block-result-requires
+pub run_body-run_stmt_block-done-requires : goal.run_body-run_stmt_block-done-requires
+run_body-run_stmt_block-done-requires = bodies.run_body-run_stmt_block-done-requires
 
 pub run_body-returns-in-None-clause-runs : goal.run_body-returns-in-None-clause-runs
 run_body-returns-in-None-clause-runs = bodies.run_body-returns-in-None-clause-runs
@@ -287,8 +287,8 @@ run_expr-returns-in-Dot-clause-runs = chains.run_expr-returns-in-Dot-clause-runs
 pub run_expr-returns-in-Index-clause-runs : goal.run_expr-returns-in-Index-clause-runs
 run_expr-returns-in-Index-clause-runs = chains.run_expr-returns-in-Index-clause-runs
 
-pub run_assignment-assign_chain-requires : goal.run_assignment-assign_chain-requires
-run_assignment-assign_chain-requires = chains.run_assignment-assign_chain-requires
+pub run_assignment-assign_chain-answer-requires : goal.run_assignment-assign_chain-answer-requires
+run_assignment-assign_chain-answer-requires = chains.run_assignment-assign_chain-answer-requires
 
 pub run_until-run_condition-requires : goal.run_until-run_condition-requires
 run_until-run_condition-requires = choices.run_until-run_condition-requires
@@ -424,6 +424,9 @@ run_expr-returns-in-ThisPtr-clause-runs = expressions.run_expr-returns-in-ThisPt
 
 pub run_expr-returns-in-Stmt-clause-runs : goal.run_expr-returns-in-Stmt-clause-runs
 run_expr-returns-in-Stmt-clause-runs = expressions.run_expr-returns-in-Stmt-clause-runs
+
+pub run_expr-returns-in-Stmt-clause-charges : goal.run_expr-returns-in-Stmt-clause-charges
+run_expr-returns-in-Stmt-clause-charges = expressions.run_expr-returns-in-Stmt-clause-charges
 
 pub run_expr-returns-in-FnCall-clause-runs : goal.run_expr-returns-in-FnCall-clause-runs
 run_expr-returns-in-FnCall-clause-runs = expressions.run_expr-returns-in-FnCall-clause-runs
@@ -599,23 +602,23 @@ run_more_args-returns-clause-more = functions.run_more_args-returns-clause-more
 pub run_break-returns-in-None-clause-runs : goal.run_break-returns-in-None-clause-runs
 run_break-returns-in-None-clause-runs = leaving.run_break-returns-in-None-clause-runs
 
+pub run_break-returns-then-not-settle-clause-runs : goal.run_break-returns-then-not-settle-clause-runs
+run_break-returns-then-not-settle-clause-runs = leaving.run_break-returns-then-not-settle-clause-runs
+
+pub run_break-returns-else-not-settle-clause-runs : goal.run_break-returns-else-not-settle-clause-runs
+run_break-returns-else-not-settle-clause-runs = leaving.run_break-returns-else-not-settle-clause-runs
+
 pub run_return-returns-in-None-clause-runs : goal.run_return-returns-in-None-clause-runs
 run_return-returns-in-None-clause-runs = leaving.run_return-returns-in-None-clause-runs
 
-pub run_break-returns-in_err-value-in-Some-clause-runs : goal.run_break-returns-in_err-value-in-Some-clause-runs
-run_break-returns-in_err-value-in-Some-clause-runs = leaving.run_break-returns-in_err-value-in-Some-clause-runs
+pub run_return-returns-then-not-settle-clause-runs : goal.run_return-returns-then-not-settle-clause-runs
+run_return-returns-then-not-settle-clause-runs = leaving.run_return-returns-then-not-settle-clause-runs
 
-pub run_break-returns-in_ok-value-in-Some-clause-runs : goal.run_break-returns-in_ok-value-in-Some-clause-runs
-run_break-returns-in_ok-value-in-Some-clause-runs = leaving.run_break-returns-in_ok-value-in-Some-clause-runs
+pub run_return-returns-then-not-flatten_value-clause-runs : goal.run_return-returns-then-not-flatten_value-clause-runs
+run_return-returns-then-not-flatten_value-clause-runs = leaving.run_return-returns-then-not-flatten_value-clause-runs
 
-pub run_return-returns-in_err-value-in-Some-clause-runs : goal.run_return-returns-in_err-value-in-Some-clause-runs
-run_return-returns-in_err-value-in-Some-clause-runs = leaving.run_return-returns-in_err-value-in-Some-clause-runs
-
-pub run_return-returns-in_err-value-in-Some-2-clause-runs : goal.run_return-returns-in_err-value-in-Some-2-clause-runs
-run_return-returns-in_err-value-in-Some-2-clause-runs = leaving.run_return-returns-in_err-value-in-Some-2-clause-runs
-
-pub run_return-returns-in_ok-value-in-Some-2-clause-runs : goal.run_return-returns-in_ok-value-in-Some-2-clause-runs
-run_return-returns-in_ok-value-in-Some-2-clause-runs = leaving.run_return-returns-in_ok-value-in-Some-2-clause-runs
+pub run_return-returns-else-not-flatten_value-clause-runs : goal.run_return-returns-else-not-flatten_value-clause-runs
+run_return-returns-else-not-flatten_value-clause-runs = leaving.run_return-returns-else-not-flatten_value-clause-runs
 
 pub walk_entered-unreachable-requires : goal.walk_entered-unreachable-requires
 walk_entered-unreachable-requires = located.walk_entered-unreachable-requires
@@ -665,11 +668,14 @@ run_while-turns-smaller = loops.run_while-turns-smaller
 pub run_while-turns-preserved : goal.run_while-turns-preserved
 run_while-turns-preserved = loops.run_while-turns-preserved
 
-pub run_while-returns-in_err-turn-clause-runs : goal.run_while-returns-in_err-turn-clause-runs
-run_while-returns-in_err-turn-clause-runs = loops.run_while-returns-in_err-turn-clause-runs
-
 pub run_while-returns-in-Some-clause-runs : goal.run_while-returns-in-Some-clause-runs
 run_while-returns-in-Some-clause-runs = loops.run_while-returns-in-Some-clause-runs
+
+pub run_while-returns-in-Some-clause-counts : goal.run_while-returns-in-Some-clause-counts
+run_while-returns-in-Some-clause-counts = loops.run_while-returns-in-Some-clause-counts
+
+pub run_while-returns-in-Some-clause-names : goal.run_while-returns-in-Some-clause-names
+run_while-returns-in-Some-clause-names = loops.run_while-returns-in-Some-clause-names
 
 pub run_do-turns-init : goal.run_do-turns-init
 run_do-turns-init = loops.run_do-turns-init
@@ -680,14 +686,17 @@ run_do-turns-smaller = loops.run_do-turns-smaller
 pub run_do-turns-preserved : goal.run_do-turns-preserved
 run_do-turns-preserved = loops.run_do-turns-preserved
 
-pub run_do-returns-in_err-turn-clause-runs : goal.run_do-returns-in_err-turn-clause-runs
-run_do-returns-in_err-turn-clause-runs = loops.run_do-returns-in_err-turn-clause-runs
-
 pub run_do-returns-in-Some-clause-runs : goal.run_do-returns-in-Some-clause-runs
 run_do-returns-in-Some-clause-runs = loops.run_do-returns-in-Some-clause-runs
 
-pub do_turn-returns-in_err-value-clause-runs : goal.do_turn-returns-in_err-value-clause-runs
-do_turn-returns-in_err-value-clause-runs = loops.do_turn-returns-in_err-value-clause-runs
+pub run_do-returns-in-Some-clause-counts : goal.run_do-returns-in-Some-clause-counts
+run_do-returns-in-Some-clause-counts = loops.run_do-returns-in-Some-clause-counts
+
+pub run_do-returns-in-Some-clause-names : goal.run_do-returns-in-Some-clause-names
+run_do-returns-in-Some-clause-names = loops.run_do-returns-in-Some-clause-names
+
+pub do_turn-returns-in-Stopped-clause-runs : goal.do_turn-returns-in-Stopped-clause-runs
+do_turn-returns-in-Stopped-clause-runs = loops.do_turn-returns-in-Stopped-clause-runs
 
 pub do_turn-returns-in-Break-clause-runs : goal.do_turn-returns-in-Break-clause-runs
 do_turn-returns-in-Break-clause-runs = loops.do_turn-returns-in-Break-clause-runs
@@ -707,14 +716,29 @@ do_turn-returns-in-Continue-clause-charges = loops.do_turn-returns-in-Continue-c
 pub do_turn-returns-in-Continue-clause-names : goal.do_turn-returns-in-Continue-clause-names
 do_turn-returns-in-Continue-clause-names = loops.do_turn-returns-in-Continue-clause-names
 
-pub while_turn-returns-in_err-holds-clause-runs : goal.while_turn-returns-in_err-holds-clause-runs
-while_turn-returns-in_err-holds-clause-runs = loops.while_turn-returns-in_err-holds-clause-runs
+pub do_turn-run_condition-requires : goal.do_turn-run_condition-requires
+do_turn-run_condition-requires = loops.do_turn-run_condition-requires
 
-pub while_turn-returns-in_err-track_operation-clause-runs : goal.while_turn-returns-in_err-track_operation-clause-runs
-while_turn-returns-in_err-track_operation-clause-runs = loops.while_turn-returns-in_err-track_operation-clause-runs
+pub do_turn-returns-in-Err-clause-runs : goal.do_turn-returns-in-Err-clause-runs
+do_turn-returns-in-Err-clause-runs = loops.do_turn-returns-in-Err-clause-runs
+
+pub do_turn-returns-in-Ok-clause-runs : goal.do_turn-returns-in-Ok-clause-runs
+do_turn-returns-in-Ok-clause-runs = loops.do_turn-returns-in-Ok-clause-runs
+
+pub do_turn-returns-in-Ok-clause-charges : goal.do_turn-returns-in-Ok-clause-charges
+do_turn-returns-in-Ok-clause-charges = loops.do_turn-returns-in-Ok-clause-charges
+
+pub do_turn-returns-in-Ok-clause-names : goal.do_turn-returns-in-Ok-clause-names
+do_turn-returns-in-Ok-clause-names = loops.do_turn-returns-in-Ok-clause-names
+
+pub while_turn-returns-in-Err-clause-runs : goal.while_turn-returns-in-Err-clause-runs
+while_turn-returns-in-Err-clause-runs = loops.while_turn-returns-in-Err-clause-runs
 
 pub while_turn-returns-then-is_empty-clause-runs : goal.while_turn-returns-then-is_empty-clause-runs
 while_turn-returns-then-is_empty-clause-runs = loops.while_turn-returns-then-is_empty-clause-runs
+
+pub while_turn-returns-then-charge-clause-runs : goal.while_turn-returns-then-charge-clause-runs
+while_turn-returns-then-charge-clause-runs = loops.while_turn-returns-then-charge-clause-runs
 
 pub while_turn-returns-then-is_endless-clause-runs : goal.while_turn-returns-then-is_endless-clause-runs
 while_turn-returns-then-is_endless-clause-runs = loops.while_turn-returns-then-is_endless-clause-runs
@@ -734,17 +758,8 @@ while_turn-returns-then-holds-clause-charges = loops.while_turn-returns-then-hol
 pub while_turn-returns-then-holds-clause-names : goal.while_turn-returns-then-holds-clause-names
 while_turn-returns-then-holds-clause-names = loops.while_turn-returns-then-holds-clause-names
 
-pub while_turn-returns-clause-runs : goal.while_turn-returns-clause-runs
-while_turn-returns-clause-runs = loops.while_turn-returns-clause-runs
-
-pub do_turn-run_condition-requires : goal.do_turn-run_condition-requires
-do_turn-run_condition-requires = loops.do_turn-run_condition-requires
-
-pub do_turn-returns-in_err-holds-in-Done-clause-runs : goal.do_turn-returns-in_err-holds-in-Done-clause-runs
-do_turn-returns-in_err-holds-in-Done-clause-runs = loops.do_turn-returns-in_err-holds-in-Done-clause-runs
-
-pub do_turn-returns-in_ok-holds-in-Done-clause-runs : goal.do_turn-returns-in_ok-holds-in-Done-clause-runs
-do_turn-returns-in_ok-holds-in-Done-clause-runs = loops.do_turn-returns-in_ok-holds-in-Done-clause-runs
+pub while_turn-returns-else-holds-clause-runs : goal.while_turn-returns-else-holds-clause-runs
+while_turn-returns-else-holds-clause-runs = loops.while_turn-returns-else-holds-clause-runs
 
 pub walk_member-returns-in_default-clause-runs : goal.walk_member-returns-in_default-clause-runs
 walk_member-returns-in_default-clause-runs = members.walk_member-returns-in_default-clause-runs
@@ -845,17 +860,20 @@ walk_part-returns-in-Some-clause-runs = spots.walk_part-returns-in-Some-clause-r
 pub walk_part-returns-in-None-clause-runs : goal.walk_part-returns-in-None-clause-runs
 walk_part-returns-in-None-clause-runs = spots.walk_part-returns-in-None-clause-runs
 
-pub run_stmt-returns-in_err-track_operation-clause-runs : goal.run_stmt-returns-in_err-track_operation-clause-runs
-run_stmt-returns-in_err-track_operation-clause-runs = statements.run_stmt-returns-in_err-track_operation-clause-runs
+pub run_stmt-returns-then-not-charge_stmt-clause-runs : goal.run_stmt-returns-then-not-charge_stmt-clause-runs
+run_stmt-returns-then-not-charge_stmt-clause-runs = statements.run_stmt-returns-then-not-charge_stmt-clause-runs
+
+pub run_stmt-returns-then-not-charge_stmt-clause-memory : goal.run_stmt-returns-then-not-charge_stmt-clause-memory
+run_stmt-returns-then-not-charge_stmt-clause-memory = statements.run_stmt-returns-then-not-charge_stmt-clause-memory
 
 pub run_stmt-returns-in-Noop-clause-runs : goal.run_stmt-returns-in-Noop-clause-runs
 run_stmt-returns-in-Noop-clause-runs = statements.run_stmt-returns-in-Noop-clause-runs
 
-pub run_stmt-returns-in_err-value-in-Expr-clause-runs : goal.run_stmt-returns-in_err-value-in-Expr-clause-runs
-run_stmt-returns-in_err-value-in-Expr-clause-runs = statements.run_stmt-returns-in_err-value-in-Expr-clause-runs
+pub run_stmt-returns-then-not-settle-clause-runs : goal.run_stmt-returns-then-not-settle-clause-runs
+run_stmt-returns-then-not-settle-clause-runs = statements.run_stmt-returns-then-not-settle-clause-runs
 
-pub run_stmt-returns-in_ok-value-in-Expr-clause-runs : goal.run_stmt-returns-in_ok-value-in-Expr-clause-runs
-run_stmt-returns-in_ok-value-in-Expr-clause-runs = statements.run_stmt-returns-in_ok-value-in-Expr-clause-runs
+pub run_stmt-returns-else-not-settle-clause-runs : goal.run_stmt-returns-else-not-settle-clause-runs
+run_stmt-returns-else-not-settle-clause-runs = statements.run_stmt-returns-else-not-settle-clause-runs
 
 pub run_stmt-returns-in-FnCall-clause-runs : goal.run_stmt-returns-in-FnCall-clause-runs
 run_stmt-returns-in-FnCall-clause-runs = statements.run_stmt-returns-in-FnCall-clause-runs
@@ -863,11 +881,11 @@ run_stmt-returns-in-FnCall-clause-runs = statements.run_stmt-returns-in-FnCall-c
 pub run_stmt-returns-in-Block-clause-runs : goal.run_stmt-returns-in-Block-clause-runs
 run_stmt-returns-in-Block-clause-runs = statements.run_stmt-returns-in-Block-clause-runs
 
-pub run_stmt-returns-in_err-holds-in-If-clause-runs : goal.run_stmt-returns-in_err-holds-in-If-clause-runs
-run_stmt-returns-in_err-holds-in-If-clause-runs = statements.run_stmt-returns-in_err-holds-in-If-clause-runs
+pub run_stmt-returns-in-Err-clause-runs : goal.run_stmt-returns-in-Err-clause-runs
+run_stmt-returns-in-Err-clause-runs = statements.run_stmt-returns-in-Err-clause-runs
 
-pub run_stmt-returns-in_ok-holds-in-If-clause-runs : goal.run_stmt-returns-in_ok-holds-in-If-clause-runs
-run_stmt-returns-in_ok-holds-in-If-clause-runs = statements.run_stmt-returns-in_ok-holds-in-If-clause-runs
+pub run_stmt-returns-in-Ok-clause-runs : goal.run_stmt-returns-in-Ok-clause-runs
+run_stmt-returns-in-Ok-clause-runs = statements.run_stmt-returns-in-Ok-clause-runs
 
 pub run_stmt-run_assignment-requires : goal.run_stmt-run_assignment-requires
 run_stmt-run_assignment-requires = statements.run_stmt-run_assignment-requires
@@ -887,44 +905,26 @@ run_stmt-returns-in-BreakLoop-clause-runs = statements.run_stmt-returns-in-Break
 pub run_stmt-returns-in-Return-clause-runs : goal.run_stmt-returns-in-Return-clause-runs
 run_stmt-returns-in-Return-clause-runs = statements.run_stmt-returns-in-Return-clause-runs
 
-pub run_stmt-run_switch-done-requires : goal.run_stmt-run_switch-done-requires
-run_stmt-run_switch-done-requires = statements.run_stmt-run_switch-done-requires
+pub run_stmt-run_switch-requires : goal.run_stmt-run_switch-requires
+run_stmt-run_switch-requires = statements.run_stmt-run_switch-requires
 
 pub run_stmt-returns-in-Switch-clause-runs : goal.run_stmt-returns-in-Switch-clause-runs
 run_stmt-returns-in-Switch-clause-runs = statements.run_stmt-returns-in-Switch-clause-runs
 
-pub run_stmt-returns-in-Switch-clause-charges : goal.run_stmt-returns-in-Switch-clause-charges
-run_stmt-returns-in-Switch-clause-charges = statements.run_stmt-returns-in-Switch-clause-charges
-
-pub run_stmt-returns-in-Switch-clause-names : goal.run_stmt-returns-in-Switch-clause-names
-run_stmt-returns-in-Switch-clause-names = statements.run_stmt-returns-in-Switch-clause-names
-
-pub run_stmt-run_for-done-requires : goal.run_stmt-run_for-done-requires
-run_stmt-run_for-done-requires = statements.run_stmt-run_for-done-requires
+pub run_stmt-run_for-requires : goal.run_stmt-run_for-requires
+run_stmt-run_for-requires = statements.run_stmt-run_for-requires
 
 pub run_stmt-returns-in-For-clause-runs : goal.run_stmt-returns-in-For-clause-runs
 run_stmt-returns-in-For-clause-runs = statements.run_stmt-returns-in-For-clause-runs
 
-pub run_stmt-returns-in-For-clause-charges : goal.run_stmt-returns-in-For-clause-charges
-run_stmt-returns-in-For-clause-charges = statements.run_stmt-returns-in-For-clause-charges
-
-pub run_stmt-returns-in-For-clause-names : goal.run_stmt-returns-in-For-clause-names
-run_stmt-returns-in-For-clause-names = statements.run_stmt-returns-in-For-clause-names
-
-pub run_stmt-run_try-done-requires : goal.run_stmt-run_try-done-requires
-run_stmt-run_try-done-requires = statements.run_stmt-run_try-done-requires
+pub run_stmt-run_try-requires : goal.run_stmt-run_try-requires
+run_stmt-run_try-requires = statements.run_stmt-run_try-requires
 
 pub run_stmt-returns-in-TryCatch-clause-runs : goal.run_stmt-returns-in-TryCatch-clause-runs
 run_stmt-returns-in-TryCatch-clause-runs = statements.run_stmt-returns-in-TryCatch-clause-runs
 
-pub run_stmt-returns-in-TryCatch-clause-charges : goal.run_stmt-returns-in-TryCatch-clause-charges
-run_stmt-returns-in-TryCatch-clause-charges = statements.run_stmt-returns-in-TryCatch-clause-charges
-
-pub run_stmt-returns-in-TryCatch-clause-names : goal.run_stmt-returns-in-TryCatch-clause-names
-run_stmt-returns-in-TryCatch-clause-names = statements.run_stmt-returns-in-TryCatch-clause-names
-
-pub run_stmt-share_variables-requires : goal.run_stmt-share_variables-requires
-run_stmt-share_variables-requires = statements.run_stmt-share_variables-requires
+pub run_stmt-share_variables-answer-requires : goal.run_stmt-share_variables-answer-requires
+run_stmt-share_variables-answer-requires = statements.run_stmt-share_variables-answer-requires
 
 pub run_stmt-returns-in-Share-clause-runs : goal.run_stmt-returns-in-Share-clause-runs
 run_stmt-returns-in-Share-clause-runs = statements.run_stmt-returns-in-Share-clause-runs
@@ -935,14 +935,14 @@ run_stmt-returns-in-Var-default-default-None-default-default-clause-runs = state
 pub run_assignment-returns-in-Some-clause-runs : goal.run_assignment-returns-in-Some-clause-runs
 run_assignment-returns-in-Some-clause-runs = statements.run_assignment-returns-in-Some-clause-runs
 
-pub run_assignment-returns-in_err-value-clause-runs : goal.run_assignment-returns-in_err-value-clause-runs
-run_assignment-returns-in_err-value-clause-runs = statements.run_assignment-returns-in_err-value-clause-runs
+pub run_assignment-returns-then-not-settle-clause-runs : goal.run_assignment-returns-then-not-settle-clause-runs
+run_assignment-returns-then-not-settle-clause-runs = statements.run_assignment-returns-then-not-settle-clause-runs
 
-pub run_assignment-returns-in_err-value-2-clause-runs : goal.run_assignment-returns-in_err-value-2-clause-runs
-run_assignment-returns-in_err-value-2-clause-runs = statements.run_assignment-returns-in_err-value-2-clause-runs
+pub run_assignment-returns-then-not-flatten_value-clause-runs : goal.run_assignment-returns-then-not-flatten_value-clause-runs
+run_assignment-returns-then-not-flatten_value-clause-runs = statements.run_assignment-returns-then-not-flatten_value-clause-runs
 
-pub run_assignment-assign_variable-requires : goal.run_assignment-assign_variable-requires
-run_assignment-assign_variable-requires = statements.run_assignment-assign_variable-requires
+pub run_assignment-assign_variable-answer-requires : goal.run_assignment-assign_variable-answer-requires
+run_assignment-assign_variable-answer-requires = statements.run_assignment-assign_variable-answer-requires
 
 pub run_assignment-returns-clause-runs : goal.run_assignment-returns-clause-runs
 run_assignment-returns-clause-runs = statements.run_assignment-returns-clause-runs
@@ -953,14 +953,14 @@ run_assignment-assign_to_this-requires = statements.run_assignment-assign_to_thi
 pub assign_to_this-returns-then-is_none-clause-runs : goal.assign_to_this-returns-then-is_none-clause-runs
 assign_to_this-returns-then-is_none-clause-runs = statements.assign_to_this-returns-then-is_none-clause-runs
 
-pub assign_to_this-returns-in_err-value-clause-runs : goal.assign_to_this-returns-in_err-value-clause-runs
-assign_to_this-returns-in_err-value-clause-runs = statements.assign_to_this-returns-in_err-value-clause-runs
+pub assign_to_this-returns-then-not-settle-clause-runs : goal.assign_to_this-returns-then-not-settle-clause-runs
+assign_to_this-returns-then-not-settle-clause-runs = statements.assign_to_this-returns-then-not-settle-clause-runs
 
-pub assign_to_this-returns-in_err-value-2-clause-runs : goal.assign_to_this-returns-in_err-value-2-clause-runs
-assign_to_this-returns-in_err-value-2-clause-runs = statements.assign_to_this-returns-in_err-value-2-clause-runs
+pub assign_to_this-returns-then-not-flatten_value-clause-runs : goal.assign_to_this-returns-then-not-flatten_value-clause-runs
+assign_to_this-returns-then-not-flatten_value-clause-runs = statements.assign_to_this-returns-then-not-flatten_value-clause-runs
 
-pub assign_to_this-returns-in-Err-clause-runs : goal.assign_to_this-returns-in-Err-clause-runs
-assign_to_this-returns-in-Err-clause-runs = statements.assign_to_this-returns-in-Err-clause-runs
+pub assign_to_this-returns-then-not-charge-clause-runs : goal.assign_to_this-returns-then-not-charge-clause-runs
+assign_to_this-returns-then-not-charge-clause-runs = statements.assign_to_this-returns-then-not-charge-clause-runs
 
 pub assign_to_this-returns-in-Some-clause-runs : goal.assign_to_this-returns-in-Some-clause-runs
 assign_to_this-returns-in-Some-clause-runs = statements.assign_to_this-returns-in-Some-clause-runs
@@ -968,26 +968,26 @@ assign_to_this-returns-in-Some-clause-runs = statements.assign_to_this-returns-i
 pub assign_to_this-returns-in-None-clause-runs : goal.assign_to_this-returns-in-None-clause-runs
 assign_to_this-returns-in-None-clause-runs = statements.assign_to_this-returns-in-None-clause-runs
 
-pub run_var-returns-in_err-may_declare-clause-runs : goal.run_var-returns-in_err-may_declare-clause-runs
-run_var-returns-in_err-may_declare-clause-runs = statements.run_var-returns-in_err-may_declare-clause-runs
+pub run_var-returns-in-Err-clause-runs : goal.run_var-returns-in-Err-clause-runs
+run_var-returns-in-Err-clause-runs = statements.run_var-returns-in-Err-clause-runs
 
-pub run_var-returns-in_err-given-clause-runs : goal.run_var-returns-in_err-given-clause-runs
-run_var-returns-in_err-given-clause-runs = statements.run_var-returns-in_err-given-clause-runs
+pub run_var-returns-then-not-settle-clause-runs : goal.run_var-returns-then-not-settle-clause-runs
+run_var-returns-then-not-settle-clause-runs = statements.run_var-returns-then-not-settle-clause-runs
 
-pub run_var-returns-in_err-given-2-clause-runs : goal.run_var-returns-in_err-given-2-clause-runs
-run_var-returns-in_err-given-2-clause-runs = statements.run_var-returns-in_err-given-2-clause-runs
+pub run_var-returns-then-not-flatten_value-clause-runs : goal.run_var-returns-then-not-flatten_value-clause-runs
+run_var-returns-then-not-flatten_value-clause-runs = statements.run_var-returns-then-not-flatten_value-clause-runs
 
 pub run_var-value_at-requires : goal.run_var-value_at-requires
 run_var-value_at-requires = statements.run_var-value_at-requires
 
-pub run_var-returns-in_err-define_variable-clause-runs : goal.run_var-returns-in_err-define_variable-clause-runs
-run_var-returns-in_err-define_variable-clause-runs = statements.run_var-returns-in_err-define_variable-clause-runs
+pub run_var-returns-in-Err-defined-clause-runs : goal.run_var-returns-in-Err-defined-clause-runs
+run_var-returns-in-Err-defined-clause-runs = statements.run_var-returns-in-Err-defined-clause-runs
 
-pub run_var-returns-in-Ok-clause-runs : goal.run_var-returns-in-Ok-clause-runs
-run_var-returns-in-Ok-clause-runs = statements.run_var-returns-in-Ok-clause-runs
+pub run_var-returns-in-Err-entered-clause-runs : goal.run_var-returns-in-Err-entered-clause-runs
+run_var-returns-in-Err-entered-clause-runs = statements.run_var-returns-in-Err-entered-clause-runs
 
-pub run_var-returns-in-Err-clause-runs : goal.run_var-returns-in-Err-clause-runs
-run_var-returns-in-Err-clause-runs = statements.run_var-returns-in-Err-clause-runs
+pub run_var-returns-clause-runs : goal.run_var-returns-clause-runs
+run_var-returns-clause-runs = statements.run_var-returns-clause-runs
 
 pub run_stmt_block-returns-then-is_empty-clause-runs : goal.run_stmt_block-returns-then-is_empty-clause-runs
 run_stmt_block-returns-then-is_empty-clause-runs = statements.run_stmt_block-returns-then-is_empty-clause-runs
@@ -1007,14 +1007,14 @@ run_statements-each_stmt-init = statements.run_statements-each_stmt-init
 pub run_statements-each_stmt-preserved : goal.run_statements-each_stmt-preserved
 run_statements-each_stmt-preserved = statements.run_statements-each_stmt-preserved
 
-pub run_statements-returns-in_err-last-clause-runs : goal.run_statements-returns-in_err-last-clause-runs
-run_statements-returns-in_err-last-clause-runs = statements.run_statements-returns-in_err-last-clause-runs
+pub run_statements-returns-then-not-run_stmt-clause-runs : goal.run_statements-returns-then-not-run_stmt-clause-runs
+run_statements-returns-then-not-run_stmt-clause-runs = statements.run_statements-returns-then-not-run_stmt-clause-runs
 
 pub run_statements-returns-clause-runs : goal.run_statements-returns-clause-runs
 run_statements-returns-clause-runs = statements.run_statements-returns-clause-runs
 
-pub run_statements-returns-in_err-last-clause-memory : goal.run_statements-returns-in_err-last-clause-memory
-run_statements-returns-in_err-last-clause-memory = statements.run_statements-returns-in_err-last-clause-memory
+pub run_statements-returns-then-not-run_stmt-clause-memory : goal.run_statements-returns-then-not-run_stmt-clause-memory
+run_statements-returns-then-not-run_stmt-clause-memory = statements.run_statements-returns-then-not-run_stmt-clause-memory
 
 pub run_switch-returns-then-not-settle-clause-runs : goal.run_switch-returns-then-not-settle-clause-runs
 run_switch-returns-then-not-settle-clause-runs = switches.run_switch-returns-then-not-settle-clause-runs
@@ -1046,29 +1046,29 @@ run_switch-returns-then-holds-clause-runs = switches.run_switch-returns-then-hol
 pub run_switch-each_candidate-preserved : goal.run_switch-each_candidate-preserved
 run_switch-each_candidate-preserved = switches.run_switch-each_candidate-preserved
 
+pub run_try-returns-then-run_stmt_block-clause-runs : goal.run_try-returns-then-run_stmt_block-clause-runs
+run_try-returns-then-run_stmt_block-clause-runs = tries.run_try-returns-then-run_stmt_block-clause-runs
+
+pub run_try-returns-then-not-may_catch-clause-runs : goal.run_try-returns-then-not-may_catch-clause-runs
+run_try-returns-then-not-may_catch-clause-runs = tries.run_try-returns-then-not-may_catch-clause-runs
+
 pub run_try-run_branch-requires : goal.run_try-run_branch-requires
 run_try-run_branch-requires = tries.run_try-run_branch-requires
 
-pub run_try-returns-in-Ok-clause-runs : goal.run_try-returns-in-Ok-clause-runs
-run_try-returns-in-Ok-clause-runs = tries.run_try-returns-in-Ok-clause-runs
+pub run_try-returns-clause-counts : goal.run_try-returns-clause-counts
+run_try-returns-clause-counts = tries.run_try-returns-clause-counts
 
-pub run_try-returns-then-is_catchable-clause-counts : goal.run_try-returns-then-is_catchable-clause-counts
-run_try-returns-then-is_catchable-clause-counts = tries.run_try-returns-then-is_catchable-clause-counts
+pub run_try-returns-clause-names : goal.run_try-returns-clause-names
+run_try-returns-clause-names = tries.run_try-returns-clause-names
 
-pub run_try-returns-then-is_catchable-clause-names : goal.run_try-returns-then-is_catchable-clause-names
-run_try-returns-then-is_catchable-clause-names = tries.run_try-returns-then-is_catchable-clause-names
-
-pub run_try-returns-then-is_catchable-clause-runs : goal.run_try-returns-then-is_catchable-clause-runs
-run_try-returns-then-is_catchable-clause-runs = tries.run_try-returns-then-is_catchable-clause-runs
-
-pub run_try-returns-else-is_catchable-clause-runs : goal.run_try-returns-else-is_catchable-clause-runs
-run_try-returns-else-is_catchable-clause-runs = tries.run_try-returns-else-is_catchable-clause-runs
+pub run_try-returns-clause-runs : goal.run_try-returns-clause-runs
+run_try-returns-clause-runs = tries.run_try-returns-clause-runs
 
 pub run_branch-returns-in-Err-clause-runs : goal.run_branch-returns-in-Err-clause-runs
 run_branch-returns-in-Err-clause-runs = tries.run_branch-returns-in-Err-clause-runs
 
-pub run_branch-run_stmt_block-outcome-requires : goal.run_branch-run_stmt_block-outcome-requires
-run_branch-run_stmt_block-outcome-requires = tries.run_branch-run_stmt_block-outcome-requires
+pub run_branch-run_stmt_block-done-requires : goal.run_branch-run_stmt_block-done-requires
+run_branch-run_stmt_block-done-requires = tries.run_branch-run_stmt_block-done-requires
 
 pub run_branch-returns-clause-runs : goal.run_branch-returns-clause-runs
 run_branch-returns-clause-runs = tries.run_branch-returns-clause-runs
@@ -1127,20 +1127,20 @@ run_for-returns-in-Some-clause-names = walks.run_for-returns-in-Some-clause-name
 pub run_for_turn-returns-in_default-clause-runs : goal.run_for_turn-returns-in_default-clause-runs
 run_for_turn-returns-in_default-clause-runs = walks.run_for_turn-returns-in_default-clause-runs
 
-pub run_for_turn-returns-in-Ok-clause-runs : goal.run_for_turn-returns-in-Ok-clause-runs
-run_for_turn-returns-in-Ok-clause-runs = walks.run_for_turn-returns-in-Ok-clause-runs
+pub run_for_turn-returns-then-charge-clause-runs : goal.run_for_turn-returns-then-charge-clause-runs
+run_for_turn-returns-then-charge-clause-runs = walks.run_for_turn-returns-then-charge-clause-runs
 
-pub run_for_turn-returns-in-Err-clause-runs : goal.run_for_turn-returns-in-Err-clause-runs
-run_for_turn-returns-in-Err-clause-runs = walks.run_for_turn-returns-in-Err-clause-runs
+pub run_for_turn-returns-then-is_empty-clause-runs : goal.run_for_turn-returns-then-is_empty-clause-runs
+run_for_turn-returns-then-is_empty-clause-runs = walks.run_for_turn-returns-then-is_empty-clause-runs
 
 pub run_for_turn-enter_turn-entered-requires : goal.run_for_turn-enter_turn-entered-requires
 run_for_turn-enter_turn-entered-requires = walks.run_for_turn-enter_turn-entered-requires
 
-pub run_for_turn-returns-in-Err-entered-clause-runs : goal.run_for_turn-returns-in-Err-entered-clause-runs
-run_for_turn-returns-in-Err-entered-clause-runs = walks.run_for_turn-returns-in-Err-entered-clause-runs
+pub run_for_turn-returns-in-Err-clause-runs : goal.run_for_turn-returns-in-Err-clause-runs
+run_for_turn-returns-in-Err-clause-runs = walks.run_for_turn-returns-in-Err-clause-runs
 
-pub run_for_turn-run_stmt_block-outcome-requires : goal.run_for_turn-run_stmt_block-outcome-requires
-run_for_turn-run_stmt_block-outcome-requires = walks.run_for_turn-run_stmt_block-outcome-requires
+pub run_for_turn-run_stmt_block-done-requires : goal.run_for_turn-run_stmt_block-done-requires
+run_for_turn-run_stmt_block-done-requires = walks.run_for_turn-run_stmt_block-done-requires
 
 pub run_for_turn-returns-clause-runs : goal.run_for_turn-returns-clause-runs
 run_for_turn-returns-clause-runs = walks.run_for_turn-returns-clause-runs

@@ -203,7 +203,7 @@ invariant-run_statements-each_stmt g l = record {
       (map resolves_stmt l.statements) (names l.fn.run);
   steps : Steps (under g.H.Host.name_of l.self g.T.NativeTable.natives)
       (Run l.statements l.restoring unit_value) (state_in (g.T.NativeTable.state l.fn.table) l.fn.run)
-      (Run (drop l.stmt-index l.statements) l.restoring l.last) (state_in (g.T.NativeTable.state l.table) l.run);
+      (Run (drop l.stmt-index l.statements) l.restoring l.run.value) (state_in (g.T.NativeTable.state l.table) l.run);
 }
 
 abbrev pub invariant-run_until-each_part : goal.invariant-run_until-each_part

@@ -9,7 +9,7 @@ use Rattle.rhai_steps.specs.States.{holding, state_of}
 use Rattle.rhai_cycle.specs.States.{under as under_what_is_read}
 use Rattle.rhai_eval.specs.States.{under}
 use Rattle.rhai_eval.proofs.Public.{handed_free, same_rules}
-use Rattle.rhai_eval.proofs.Scripts.{script_ends, script_agrees, script_goes}
+use Rattle.rhai_eval.proofs.Scripts.{script_agrees, script_ends, script_goes, script_memory}
 use Rattle.rhai_eval.proofs.engine.Engine.eval_global_statements.Given.{Over}
 use Rattle.rhai_eval.proofs.engine.Engine.eval_global_statements.Goals as goal
 
@@ -17,18 +17,18 @@ use Rattle.rhai_eval.proofs.engine.Engine.eval_global_statements.Goals as goal
 statements_run : (g : Over) (c : goal.After-top g) →
     Runs (under g.H.Host.name_of c.args.self.now g.T.NativeTable.natives) (Enter c.args.tree.now.0 false)
     (state_of (g.T.NativeTable.state c.args.table.now) c.args.global.now c.args.scope.now (holding None))
-    c.run_stmt_block-outcome.result
-    (state_of (g.T.NativeTable.state c.run_stmt_block-outcome.new.table) c.give_back.new.global c.give_back.new.scope (holding None))
+    c.finish-outcome.result
+    (state_of (g.T.NativeTable.state c.run_stmt_block-done.new.table) c.give_back.new.global c.give_back.new.scope (holding None))
 statements_run g c =
     let reads = same_rules g.H.Host.name_of g.T.NativeTable.natives c.args.self.now c.evaluator-evaluator.result
     c.evaluator-evaluator.ensures.limits c.evaluator-evaluator.ensures.offer in
-    let runs = rw c.statements.ensures.value at c.run_stmt_block-outcome.ensures.runs in
-    handed_free reads (λ r old new. Runs r (Enter c.args.tree.now.0 false) old c.run_stmt_block-outcome.result new)
-    (g.T.NativeTable.state c.args.table.now) (g.T.NativeTable.state c.run_stmt_block-outcome.new.table) c.take-run.result
-    c.run_stmt_block-outcome.new.run c.args.global.now c.give_back.new.global c.give_back.ensures.global c.args.scope.now
+    let runs = rw (c.statements.ensures.value, ← c.finish-outcome.ensures.came) at c.run_stmt_block-done.ensures.runs in
+    handed_free reads (λ r old new. Runs r (Enter c.args.tree.now.0 false) old c.finish-outcome.result new)
+    (g.T.NativeTable.state c.args.table.now) (g.T.NativeTable.state c.run_stmt_block-done.new.table) c.take-run.result
+    c.run_stmt_block-done.new.run c.args.global.now c.give_back.new.global c.give_back.ensures.global c.args.scope.now
     c.give_back.new.scope c.give_back.ensures.scope
     (grown (under_what_is_read g.H.Host.name_of c.evaluator-evaluator.result g.T.NativeTable.natives) (Enter c.args.tree.now.0 false)
-    (ended c.run_stmt_block-outcome.result) _ _ tt runs).bound None None refl refl c.take-run.ensures.run runs
+    (ended c.finish-outcome.result) _ _ tt runs).bound None None refl refl c.take-run.ensures.run runs
 
 -- and then the script
 script_runs : (g : Over) (c : goal.After-top g) →
@@ -36,9 +36,9 @@ script_runs : (g : Over) (c : goal.After-top g) →
     (start_of_script c.args.tree.now.0 c.args.map_exit_to_return_value
     (state_of (g.T.NativeTable.state c.args.table.now) c.args.global.now c.args.scope.now (holding None)))
     (end_of_script c.top.result
-    (state_of (g.T.NativeTable.state c.run_stmt_block-outcome.new.table) c.give_back.new.global c.give_back.new.scope (holding None)))
+    (state_of (g.T.NativeTable.state c.run_stmt_block-done.new.table) c.give_back.new.global c.give_back.new.scope (holding None)))
 script_runs g c = script_goes (under g.H.Host.name_of c.args.self.now g.T.NativeTable.natives) c.args.tree.now.0
-    c.args.map_exit_to_return_value _ _ c.run_stmt_block-outcome.result c.top.result (statements_run g c) c.top.ensures.value
+    c.args.map_exit_to_return_value _ _ c.finish-outcome.result c.top.result (statements_run g c) c.top.ensures.value
     c.top.ensures.error
 
 pub returns-clause-ends : goal.returns-clause-ends
@@ -56,16 +56,21 @@ returns-clause-up_to g c = runs_up_to_memory (under g.H.Host.name_of c.args.self
 
 pub returns-clause-kept : goal.returns-clause-kept
 returns-clause-kept g c = grown (under g.H.Host.name_of c.args.self.now g.T.NativeTable.natives) (Enter c.args.tree.now.0 false)
-    (ended c.run_stmt_block-outcome.result) _ _ tt (statements_run g c)
+    (ended c.finish-outcome.result) _ _ tt (statements_run g c)
 
 pub returns-clause-begins : goal.returns-clause-begins
 returns-clause-begins g c = names_begin (under g.H.Host.name_of c.args.self.now g.T.NativeTable.natives) (Enter c.args.tree.now.0 false)
-    (ended c.run_stmt_block-outcome.result) _ _ tt (statements_run g c)
+    (ended c.finish-outcome.result) _ _ tt (statements_run g c)
 
 pub returns-clause-variables : goal.returns-clause-variables
 returns-clause-variables g c = variables_stay (under g.H.Host.name_of c.args.self.now g.T.NativeTable.natives)
-    (Enter c.args.tree.now.0 false) (ended c.run_stmt_block-outcome.result) _ _ tt (statements_run g c)
+    (Enter c.args.tree.now.0 false) (ended c.finish-outcome.result) _ _ tt (statements_run g c)
 
 pub returns-clause-search : goal.returns-clause-search
 returns-clause-search g c = ap (λ (global : GlobalRuntimeState _). global.always_search_scope) c.give_back.ensures.global
     ∙ c.take-run.ensures.search
+
+pub returns-clause-memory : goal.returns-clause-memory
+returns-clause-memory g c = script_memory _ c.args.map_exit_to_return_value c.finish-outcome.result c.top.result
+    (rw (c.statements.ensures.value, ← c.finish-outcome.ensures.came) at c.run_stmt_block-done.ensures.memory) c.top.ensures.value
+    c.top.ensures.error

@@ -1,8 +1,10 @@
-use Rattle.std.proofs.Common.{◌≡◌, Option, Some, None, MutBor, ap, refl, subst, sym}
+use Rattle.std.proofs.Common.{◌≡◌, ◌∙◌, Option, Some, None, MutBor, ap, refl, subst, sym}
 use Rattle.rhai_values.specs.declared.base.value.Dynamic.{Dynamic}
 use Rattle.rhai_state.specs.Native.{left_by, was}
+use Rattle.rhai_state.specs.Scope.{names_in}
 use Rattle.rhai_steps.specs.States.{holding, state_of}
 use Rattle.rhai_cycle.specs.States.{under as under_what_is_read}
+use Rattle.rhai_cycle.proofs.Chain.{on_done}
 use Rattle.rhai_eval.specs.States.{under}
 use Rattle.rhai_machine.specs.language.Runs.{Runs}
 use Rattle.rhai_laws.proofs.KeptLaws.{grown, kept, names_begin, names_stay, variables_stay}
@@ -23,7 +25,7 @@ left_on g c place =
     let answer = r g.row.H g.row.T g.H.laws g.T.laws g.H.Host-dict g.H.Destruct-dict g.T.NativeTable-dict in
     let types = xs g.row.H g.row.T g.H.laws g.T.laws g.H.Host-dict g.H.Destruct-dict g.T.NativeTable-dict in
     let given : Args (ended_of 9 kinds answer).signature c.lifetimes = (c.args.self, (c.args.alloc, (c.args.global, (c.args._caches, (c.args.table, (c.args.scope, (place, (c.args.stmt, (c.args.rewind_scope, tt))))))))) in
-    left_by (at_exit (ended_of 9 kinds answer) c.lifetimes given (lasts_p c.lifetimes 4 kinds types given (c.args.self, (tt, (c.args.global, (c.args._caches, (c.args.table, (c.args.scope, (Some (record c.in-Some.place { now = c.give_back_with.new.this }), (c.args.stmt, five (five (five (five (five (five (tt, (tt, (tt, (tt, tt))))))))))))))))))).1.1.1.1.1.1.0
+    left_by (at_exit (ended_of 9 kinds answer) c.lifetimes given (lasts_p c.lifetimes 4 kinds types given (c.args.self, (tt, (c.args.global, (c.args._caches, (c.args.table, (c.args.scope, (Some (record c.in-Some.place { now = c.give_back_with.new.this }), (c.args.stmt, five (five (five (five (five (five (five (tt, (tt, (tt, (tt, (tt, tt))))))))))))))))))))).1.1.1.1.1.1.0
 
 this_on : (g : Over) (c : goal.After-give_back_with g) → left_on g c c.args.this ≡ Some c.give_back_with.new.this
 this_on g c = subst (λ place. left_on g c place ≡ Some c.give_back_with.new.this) (sym c.in-Some.is) refl
@@ -31,36 +33,36 @@ this_on g c = subst (λ place. left_on g c place ≡ Some c.give_back_with.new.t
 -- the run, where the caller has a `this`
 runs_on : (g : Over) (c : goal.After-give_back_with g) → Runs (under g.H.Host.name_of c.args.self.now g.T.NativeTable.natives)
     (Exec c.args.stmt.now c.args.rewind_scope) (state_of (g.T.NativeTable.state c.args.table.now) c.args.global.now c.args.scope.now
-    (holding (was c.args.this))) c.run_stmt-result.result (state_of (g.T.NativeTable.state c.run_stmt-result.new.table)
+    (holding (was c.args.this))) c.finish-result.result (state_of (g.T.NativeTable.state c.run_stmt-done.new.table)
     c.give_back_with.new.global c.give_back_with.new.scope (holding (left_on g c c.args.this)))
 runs_on g c =
     let reads = same_rules g.H.Host.name_of g.T.NativeTable.natives c.args.self.now c.evaluator-evaluator.result
     c.evaluator-evaluator.ensures.limits c.evaluator-evaluator.ensures.offer in
-    let runs = c.run_stmt-result.ensures.runs in
-    handed_on reads (λ r old new. Runs r (Exec c.args.stmt.now c.args.rewind_scope) old c.run_stmt-result.result new)
-    (g.T.NativeTable.state c.args.table.now) (g.T.NativeTable.state c.run_stmt-result.new.table) c.take_with-run.result
-    c.run_stmt-result.new.run c.args.global.now c.give_back_with.new.global c.give_back_with.ensures.global c.args.scope.now
+    let runs = rw (← c.finish-result.ensures.came) at c.run_stmt-done.ensures.runs in
+    handed_on reads (λ r old new. Runs r (Exec c.args.stmt.now c.args.rewind_scope) old c.finish-result.result new)
+    (g.T.NativeTable.state c.args.table.now) (g.T.NativeTable.state c.run_stmt-done.new.table) c.take_with-run.result
+    c.run_stmt-done.new.run c.args.global.now c.give_back_with.new.global c.give_back_with.ensures.global c.args.scope.now
     c.give_back_with.new.scope c.give_back_with.ensures.scope
     (grown (under_what_is_read g.H.Host.name_of c.evaluator-evaluator.result g.T.NativeTable.natives)
-    (Exec c.args.stmt.now c.args.rewind_scope) (ended c.run_stmt-result.result) _ _ tt c.run_stmt-result.ensures.runs).bound
+    (Exec c.args.stmt.now c.args.rewind_scope) (ended c.finish-result.result) _ _ tt (rw (← c.finish-result.ensures.came) at c.run_stmt-done.ensures.runs)).bound
     (was c.args.this) (left_on g c c.args.this) c.in-Some.place.now c.give_back_with.new.this (ap was c.in-Some.is) (this_on g c)
     c.take_with-run.ensures.run c.give_back_with.ensures.this runs
 
 pub returns-in-Some-clause-ends : goal.returns-in-Some-clause-ends
 returns-in-Some-clause-ends g c = ends_as (under g.H.Host.name_of c.args.self.now g.T.NativeTable.natives)
-    (Exec c.args.stmt.now c.args.rewind_scope) _ _ c.run_stmt-result.result (runs_on g c)
+    (Exec c.args.stmt.now c.args.rewind_scope) _ _ c.finish-result.result (runs_on g c)
 
 pub returns-in-Some-clause-kept : goal.returns-in-Some-clause-kept
 returns-in-Some-clause-kept g c = grown (under g.H.Host.name_of c.args.self.now g.T.NativeTable.natives)
-    (Exec c.args.stmt.now c.args.rewind_scope) (ended c.run_stmt-result.result) _ _ tt (runs_on g c)
+    (Exec c.args.stmt.now c.args.rewind_scope) (ended c.finish-result.result) _ _ tt (runs_on g c)
 
 pub returns-in-Some-clause-begins : goal.returns-in-Some-clause-begins
 returns-in-Some-clause-begins g c = names_begin (under g.H.Host.name_of c.args.self.now g.T.NativeTable.natives)
-    (Exec c.args.stmt.now c.args.rewind_scope) (ended c.run_stmt-result.result) _ _ tt (runs_on g c)
+    (Exec c.args.stmt.now c.args.rewind_scope) (ended c.finish-result.result) _ _ tt (runs_on g c)
 
 pub returns-in-Some-clause-variables : goal.returns-in-Some-clause-variables
 returns-in-Some-clause-variables g c = variables_stay (under g.H.Host.name_of c.args.self.now g.T.NativeTable.natives)
-    (Exec c.args.stmt.now c.args.rewind_scope) (ended c.run_stmt-result.result) _ _ tt (runs_on g c)
+    (Exec c.args.stmt.now c.args.rewind_scope) (ended c.finish-result.result) _ _ tt (runs_on g c)
 
 -- what stands in the place of `this` as its loan ends, were this the place
 abbrev left_free : (g : Over) → goal.After-give_back g → Option (MutBor (Dynamic g.row.H.Denot)) → Option (Dynamic g.row.H.Denot)
@@ -69,7 +71,7 @@ left_free g c place =
     let answer = r g.row.H g.row.T g.H.laws g.T.laws g.H.Host-dict g.H.Destruct-dict g.T.NativeTable-dict in
     let types = xs g.row.H g.row.T g.H.laws g.T.laws g.H.Host-dict g.H.Destruct-dict g.T.NativeTable-dict in
     let given : Args (ended_of 9 kinds answer).signature c.lifetimes = (c.args.self, (c.args.alloc, (c.args.global, (c.args._caches, (c.args.table, (c.args.scope, (place, (c.args.stmt, (c.args.rewind_scope, tt))))))))) in
-    left_by (at_exit (ended_of 9 kinds answer) c.lifetimes given (lasts_p c.lifetimes 4 kinds types given (c.args.self, (tt, (c.args.global, (c.args._caches, (c.args.table, (c.args.scope, (place, (c.args.stmt, five (five (five (five (five (five (tt, (tt, (tt, (tt, tt))))))))))))))))))).1.1.1.1.1.1.0
+    left_by (at_exit (ended_of 9 kinds answer) c.lifetimes given (lasts_p c.lifetimes 4 kinds types given (c.args.self, (tt, (c.args.global, (c.args._caches, (c.args.table, (c.args.scope, (place, (c.args.stmt, five (five (five (five (five (five (five (tt, (tt, (tt, (tt, (tt, tt))))))))))))))))))))).1.1.1.1.1.1.0
 
 this_free : (g : Over) (c : goal.After-give_back g) → left_free g c c.args.this ≡ None
 this_free g c = subst (λ place. left_free g c place ≡ None) (sym c.in-None.is) refl
@@ -77,49 +79,57 @@ this_free g c = subst (λ place. left_free g c place ≡ None) (sym c.in-None.is
 -- and where he has none
 runs_free : (g : Over) (c : goal.After-give_back g) → Runs (under g.H.Host.name_of c.args.self.now g.T.NativeTable.natives)
     (Exec c.args.stmt.now c.args.rewind_scope) (state_of (g.T.NativeTable.state c.args.table.now) c.args.global.now c.args.scope.now
-    (holding (was c.args.this))) c.run_stmt-result-in-None.result
-    (state_of (g.T.NativeTable.state c.run_stmt-result-in-None.new.table) c.give_back.new.global c.give_back.new.scope
+    (holding (was c.args.this))) c.finish-result-in-None.result
+    (state_of (g.T.NativeTable.state c.run_stmt-done-in-None.new.table) c.give_back.new.global c.give_back.new.scope
     (holding (left_free g c c.args.this)))
 runs_free g c =
     let reads = same_rules g.H.Host.name_of g.T.NativeTable.natives c.args.self.now c.evaluator-evaluator.result
     c.evaluator-evaluator.ensures.limits c.evaluator-evaluator.ensures.offer in
-    let runs = c.run_stmt-result-in-None.ensures.runs in
-    handed_free reads (λ r old new. Runs r (Exec c.args.stmt.now c.args.rewind_scope) old c.run_stmt-result-in-None.result new)
-    (g.T.NativeTable.state c.args.table.now) (g.T.NativeTable.state c.run_stmt-result-in-None.new.table) c.take-run.result
-    c.run_stmt-result-in-None.new.run c.args.global.now c.give_back.new.global c.give_back.ensures.global c.args.scope.now
+    let runs = rw (← c.finish-result-in-None.ensures.came) at c.run_stmt-done-in-None.ensures.runs in
+    handed_free reads (λ r old new. Runs r (Exec c.args.stmt.now c.args.rewind_scope) old c.finish-result-in-None.result new)
+    (g.T.NativeTable.state c.args.table.now) (g.T.NativeTable.state c.run_stmt-done-in-None.new.table) c.take-run.result
+    c.run_stmt-done-in-None.new.run c.args.global.now c.give_back.new.global c.give_back.ensures.global c.args.scope.now
     c.give_back.new.scope c.give_back.ensures.scope (grown (under_what_is_read g.H.Host.name_of c.evaluator-evaluator.result
-    g.T.NativeTable.natives) (Exec c.args.stmt.now c.args.rewind_scope) (ended c.run_stmt-result-in-None.result) _ _ tt
-    c.run_stmt-result-in-None.ensures.runs).bound (was c.args.this) (left_free g c c.args.this) (ap was c.in-None.is) (this_free g c)
+    g.T.NativeTable.natives) (Exec c.args.stmt.now c.args.rewind_scope) (ended c.finish-result-in-None.result) _ _ tt
+    (rw (← c.finish-result-in-None.ensures.came) at c.run_stmt-done-in-None.ensures.runs)).bound (was c.args.this) (left_free g c c.args.this) (ap was c.in-None.is) (this_free g c)
     c.take-run.ensures.run runs
 
 pub returns-in-None-clause-ends : goal.returns-in-None-clause-ends
 returns-in-None-clause-ends g c = ends_as (under g.H.Host.name_of c.args.self.now g.T.NativeTable.natives)
-    (Exec c.args.stmt.now c.args.rewind_scope) _ _ c.run_stmt-result-in-None.result (runs_free g c)
+    (Exec c.args.stmt.now c.args.rewind_scope) _ _ c.finish-result-in-None.result (runs_free g c)
 
 pub returns-in-None-clause-kept : goal.returns-in-None-clause-kept
 returns-in-None-clause-kept g c = grown (under g.H.Host.name_of c.args.self.now g.T.NativeTable.natives)
-    (Exec c.args.stmt.now c.args.rewind_scope) (ended c.run_stmt-result-in-None.result) _ _ tt (runs_free g c)
+    (Exec c.args.stmt.now c.args.rewind_scope) (ended c.finish-result-in-None.result) _ _ tt (runs_free g c)
 
 pub returns-in-None-clause-begins : goal.returns-in-None-clause-begins
 returns-in-None-clause-begins g c = names_begin (under g.H.Host.name_of c.args.self.now g.T.NativeTable.natives)
-    (Exec c.args.stmt.now c.args.rewind_scope) (ended c.run_stmt-result-in-None.result) _ _ tt (runs_free g c)
+    (Exec c.args.stmt.now c.args.rewind_scope) (ended c.finish-result-in-None.result) _ _ tt (runs_free g c)
 
 pub returns-in-None-clause-variables : goal.returns-in-None-clause-variables
 returns-in-None-clause-variables g c = variables_stay (under g.H.Host.name_of c.args.self.now g.T.NativeTable.natives)
-    (Exec c.args.stmt.now c.args.rewind_scope) (ended c.run_stmt-result-in-None.result) _ _ tt (runs_free g c)
+    (Exec c.args.stmt.now c.args.rewind_scope) (ended c.finish-result-in-None.result) _ _ tt (runs_free g c)
+
+pub returns-in-Some-clause-names : goal.returns-in-Some-clause-names
+returns-in-Some-clause-names g c = on_done _ _ c.finish-result.ensures.done (λ done. ap names_in c.give_back_with.ensures.scope
+    ∙ (rw c.take_with-run.ensures.run at (c.run_stmt-done.ensures.names done)))
+
+pub returns-in-None-clause-names : goal.returns-in-None-clause-names
+returns-in-None-clause-names g c = on_done _ _ c.finish-result-in-None.ensures.done (λ done. ap names_in c.give_back.ensures.scope
+    ∙ (rw c.take-run.ensures.run at (c.run_stmt-done-in-None.ensures.names done)))
 
 pub returns-in-Some-clause-stays : goal.returns-in-Some-clause-stays
 returns-in-Some-clause-stays g c = λ none. names_stay (under g.H.Host.name_of c.args.self.now g.T.NativeTable.natives)
-    (Exec c.args.stmt.now c.args.rewind_scope) (ended c.run_stmt-result.result) _ _ none tt (runs_on g c)
+    (Exec c.args.stmt.now c.args.rewind_scope) (ended c.finish-result.result) _ _ none tt (runs_on g c)
 
 pub returns-in-None-clause-stays : goal.returns-in-None-clause-stays
 returns-in-None-clause-stays g c = λ none. names_stay (under g.H.Host.name_of c.args.self.now g.T.NativeTable.natives)
-    (Exec c.args.stmt.now c.args.rewind_scope) (ended c.run_stmt-result-in-None.result) _ _ none tt (runs_free g c)
+    (Exec c.args.stmt.now c.args.rewind_scope) (ended c.finish-result-in-None.result) _ _ none tt (runs_free g c)
 
 pub returns-in-Some-clause-imports : goal.returns-in-Some-clause-imports
 returns-in-Some-clause-imports g c = λ none. (kept (under g.H.Host.name_of c.args.self.now g.T.NativeTable.natives)
-    (Exec c.args.stmt.now c.args.rewind_scope) (ended c.run_stmt-result.result) _ _ none (runs_on g c)).imports
+    (Exec c.args.stmt.now c.args.rewind_scope) (ended c.finish-result.result) _ _ none (runs_on g c)).imports
 
 pub returns-in-None-clause-imports : goal.returns-in-None-clause-imports
 returns-in-None-clause-imports g c = λ none. (kept (under g.H.Host.name_of c.args.self.now g.T.NativeTable.natives)
-    (Exec c.args.stmt.now c.args.rewind_scope) (ended c.run_stmt-result-in-None.result) _ _ none (runs_free g c)).imports
+    (Exec c.args.stmt.now c.args.rewind_scope) (ended c.finish-result-in-None.result) _ _ none (runs_free g c)).imports

@@ -50,8 +50,8 @@ run_body-returns-in_err-open_function-clause-runs g t c scope held object is_fre
     (record c.args.run.now { global = c.open_function.new.global; scope = c.open_function.new.scope })
     c.in_err-open_function.ensures.same_state c.in_err-open_function.ensures.same_scope refl)
 
-pub run_body-run_stmt_block-result-requires : goal.run_body-run_stmt_block-result-requires
-run_body-run_stmt_block-result-requires g t c =
+pub run_body-run_stmt_block-done-requires : goal.run_body-run_stmt_block-done-requires
+run_body-run_stmt_block-done-requires g t c =
     let resolved = body_resolves c.args.def.now c.args.args.now (entries_of c.args.run.now.scope) (entries_of c.open_function.new.scope)
     c.def-def.ensures.resolves (rw (c.in-Some.is, c.def-def.ensures.value) at c.in_ok-open_function.ensures.variables) in
     λ κs lives. (
@@ -87,8 +87,8 @@ run_body-returns-in-Some-clause-charges g t c =
       ap (λ (global : GlobalRuntimeState _). global.num_operations) c.in_ok-track_operation.ensures.charged,
       brings_no_charge (option_copied c.args.environ) c.args.level c.track_operation.new.global c.open_function.new.global
           (rw c.in-Some.is at c.in_ok-open_function.ensures.state),
-      counted rules (Enter c.statements_of-statements.result.now c.args.restores) (ended c.run_stmt_block-result.result) _ _
-          c.run_stmt_block-result.ensures.runs,
+      counted rules (Enter c.statements_of-statements.result.now c.args.restores) (ended c.finish-result.result) _ _
+          (rw (← c.finish-result.ensures.came) at c.run_stmt_block-done.ensures.runs),
       ap (λ (global : GlobalRuntimeState _). global.num_operations) c.close_function.ensures.state,
     ))
 
@@ -104,11 +104,11 @@ run_body-returns-in-Some-clause-runs g t c scope held object is_fresh scope_is t
     (rw (c.in-Some.is, c.def-def.ensures.value) at c.in_ok-open_function.ensures.body)
     (record c.args.run.now { global = c.open_function.new.global; scope = c.open_function.new.scope })
     (rw c.in-Some.is at c.in_ok-open_function.ensures.state)
-    (rw (c.in-Some.is, c.def-def.ensures.value) at c.in_ok-open_function.ensures.variables) refl c.run_stmt_block-result.result
-    (g.T.NativeTable.state c.run_stmt_block-result.new.table) c.run_stmt_block-result.new.run
-    (rw (c.statements_of-statements.ensures, c.def-def.ensures.value) at c.run_stmt_block-result.ensures.runs)
+    (rw (c.in-Some.is, c.def-def.ensures.value) at c.in_ok-open_function.ensures.variables) refl c.finish-result.result
+    (g.T.NativeTable.state c.run_stmt_block-done.new.table) c.run_stmt_block-done.new.run
+    (rw (c.statements_of-statements.ensures, c.def-def.ensures.value, ← c.finish-result.ensures.came) at c.run_stmt_block-done.ensures.runs)
     c.close_function.result c.close_function.new.global
-    (c.close_function.ensures.state ∙ ap (λ exit. taken_back exit c.run_stmt_block-result.new.run.global)
+    (c.close_function.ensures.state ∙ ap (λ exit. taken_back exit c.run_stmt_block-done.new.run.global)
     (rw c.in-Some.is at c.in_ok-open_function.ensures.exit))
     (rw c.def-def.ensures.value at c.close_function.ensures.outcome)
 

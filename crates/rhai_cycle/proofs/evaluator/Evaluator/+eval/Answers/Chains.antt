@@ -502,8 +502,8 @@ run_expr-returns-in-Index-clause-runs g t c k =
     (rw (c.in-Index.is, exprs.outs-Index) refl) k
     ⨾ next ((rw (c.get-in-Index.ensures, c.in-Index.is, exprs.outs-Index) at c.run_chain-in-Index.ensures.runs) k)
 
-pub run_assignment-assign_chain-requires : goal.run_assignment-assign_chain-requires
-run_assignment-assign_chain-requires g t c =
+pub run_assignment-assign_chain-answer-requires : goal.run_assignment-assign_chain-answer-requires
+run_assignment-assign_chain-answer-requires g t c =
     let chain = left_chain c.args.lhs.now (names c.args.run.now)
     (no_name c.args.lhs.now c.in_default-lhs-2.not-Variable c.in_default-lhs.not-ThisPtr)
     c.requires.resolves_target in

@@ -1,4 +1,5 @@
-use Rattle.std.proofs.Common.{refl}
+use Rattle.std.proofs.Common.{ap, arith, refl}
+use Rattle.rhai_state.specs.declared.state.GlobalRuntimeState.{GlobalRuntimeState}
 use Rattle.rhai_steps.specs.States.{holding}
 use Rattle.rhai_tree.specs.declared.expr.Expr.TheOpen as layer
 use Rattle.rhai_tree.specs.declared.expr.Expr.TheVariants as exprs
@@ -7,7 +8,7 @@ use Rattle.rhai_machine.specs.machine.Memory.{here, next, ◌⨾◌}
 use Rattle.rhai_machine.specs.language.Runs.{Steps}
 use Rattle.rhai_steps.proofs.Pieces.{passed, told}
 use Rattle.rhai_cycle.specs.States.{offer_of, under}
-use Rattle.rhai_cycle.proofs.Chain.{begins, opens, reads, refuses}
+use Rattle.rhai_cycle.proofs.Chain.{begins, on_done, opens, reads, refuses}
 use Rattle.rhai_operands.proofs.Names.{good_name, plain_name}
 use Rattle.rhai_cycle.proofs.Conditions.{tests_by, tests_fail}
 use Rattle.rhai_cycle.proofs.evaluator.Evaluator.+eval.Goals as goal
@@ -126,7 +127,15 @@ run_expr-returns-in-Stmt-clause-runs g t c k =
     let rules = under g.H.Host.name_of c.args.self.now g.T.NativeTable.natives in
     begins rules _ c.args.run.now.global c.track_operation.new.global _ _ c.in_ok-track_operation.ensures.room
     c.in_ok-track_operation.ensures.charged _ (layer.Stmt c.in-Stmt.block) (rw (c.in-Stmt.is, exprs.outs-Stmt) refl) k
-    ⨾ next ((rw c.as_slice.ensures at c.run_stmt_block.ensures.runs) k)
+    ⨾ next (rw c.finish.ensures.came ((rw c.as_slice-statements.ensures at c.run_stmt_block-done.ensures.runs) k))
+
+pub run_expr-returns-in-Stmt-clause-charges : goal.run_expr-returns-in-Stmt-clause-charges
+run_expr-returns-in-Stmt-clause-charges g t c = on_done _ _ c.finish.ensures.done (λ done. omega (
+  arith,
+  c.in_ok-track_operation.ensures.room,
+  ap (λ (global : GlobalRuntimeState _). global.num_operations) c.in_ok-track_operation.ensures.charged,
+  c.run_stmt_block-done.ensures.counts done,
+))
 
 pub run_expr-returns-in-FnCall-clause-runs : goal.run_expr-returns-in-FnCall-clause-runs
 run_expr-returns-in-FnCall-clause-runs g t c =
@@ -139,7 +148,7 @@ run_expr-returns-in-And-clause-runs g t c =
     let rules = under g.H.Host.name_of c.args.self.now g.T.NativeTable.natives in
     opens rules _ c.args.run.now.global c.track_operation.new.global _ _ c.in_ok-track_operation.ensures.room
     c.in_ok-track_operation.ensures.charged _ _ _ (layer.And c.in-And.parts c.in-And.field-1)
-    (rw c.as_slice-in-And.ensures at c.run_until.ensures.runs c.in-And.field-1) (rw (c.in-And.is, exprs.outs-And) refl)
+    (rw c.as_slice.ensures at c.run_until.ensures.runs c.in-And.field-1) (rw (c.in-And.is, exprs.outs-And) refl)
 
 pub run_expr-returns-in-Or-clause-runs : goal.run_expr-returns-in-Or-clause-runs
 run_expr-returns-in-Or-clause-runs g t c =

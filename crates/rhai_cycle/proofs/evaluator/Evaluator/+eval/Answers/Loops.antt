@@ -1,4 +1,4 @@
-use Rattle.std.proofs.Common.{true, ◌≡◌, ◌≤◌, ◌<◌, Ok, ◌∷◌, [], refl, sym, ap, ◌∙◌, arith}
+use Rattle.std.proofs.Common.{true, ◌≡◌, ◌≤◌, ◌<◌, ◌∷◌, [], refl, sym, ◌∙◌, arith}
 use Rattle.std.proofs.lemmas.Bool.{true≢false}
 use Rattle.rhai_state.specs.Limits.{limit_of}
 use Rattle.rhai_machine.specs.machine.Point.{after}
@@ -7,13 +7,13 @@ use Rattle.rhai_machine.specs.language.Frames.{ended, Enter, WhileCondition, Whi
 use Rattle.rhai_machine.specs.language.Runs.{Steps}
 use Rattle.rhai_machine.specs.language.Statements.{has_option}
 use Rattle.rhai_laws.proofs.KeptLaws.{counted, names_stay}
-use Rattle.rhai_steps.proofs.Pieces.{exits}
+use Rattle.rhai_context.specs.Ends.{came}
 use Rattle.rhai_cycle.specs.States.{names, under}
 use Rattle.rhai_steps.specs.declared.loops.BodyEnd.TheVariants.{Continue, Break}
 use Rattle.rhai_operands.specs.Tests.{Tests}
 use Rattle.rhai_cycle.proofs.Conditions.{do_tested}
-use Rattle.rhai_cycle.proofs.LoopSteps.{while_ends, do_leads, turn_exits, while_asks, endless_enters, endless_charged}
-use Rattle.rhai_cycle.proofs.LoopSteps.{endless_refused, stays_full}
+use Rattle.rhai_cycle.proofs.LoopSteps.{while_ends, do_leads, while_asks, endless_enters, endless_charged}
+use Rattle.rhai_cycle.proofs.LoopSteps.{endless_refused, on_end, stays_full, turn_ended}
 use Rattle.rhai_cycle.proofs.Turns.{body_charges, left_charges}
 use Rattle.rhai_cycle.proofs.Chain.{on_ok}
 use Rattle.rhai_cycle.proofs.evaluator.Evaluator.+eval.Goals as goal
@@ -27,30 +27,29 @@ pub run_while-turns-smaller : goal.run_while-turns-smaller
 unfolding after Steps
 run_while-turns-smaller g t c =
     let full : limit_of c.args.self.now.limits.now.max_operations ≤ c.turns.run.global.num_operations →
-    c.while_turn.new.run.global.num_operations ≡ c.turns.run.global.num_operations = λ le. stays_full _ _ (c.in_ok-turn.ensures.runs
-    []) le in
-    grind (arith, full, c.in_ok-turn.ensures.charges)
+    c.while_turn.new.run.global.num_operations ≡ c.turns.run.global.num_operations = λ le. stays_full _ _ (c.while_turn.ensures.runs []) le in
+    grind (arith, full, rw c.in_default.is at c.while_turn.ensures.charges)
 
 pub run_while-turns-preserved : goal.run_while-turns-preserved
 unfolding after Steps
 run_while-turns-preserved g t c =
     record {
-      counts = omega (arith, c.in_ok-turn.ensures.charges);
-      names = c.in_ok-turn.ensures.names ∙ c.turns.invariant.names;
-      steps = λ k. c.turns.invariant.steps k ⨾ (rw c.in_default.is at c.in_ok-turn.ensures.runs) k;
+      counts = omega (arith, rw c.in_default.is at c.while_turn.ensures.charges);
+      names = (rw c.in_default.is at c.while_turn.ensures.names) ∙ c.turns.invariant.names;
+      steps = λ k. c.turns.invariant.steps k ⨾ (rw c.in_default.is at c.while_turn.ensures.runs) k;
     }
-
-pub run_while-returns-in_err-turn-clause-runs : goal.run_while-returns-in_err-turn-clause-runs
-unfolding after Steps
-run_while-returns-in_err-turn-clause-runs g t c =
-    let rules = under g.H.Host.name_of c.args.self.now g.T.NativeTable.natives in
-    exits rules _ _ _ _ _ c.from_residual.ensures (λ k.
-    c.turns.invariant.steps k ⨾ c.in_err-turn.ensures.runs k)
 
 pub run_while-returns-in-Some-clause-runs : goal.run_while-returns-in-Some-clause-runs
 unfolding after Steps
 run_while-returns-in-Some-clause-runs g t c k =
-    c.turns.invariant.steps k ⨾ (rw c.in-Some.is at c.in_ok-turn.ensures.runs) k
+    c.turns.invariant.steps k ⨾ (rw (turn_ended c.in-Some.done _ _ _) at c.in-Some.ensures.runs) k
+
+pub run_while-returns-in-Some-clause-counts : goal.run_while-returns-in-Some-clause-counts
+run_while-returns-in-Some-clause-counts g t c done =
+    omega (arith, c.turns.invariant.counts, on_end c.in-Some.done _ _ c.in-Some.ensures.charges done)
+
+pub run_while-returns-in-Some-clause-names : goal.run_while-returns-in-Some-clause-names
+run_while-returns-in-Some-clause-names g t c done = on_end c.in-Some.done _ _ c.in-Some.ensures.names done ∙ c.turns.invariant.names
 
 pub run_do-turns-init : goal.run_do-turns-init
 unfolding after Steps
@@ -61,101 +60,139 @@ pub run_do-turns-smaller : goal.run_do-turns-smaller
 unfolding after Steps
 run_do-turns-smaller g t c =
     let full : limit_of c.args.self.now.limits.now.max_operations ≤ c.turns.run.global.num_operations →
-    c.do_turn.new.run.global.num_operations ≡ c.turns.run.global.num_operations = λ le. stays_full _ _ (c.in_ok-turn.ensures.runs [])
-    le in
-    grind (arith, full, c.in_ok-turn.ensures.charges)
+    c.do_turn.new.run.global.num_operations ≡ c.turns.run.global.num_operations = λ le. stays_full _ _ (c.do_turn.ensures.runs []) le in
+    grind (arith, full, rw c.in_default.is at c.do_turn.ensures.charges)
 
 pub run_do-turns-preserved : goal.run_do-turns-preserved
 unfolding after Steps
 run_do-turns-preserved g t c =
     record {
-      counts = omega (arith, c.in_ok-turn.ensures.charges);
-      names = c.in_ok-turn.ensures.names ∙ c.turns.invariant.names;
-      steps = λ k. c.turns.invariant.steps k ⨾ (rw c.in_default.is at c.in_ok-turn.ensures.runs) k;
+      counts = omega (arith, rw c.in_default.is at c.do_turn.ensures.charges);
+      names = (rw c.in_default.is at c.do_turn.ensures.names) ∙ c.turns.invariant.names;
+      steps = λ k. c.turns.invariant.steps k ⨾ (rw c.in_default.is at c.do_turn.ensures.runs) k;
     }
-
-pub run_do-returns-in_err-turn-clause-runs : goal.run_do-returns-in_err-turn-clause-runs
-unfolding after Steps
-run_do-returns-in_err-turn-clause-runs g t c =
-    let rules = under g.H.Host.name_of c.args.self.now g.T.NativeTable.natives in
-    exits rules _ _ _ _ _ c.from_residual.ensures (λ k.
-    c.turns.invariant.steps k ⨾ c.in_err-turn.ensures.runs k)
 
 pub run_do-returns-in-Some-clause-runs : goal.run_do-returns-in-Some-clause-runs
 unfolding after Steps
 run_do-returns-in-Some-clause-runs g t c k =
-    c.turns.invariant.steps k ⨾ (rw c.in-Some.is at c.in_ok-turn.ensures.runs) k
+    c.turns.invariant.steps k ⨾ (rw (turn_ended c.in-Some.done _ _ _) at c.in-Some.ensures.runs) k
 
-pub do_turn-returns-in_err-value-clause-runs : goal.do_turn-returns-in_err-value-clause-runs
+pub run_do-returns-in-Some-clause-counts : goal.run_do-returns-in-Some-clause-counts
+run_do-returns-in-Some-clause-counts g t c done =
+    omega (arith, c.turns.invariant.counts, on_end c.in-Some.done _ _ c.in-Some.ensures.charges done)
+
+pub run_do-returns-in-Some-clause-names : goal.run_do-returns-in-Some-clause-names
+run_do-returns-in-Some-clause-names g t c done = on_end c.in-Some.done _ _ c.in-Some.ensures.names done ∙ c.turns.invariant.names
+
+pub do_turn-returns-in-Stopped-clause-runs : goal.do_turn-returns-in-Stopped-clause-runs
 unfolding after Steps
-do_turn-returns-in_err-value-clause-runs g t c =
+do_turn-returns-in-Stopped-clause-runs g t c k =
     let rules = under g.H.Host.name_of c.args.self.now g.T.NativeTable.natives in
-    turn_exits rules _ _ _ _ _ _ c.from_residual.ensures (λ k.
-    next ((rw c.as_slice-statements.ensures at c.run_stmt_block-outcome.ensures.runs) (DoBody _ _ _ ∷ k) ⨾ do_leads rules
-    c.run_stmt_block-outcome.result c.args.test.now c.args.body.now c.args.options k _ _ (sym c.in_err-value.ensures)))
+    next ((rw c.as_slice-statements.ensures at c.run_stmt_block-done.ensures.runs) (DoBody _ _ _ ∷ k) ⨾ do_leads rules
+    (came c.run_stmt_block-done.result c.run_stmt_block-done.new.run.value c.run_stmt_block-done.new.run.error) c.args.test.now c.args.body.now c.args.options k _ _
+    (sym (rw c.in-Stopped.is at c.body_way.ensures)))
 
 pub do_turn-returns-in-Break-clause-runs : goal.do_turn-returns-in-Break-clause-runs
 unfolding after Steps
 do_turn-returns-in-Break-clause-runs g t c k =
     let rules = under g.H.Host.name_of c.args.self.now g.T.NativeTable.natives in
-    next ((rw c.as_slice-statements.ensures at c.run_stmt_block-outcome.ensures.runs) (DoBody _ _ _ ∷ k) ⨾ do_leads rules
-    c.run_stmt_block-outcome.result c.args.test.now c.args.body.now c.args.options k _ _ (sym c.in_ok-value.ensures ∙ ap Ok
-    c.in-Break.is))
+    next ((rw c.as_slice-statements.ensures at c.run_stmt_block-done.ensures.runs) (DoBody _ _ _ ∷ k) ⨾ do_leads rules
+    (came c.run_stmt_block-done.result c.run_stmt_block-done.new.run.value c.run_stmt_block-done.new.run.error) c.args.test.now c.args.body.now c.args.options k _ _
+    (sym (rw c.in-Break.is at c.body_way.ensures)))
 
 pub do_turn-returns-in-Break-clause-charges : goal.do_turn-returns-in-Break-clause-charges
 do_turn-returns-in-Break-clause-charges g t c =
     let rules = under g.H.Host.name_of c.args.self.now g.T.NativeTable.natives in
-    left_charges rules c.args.body.now.statements _ _ c.run_stmt_block-outcome.result (Break c.in-Break.value) (ap Ok (sym
-    c.in-Break.is) ∙ c.in_ok-value.ensures) refl (rw c.as_slice-statements.ensures at c.run_stmt_block-outcome.ensures.runs)
+    left_charges rules c.args.body.now.statements _ _ (came c.run_stmt_block-done.result c.run_stmt_block-done.new.run.value c.run_stmt_block-done.new.run.error) (Break c.body_way.new.out)
+    (rw c.in-Break.is at c.body_way.ensures) refl (rw c.as_slice-statements.ensures at c.run_stmt_block-done.ensures.runs)
 
 pub do_turn-returns-in-Break-clause-names : goal.do_turn-returns-in-Break-clause-names
 do_turn-returns-in-Break-clause-names g t c =
     let rules = under g.H.Host.name_of c.args.self.now g.T.NativeTable.natives in
-    names_stay rules (Enter c.args.body.now.statements true) (ended c.run_stmt_block-outcome.result) _ _ tt tt (rw
-    c.as_slice-statements.ensures at c.run_stmt_block-outcome.ensures.runs)
+    names_stay rules (Enter c.args.body.now.statements true) (ended (came c.run_stmt_block-done.result c.run_stmt_block-done.new.run.value c.run_stmt_block-done.new.run.error)) _ _ tt tt (rw
+    c.as_slice-statements.ensures at c.run_stmt_block-done.ensures.runs)
 
 pub do_turn-returns-in-Continue-clause-runs : goal.do_turn-returns-in-Continue-clause-runs
 unfolding after Steps
 do_turn-returns-in-Continue-clause-runs g t c k =
     let rules = under g.H.Host.name_of c.args.self.now g.T.NativeTable.natives in
-    next ((rw c.as_slice-statements.ensures at c.run_stmt_block-outcome.ensures.runs) (DoBody _ _ _ ∷ k) ⨾ do_leads rules
-    c.run_stmt_block-outcome.result c.args.test.now c.args.body.now c.args.options k _ _ (sym c.in_ok-value.ensures ∙ ap Ok
-    c.in-Continue.is))
+    next ((rw c.as_slice-statements.ensures at c.run_stmt_block-done.ensures.runs) (DoBody _ _ _ ∷ k) ⨾ do_leads rules
+    (came c.run_stmt_block-done.result c.run_stmt_block-done.new.run.value c.run_stmt_block-done.new.run.error) c.args.test.now c.args.body.now c.args.options k _ _
+    (sym (rw c.in-Continue.is at c.body_way.ensures)))
 
 pub do_turn-returns-in-Continue-clause-charges : goal.do_turn-returns-in-Continue-clause-charges
 do_turn-returns-in-Continue-clause-charges g t c =
     let rules = under g.H.Host.name_of c.args.self.now g.T.NativeTable.natives in
-    left_charges rules c.args.body.now.statements _ _ c.run_stmt_block-outcome.result Continue (ap Ok (sym c.in-Continue.is) ∙
-    c.in_ok-value.ensures) refl (rw c.as_slice-statements.ensures at c.run_stmt_block-outcome.ensures.runs)
+    left_charges rules c.args.body.now.statements _ _ (came c.run_stmt_block-done.result c.run_stmt_block-done.new.run.value c.run_stmt_block-done.new.run.error) Continue
+    (rw c.in-Continue.is at c.body_way.ensures) refl (rw c.as_slice-statements.ensures at c.run_stmt_block-done.ensures.runs)
 
 pub do_turn-returns-in-Continue-clause-names : goal.do_turn-returns-in-Continue-clause-names
 do_turn-returns-in-Continue-clause-names g t c =
     let rules = under g.H.Host.name_of c.args.self.now g.T.NativeTable.natives in
-    names_stay rules (Enter c.args.body.now.statements true) (ended c.run_stmt_block-outcome.result) _ _ tt tt (rw
-    c.as_slice-statements.ensures at c.run_stmt_block-outcome.ensures.runs)
+    names_stay rules (Enter c.args.body.now.statements true) (ended (came c.run_stmt_block-done.result c.run_stmt_block-done.new.run.value c.run_stmt_block-done.new.run.error)) _ _ tt tt (rw
+    c.as_slice-statements.ensures at c.run_stmt_block-done.ensures.runs)
 
-pub while_turn-returns-in_err-holds-clause-runs : goal.while_turn-returns-in_err-holds-clause-runs
+pub do_turn-run_condition-requires : goal.do_turn-run_condition-requires
+do_turn-run_condition-requires g t c =
+    let rules = under g.H.Host.name_of c.args.self.now g.T.NativeTable.natives in
+    let counts = counted rules _ _ _ _ c.run_stmt_block-done.ensures.runs in
+    let stays = names_stay rules (Enter c.args.body.now.statements true) (ended (came c.run_stmt_block-done.result c.run_stmt_block-done.new.run.value c.run_stmt_block-done.new.run.error)) _ _ tt tt
+    (rw c.as_slice-statements.ensures at c.run_stmt_block-done.ensures.runs) in
+    λ κs lives. (omega (arith, counts), (lives.0, (lives.1, rw stays c.requires.resolves_test)))
+
+pub do_turn-returns-in-Err-clause-runs : goal.do_turn-returns-in-Err-clause-runs
 unfolding after Steps Tests
-while_turn-returns-in_err-holds-clause-runs g t c =
+do_turn-returns-in-Err-clause-runs g t c k =
     let rules = under g.H.Host.name_of c.args.self.now g.T.NativeTable.natives in
-    turn_exits rules _ _ _ _ _ _ c.from_residual-in_err-holds.ensures (λ k.
-    while_asks rules _ _ k _ (sym c.is_endless.ensures ∙ c.if-is_endless.false) ⨾ c.in_err-holds.ensures.runs (WhileCondition _ _) k refl)
+    rw (c.stop.ensures.stopped, c.stop.ensures.told)
+    (next ((rw c.as_slice-statements.ensures at c.run_stmt_block-done.ensures.runs) (DoBody _ _ _ ∷ k) ⨾ do_leads rules
+    (came c.run_stmt_block-done.result c.run_stmt_block-done.new.run.value c.run_stmt_block-done.new.run.error) c.args.test.now c.args.body.now c.args.options k _ _
+    (sym (rw c.in-Done.is at c.body_way.ensures)) ⨾ c.in-Err.ensures.runs (DoCondition _ _ _) k refl))
 
-pub while_turn-returns-in_err-track_operation-clause-runs : goal.while_turn-returns-in_err-track_operation-clause-runs
-unfolding after Steps
-while_turn-returns-in_err-track_operation-clause-runs g t c =
+pub do_turn-returns-in-Ok-clause-runs : goal.do_turn-returns-in-Ok-clause-runs
+unfolding after Steps Tests
+do_turn-returns-in-Ok-clause-runs g t c k =
     let rules = under g.H.Host.name_of c.args.self.now g.T.NativeTable.natives in
-    turn_exits rules _ _ _ _ _ _ c.from_residual.ensures (λ k.
-    endless_refused rules _ _ k _ c.args.run.now.global c.track_operation.new.global _ _ _ c.in_err-track_operation.ensures.full
-    c.in_err-track_operation.ensures.refused c.in_err-track_operation.ensures.same
-    (sym c.is_endless.ensures ∙ c.if-is_endless.true) (c.is_empty.ensures.0 c.if-is_empty.true))
+    next ((rw c.as_slice-statements.ensures at c.run_stmt_block-done.ensures.runs) (DoBody _ _ _ ∷ k) ⨾ do_leads rules
+    (came c.run_stmt_block-done.result c.run_stmt_block-done.new.run.value c.run_stmt_block-done.new.run.error) c.args.test.now c.args.body.now c.args.options k _ _
+    (sym (rw c.in-Done.is at c.body_way.ensures)) ⨾ c.in-Ok.ensures.runs (DoCondition _ _ _) k refl
+    ⨾ rw c.settle_turn.ensures (do_tested rules _ (has_option 1 c.args.options) c.in-Ok.holds _ k _ c.do_next-turn.ensures))
+
+pub do_turn-returns-in-Ok-clause-charges : goal.do_turn-returns-in-Ok-clause-charges
+do_turn-returns-in-Ok-clause-charges g t c =
+    let rules = under g.H.Host.name_of c.args.self.now g.T.NativeTable.natives in
+    let counts = counted rules _ _ _ _ c.run_stmt_block-done.ensures.runs in
+    let charged : c.args.run.now.global.num_operations < c.run_condition.new.run.global.num_operations =
+    omega (arith, c.in-Ok.ensures.charges, counts) in
+    on_ok _ charged
+
+pub do_turn-returns-in-Ok-clause-names : goal.do_turn-returns-in-Ok-clause-names
+do_turn-returns-in-Ok-clause-names g t c =
+    let rules = under g.H.Host.name_of c.args.self.now g.T.NativeTable.natives in
+    on_ok _ (c.in-Ok.ensures.names ∙ names_stay rules (Enter c.args.body.now.statements true) (ended (came c.run_stmt_block-done.result c.run_stmt_block-done.new.run.value c.run_stmt_block-done.new.run.error)) _ _ tt tt
+    (rw c.as_slice-statements.ensures at c.run_stmt_block-done.ensures.runs))
+
+pub while_turn-returns-in-Err-clause-runs : goal.while_turn-returns-in-Err-clause-runs
+unfolding after Steps Tests
+while_turn-returns-in-Err-clause-runs g t c k =
+    let rules = under g.H.Host.name_of c.args.self.now g.T.NativeTable.natives in
+    rw (c.stop.ensures.stopped, c.stop.ensures.told)
+    (while_asks rules _ _ k _ (sym c.is_endless.ensures ∙ c.if-is_endless.false) ⨾ c.in-Err.ensures.runs (WhileCondition _ _) k refl)
 
 pub while_turn-returns-then-is_empty-clause-runs : goal.while_turn-returns-then-is_empty-clause-runs
 unfolding after Steps
 while_turn-returns-then-is_empty-clause-runs g t c k =
     let rules = under g.H.Host.name_of c.args.self.now g.T.NativeTable.natives in
-    endless_charged rules _ _ k _ c.args.run.now.global c.track_operation.new.global _ _ c.in_ok-track_operation.ensures.room
-    c.in_ok-track_operation.ensures.charged (sym c.is_endless.ensures ∙ c.if-is_endless.true) (c.is_empty.ensures.0 c.if-is_empty.true)
+    endless_refused rules _ _ k _ c.args.run.now.global c.charge.new.global _ _ _ (c.if-charge.ensures.full refl)
+    (c.if-charge.ensures.refused refl) (c.if-charge.ensures.same refl)
+    (sym c.is_endless.ensures ∙ c.if-is_endless.true) (c.is_empty.ensures.0 c.if-is_empty.true)
+
+pub while_turn-returns-then-charge-clause-runs : goal.while_turn-returns-then-charge-clause-runs
+unfolding after Steps
+while_turn-returns-then-charge-clause-runs g t c k =
+    let rules = under g.H.Host.name_of c.args.self.now g.T.NativeTable.natives in
+    endless_charged rules _ _ k _ c.args.run.now.global c.charge.new.global _ _ (c.if-charge.ensures.room refl)
+    (c.if-charge.ensures.charged refl) (sym c.is_endless.ensures ∙ c.if-is_endless.true) (c.is_empty.ensures.0 c.if-is_empty.true)
 
 pub while_turn-returns-then-is_endless-clause-runs : goal.while_turn-returns-then-is_endless-clause-runs
 unfolding after Steps
@@ -163,74 +200,48 @@ while_turn-returns-then-is_endless-clause-runs g t c k =
     let rules = under g.H.Host.name_of c.args.self.now g.T.NativeTable.natives in
     endless_enters rules _ _ k _ (sym c.is_endless.ensures ∙ c.if-is_endless.true) (λ empty. absurd
     (true≢false (sym (c.is_empty.ensures.1 empty) ∙ c.if-is_empty.false)))
-    ⨾ rw c.while_next.ensures ((rw c.as_slice.ensures at c.run_stmt_block-outcome.ensures.runs) (WhileBody _ _ ∷ k)
-    ⨾ while_ends rules c.run_stmt_block-outcome.result _ _ k _)
+    ⨾ rw c.turn_end.ensures ((rw c.as_slice.ensures at c.run_stmt_block-done.ensures.runs) (WhileBody _ _ ∷ k)
+    ⨾ while_ends rules (came c.run_stmt_block-done.result c.run_stmt_block-done.new.run.value c.run_stmt_block-done.new.run.error) _ _ k _)
 
 pub while_turn-returns-then-is_endless-clause-charges : goal.while_turn-returns-then-is_endless-clause-charges
 while_turn-returns-then-is_endless-clause-charges g t c =
     let rules = under g.H.Host.name_of c.args.self.now g.T.NativeTable.natives in
-    rw c.while_next.ensures (body_charges rules c.args.body.now.statements _ _ c.run_stmt_block-outcome.result (λ empty. absurd
+    rw c.turn_end.ensures (body_charges rules c.args.body.now.statements _ _ (came c.run_stmt_block-done.result c.run_stmt_block-done.new.run.value c.run_stmt_block-done.new.run.error) (λ empty. absurd
     (true≢false (sym (c.is_empty.ensures.1 empty) ∙ c.if-is_empty.false)))
-    (rw c.as_slice.ensures at c.run_stmt_block-outcome.ensures.runs))
+    (rw c.as_slice.ensures at c.run_stmt_block-done.ensures.runs))
 
 pub while_turn-returns-then-is_endless-clause-names : goal.while_turn-returns-then-is_endless-clause-names
 while_turn-returns-then-is_endless-clause-names g t c =
     let rules = under g.H.Host.name_of c.args.self.now g.T.NativeTable.natives in
-    on_ok _ (names_stay rules (Enter c.args.body.now.statements true) (ended c.run_stmt_block-outcome.result) _ _ tt tt
-    (rw c.as_slice.ensures at c.run_stmt_block-outcome.ensures.runs))
+    on_ok _ (names_stay rules (Enter c.args.body.now.statements true) (ended (came c.run_stmt_block-done.result c.run_stmt_block-done.new.run.value c.run_stmt_block-done.new.run.error)) _ _ tt tt
+    (rw c.as_slice.ensures at c.run_stmt_block-done.ensures.runs))
 
 pub while_turn-returns-then-holds-clause-runs : goal.while_turn-returns-then-holds-clause-runs
 unfolding after Steps Tests
 while_turn-returns-then-holds-clause-runs g t c k =
     let rules = under g.H.Host.name_of c.args.self.now g.T.NativeTable.natives in
     while_asks rules _ _ k _ (sym c.is_endless.ensures ∙ c.if-is_endless.false)
-    ⨾ (rw c.if-holds.true at c.in_ok-holds.ensures.runs) (WhileCondition _ _) k refl
-    ⨾ rw c.while_next-then-holds.ensures ((rw c.as_slice-then-holds.ensures at c.run_stmt_block-outcome-then-holds.ensures.runs) (WhileBody _ _ ∷ k)
-    ⨾ while_ends rules c.run_stmt_block-outcome-then-holds.result _ _ k _)
+    ⨾ (rw c.if-holds.true at c.in-Ok.ensures.runs) (WhileCondition _ _) k refl
+    ⨾ rw c.turn_end-then-holds.ensures ((rw c.as_slice-statements.ensures at c.run_stmt_block-done-then-holds.ensures.runs) (WhileBody _ _ ∷ k)
+    ⨾ while_ends rules (came c.run_stmt_block-done-then-holds.result c.run_stmt_block-done-then-holds.new.run.value c.run_stmt_block-done-then-holds.new.run.error) _ _ k _)
 
 pub while_turn-returns-then-holds-clause-charges : goal.while_turn-returns-then-holds-clause-charges
 while_turn-returns-then-holds-clause-charges g t c =
     let rules = under g.H.Host.name_of c.args.self.now g.T.NativeTable.natives in
-    let counts = counted rules _ _ _ _ c.run_stmt_block-outcome-then-holds.ensures.runs in
-    let charged : c.args.run.now.global.num_operations < c.run_stmt_block-outcome-then-holds.new.run.global.num_operations =
-    omega (arith, c.in_ok-holds.ensures.charges, counts) in
+    let counts = counted rules _ _ _ _ c.run_stmt_block-done-then-holds.ensures.runs in
+    let charged : c.args.run.now.global.num_operations < c.run_stmt_block-done-then-holds.new.run.global.num_operations =
+    omega (arith, c.in-Ok.ensures.charges, counts) in
     on_ok _ charged
 
 pub while_turn-returns-then-holds-clause-names : goal.while_turn-returns-then-holds-clause-names
 while_turn-returns-then-holds-clause-names g t c =
     let rules = under g.H.Host.name_of c.args.self.now g.T.NativeTable.natives in
-    on_ok _ (names_stay rules (Enter c.args.body.now.statements true) (ended c.run_stmt_block-outcome-then-holds.result) _ _ tt tt
-    (rw c.as_slice-then-holds.ensures at c.run_stmt_block-outcome-then-holds.ensures.runs) ∙ c.in_ok-holds.ensures.names)
+    on_ok _ (names_stay rules (Enter c.args.body.now.statements true) (ended (came c.run_stmt_block-done-then-holds.result c.run_stmt_block-done-then-holds.new.run.value c.run_stmt_block-done-then-holds.new.run.error)) _ _ tt tt
+    (rw c.as_slice-statements.ensures at c.run_stmt_block-done-then-holds.ensures.runs) ∙ c.in-Ok.ensures.names)
 
-pub while_turn-returns-clause-runs : goal.while_turn-returns-clause-runs
+pub while_turn-returns-else-holds-clause-runs : goal.while_turn-returns-else-holds-clause-runs
 unfolding after Steps Tests
-while_turn-returns-clause-runs g t c k =
+while_turn-returns-else-holds-clause-runs g t c k =
     let rules = under g.H.Host.name_of c.args.self.now g.T.NativeTable.natives in
     while_asks rules _ _ k _ (sym c.is_endless.ensures ∙ c.if-is_endless.false)
-    ⨾ (rw c.if-holds.false at c.in_ok-holds.ensures.runs) (WhileCondition _ _) k refl ⨾ rw c.unit_value.ensures here
-
-pub do_turn-run_condition-requires : goal.do_turn-run_condition-requires
-do_turn-run_condition-requires g t c =
-    let rules = under g.H.Host.name_of c.args.self.now g.T.NativeTable.natives in
-    let counts = counted rules _ _ _ _ c.run_stmt_block-outcome.ensures.runs in
-    let stays = names_stay rules (Enter c.args.body.now.statements true) (ended c.run_stmt_block-outcome.result) _ _ tt tt
-    (rw c.as_slice-statements.ensures at c.run_stmt_block-outcome.ensures.runs) in
-    λ κs lives. (omega (arith, counts), (lives.0, (lives.1, rw stays c.requires.resolves_test)))
-
-pub do_turn-returns-in_err-holds-in-Done-clause-runs : goal.do_turn-returns-in_err-holds-in-Done-clause-runs
-unfolding after Steps Tests
-do_turn-returns-in_err-holds-in-Done-clause-runs g t c =
-    let rules = under g.H.Host.name_of c.args.self.now g.T.NativeTable.natives in
-    turn_exits rules _ _ _ _ _ _ c.from_residual-in_err-holds-in-Done.ensures (λ k.
-    next ((rw c.as_slice-statements.ensures at c.run_stmt_block-outcome.ensures.runs) (DoBody _ _ _ ∷ k) ⨾ do_leads rules
-    c.run_stmt_block-outcome.result c.args.test.now c.args.body.now c.args.options k _ _ (sym c.in_ok-value.ensures ∙ ap Ok
-    c.in-Done.is) ⨾ c.in_err-holds-in-Done.ensures.runs (DoCondition _ _ _) k refl))
-
-pub do_turn-returns-in_ok-holds-in-Done-clause-runs : goal.do_turn-returns-in_ok-holds-in-Done-clause-runs
-unfolding after Steps Tests
-do_turn-returns-in_ok-holds-in-Done-clause-runs g t c k =
-    let rules = under g.H.Host.name_of c.args.self.now g.T.NativeTable.natives in
-    next ((rw c.as_slice-statements.ensures at c.run_stmt_block-outcome.ensures.runs) (DoBody _ _ _ ∷ k) ⨾ do_leads rules
-    c.run_stmt_block-outcome.result c.args.test.now c.args.body.now c.args.options k _ _ (sym c.in_ok-value.ensures ∙ ap Ok
-    c.in-Done.is) ⨾ c.in_ok-holds-in-Done.ensures.runs (DoCondition _ _ _) k refl
-    ⨾ do_tested rules _ (has_option 1 c.args.options) c.in_ok-holds-in-Done.holds _ k _ c.do_next.ensures)
+    ⨾ (rw c.if-holds.false at c.in-Ok.ensures.runs) (WhileCondition _ _) k refl ⨾ rw c.put_unit.ensures here

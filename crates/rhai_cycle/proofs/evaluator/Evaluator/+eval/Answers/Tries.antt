@@ -1,59 +1,61 @@
-use Rattle.std.proofs.Common.{◌≡◌, ◌≤◌, ◌∷◌, ◌∙◌, IsTrue, List, arith, map, refl, subst, sym, true}
+use Rattle.std.proofs.Common.{◌∷◌, ◌∙◌, IsTrue, arith, false, subst, sym, true}
 use Rattle.rhai_tree.specs.declared.expr.Expr.{out-Expr}
 use Rattle.rhai_state.specs.Scope.{entries_of, name_of}
 use Rattle.rhai_machine.specs.machine.Point.{after}
-use Rattle.rhai_machine.specs.machine.Memory.{here, next, ◌⨾◌}
+use Rattle.rhai_machine.specs.machine.Memory.{next, ◌⨾◌}
 use Rattle.rhai_machine.specs.language.Frames.{CatchBranch, Enter, ended, TryBody}
 use Rattle.rhai_machine.specs.language.Runs.{Steps}
 use Rattle.rhai_machine.specs.language.Tries.{catch_variable}
 use Rattle.rhai_laws.proofs.KeptLaws.{counted, names_stay}
 use Rattle.rhai_steps.specs.States.{holding}
+use Rattle.rhai_context.specs.Ends.{came}
 use Rattle.rhai_cycle.specs.States.{names, under}
 use Rattle.rhai_cycle.proofs.NameLemmas.{names_restored}
 use Rattle.rhai_cycle.proofs.FormNames.{block_value, branch_begins, branch_runs, nothing_bound}
 use Rattle.rhai_cycle.proofs.TrySteps.{below, branch_left, branch_not, branch_on, scope_back, try_catches, try_done, try_passes}
 use Rattle.rhai_cycle.proofs.evaluator.Evaluator.+eval.Goals as goal
 
+pub run_try-returns-then-run_stmt_block-clause-runs : goal.run_try-returns-then-run_stmt_block-clause-runs
+unfolding after Steps
+run_try-returns-then-run_stmt_block-clause-runs g t c pos restoring k =
+    let rules = under g.H.Host.name_of c.args.self.now g.T.NativeTable.natives in
+    next ((rw c.as_slice.ensures at c.if-run_stmt_block.ensures.runs) (TryBody c.args.variable.now c.args.branch.now ∷ k)
+    ⨾ try_done rules k _ _ _ _)
+
+pub run_try-returns-then-not-may_catch-clause-runs : goal.run_try-returns-then-not-may_catch-clause-runs
+unfolding after Steps
+run_try-returns-then-not-may_catch-clause-runs g t c pos restoring k =
+    let rules = under g.H.Host.name_of c.args.self.now g.T.NativeTable.natives in
+    next ((rw c.as_slice.ensures at c.if-run_stmt_block.ensures.runs) (TryBody c.args.variable.now c.args.branch.now ∷ k)
+    ⨾ try_passes rules k _ _ _ _ (sym c.may_catch.ensures ∙ c.if-not-may_catch.true))
+
 pub run_try-run_branch-requires : goal.run_try-run_branch-requires
 run_try-run_branch-requires g t c =
     let rules = under g.H.Host.name_of c.args.self.now g.T.NativeTable.natives in
-    let counts = counted rules _ _ _ _ c.run_stmt_block-outcome.ensures.runs in
-    let stay = names_stay rules (Enter c.args.body.now.statements true) (ended c.run_stmt_block-outcome.result) _ _ tt tt
-    (rw c.as_slice.ensures at c.run_stmt_block-outcome.ensures.runs) in
+    let counts = counted rules _ _ _ _ c.if-run_stmt_block.ensures.runs in
+    let stay = names_stay rules (Enter c.args.body.now.statements true) (ended (came false c.run_stmt_block.new.run.value
+    c.run_stmt_block.new.run.error)) _ _ tt tt (rw c.as_slice.ensures at c.if-run_stmt_block.ensures.runs) in
     λ κs lives. (omega (arith, counts), (lives.0, (lives.1, rw stay c.requires.resolves_branch)))
 
-pub run_try-returns-in-Ok-clause-runs : goal.run_try-returns-in-Ok-clause-runs
-unfolding after Steps
-run_try-returns-in-Ok-clause-runs g t c pos restoring k =
+pub run_try-returns-clause-counts : goal.run_try-returns-clause-counts
+run_try-returns-clause-counts g t c done =
     let rules = under g.H.Host.name_of c.args.self.now g.T.NativeTable.natives in
-    next ((rw c.as_slice.ensures at c.in-Ok.ensures.runs) (TryBody c.args.variable.now c.args.branch.now ∷ k)
-    ⨾ rw c.put.ensures (try_done rules k _ _ _ _))
+    omega (arith, counted rules _ _ _ _ c.if-run_stmt_block.ensures.runs, c.run_branch.ensures.counts done)
 
-pub run_try-returns-then-is_catchable-clause-counts : goal.run_try-returns-then-is_catchable-clause-counts
-run_try-returns-then-is_catchable-clause-counts g t c done =
-    let rules = under g.H.Host.name_of c.args.self.now g.T.NativeTable.natives in
-    omega (arith, counted rules _ _ _ _ c.run_stmt_block-outcome.ensures.runs, c.run_branch.ensures.counts done)
-
-pub run_try-returns-then-is_catchable-clause-names : goal.run_try-returns-then-is_catchable-clause-names
-run_try-returns-then-is_catchable-clause-names g t c done =
+pub run_try-returns-clause-names : goal.run_try-returns-clause-names
+run_try-returns-clause-names g t c done =
     let rules = under g.H.Host.name_of c.args.self.now g.T.NativeTable.natives in
     c.run_branch.ensures.names done
-    ∙ names_stay rules (Enter c.args.body.now.statements true) (ended c.run_stmt_block-outcome.result) _ _ tt tt
-    (rw c.as_slice.ensures at c.run_stmt_block-outcome.ensures.runs)
+    ∙ names_stay rules (Enter c.args.body.now.statements true) (ended (came false c.run_stmt_block.new.run.value
+    c.run_stmt_block.new.run.error)) _ _ tt tt (rw c.as_slice.ensures at c.if-run_stmt_block.ensures.runs)
 
-pub run_try-returns-then-is_catchable-clause-runs : goal.run_try-returns-then-is_catchable-clause-runs
+pub run_try-returns-clause-runs : goal.run_try-returns-clause-runs
 unfolding after Steps
-run_try-returns-then-is_catchable-clause-runs g t c pos restoring k =
+run_try-returns-clause-runs g t c pos restoring k =
     let rules = under g.H.Host.name_of c.args.self.now g.T.NativeTable.natives in
-    next ((rw c.as_slice.ensures at c.in-Err.ensures.runs) (TryBody c.args.variable.now c.args.branch.now ∷ k)
-    ⨾ try_catches rules k _ _ _ _ (sym c.is_catchable.ensures ∙ c.if-is_catchable.true) ⨾ c.run_branch.ensures.runs k)
-
-pub run_try-returns-else-is_catchable-clause-runs : goal.run_try-returns-else-is_catchable-clause-runs
-unfolding after Steps
-run_try-returns-else-is_catchable-clause-runs g t c pos restoring k =
-    let rules = under g.H.Host.name_of c.args.self.now g.T.NativeTable.natives in
-    next ((rw c.as_slice.ensures at c.in-Err.ensures.runs) (TryBody c.args.variable.now c.args.branch.now ∷ k)
-    ⨾ rw (c.stop.ensures.stopped, c.stop.ensures.told) (try_passes rules k _ _ _ _ (sym c.is_catchable.ensures ∙ c.if-is_catchable.false)))
+    next ((rw c.as_slice.ensures at c.if-run_stmt_block.ensures.runs) (TryBody c.args.variable.now c.args.branch.now ∷ k)
+    ⨾ try_catches rules k _ _ _ _ (sym c.may_catch.ensures ∙ c.if-not-may_catch.false)
+    ⨾ (rw c.stopped-caught.ensures at c.run_branch.ensures.runs) k)
 
 pub run_branch-returns-in-Err-clause-runs : goal.run_branch-returns-in-Err-clause-runs
 unfolding after Steps
@@ -62,8 +64,8 @@ run_branch-returns-in-Err-clause-runs g t c k =
     rw (c.stop.ensures.stopped, c.stop.ensures.told, c.in-Err.ensures.same)
     (branch_not rules k c.args.caught c.args.branch.now _ _ c.in-Err.error c.in-Err.ensures.exact)
 
-pub run_branch-run_stmt_block-outcome-requires : goal.run_branch-run_stmt_block-outcome-requires
-run_branch-run_stmt_block-outcome-requires g t c =
+pub run_branch-run_stmt_block-done-requires : goal.run_branch-run_stmt_block-done-requires
+run_branch-run_stmt_block-done-requires g t c =
     let runs = branch_runs c.args.branch.now c.args.run.now.global.source c.args.caught c.args.variable.now
     (entries_of c.args.run.now.scope) _ c.requires.resolves c.in_default.ensures.bound in
     λ κs lives. (
@@ -83,15 +85,15 @@ unfolding after Steps
 run_branch-returns-clause-runs g t c k =
     let rules = under g.H.Host.name_of c.args.self.now g.T.NativeTable.natives in
     let old = c.args.run.now in
-    let new = c.run_stmt_block-outcome.new.run in
+    let new = c.run_stmt_block-done.new.run in
     let variable = catch_variable (out-Expr c.args.variable.now) in
-    let block = rw c.as_slice-statements.ensures at c.run_stmt_block-outcome.ensures.runs in
-    let stay = names_stay rules (Enter c.args.branch.now.statements true) (ended c.run_stmt_block-outcome.result) _ _ tt tt block in
+    let block = rw c.as_slice-statements.ensures at c.run_stmt_block-done.ensures.runs in
+    let stay = names_stay rules (Enter c.args.branch.now.statements true) (ended (came c.run_stmt_block-done.result c.run_stmt_block-done.new.run.value c.run_stmt_block-done.new.run.error)) _ _ tt tt block in
     branch_on rules k c.args.caught c.args.branch.now _ old.global old.scope c.bind_caught-bound.new.scope (holding old.this)
     c.len-base.result c.len-base.ensures variable (c.in_default.ensures.exact tt) c.in_default.ensures.bound
     ⨾ block (CatchBranch c.args.caught ∷ below rules k variable c.len-base.result)
-    ⨾ branch_left rules (below rules k variable c.len-base.result) c.args.caught c.run_stmt_block-outcome.result _
-    ⨾ rw (c.settle.ensures, c.leave_branch-left.ensures)
+    ⨾ branch_left rules (below rules k variable c.len-base.result) c.args.caught (came c.run_stmt_block-done.result c.run_stmt_block-done.new.run.value c.run_stmt_block-done.new.run.error) _
+    ⨾ rw (c.settle.ensures, c.leave_branch-left.ensures, c.finish-outcome.ensures.came)
     (scope_back rules k variable _ c.len-base.result _ new.global new.scope c.rewind.new.self (holding new.this)
     (nothing_bound variable old.global.source c.args.caught (entries_of old.scope) _ _ c.in_default.ensures.bound stay
     c.len-base.result c.len-base.ensures) c.rewind.ensures)
@@ -99,15 +101,15 @@ run_branch-returns-clause-runs g t c k =
 pub run_branch-returns-clause-counts : goal.run_branch-returns-clause-counts
 run_branch-returns-clause-counts g t c done =
     let rules = under g.H.Host.name_of c.args.self.now g.T.NativeTable.natives in
-    omega (arith, counted rules _ _ _ _ c.run_stmt_block-outcome.ensures.runs)
+    omega (arith, counted rules _ _ _ _ c.run_stmt_block-done.ensures.runs)
 
 pub run_branch-returns-clause-names : goal.run_branch-returns-clause-names
 run_branch-returns-clause-names g t c done =
     let rules = under g.H.Host.name_of c.args.self.now g.T.NativeTable.natives in
     let old = c.args.run.now in
-    let stay = names_stay rules (Enter c.args.branch.now.statements true) (ended c.run_stmt_block-outcome.result) _ _ tt tt
-    (rw c.as_slice-statements.ensures at c.run_stmt_block-outcome.ensures.runs) in
-    names_restored old.scope.entries c.run_stmt_block-outcome.new.run.scope.entries c.rewind.new.self.entries c.len-base.result
+    let stay = names_stay rules (Enter c.args.branch.now.statements true) (ended (came c.run_stmt_block-done.result c.run_stmt_block-done.new.run.value c.run_stmt_block-done.new.run.error)) _ _ tt tt
+    (rw c.as_slice-statements.ensures at c.run_stmt_block-done.ensures.runs) in
+    names_restored old.scope.entries c.run_stmt_block-done.new.run.scope.entries c.rewind.new.self.entries c.len-base.result
     c.rewind.ensures c.len-base.ensures
     (branch_begins (catch_variable (out-Expr c.args.variable.now)) old.global.source c.args.caught (entries_of old.scope) _ _
     c.in_default.ensures.bound stay)

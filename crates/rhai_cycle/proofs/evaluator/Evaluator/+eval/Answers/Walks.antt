@@ -1,4 +1,4 @@
-use Rattle.std.proofs.Common.{◌≡◌, ◌≢◌, ◌≤◌, ◌<◌, ◌+◌, ◌∷◌, ◌∙◌, [], ap, arith, length, refl, subst, sym, true, false, IsTrue, Option, Some, None}
+use Rattle.std.proofs.Common.{◌≡◌, ◌≢◌, ◌≤◌, ◌∷◌, ◌∙◌, [], ap, arith, length, refl, subst, sym, true, false, IsTrue}
 use Rattle.std.proofs.lemmas.Bool.{true≢false}
 use Rattle.std.proofs.lemmas.List.{length-map}
 use Rattle.rhai_tree.specs.Frame.{turn_names}
@@ -6,20 +6,21 @@ use Rattle.rhai_state.specs.declared.state.GlobalRuntimeState.{GlobalRuntimeStat
 use Rattle.rhai_state.specs.Limits.{limit_of}
 use Rattle.rhai_state.specs.Scope.{entries_of, name_of}
 use Rattle.rhai_machine.specs.machine.Point.{after}
-use Rattle.rhai_machine.specs.machine.Memory.{here, next, ◌⨾◌}
+use Rattle.rhai_machine.specs.machine.Memory.{next, ◌⨾◌}
 use Rattle.rhai_machine.specs.language.Frames.{Enter, Eval, ForBody, ForItems, RestoreScope, ended}
 use Rattle.rhai_machine.specs.language.Runs.{Steps}
 use Rattle.rhai_laws.proofs.KeptLaws.{counted, names_stay}
 use Rattle.rhai_steps.specs.States.{holding}
 use Rattle.rhai_walks.specs.Left.{turns_in}
 use Rattle.rhai_walks.specs.Loops.{loop_in}
+use Rattle.rhai_context.specs.Ends.{came}
 use Rattle.rhai_cycle.specs.States.{names, offer_of, under}
 use Rattle.rhai_cycle.proofs.Turns.{body_charges}
-use Rattle.rhai_cycle.proofs.LoopSteps.{stays_full}
+use Rattle.rhai_cycle.proofs.LoopSteps.{stays_full, turn_ended}
 use Rattle.rhai_cycle.proofs.NameLemmas.{names_restored}
 use Rattle.rhai_cycle.proofs.FormNames.{block_value, loop_names, turn_begins, turn_count}
 use Rattle.rhai_cycle.proofs.ForSteps.{body_ends, empty_charged, empty_refused, has_none, has_room, items_fail, leaves_scope, starts}
-use Rattle.rhai_cycle.proofs.ForSteps.{if_well, on_turn, starts_not, turn_ended, turns_end}
+use Rattle.rhai_cycle.proofs.ForSteps.{if_well, on_turn, starts_not, turns_end}
 use Rattle.rhai_cycle.proofs.evaluator.Evaluator.+eval.Goals as goal
 
 pub run_for-returns-then-has_no_room-clause-runs : goal.run_for-returns-then-has_no_room-clause-runs
@@ -110,7 +111,7 @@ run_for-returns-in-Some-clause-runs g t c pos restoring k =
     let loop = loop_in c.args.parts in
     let new = c.run_for_turn.new.run in
     c.turns.invariant.steps pos restoring k
-    ⨾ (rw (turn_ended rules loop k c.in-Some.done _ _ _) at c.in-Some.ensures.runs) (RestoreScope c.len-base.result ∷ k)
+    ⨾ (rw (turn_ended c.in-Some.done _ _ _) at c.in-Some.ensures.runs) (RestoreScope c.len-base.result ∷ k)
     ⨾ leaves_scope rules loop k _ c.len-base.result _ new.global new.scope c.rewind.new.self (holding new.this) c.rewind.ensures
 
 pub run_for-returns-in-Some-clause-counts : goal.run_for-returns-in-Some-clause-counts
@@ -129,33 +130,33 @@ run_for_turn-returns-in_default-clause-runs g t c k =
     let rules = under g.H.Host.name_of c.args.self.now g.T.NativeTable.natives in
     rw c.put_unit.ensures (turns_end rules (loop_in c.args.parts) k c.args.turn c.args.base _ _ (c.next.ensures.none c.in_default.is))
 
-pub run_for_turn-returns-in-Ok-clause-runs : goal.run_for_turn-returns-in-Ok-clause-runs
+pub run_for_turn-returns-then-charge-clause-runs : goal.run_for_turn-returns-then-charge-clause-runs
 unfolding after Steps
-run_for_turn-returns-in-Ok-clause-runs g t c k =
+run_for_turn-returns-then-charge-clause-runs g t c k =
     let rules = under g.H.Host.name_of c.args.self.now g.T.NativeTable.natives in
     empty_charged rules (loop_in c.args.parts) k c.args.turn c.args.base _ _ _ c.in-Some.ensures.some (c.is_empty.ensures.0 c.if-is_empty.true)
-    _ c.args.run.now.global c.track_operation.new.global _ _ c.in-Ok.ensures.room c.in-Ok.ensures.charged
+    _ c.args.run.now.global c.charge.new.global _ _ (c.if-charge.ensures.room refl) (c.if-charge.ensures.charged refl)
 
-pub run_for_turn-returns-in-Err-clause-runs : goal.run_for_turn-returns-in-Err-clause-runs
+pub run_for_turn-returns-then-is_empty-clause-runs : goal.run_for_turn-returns-then-is_empty-clause-runs
 unfolding after Steps
-run_for_turn-returns-in-Err-clause-runs g t c k =
+run_for_turn-returns-then-is_empty-clause-runs g t c k =
     let rules = under g.H.Host.name_of c.args.self.now g.T.NativeTable.natives in
-    rw (c.stop.ensures.stopped, c.stop.ensures.told)
-    (empty_refused rules (loop_in c.args.parts) k c.args.turn c.args.base _ _ _ c.in-Some.ensures.some (c.is_empty.ensures.0 c.if-is_empty.true)
-    _ c.args.run.now.global c.track_operation.new.global _ _ _ c.in-Err.ensures.full c.in-Err.ensures.refused c.in-Err.ensures.same)
+    empty_refused rules (loop_in c.args.parts) k c.args.turn c.args.base _ _ _ c.in-Some.ensures.some (c.is_empty.ensures.0 c.if-is_empty.true)
+    _ c.args.run.now.global c.charge.new.global _ _ _ (c.if-charge.ensures.full refl) (c.if-charge.ensures.refused refl)
+    (c.if-charge.ensures.same refl)
 
 pub run_for_turn-enter_turn-entered-requires : goal.run_for_turn-enter_turn-entered-requires
 run_for_turn-enter_turn-entered-requires g t c = c.requires.variables ∙ length-map (entries_of c.args.run.now.scope) name_of
 
-pub run_for_turn-returns-in-Err-entered-clause-runs : goal.run_for_turn-returns-in-Err-entered-clause-runs
+pub run_for_turn-returns-in-Err-clause-runs : goal.run_for_turn-returns-in-Err-clause-runs
 unfolding after Steps
-run_for_turn-returns-in-Err-entered-clause-runs g t c k =
-    rw (c.stop-in-Err-entered.ensures.stopped, c.stop-in-Err-entered.ensures.told)
-    (c.in-Err-entered.ensures.enters (offer_of c.args.self.now) (holding c.args.run.now.this) _ _ k c.in-Some.ensures.some
+run_for_turn-returns-in-Err-clause-runs g t c k =
+    rw (c.stop.ensures.stopped, c.stop.ensures.told)
+    (c.in-Err.ensures.enters (offer_of c.args.self.now) (holding c.args.run.now.this) _ _ k c.in-Some.ensures.some
     (λ empty. absurd (true≢false (sym (c.is_empty.ensures.1 empty) ∙ c.if-is_empty.false))))
 
-pub run_for_turn-run_stmt_block-outcome-requires : goal.run_for_turn-run_stmt_block-outcome-requires
-run_for_turn-run_stmt_block-outcome-requires g t c =
+pub run_for_turn-run_stmt_block-done-requires : goal.run_for_turn-run_stmt_block-done-requires
+run_for_turn-run_stmt_block-done-requires g t c =
     let count = ap (λ (global : GlobalRuntimeState _). global.num_operations) c.enter_turn-entered.ensures.rest in
     λ κs lives. (
       omega (arith, count),
@@ -177,37 +178,37 @@ run_for_turn-returns-clause-runs g t c k =
     let rest = turns_in c.next.new.self in
     c.in_default-entered.ensures.enters (offer_of c.args.self.now) (holding c.args.run.now.this) _ rest k c.in-Some.ensures.some
     (λ empty. absurd (true≢false (sym (c.is_empty.ensures.1 empty) ∙ c.if-is_empty.false)))
-    ⨾ (rw c.as_slice-statements.ensures at c.run_stmt_block-outcome.ensures.runs) (ForBody loop rest c.args.turn c.args.base ∷ k)
-    ⨾ rw (c.settle_turn.ensures, c.while_next.ensures)
-    (body_ends rules loop k c.args.turn c.args.base c.run_stmt_block-outcome.result rest _)
+    ⨾ (rw c.as_slice-statements.ensures at c.run_stmt_block-done.ensures.runs) (ForBody loop rest c.args.turn c.args.base ∷ k)
+    ⨾ rw c.turn_end.ensures
+    (body_ends rules loop k c.args.turn c.args.base (came c.run_stmt_block-done.result c.run_stmt_block-done.new.run.value c.run_stmt_block-done.new.run.error) rest _)
 
 pub run_for_turn-returns-clause-charges : goal.run_for_turn-returns-clause-charges
 run_for_turn-returns-clause-charges g t c none =
     let rules = under g.H.Host.name_of c.args.self.now g.T.NativeTable.natives in
     let count = ap (λ (global : GlobalRuntimeState _). global.num_operations) c.enter_turn-entered.ensures.rest in
-    let charged = on_turn rules (loop_in c.args.parts) [] _ _ _ _ _ (c.settle_turn.ensures ∙ c.while_next.ensures) none
-    (body_charges rules c.args.parts.body.now.statements _ _ c.run_stmt_block-outcome.result (λ empty. absurd
+    let charged = on_turn rules (loop_in c.args.parts) [] _ _ _ _ _ c.turn_end.ensures none
+    (body_charges rules c.args.parts.body.now.statements _ _ (came c.run_stmt_block-done.result c.run_stmt_block-done.new.run.value c.run_stmt_block-done.new.run.error) (λ empty. absurd
     (true≢false (sym (c.is_empty.ensures.1 empty) ∙ c.if-is_empty.false)))
-    (rw c.as_slice-statements.ensures at c.run_stmt_block-outcome.ensures.runs)) in
+    (rw c.as_slice-statements.ensures at c.run_stmt_block-done.ensures.runs)) in
     omega (arith, charged, count)
 
 pub run_for_turn-returns-clause-counts : goal.run_for_turn-returns-clause-counts
 run_for_turn-returns-clause-counts g t c =
     let rules = under g.H.Host.name_of c.args.self.now g.T.NativeTable.natives in
     let count = ap (λ (global : GlobalRuntimeState _). global.num_operations) c.enter_turn-entered.ensures.rest in
-    let later = counted rules _ _ _ _ c.run_stmt_block-outcome.ensures.runs in
-    let counts : c.args.run.now.global.num_operations ≤ c.run_stmt_block-outcome.new.run.global.num_operations =
+    let later = counted rules _ _ _ _ c.run_stmt_block-done.ensures.runs in
+    let counts : c.args.run.now.global.num_operations ≤ c.run_stmt_block-done.new.run.global.num_operations =
     omega (arith, later, count) in
     if_well _ counts
 
 pub run_for_turn-returns-clause-names_stay : goal.run_for_turn-returns-clause-names_stay
 run_for_turn-returns-clause-names_stay g t c none =
     let rules = under g.H.Host.name_of c.args.self.now g.T.NativeTable.natives in
-    names_stay rules (Enter c.args.parts.body.now.statements true) (ended c.run_stmt_block-outcome.result) _ _ tt tt
-    (rw c.as_slice-statements.ensures at c.run_stmt_block-outcome.ensures.runs) ∙ c.enter_turn-entered.ensures.names
+    names_stay rules (Enter c.args.parts.body.now.statements true) (ended (came c.run_stmt_block-done.result c.run_stmt_block-done.new.run.value c.run_stmt_block-done.new.run.error)) _ _ tt tt
+    (rw c.as_slice-statements.ensures at c.run_stmt_block-done.ensures.runs) ∙ c.enter_turn-entered.ensures.names
 
 pub run_for_turn-returns-clause-names : goal.run_for_turn-returns-clause-names
 run_for_turn-returns-clause-names g t c =
     let rules = under g.H.Host.name_of c.args.self.now g.T.NativeTable.natives in
-    if_well _ (names_stay rules (Enter c.args.parts.body.now.statements true) (ended c.run_stmt_block-outcome.result) _ _ tt tt
-    (rw c.as_slice-statements.ensures at c.run_stmt_block-outcome.ensures.runs) ∙ c.enter_turn-entered.ensures.names)
+    if_well _ (names_stay rules (Enter c.args.parts.body.now.statements true) (ended (came c.run_stmt_block-done.result c.run_stmt_block-done.new.run.value c.run_stmt_block-done.new.run.error)) _ _ tt tt
+    (rw c.as_slice-statements.ensures at c.run_stmt_block-done.ensures.runs) ∙ c.enter_turn-entered.ensures.names)

@@ -1,0 +1,183 @@
+//! Parts of a run that end in it: charges, values without their handles, and turns of loops.
+
+ghost use Rattle.std.specs.Prelude.{◌≡◌, ◌<◌, ◌≤◌, ◌+◌, IsTrue, false, true};
+ghost use Rattle.rhai_tree.specs.Positions.{stmt_position_of};
+ghost use Rattle.rhai_values.specs.Cells.{cells_of};
+ghost use Rattle.rhai_state.specs.Limits.{limit_of};
+ghost use Rattle.rhai_state.specs.declared.error.EvalAltResult.TheVariants as error;
+ghost use Rattle.rhai_machine.specs.language.State.{Answers};
+ghost use Rattle.rhai_machine.specs.language.Values.{flat, is_handle};
+ghost use Rattle.rhai_steps.specs.Loops.{after_body, turn_in};
+ghost use Rattle.rhai_context.specs.Ends.{came, came_turn, error_in};
+ghost use Rattle.rhai_context.specs.Outcomes.{ended_by};
+
+use crate::ends::{put, settle, settle_turn, stop, stopped, take_value};
+use rhai_state::error::EvalAltResult;
+use rhai_state::limits::Limits;
+use rhai_state::state::GlobalRuntimeState;
+use rhai_steps::charges::charge_all;
+use rhai_steps::loops::{BodyEnd, body_end, while_next};
+use rhai_steps::values::flatten;
+use rhai_tree::expr::Stmt;
+use rhai_tree::position::Position;
+use rhai_values::base::value::{Dynamic, Host, Union};
+use rhai_values::cells::CellStore;
+use std::alloc::Global;
+
+/// Charges one operation. Where the count has reached the limit, it stays and the run stops.
+#[inline(always)]
+pub fn charge<H: Host>(
+    limits: &Limits,
+    global: &mut GlobalRuntimeState<H>,
+    place: &mut Option<EvalAltResult<H>>,
+    pos: Position,
+) -> bool
+    ensures room { IsTrue result → global.old.num_operations < limit_of limits.now.max_operations }
+    ensures charged { IsTrue result → global.new ≡ record global.old
+        { num_operations = global.old.num_operations + 1 } }
+    ensures full { result ≡ false → limit_of limits.now.max_operations ≤ global.old.num_operations }
+    ensures refused { result ≡ false → error_in place.new ≡ error.ErrorTooManyOperations pos }
+    ensures same { result ≡ false → global.new ≡ global.old }
+{
+    if charge_all(limits, global, 1) {
+        return true;
+    }
+    stop_at(place, pos)
+}
+
+/// A statement is charged at its position. Where the count has reached the limit, it stays and the run stops.
+#[inline(always)]
+pub fn charge_stmt<H: Host>(
+    limits: &Limits,
+    global: &mut GlobalRuntimeState<H>,
+    place: &mut Option<EvalAltResult<H>>,
+    stmt: &Stmt,
+) -> bool
+    ensures room { IsTrue result → global.old.num_operations < limit_of limits.now.max_operations }
+    ensures charged { IsTrue result → global.new ≡ record global.old
+        { num_operations = global.old.num_operations + 1 } }
+    ensures full { result ≡ false → limit_of limits.now.max_operations ≤ global.old.num_operations }
+    ensures refused { result ≡ false → error_in place.new ≡
+        error.ErrorTooManyOperations (stmt_position_of stmt.now) }
+    ensures same { result ≡ false → global.new ≡ global.old }
+{
+    if charge_all(limits, global, 1) {
+        return true;
+    }
+    stop_at(place, stmt.position())
+}
+
+/// A run stops at a place where the count has reached the limit.
+#[cold]
+#[inline(never)]
+fn stop_at<H: Host>(place: &mut Option<EvalAltResult<H>>, pos: Position) -> bool
+    ensures stopped { result ≡ false }
+    ensures told { error_in place.new ≡ error.ErrorTooManyOperations pos }
+{
+    stop(place, EvalAltResult::ErrorTooManyOperations(pos))
+}
+
+/// The value of a run loses its handle: of a handle it becomes a copy of the cell's value.
+///
+/// # Errors
+/// Those of `flatten`.
+#[inline(always)]
+pub fn flatten_value<H: Host>(
+    alloc: Global,
+    cells: &CellStore<H>,
+    out: &mut Dynamic<H>,
+    place: &mut Option<EvalAltResult<H>>,
+    pos: Position,
+) -> bool
+    ensures exact { Answers (came result out.new place.new) (flat (cells_of cells.now) out.old pos) }
+    ensures memory { result ≡ false → is_handle out.old.value ≡ true }
+{
+    match &out.value {
+        Union::Cell(_) => flatten_handle(alloc, cells, out, place, pos),
+        _ => true,
+    }
+}
+
+/// The value of a run that is a handle becomes a copy of the cell's value.
+#[inline(never)]
+fn flatten_handle<H: Host>(
+    alloc: Global,
+    cells: &CellStore<H>,
+    out: &mut Dynamic<H>,
+    place: &mut Option<EvalAltResult<H>>,
+    pos: Position,
+) -> bool
+    ensures { Answers (came result out.new place.new) (flat (cells_of cells.now) out.old pos) }
+{
+    let value = take_value(out);
+    settle(place, out, flatten(alloc, cells, value, pos))
+}
+
+/// How the body of a loop ended.
+#[derive(Clone, Copy)]
+pub enum BodyWay {
+    /// At its last statement.
+    Done,
+    /// By a `continue`.
+    Continue,
+    /// By a `break`, whose value is the run's.
+    Break,
+    /// By an error, which passes.
+    Stopped,
+}
+
+/// How the body of a loop ended that left a value or an error in the run.
+#[inline(always)]
+pub fn body_way<H: Host>(
+    done: bool,
+    out: &mut Dynamic<H>,
+    place: &mut Option<EvalAltResult<H>>,
+) -> BodyWay
+    ensures { ended_by result out.new place.new ≡ turn_in (came done out.old place.old) }
+{
+    if done {
+        BodyWay::Done
+    } else {
+        left_way(out, place)
+    }
+}
+
+/// How a body ended that left an error.
+#[inline(never)]
+fn left_way<H: Host>(out: &mut Dynamic<H>, place: &mut Option<EvalAltResult<H>>) -> BodyWay
+    ensures { ended_by result out.new place.new ≡ turn_in (came false out.old place.old) }
+{
+    match body_end(Err(stopped(place))) {
+        Ok(BodyEnd::Done) => BodyWay::Done,
+        Ok(BodyEnd::Continue) => BodyWay::Continue,
+        Ok(BodyEnd::Break(value)) => {
+            put(out, value);
+            BodyWay::Break
+        }
+        Err(error) => {
+            stop(place, error);
+            BodyWay::Stopped
+        }
+    }
+}
+
+/// What a loop makes of its body: None where another turn follows.
+#[inline(always)]
+pub fn turn_end<H: Host>(
+    done: bool,
+    out: &mut Dynamic<H>,
+    place: &mut Option<EvalAltResult<H>>,
+) -> Option<bool>
+    ensures { came_turn result out.new place.new ≡ after_body (turn_in (came done out.old place.old)) }
+{
+    if done { None } else { turn_left(out, place) }
+}
+
+/// What a loop makes of a body that left an error.
+#[inline(never)]
+fn turn_left<H: Host>(out: &mut Dynamic<H>, place: &mut Option<EvalAltResult<H>>) -> Option<bool>
+    ensures { came_turn result out.new place.new ≡ after_body (turn_in (came false out.old place.old)) }
+{
+    let turn = while_next(Err(stopped(place)));
+    settle_turn(place, out, turn)
+}
