@@ -1,5 +1,6 @@
 //! Errors as a user reads them.
 
+use crate::values::shared;
 use rhai_eval::base::{Boxed, Dynamic, EvalAltResult, Position, Shared, Text, Union};
 use rhai_state::error::{Bounds, FunctionCallError, TypeMismatch};
 use rhai_tables::host::Pair;
@@ -104,10 +105,6 @@ fn about(variant: &str, text: Shared<Text>, at: Position) -> Option<EvalAltResul
         "ErrorDataTooLarge" => Some(EvalAltResult::ErrorDataTooLarge(text, at)),
         _ => None,
     }
-}
-
-fn shared(alloc: Global, text: &str) -> Result<Shared<Text>, AllocError> {
-    Shared::new(alloc, Text::from_str(alloc, text)?)
 }
 
 /// A length and an index.

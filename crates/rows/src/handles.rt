@@ -1,6 +1,7 @@
 //! Methods on handles of a cell, which is held until the chain is left.
 
 use crate::errors::write_error;
+use crate::values::shared;
 use rhai_bench::print::write_value;
 use rhai_bench::script::add_library;
 use rhai_bench::settings::{Settings, Way};
@@ -9,8 +10,8 @@ use rhai_build::expressions::int;
 use rhai_build::functions::TreeParts;
 use rhai_build::statements::assign;
 use rhai_eval::base::{
-    AccessMode, Boxed, CellId, Dynamic, Expr, FnPtr, FnPtrKind, Items, NativeId, Scope, Shared,
-    Stmt, Table, Text, Union,
+    AccessMode, Boxed, CellId, Dynamic, Expr, FnPtr, FnPtrKind, Items, NativeId, Scope, Stmt,
+    Table, Union,
 };
 use rhai_eval::cells::CellStore;
 use rhai_eval::check::check_tree;
@@ -126,12 +127,12 @@ fn pointer(
     if has_handle {
         curry.push(handle())?;
     }
-    let name = Shared::new(alloc, Text::from_str(alloc, name)?)?;
+    let name = shared(alloc, name)?;
     Boxed::new(alloc, FnPtr { name, curry, kind })
 }
 
-/// Adds the cell. It has a pointer to `g`, a map with the handle under `f` or with a pointer to a native that is
-/// not there under `get$f`, or 1.
+/// Adds the cell. It has a pointer to `g`, a map with the handle under `f` or with a pointer to a native that
+/// is not there under `get$f`, or 1.
 fn add_cell(alloc: Global, cells: &mut CellStore<Pair>, chain: &str) -> Result<(), AllocError> {
     let added = match chain {
         "f.call()" => {
@@ -144,14 +145,14 @@ fn add_cell(alloc: Global, cells: &mut CellStore<Pair>, chain: &str) -> Result<(
         }
         "m.f()" => {
             let mut map = Table::new(alloc);
-            map.insert(Shared::new(alloc, Text::from_str(alloc, "f")?)?, handle())?;
+            map.insert(shared(alloc, "f")?, handle())?;
             cells.add(Dynamic::new(Union::Map(Boxed::new(alloc, map)?)))
         }
         "m.get$f()" => {
             let mut map = Table::new(alloc);
             let missing = FnPtrKind::Native(NativeId { number: 99 });
             let own = pointer(alloc, "get$f", missing, false)?;
-            let name = Shared::new(alloc, Text::from_str(alloc, "get$f")?)?;
+            let name = shared(alloc, "get$f")?;
             map.insert(name, Dynamic::new(Union::FnPtr(own)))?;
             cells.add(Dynamic::new(Union::Map(Boxed::new(alloc, map)?)))
         }

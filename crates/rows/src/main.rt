@@ -1,84 +1,70 @@
-//! Runs the scripts of the bench in every way, and the program `tree_run` on arguments, and compares
-//! what comes of them with a file of worked lines, as `ends 26 1 = ok 42`.
+//! Compares what scripts, the program `tree_run` and a host's own calls come to with a file of worked lines,
+//! as `ends 26 1 = ok 42`, and what the functions of the leaves answer with files of worked vectors, as
+//! `binary + 1 2 = 3`. Then it runs the scripts with all memory granted, and, where something outside of the
+//! program refuses memory, with each request of theirs refused in turn, and sees to what holds after each.
+//!
+//! The files stand in the folder of the first argument, or where the program runs. After `refused` nothing is
+//! compared.
 #![tactic(auto)]
 
 mod answers;
+mod compare;
 mod errors;
 mod functions;
 mod handles;
+mod lists;
 mod program;
+mod refused;
 mod scripts;
 mod searches;
 mod signatures;
+mod subject;
 mod values;
+mod vectors;
 
-use crate::answers::answer;
-use std::alloc::Global;
-use std::io::Write;
+use crate::compare::compare_lines;
+use crate::refused::are_all_well;
+use crate::subject::Subject;
 use std::process::ExitCode;
 use std::rt::{Env, Files};
 use std::{env, fs, io};
 
-/// How many lines agree, and how many differ.
-#[derive(Clone, Copy, Default)]
-struct Tally {
-    agree: usize,
-    differ: usize,
-}
-
 fn main(rt: HostRuntime) -> io::Result<ExitCode> {
-    let lines = read_lines(&rt)?;
-    let mut out = io::writer(&rt);
-    let tally = compare_lines(rt.alloc(), lines.as_str(), &mut out)?;
-    writeln!(&mut out, "{} agree, {} differ", tally.agree, tally.differ)?;
-    Ok(ExitCode::from(u8::from(tally.differ > 0)))
+    let folder = folder(&rt)?;
+    let mut is_well = true;
+    if folder.as_str() != "refused" {
+        is_well = do_all_agree(&rt, folder.as_str())?;
+    }
+    if !are_all_well(rt.alloc(), &mut io::writer(&rt))? {
+        is_well = false;
+    }
+    Ok(ExitCode::from(u8::from(!is_well)))
 }
 
-/// The file, which stands in the folder of the first argument, or where the program runs.
-fn read_lines<R: Env + Files + AllocGlobal>(rt: &R) -> io::Result<String> {
+/// The first argument, or where the program runs.
+fn folder<R: Env + AllocGlobal>(rt: &R) -> io::Result<String> {
     match env::args(rt)?.nth(1) {
-        Some(folder) => {
-            let path = format!(in rt.alloc(); "{folder}/rows.txt")?;
-            fs::read_to_string(rt, path.as_str())
-        }
-        None => fs::read_to_string(rt, "rows.txt"),
+        Some(folder) => Ok(folder),
+        None => Ok(String::from_str(rt.alloc(), ".")?),
     }
 }
 
-/// Compares each line, `CALL = ANSWER`, with what the call answers, and prints those that differ,
-/// with their numbers. Empty lines and lines that begin with `//` say nothing.
-fn compare_lines<W: Write>(alloc: Global, lines: &str, out: &mut W) -> io::Result<Tally> {
-    let mut tally = Tally::default();
-    for (at, line) in lines.lines().enumerate() {
-        if line.is_empty() || line.starts_with("//") {
-            continue;
-        }
-        if agrees(alloc, at, line, out)? {
-            tally.agree = tally.agree.saturating_add(1);
-        } else {
-            tally.differ = tally.differ.saturating_add(1);
-        }
+/// Compares the lines of every file. Whether none differs.
+fn do_all_agree<R: Files + Print + AllocGlobal>(rt: &R, folder: &str) -> io::Result<bool> {
+    let mut differ: usize = 0;
+    for subject in Subject::ALL {
+        differ = differ.saturating_add(compare_file(rt, folder, subject)?);
     }
-    Ok(tally)
+    Ok(differ == 0)
 }
 
-/// Whether the call of a line answers what the line says. Where it does not, prints what it does.
-fn agrees<W: Write>(alloc: Global, at: usize, line: &str, out: &mut W) -> io::Result<bool> {
-    let (call, wanted) = line.split_once(" = ").unwrap_or((line, ""));
-    let found = answer(alloc, call)?;
-    let agrees = found.as_slice() == wanted.as_bytes();
-    let wrote = if agrees {
-        Ok(())
-    } else {
-        write_difference(out, at, found.as_slice())
-    };
-    drop(found);
-    wrote.map(|()| agrees)
-}
-
-/// Writes what a line came to whose answer is another.
-fn write_difference<W: Write>(out: &mut W, at: usize, found: &[u8]) -> io::Result<()> {
-    write!(out, "rows.txt:{}: it came to ", at.saturating_add(1))?;
-    out.write_all(found)?;
-    writeln!(out, "")
+/// Compares the lines of a file. How many differ.
+fn compare_file<R: Files + Print + AllocGlobal>(
+    rt: &R,
+    folder: &str,
+    subject: Subject,
+) -> io::Result<usize> {
+    let path = format!(in rt.alloc(); "{folder}/{}.txt", subject.name())?;
+    let lines = fs::read_to_string(rt, path.as_str())?;
+    compare_lines(rt.alloc(), subject, lines.as_str(), &mut io::writer(rt))
 }

@@ -1,58 +1,24 @@
 //! What scripts come to.
 
 use crate::errors::write_lines;
+use crate::lists::{script_at, scripts_of};
 use rhai_bench::outcome::{Ending, Outcome};
 use rhai_bench::print::{write_ending, write_value};
-use rhai_bench::rows::caught::caught_or_not;
-use rhai_bench::rows::cells::shared_cells;
-use rhai_bench::rows::chains::left_in_place;
-use rhai_bench::rows::checked::checked_only;
-use rhai_bench::rows::choices::conditions;
-use rhai_bench::rows::functions::in_no_row;
-use rhai_bench::rows::loops::outside_of_loops;
-use rhai_bench::rows::order::evaluated_in_order;
-use rhai_bench::rows::walks::turns;
-use rhai_bench::rows::{scope_for, scripts};
+use rhai_bench::rows::scope_for;
 use rhai_bench::script::Script;
 use rhai_bench::settings::Way;
-use rhai_eval::base::{AccessMode, CellId, Dynamic, EvalAltResult, Items, Scope, Union};
+use rhai_eval::base::{AccessMode, CellId, Dynamic, EvalAltResult, Scope, Union};
 use rhai_eval::cells::CellStore;
 use rhai_tables::host::Pair;
 use std::alloc::{AllocError, Global};
 use std::io;
 use std::io::Write;
 
-/// The scripts of a list: those of a row by its number, and of lists that no row has by their names.
-fn scripts_of(alloc: Global, list: &str) -> Result<Option<Items<Script>>, AllocError> {
-    let scripts = match list {
-        "outside" => outside_of_loops(alloc),
-        "kept" => left_in_place(alloc),
-        "calls" => in_no_row(alloc),
-        "order" => evaluated_in_order(alloc),
-        "walks" => turns(alloc),
-        "choices" => conditions(alloc),
-        "caught" => caught_or_not(alloc),
-        "cells" => shared_cells(alloc),
-        "checked" => checked_only(alloc),
-        row => return scripts(alloc, row),
-    };
-    scripts.map(Some)
-}
-
-/// A script by its list and its number there, as `26 1`.
+/// A script by its list and its number there, counted from 1, as `26 1`.
 fn script_of(alloc: Global, name: &str) -> Result<Option<Script>, AllocError> {
     let (list, number) = name.split_once(' ').unwrap_or((name, ""));
-    match scripts_of(alloc, list)? {
-        Some(scripts) => Ok(numbered(scripts, number)),
-        None => Ok(None),
-    }
-}
-
-/// The script of a number, counted from 1.
-fn numbered(scripts: Items<Script>, number: &str) -> Option<Script> {
     let number: usize = number.parse().unwrap_or(0);
-    let before = number.checked_sub(1).unwrap_or(usize::MAX);
-    scripts.into_vec().into_iter().nth(before)
+    script_at(alloc, list, number.checked_sub(1).unwrap_or(usize::MAX))
 }
 
 /// Writes how many scripts a list has.

@@ -64,7 +64,8 @@ fn with_parts(alloc: Global, name: &str) -> Result<Option<Union<Pair>>, AllocErr
     value.map(Some)
 }
 
-fn shared(alloc: Global, text: &str) -> Result<Shared<Text>, AllocError> {
+/// A shared copy of a text.
+pub fn shared(alloc: Global, text: &str) -> Result<Shared<Text>, AllocError> {
     Shared::new(alloc, Text::from_str(alloc, text)?)
 }
 

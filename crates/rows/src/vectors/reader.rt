@@ -2,9 +2,10 @@
 
 mod literals;
 
+use crate::values::shared;
 use rhai_tree::position::Position;
 use rhai_tree::{Boxed, Items, Shared, Text};
-use std::alloc::{AllocError, Global};
+use std::alloc::Global;
 
 /// Why a line has no answer.
 #[derive(Clone, Copy)]
@@ -167,9 +168,4 @@ impl<'a> Reader<'a> {
             self.starve();
         }
     }
-}
-
-/// A shared copy of a text.
-pub fn shared(alloc: Global, text: &str) -> Result<Shared<Text>, AllocError> {
-    Shared::new(alloc, Text::from_str(alloc, text)?)
 }

@@ -1,21 +1,13 @@
 //! A script of a list, made, checked and run in a way, and what holds after its run.
 
-use crate::refuser;
+use crate::lists::script_at;
+use crate::refused::refuser;
 use rhai_bench::outcome::Ending;
 use rhai_bench::print::write_ending;
-use rhai_bench::rows::caught::caught_or_not;
-use rhai_bench::rows::cells::shared_cells;
-use rhai_bench::rows::chains::left_in_place;
-use rhai_bench::rows::choices::conditions;
-use rhai_bench::rows::functions::{fibonacci_number, in_no_row};
-use rhai_bench::rows::order::evaluated_in_order;
-use rhai_bench::rows::walks::turns;
-use rhai_bench::rows::{scope_for, scripts};
+use rhai_bench::rows::scope_for;
 use rhai_bench::script::{Script, add_library};
 use rhai_bench::settings::{Settings, Way};
-use rhai_build::Builder;
-use rhai_build::expressions::int;
-use rhai_eval::base::{CellId, Dynamic, EvalAltResult, Items, Scope, Stmt, Union};
+use rhai_eval::base::{CellId, Dynamic, EvalAltResult, Items, Scope, Union};
 use rhai_eval::cells::CellStore;
 use rhai_eval::check::{CheckFault, CheckedTree, check_tree};
 use rhai_eval::engine::Engine;
@@ -25,17 +17,22 @@ use rhai_natives::Natives;
 use rhai_samples::operators::sum;
 use rhai_tables::host::Pair;
 use rhai_tables::tables::counting::Counting;
-use std::alloc::{AllocError, Global};
+use std::alloc::Global;
 use std::io;
 use std::io::Write;
 
-/// The lists of scripts that are run: the rows up to 46, and from 47 on those that no row has.
-pub const LISTS: u32 = 54;
+/// The lists whose scripts are run: the rows, with fewer calls in place of row 3, and lists that no row has.
+pub const LISTS: [&str; 45] = [
+    "1", "2", "fewer", "4", "5", "6", "7", "8", "9", "10", "11", "12", "13", "14", "15", "16",
+    "17", "18", "19", "20", "21", "22", "23", "24", "26", "27", "28", "29", "30", "31", "32", "33",
+    "34", "35", "36", "37", "38", "calls", "order", "kept", "block", "walks", "choices", "caught",
+    "cells",
+];
 
 /// A script by its list and its place there, and a way to run it.
 #[derive(Clone, Copy, Debug)]
 pub struct Part {
-    pub list: u32,
+    pub list: &'static str,
     pub place: usize,
     pub way: Way,
 }
@@ -55,50 +52,13 @@ pub struct Report {
     pub wrong: Option<&'static str>,
 }
 
-/// The scripts of a list, None where there is none. The function of row 3 calls itself less often than the bench's.
-pub fn scripts_of(alloc: Global, list: u32) -> Result<Option<Items<Script>>, AllocError> {
-    let made = match list {
-        3 => only(alloc, fibonacci_number(alloc, 6)),
-        47 => in_no_row(alloc),
-        48 => evaluated_in_order(alloc),
-        49 => left_in_place(alloc),
-        50 => only(alloc, variable_of_a_block(alloc)),
-        51 => turns(alloc),
-        52 => conditions(alloc),
-        53 => caught_or_not(alloc),
-        54 => shared_cells(alloc),
-        _ => {
-            let row = format!(in alloc; "{list}")?;
-            return scripts(alloc, row.as_str());
-        }
-    };
-    made.map(Some)
-}
-
-fn only(alloc: Global, script: Result<Script, AllocError>) -> Result<Items<Script>, AllocError> {
-    let mut list = Items::new(alloc);
-    list.push(script?)?;
-    Ok(list)
-}
-
-/// `{ let x = 1; let y = [x, 2]; }`, which asks for memory where its block has a variable.
-fn variable_of_a_block(alloc: Global) -> Result<Script, AllocError> {
-    let mut tree = Builder::new(alloc);
-    let first = tree.let_stmt("x", 7, int(1, 11), 3);
-    let x = tree.variable("x", 1, 23);
-    let array = tree.array(22, [x, int(2, 26)]);
-    let second = tree.let_stmt("y", 18, array, 14);
-    let block = Stmt::Block(tree.block([first, second], 1, 30));
-    Ok(Script::new(alloc, tree.finish([block])?))
-}
-
 impl Part {
     /// Makes the script and runs it. None where the script or the state of its run could not be made.
     pub fn run(self, alloc: Global) -> io::Result<Option<Report>> {
         let (Some(script), Ok(global), Ok(scope)) = (
             self.script(alloc),
             GlobalRuntimeState::new(alloc),
-            self.variables(alloc),
+            scope_for(alloc, self.list),
         ) else {
             return Ok(None);
         };
@@ -112,15 +72,8 @@ impl Part {
         run.report(alloc, script)
     }
 
-    /// The variables above which the script runs.
-    fn variables(self, alloc: Global) -> Result<Scope<Pair>, AllocError> {
-        let row = format!(in alloc; "{}", self.list)?;
-        scope_for(alloc, row.as_str())
-    }
-
     fn script(self, alloc: Global) -> Option<Script> {
-        let scripts = scripts_of(alloc, self.list).ok()??;
-        scripts.into_vec().into_iter().nth(self.place)
+        script_at(alloc, self.list, self.place).ok()?
     }
 }
 

@@ -1,7 +1,7 @@
 //! Trees that the checker refuses.
 
-use crate::reader::Reader;
-use crate::shown::Sheet;
+use crate::vectors::reader::Reader;
+use crate::vectors::shown::Sheet;
 use rhai_check::check::{CheckFault, check_tree};
 use rhai_samples::refused::{
     dot_that_ends_and_goes_on, integer_assigned, integer_behind_a_dot, method_assigned,

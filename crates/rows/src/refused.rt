@@ -1,20 +1,19 @@
-//! Runs each script of the worked rows in each way, first with all memory granted, and then with the first, the
-//! second, the third .. request for memory refused, alone and with all after it, until none is left to refuse,
-//! and sees to what holds after each run. Prints what does not, and how many runs there were. Refusing wants
-//! something outside of the program; without it each script runs once in each way.
-#![tactic(auto)]
+//! Runs each script of the worked lines in each way, first with all memory granted, and then with the first,
+//! the second, the third .. request for memory refused, alone and with all after it, until none is left to
+//! refuse, and sees to what holds after each run. Refusing wants something outside of the program; without it
+//! all memory is granted in every run.
 
 mod chain;
 mod part;
 mod refuser;
 
-use crate::part::{LISTS, Part, Report, scripts_of};
-use crate::refuser::Refusal;
+use crate::lists::scripts_of;
+use crate::refused::part::{LISTS, Part, Report};
+use crate::refused::refuser::Refusal;
 use rhai_bench::settings::Way;
 use std::alloc::Global;
 use std::io;
 use std::io::Write;
-use std::process::ExitCode;
 
 /// How many parts, runs, refusals and faults there were.
 #[derive(Clone, Copy, Default)]
@@ -31,18 +30,17 @@ struct Tally {
     wrong: u64,
 }
 
-fn main(rt: HostRuntime) -> io::Result<ExitCode> {
-    let alloc = rt.alloc();
-    let mut out = io::writer(&rt);
+/// Prints what does not hold after a run, and how many runs there were. Whether all holds.
+pub fn are_all_well<W: Write>(alloc: Global, out: &mut W) -> io::Result<bool> {
     let mut tally = Tally::default();
-    for list in 1..=LISTS {
-        run_list(alloc, list, &mut tally, &mut out)?;
+    for list in LISTS {
+        run_list(alloc, list, &mut tally, &mut *out)?;
     }
     for refusal in Refusal::BOTH {
-        run_chain(alloc, refusal, &mut tally, &mut out)?;
+        run_chain(alloc, refusal, &mut tally, &mut *out)?;
     }
-    tally.write(&mut out)?;
-    Ok(ExitCode::from(u8::from(tally.wrong > 0)))
+    tally.write(&mut *out)?;
+    Ok(tally.wrong == 0)
 }
 
 impl Tally {
@@ -58,10 +56,36 @@ impl Tally {
             self.not_made, self.wanting, self.unharmed, self.wrong
         )
     }
+
+    /// Counts and prints what is wrong with a run, if anything is. The number is that of the request that was
+    /// refused in it, or 0.
+    fn tell<W: Write>(
+        &mut self,
+        part: Part,
+        refusal: Refusal,
+        number: usize,
+        wrong: Option<&'static str>,
+        out: &mut W,
+    ) -> io::Result<()> {
+        let Some(what) = wrong else {
+            return Ok(());
+        };
+        self.wrong = self.wrong.saturating_add(1);
+        let Part { list, place, way } = part;
+        writeln!(
+            out,
+            "{list} part {place} {way:?} {refusal:?} {number}: {what}"
+        )
+    }
 }
 
 /// The scripts of a list, each in each way, their requests refused in turn.
-fn run_list<W: Write>(alloc: Global, list: u32, tally: &mut Tally, out: &mut W) -> io::Result<()> {
+fn run_list<W: Write>(
+    alloc: Global,
+    list: &'static str,
+    tally: &mut Tally,
+    out: &mut W,
+) -> io::Result<()> {
     let count = match scripts_of(alloc, list)? {
         Some(scripts) => scripts.len(),
         None => 0,
@@ -78,6 +102,7 @@ fn run_list<W: Write>(alloc: Global, list: u32, tally: &mut Tally, out: &mut W) 
     Ok(())
 }
 
+/// A script with all memory granted, and with its requests refused in turn.
 fn run_part<W: Write>(
     alloc: Global,
     part: Part,
@@ -86,9 +111,10 @@ fn run_part<W: Write>(
     out: &mut W,
 ) -> io::Result<()> {
     let Some(own) = part.run(alloc)? else {
-        return Ok(());
+        return tally.tell(part, refusal, 0, Some("not reached"), out);
     };
     tally.runs = tally.runs.saturating_add(1);
+    tally.tell(part, refusal, 0, own.wrong, out)?;
     for number in 1..=refuser::GREATEST {
         if !refuser::begin(alloc, refusal, number) {
             break;
@@ -99,14 +125,7 @@ fn run_part<W: Write>(
         let wrong = judge(&own, report.as_ref(), was_refused, tally);
         drop(report);
         let wrong = wrong.or_else(|| leaked(alloc));
-        if let Some(what) = wrong {
-            tally.wrong = tally.wrong.saturating_add(1);
-            let Part { list, place, way } = part;
-            writeln!(
-                &mut *out,
-                "{list} part {place} {way:?} {refusal:?} {number}: {what}"
-            )?;
-        }
+        tally.tell(part, refusal, number, wrong, out)?;
         if !was_refused {
             break;
         }
