@@ -14,12 +14,14 @@ ghost use Rattle.rhai_machine.specs.language.Places.{target_of};
 ghost use Rattle.rhai_machine.specs.language.Setting.{rules_of};
 ghost use Rattle.rhai_machine.specs.language.Values.{unit_value as unit};
 ghost use Rattle.rhai_steps.specs.States.{state_of};
+ghost use Rattle.rhai_context.specs.Ends.{came};
 ghost use Rattle.rhai_operands.specs.Standing.{standing};
 ghost use Rattle.rhai_assign.specs.InPlace.{IsReady, assigned, assigned_by, writable_in};
 ghost use Rattle.rhai_assign.specs.Keeps.{Keeps};
 
 use crate::place::{Place, find_target, value_at};
 use crate::write::write_outcome;
+use rhai_context::ends::{put_unit, settle};
 use rhai_operands::operands::{integer_at, integer_in_place, operand_in_place};
 use rhai_operands::operators::assign_known;
 use rhai_operators::builtin_op_assign;
@@ -29,7 +31,7 @@ use rhai_state::scope::Scope;
 use rhai_state::state::GlobalRuntimeState;
 use rhai_state::table::NativeTable;
 use rhai_steps::charges::{charge_all, track_operation};
-use rhai_steps::values::{let_go, unit_value};
+use rhai_steps::values::let_go;
 use rhai_steps::variables::place_of_variable;
 use rhai_tree::expr::{Expr, OpAssignment};
 use rhai_tree::position::Position;
@@ -188,8 +190,8 @@ fn assign_prepared<H: Host, T: NativeTable<H>>(
 }
 
 /// An assignment by a built-in operator, whose value is an operand as it stands, charged at the value
-/// and then at the variable. None for any other assignment: then nothing is charged. The table is not
-/// called.
+/// and then at the variable; how it ended stands in the run's places. None for any other assignment: then
+/// nothing is charged. The table is not called.
 ///
 /// # Errors
 /// `ErrorTooManyOperations` at the value or the variable where the count has reached the limit. At the
@@ -201,10 +203,12 @@ pub fn assign_in_place<H: Host, T: NativeTable<H>>(
     global: &mut GlobalRuntimeState<H>,
     _table: &T,
     scope: &mut Scope<H>,
+    out: &mut Dynamic<H>,
+    place: &mut Option<EvalAltResult<H>>,
     op: OpAssignment,
     lhs: &Expr,
     rhs: &Expr,
-) -> Option<Result<Dynamic<H>, EvalAltResult<H>>>
+) -> Option<bool>
     requires resolves_target { IsTrue (target_resolves (tests_of lhs.now) (names_in scope.old)) }
     requires resolves { IsTrue (resolves_expr rhs.now (names_in scope.old)) }
     ensures found { is_some result ≡ is_some (assigned op.op (out-Expr lhs.now) (out-Expr rhs.now)
@@ -213,13 +217,17 @@ pub fn assign_in_place<H: Host, T: NativeTable<H>>(
     ensures left_scope { result ≡ None → scope.new ≡ scope.old }
     ensures keeps { Keeps global.old global.new scope.old scope.new }
     ensures runs { (offer : _) (held : _) (restoring : _) → offer.fast_operators ≡ true →
-        IfSome result (λ result. Runs (rules_of limits.now H.name_of offer T.natives)
+        IfSome result (λ done. Runs (rules_of limits.now H.name_of offer T.natives)
         (OpenStmt (layer.Assignment op lhs.now rhs.now) restoring)
         (state_of (T.state _table.now) global.old scope.old held)
-        result (state_of (T.state _table.now) global.new scope.new held)) }
+        (came done out.new place.new) (state_of (T.state _table.now) global.new scope.new held)) }
 {
     if assign_integer(limits, global, _table, scope, op, lhs, rhs) {
-        return Some(Ok(unit_value()));
+        put_unit(out);
+        return Some(true);
     }
-    assign_prepared(limits, alloc, global, _table, scope, op, lhs, rhs)
+    match assign_prepared(limits, alloc, global, _table, scope, op, lhs, rhs) {
+        Some(answer) => Some(settle(place, out, answer)),
+        None => None,
+    }
 }

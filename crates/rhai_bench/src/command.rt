@@ -9,7 +9,7 @@ use crate::rows::{scope_for, scripts};
 use crate::script::Script;
 use crate::settings::Way;
 use rhai_eval::base::{Dynamic, Items, Shared, Text, Union};
-use rhai_samples::functions::private_function;
+use rhai_samples::built::private_function;
 use rhai_tables::host::Pair;
 use std::alloc::{AllocError, Global};
 use std::io;

@@ -3,6 +3,7 @@
 use crate::script::Script;
 use rhai_build::functions::TreeParts;
 use rhai_eval::base::{Items, Scope, Stmt};
+use rhai_samples::parts::{Part, statements_of, tree_of};
 use rhai_tables::host::Pair;
 use std::alloc::{AllocError, Global};
 
@@ -105,32 +106,46 @@ impl Row {
     }
 
     /// Adds a script under the usual settings.
-    fn add(&mut self, tree: Result<Items<Stmt>, AllocError>) {
-        match tree {
+    fn add(&mut self, parts: &[Part<'_>]) {
+        self.add_made(tree_of(self.alloc, parts));
+    }
+
+    /// Adds a script without functions that was made.
+    fn add_statements(&mut self, made: Result<Items<Stmt>, AllocError>) {
+        match made {
             Ok(statements) => self.push(Script::new(self.alloc, statements)),
             Err(AllocError) => self.has_memory = false,
         }
     }
 
-    /// Adds a script with functions under the usual settings.
-    fn add_parts(&mut self, tree: Result<TreeParts, AllocError>) {
-        match tree {
+    /// Adds a script that was made.
+    fn add_made(&mut self, made: Result<TreeParts, AllocError>) {
+        match made {
             Ok(parts) => self.push(Script::of_parts(parts)),
             Err(AllocError) => self.has_memory = false,
         }
     }
 
-    /// Adds a script with functions under a limit of how deep its calls are.
-    fn add_with_max_call_levels(&mut self, tree: Result<TreeParts, AllocError>, levels: usize) {
-        match tree {
+    /// Adds a script under a limit of how deep its calls are.
+    fn add_with_max_call_levels(&mut self, parts: &[Part<'_>], levels: usize) {
+        self.add_made_with_max_call_levels(tree_of(self.alloc, parts), levels);
+    }
+
+    /// Adds a script that was made, under a limit of how deep its calls are.
+    fn add_made_with_max_call_levels(
+        &mut self,
+        made: Result<TreeParts, AllocError>,
+        levels: usize,
+    ) {
+        match made {
             Ok(parts) => self.push(Script::with_max_call_levels(parts, levels)),
             Err(AllocError) => self.has_memory = false,
         }
     }
 
     /// Adds a script under a limit of operations.
-    fn add_limited(&mut self, tree: Result<Items<Stmt>, AllocError>, count: u64) {
-        match tree {
+    fn add_limited(&mut self, parts: &[Part<'_>], count: u64) {
+        match statements_of(self.alloc, parts) {
             Ok(statements) => {
                 self.push(Script::with_max_operations(self.alloc, statements, count));
             }
@@ -139,8 +154,8 @@ impl Row {
     }
 
     /// Adds a script under a limit of variables.
-    fn add_with_max_variables(&mut self, tree: Result<Items<Stmt>, AllocError>, count: usize) {
-        match tree {
+    fn add_with_max_variables(&mut self, parts: &[Part<'_>], count: usize) {
+        match statements_of(self.alloc, parts) {
             Ok(statements) => {
                 self.push(Script::with_max_variables(self.alloc, statements, count));
             }
@@ -148,9 +163,9 @@ impl Row {
         }
     }
 
-    /// Adds a script under a limit of an array's items.
-    fn add_with_max_array_size(&mut self, tree: Result<Items<Stmt>, AllocError>, size: usize) {
-        match tree {
+    /// Adds a script without functions under a limit of an array's items.
+    fn add_with_max_array_size(&mut self, parts: &[Part<'_>], size: usize) {
+        match statements_of(self.alloc, parts) {
             Ok(statements) => {
                 self.push(Script::with_max_array_size(self.alloc, statements, size));
             }
@@ -159,32 +174,32 @@ impl Row {
     }
 
     /// Adds a script with functions under a limit of an array's items.
-    fn add_parts_with_max_array_size(&mut self, tree: Result<TreeParts, AllocError>, size: usize) {
-        match tree {
+    fn add_parts_with_max_array_size(&mut self, parts: &[Part<'_>], size: usize) {
+        match tree_of(self.alloc, parts) {
             Ok(parts) => self.push(Script::of_parts_with_max_array_size(parts, size)),
             Err(AllocError) => self.has_memory = false,
         }
     }
 
     /// Adds a script to which a key that a map does not have is an error.
-    fn add_failing_on_missing_keys(&mut self, tree: Result<Items<Stmt>, AllocError>) {
-        match tree {
+    fn add_failing_on_missing_keys(&mut self, parts: &[Part<'_>]) {
+        match statements_of(self.alloc, parts) {
             Ok(statements) => self.push(Script::failing_on_missing_keys(self.alloc, statements)),
             Err(AllocError) => self.has_memory = false,
         }
     }
 
     /// Adds a script without fast operators.
-    fn add_without_fast_operators(&mut self, tree: Result<Items<Stmt>, AllocError>) {
-        match tree {
+    fn add_without_fast_operators(&mut self, parts: &[Part<'_>]) {
+        match statements_of(self.alloc, parts) {
             Ok(statements) => self.push(Script::without_fast_operators(self.alloc, statements)),
             Err(AllocError) => self.has_memory = false,
         }
     }
 
     /// Adds a script whose variables may not hide others.
-    fn add_without_shadowing(&mut self, tree: Result<Items<Stmt>, AllocError>) {
-        match tree {
+    fn add_without_shadowing(&mut self, parts: &[Part<'_>]) {
+        match statements_of(self.alloc, parts) {
             Ok(statements) => self.push(Script::without_shadowing(self.alloc, statements)),
             Err(AllocError) => self.has_memory = false,
         }

@@ -1,7 +1,7 @@
 //! A body is left. The contracts cite `returned` of the machine's specs/language/Bodies.antt and the crate's
 //! own specs/Closing.antt.
 
-ghost use Rattle.std.specs.Prelude.{◌≡◌, false, true, IfErr, IfOk};
+ghost use Rattle.std.specs.Prelude.{◌≡◌, false, true, IfErr, IfOk, IsTrue, not};
 ghost use Rattle.std.specs.Option.{option_copied};
 ghost use Rattle.rhai_state.specs.declared.error.EvalAltResult.TheVariants as variant;
 ghost use Rattle.rhai_state.specs.Errors.{at_position, is_out_of_memory, is_system};
@@ -9,9 +9,11 @@ ghost use Rattle.rhai_machine.specs.language.Activations as machine;
 ghost use Rattle.rhai_machine.specs.language.Bodies.{left_by_error as left_by, library_name as last_library};
 ghost use Rattle.rhai_machine.specs.language.Bodies.{returned as returned_by};
 ghost use Rattle.rhai_machine.specs.language.State.{Answers};
+ghost use Rattle.rhai_context.specs.Ends.{came, error_in};
 ghost use Rattle.rhai_bodies.specs.Closing.{is_wrapped, outcome_of, source_under, taken_back, wrapped, Ends};
 
 use crate::opening::{CallExit, take_back};
+use rhai_context::ends::{settle, stopped};
 use rhai_state::error::{EvalAltResult, FunctionCallError, WayOut};
 use rhai_state::state::GlobalRuntimeState;
 use rhai_tree::function::ScriptFuncDef;
@@ -156,4 +158,39 @@ pub fn close_function<H: Host>(
         Ok(value) => Ok(value),
         Err(error) => returned(alloc, &*global, def, environ, error, pos),
     }
+}
+
+/// A body is left that put what came of it into the run's places, where what comes of the call goes.
+///
+/// # Errors
+/// Those of `close_function`.
+#[inline(always)]
+pub fn close_body<H: Host>(
+    alloc: Global,
+    global: &mut GlobalRuntimeState<H>,
+    out: &mut Dynamic<H>,
+    place: &mut Option<EvalAltResult<H>>,
+    def: &ScriptFuncDef,
+    environ: Option<&EncapsulatedEnviron<H>>,
+    exit: CallExit,
+    done: bool,
+    pos: Position,
+) -> bool
+    ensures state { global.new ≡ taken_back exit global.old }
+    ensures outcome { (end : machine.CallExit H) →
+        Ends def.now.name (option_copied environ.entry) global.old.source pos end →
+        Answers (came result out.new place.new) (outcome_of end (came done out.old place.old)) }
+    ensures wanting { IsTrue (not result) → is_out_of_memory (error_in place.new) ≡ true →
+        error_in place.new ≡ variant.ErrorOutOfMemory pos }
+{
+    if done {
+        take_back(global, exit);
+        return true;
+    }
+    let outcome = Err(stopped(place));
+    settle(
+        place,
+        out,
+        close_function(alloc, global, def, environ, exit, outcome, pos),
+    )
 }

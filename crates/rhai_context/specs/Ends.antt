@@ -16,10 +16,15 @@ module _ {H : Type 0} where
   error_in (Some e) = e
   error_in None = error.ErrorOutOfMemory none
 
-  -- where it went well its value, and else its error
-  abbrev pub came : (well : Bool) → Dynamic H → Option (EvalAltResult H) → Result (Dynamic H) (EvalAltResult H)
+  -- where it went well what it made, and else its error
+  abbrev pub came : {V : Type 0} → (well : Bool) → V → Option (EvalAltResult H) → Result V (EvalAltResult H)
   came true v e = Ok v
   came false v e = Err (error_in e)
+
+  -- of a test: what it says, or its error
+  abbrev pub came_test : (holds : Option Bool) → Option (EvalAltResult H) → Result Bool (EvalAltResult H)
+  came_test (Some holds) e = Ok holds
+  came_test None e = Err (error_in e)
 
   -- of a turn of a loop: another one follows, or the loop came to this
   abbrev pub came_turn : (well : Option Bool) → Dynamic H → Option (EvalAltResult H) → Result (Option (Dynamic H)) (EvalAltResult H)

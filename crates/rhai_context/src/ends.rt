@@ -3,6 +3,7 @@
 
 ghost use Rattle.std.specs.Prelude.{◌≡◌, OnOk, false, true};
 ghost use Rattle.rhai_state.specs.Errors.{is_catchable};
+ghost use Rattle.rhai_machine.specs.language.Values.{bool_value as truth_of};
 ghost use Rattle.rhai_context.specs.Ends.{came, came_turn, error_in, unit};
 
 use rhai_state::error::EvalAltResult;
@@ -22,6 +23,13 @@ pub fn put_unit<H: Host>(out: &mut Dynamic<H>)
     ensures { out.new ≡ unit }
 {
     put(out, Dynamic::new(Union::Unit));
+}
+
+/// A truth value goes into the place of a value.
+pub fn put_truth<H: Host>(out: &mut Dynamic<H>, holds: bool)
+    ensures { out.new ≡ truth_of holds }
+{
+    put(out, Dynamic::new(Union::Bool(holds)));
 }
 
 /// Takes a value out of its place, which has `()` then.

@@ -1,14 +1,15 @@
 //! Parts of a run that end in it: charges, values without their handles, and turns of loops.
 
-ghost use Rattle.std.specs.Prelude.{◌≡◌, ◌<◌, ◌≤◌, ◌+◌, IsTrue, false, true};
-ghost use Rattle.rhai_tree.specs.Positions.{stmt_position_of};
+ghost use Rattle.std.specs.Prelude.{◌≡◌, ◌<◌, ◌≤◌, ◌+◌, IsTrue, None, false, true};
+ghost use Rattle.rhai_tree.specs.Positions.{position_of, stmt_position_of};
 ghost use Rattle.rhai_values.specs.Cells.{cells_of};
 ghost use Rattle.rhai_state.specs.Limits.{limit_of};
 ghost use Rattle.rhai_state.specs.declared.error.EvalAltResult.TheVariants as error;
 ghost use Rattle.rhai_machine.specs.language.State.{Answers};
-ghost use Rattle.rhai_machine.specs.language.Values.{flat, is_handle};
+ghost use Rattle.rhai_machine.specs.language.Values.{flat, is_handle, is_truth, through, truth};
 ghost use Rattle.rhai_steps.specs.Loops.{after_body, turn_in};
-ghost use Rattle.rhai_context.specs.Ends.{came, came_turn, error_in};
+ghost use Rattle.rhai_steps.specs.Values.{unit_seen};
+ghost use Rattle.rhai_context.specs.Ends.{came, came_test, came_turn, error_in};
 ghost use Rattle.rhai_context.specs.Outcomes.{ended_by};
 
 use crate::ends::{put, settle, settle_turn, stop, stopped, take_value};
@@ -17,8 +18,8 @@ use rhai_state::limits::Limits;
 use rhai_state::state::GlobalRuntimeState;
 use rhai_steps::charges::charge_all;
 use rhai_steps::loops::{BodyEnd, body_end, while_next};
-use rhai_steps::values::flatten;
-use rhai_tree::expr::Stmt;
+use rhai_steps::values::{flatten, is_unit, truth_value};
+use rhai_tree::expr::{Expr, Stmt};
 use rhai_tree::position::Position;
 use rhai_values::base::value::{Dynamic, Host, Union};
 use rhai_values::cells::CellStore;
@@ -67,6 +68,28 @@ pub fn charge_stmt<H: Host>(
     stop_at(place, stmt.position())
 }
 
+/// An expression is charged at its position. Where the count has reached the limit, it stays and the run stops.
+#[inline(always)]
+pub fn charge_expr<H: Host>(
+    limits: &Limits,
+    global: &mut GlobalRuntimeState<H>,
+    place: &mut Option<EvalAltResult<H>>,
+    expr: &Expr,
+) -> bool
+    ensures room { IsTrue result → global.old.num_operations < limit_of limits.now.max_operations }
+    ensures charged { IsTrue result → global.new ≡ record global.old
+        { num_operations = global.old.num_operations + 1 } }
+    ensures full { result ≡ false → limit_of limits.now.max_operations ≤ global.old.num_operations }
+    ensures refused { result ≡ false → error_in place.new ≡
+        error.ErrorTooManyOperations (position_of expr.now) }
+    ensures same { result ≡ false → global.new ≡ global.old }
+{
+    if charge_all(limits, global, 1) {
+        return true;
+    }
+    stop_at(place, expr.position())
+}
+
 /// A run stops at a place where the count has reached the limit.
 #[cold]
 #[inline(never)]
@@ -111,6 +134,74 @@ fn flatten_handle<H: Host>(
 {
     let value = take_value(out);
     settle(place, out, flatten(alloc, cells, value, pos))
+}
+
+/// The truth value that a condition left in the run, through a handle. None where it is none: then the run stops.
+///
+/// # Errors
+/// Those of `truth_value`.
+#[inline(always)]
+pub fn truth_left<H: Host>(
+    alloc: Global,
+    cells: &CellStore<H>,
+    out: &mut Dynamic<H>,
+    place: &mut Option<EvalAltResult<H>>,
+    pos: Position,
+) -> Option<bool>
+    ensures exact { Answers (came_test result place.new)
+        (truth H.name_of (cells_of cells.now) out.old pos) }
+    ensures memory { result ≡ None → is_truth out.old.value ≡ false }
+{
+    match &out.value {
+        Union::Bool(holds) => Some(*holds),
+        _ => other_truth(alloc, cells, out, place, pos),
+    }
+}
+
+/// The truth value that a condition left which is perhaps no truth value by itself.
+#[inline(never)]
+fn other_truth<H: Host>(
+    alloc: Global,
+    cells: &CellStore<H>,
+    out: &mut Dynamic<H>,
+    place: &mut Option<EvalAltResult<H>>,
+    pos: Position,
+) -> Option<bool>
+    ensures exact { Answers (came_test result place.new)
+        (truth H.name_of (cells_of cells.now) out.old pos) }
+    ensures memory { result ≡ None → is_truth out.old.value ≡ false }
+{
+    match truth_value(alloc, cells, take_value(out), pos) {
+        Ok(holds) => Some(holds),
+        Err(error) => {
+            stop(place, error);
+            None
+        }
+    }
+}
+
+/// Whether a part left `()` in the run, through a handle. None where that is a cell which is held: then the run
+/// stops.
+///
+/// # Errors
+/// Those of `is_unit`.
+#[inline(always)]
+pub fn unit_left<H: Host>(
+    alloc: Global,
+    cells: &CellStore<H>,
+    out: &Dynamic<H>,
+    place: &mut Option<EvalAltResult<H>>,
+    pos: Position,
+) -> Option<bool>
+    ensures { Answers (came_test result place.new) (unit_seen (through (cells_of cells.now) out.now pos)) }
+{
+    match is_unit(alloc, cells, out, pos) {
+        Ok(is_unit) => Some(is_unit),
+        Err(error) => {
+            stop(place, error);
+            None
+        }
+    }
 }
 
 /// How the body of a loop ended.

@@ -1,15 +1,13 @@
 -- Whether a function's body was entered, by what its call came to.
-use Rattle.std.proofs.Common.{◌≡◌, ◌≢◌, ◌<◌, ◌≤◌, ℕ, Bool, true, false, not, ◌&&◌, List, [], ◌∷◌, Result, Err, length, refl, ap, ◌∙◌}
+use Rattle.std.proofs.Common.{◌≡◌, ◌≢◌, ◌<◌, ◌≤◌, ℕ, Bool, true, false, not, ◌&&◌, List, [], ◌∷◌, Err, length, refl, ap, ◌∙◌}
 use Rattle.std.proofs.lemmas.Bool.{le-ltb, lt-ltb}
 use Rattle.rhai_tree.specs.declared.expr.Stmt.{Stmt}
 use Rattle.rhai_tree.specs.declared.function.ScriptFuncDef.{ScriptFuncDef}
 use Rattle.rhai_tree.specs.declared.position.Position.{Position}
 use Rattle.rhai_state.specs.declared.error.EvalAltResult.{EvalAltResult}
 use Rattle.rhai_state.specs.declared.limits.Limits.{Limits}
-use Rattle.rhai_state.specs.Errors.{is_out_of_memory}
 use Rattle.rhai_state.specs.Limits.{limit_of}
 use Rattle.rhai_machine.specs.machine.Machine.{below}
-use Rattle.rhai_machine.specs.language.State.{HasMemory}
 use Rattle.rhai_machine.specs.language.Bodies.{statements_of}
 use Rattle.rhai_bodies.specs.Opening.{enterable, entry, is_deep, is_full}
 use Rattle.rhai_cycle.specs.Bodies.{has_statements, is_entered}
@@ -37,10 +35,6 @@ by_room room rest none = rw none refl
 some_there : (stmts : List Stmt) → stmts ≢ [] → has_statements stmts ≡ true
 some_there [] some = absurd (some refl)
 some_there (stmt ∷ stmts) some = refl
-
--- an error that is no want of memory is none where the result is it
-pub has_memory : {A H : Type 0} (r : Result A (EvalAltResult H)) (e : EvalAltResult H) → r ≡ Err e → HasMemory r → is_out_of_memory e ≡ false
-has_memory r e is memory = rw is at memory
 
 module _ (limits : Limits) (count level variables : ℕ) (def : ScriptFuncDef) where
   abbrev room : Bool

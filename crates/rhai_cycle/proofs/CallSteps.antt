@@ -3,6 +3,7 @@ use Rattle.std.proofs.Common.{◌≡◌, ◌<◌, ◌≤◌, ◌+◌, ℕ, Bool,
 use Rattle.std.proofs.Common.{refl, sym, ap, ◌∙◌, arith, codes, is_some, length, suc}
 use Rattle.std.specs.Prelude.{if◌then◌else◌}
 use Rattle.std.proofs.lemmas.Bool.{lt-ltb, le-ltb}
+use Rattle.std.proofs.lemmas.List.{length-append}
 use Rattle.rhai_tree.specs.declared.position.Position.{Position}
 use Rattle.rhai_tree.specs.declared.token.Token.{Token}
 use Rattle.rhai_tree.specs.declared.literal.NativeId.{NativeId}
@@ -65,6 +66,12 @@ pub kept_as_they_are : {H : Type 0} (pointer : PointerUse H) (pos : Position) �
 kept_as_they_are (code.Curry pointer) pos = refl
 kept_as_they_are (code.Linked function curried) pos = refl
 kept_as_they_are (code.Number id curried) pos = refl
+
+-- an argument that was kept is one more
+pub kept_longer : {H : Type 0} (r : Result (Dynamic H) (EvalAltResult H)) (before after : List (Dynamic H)) → HasKept r before after →
+    length after ≡ length before + 1
+kept_longer (Ok w) before after kept = rw kept (length-append before (w ∷ []))
+kept_longer (Err e) before after kept = elim kept [ ]
 
 module _ {S H : Type 0} (rules : Rules S H) where
   module _ (call : FnCallExpr) (pos : Position) (k : List (Frame H)) (s : State S H)

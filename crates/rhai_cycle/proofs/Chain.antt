@@ -1,5 +1,5 @@
 -- Pieces of runs, as the functions of the evaluator put them together.
-use Rattle.std.proofs.Common.{◌≡◌, ◌≢◌, ◌<◌, ◌≤◌, ◌+◌, ◌==◌, ℕ, Bool, true, false, List, [], ◌∷◌, ◌++◌, length, take, drop, get_or}
+use Rattle.std.proofs.Common.{◌≡◌, ◌≢◌, ◌<◌, ◌≤◌, ◌+◌, ◌==◌, ℕ, Bool, true, false, List, [], ◌∷◌, length, take, drop, get_or}
 use Rattle.std.proofs.Common.{drop-cons, add-one, Option, Some, None, Result, Ok, Err, refl, sym, ap, is_some, rules}
 use Rattle.std.proofs.lemmas.Bool.{lt-ltb, le-ltb, true≢false}
 use Rattle.std.proofs.lemmas.List as Lemmas
@@ -15,13 +15,13 @@ use Rattle.rhai_state.specs.declared.state.GlobalRuntimeState.{GlobalRuntimeStat
 use Rattle.rhai_state.specs.declared.error.EvalAltResult.{EvalAltResult}
 use Rattle.rhai_state.specs.declared.error.EvalAltResult.TheVariants as error
 use Rattle.rhai_machine.specs.machine.Machine.{Go}
-use Rattle.rhai_machine.specs.machine.Point.{Point, after}
+use Rattle.rhai_machine.specs.machine.Point.{after}
 use Rattle.rhai_machine.specs.machine.Memory.{here, next, wanting, ◌⨾◌}
 use Rattle.rhai_machine.specs.language.Setting.{Rules, limit_under}
 use Rattle.rhai_machine.specs.language.State.{Held, State}
 use Rattle.rhai_state.specs.Errors.{is_out_of_memory}
 use Rattle.rhai_machine.specs.language.Frames.{StatementValue, RightOperand, AssignChain, AssignThisValue, AssignValue}
-use Rattle.rhai_machine.specs.language.Frames.{ReturnValue, Frame, Core, core, ended, UnaryOperand, LeftOperand}
+use Rattle.rhai_machine.specs.language.Frames.{ReturnValue, Frame, core, ended, UnaryOperand, LeftOperand}
 use Rattle.rhai_machine.specs.language.Frames.{DefineValue, Eval, Exec, Argument, OpenExpr, OpenStmt, Enter, Run, Back, Fail, RestoreList}
 use Rattle.rhai_machine.specs.language.Frames.{ForItems, Saved, SwitchValue, ThrowValue}
 use Rattle.rhai_machine.specs.language.Calls.{operation_at}
@@ -30,16 +30,11 @@ use Rattle.rhai_tree.specs.declared.expr.FnCallExpr.{FnCallExpr}
 use Rattle.rhai_tree.specs.declared.token.Token.{Token}
 use Rattle.rhai_machine.specs.language.Statements.{restored_by, saved_by, deeper, define_core}
 use Rattle.rhai_machine.specs.language.Unwinding.{down_core, up_core}
-use Rattle.std.specs.declared.num.NonZeroUsize.{NonZeroUsize}
-use Rattle.rhai_tree.specs.declared.expr.Namespace.{Namespace}
-use Rattle.rhai_tree.specs.Forms.{is_exported, is_unqualified}
-use Rattle.rhai_tree.specs.Names.{Name}
-use Rattle.rhai_machine.specs.language.Names.{read}
+use Rattle.rhai_tree.specs.Forms.{is_exported}
 use Rattle.rhai_machine.specs.language.Values.{flat, unit_value}
 use Rattle.rhai_machine.specs.language.Runs.{at, Goes, Steps, Runs}
 use Rattle.rhai_tree.specs.declared.expr.Ident.{Ident}
 use Rattle.rhai_tree.specs.declared.flags.ASTFlags.{ASTFlags}
-use Rattle.rhai_values.specs.declared.base.value.AccessMode.{AccessMode}
 use Rattle.rhai_state.specs.Scope.{entries_of}
 use Rattle.rhai_steps.specs.States.{local_of, state_of}
 use Rattle.rhai_steps.specs.Declaring.{declarable, is_full, is_taken}
@@ -206,14 +201,6 @@ module _ {S H : Type 0} (rules : Rules S H) where
     pub flat_fails : (f : Frame H) → flattens f ≡ Some pos → (is_out_of_memory e ≡ false → Err e ≡ flat l.local.around.cells v pos) →
         Goes rules (at (Back v) (f ∷ k) l) (at (Fail e) k l)
     flat_fails f is told = fails_on v f k l e (flat_passes f is) (λ m. flat_core f is (told m))
-
-  -- a variable without a path is read
-  pub reads : (offset : Option NonZeroUsize) (name : Name) (namespace : Namespace) (pos : Position) (k : List (Frame H)) (l : State S H)
-      {q : Point S (Core H)} → is_unqualified namespace.path ≡ true →
-      Goes rules (at (ended (read l.local.around.cells l.local.around.lib name pos l.local.scope)) k l) q →
-      Goes rules (at (OpenExpr (layer.Variable offset name namespace pos)) k l) q
-  unfolding after
-  reads offset name namespace pos k l plain goes = next (rw plain goes)
 
   -- a `let`: refused, or on to its value
   module _ (ident : Ident) (value : Expr) (options : ASTFlags) (pos : Position) (restoring : Bool) (k : List (Frame H))

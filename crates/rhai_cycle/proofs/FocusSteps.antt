@@ -20,15 +20,21 @@ use Rattle.rhai_machine.specs.language.Handles.{entered, entered_by}
 use Rattle.rhai_machine.specs.language.Setting.{Rules}
 use Rattle.rhai_machine.specs.language.State.{Local, State}
 use Rattle.rhai_machine.specs.language.Values.{Cells, is_handle, through_union, used}
-use Rattle.rhai_machine.specs.language.Frames.{Frame, Core, core, ended, on_value, EnterFunction, EnterOnFocus, Fail, StepDown}
+use Rattle.rhai_machine.specs.language.Frames.{Frame, Core, core, ended, marked, on_value, EnterFunction, EnterOnFocus, Fail, StepDown}
 use Rattle.rhai_machine.specs.language.Runs.{at, with_core, Goes, Runs, Steps}
 use Rattle.rhai_steps.proofs.Pieces.{faulted, step_by}
 use Rattle.rhai_bodies.proofs.Ends.{denied}
+use Rattle.rhai_calls.specs.Marks.{with_mark}
 use Rattle.rhai_walk.specs.Walking.{Enters, IsFree, Leaves}
 use Rattle.rhai_walk.proofs.Entering.{not_entered, seen_itself, standing}
 use Rattle.rhai_cycle.specs.Calls.{StartsAs}
 
 module _ {H : Type 0} where
+  -- a result with the mark of no change ends as it does without
+  pub unmarked_ends : (r : Result (Dynamic H) (EvalAltResult H)) → marked (with_mark false r) ≡ ended r
+  unmarked_ends (Ok v) = refl
+  unmarked_ends (Err e) = refl
+
   -- what is no handle of a held cell may be entered
   pub may_be_entered : (cells : Cells H) (u : Union H) → is_held cells u ≡ false → IsFree cells u
   may_be_entered cells (value.Cell id) is = denied (is_some (value_of_cell cells id.number)) is

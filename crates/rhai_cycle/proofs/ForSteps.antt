@@ -1,5 +1,6 @@
 -- How a `for` leads on.
-use Rattle.std.proofs.Common.{◌≡◌, ◌<◌, ◌≤◌, ◌+◌, ℕ, Bool, true, false, List, [], ◌∷◌, ◌++◌, Option, Some, None, Result, Ok, Err, length, refl, take}
+use Rattle.std.proofs.Common.{◌≡◌, ◌<◌, ◌≤◌, ◌+◌, ℕ, Bool, true, false, List, [], ◌∷◌, ◌++◌, Option, Some, None, Result, Ok, Err, length}
+use Rattle.std.proofs.Common.{refl, take}
 use Rattle.std.proofs.lemmas.Bool.{lt-ltb, le-ltb}
 use Rattle.std.specs.Prelude.{IfSome, IsTrue, OnOk}
 use Rattle.rhai_tree.specs.declared.expr.Expr.TheOpen as layer
@@ -20,19 +21,15 @@ use Rattle.rhai_machine.specs.machine.Memory.{here, next}
 use Rattle.rhai_machine.specs.language.Frames.{Back, core, ended, Eval, Fail, ForBody, ForItems, ForTurn, Frame, OpenStmt, RestoreScope}
 use Rattle.rhai_machine.specs.language.Runs.{at, Goes}
 use Rattle.rhai_machine.specs.language.Setting.{Rules, limit_under}
-use Rattle.rhai_machine.specs.language.State.{Answers, Held, State}
+use Rattle.rhai_machine.specs.language.State.{Held, State}
 use Rattle.rhai_machine.specs.language.Turns.{ForLoop, Turns, next_turn, turns_of}
-use Rattle.rhai_machine.specs.language.Values.{unit_value}
+use Rattle.rhai_machine.specs.language.Values.{flat, unit_value}
 use Rattle.rhai_machine.specs.language.Walks.{for_core, has_no_room, loop_entries}
 use Rattle.rhai_steps.specs.Loops.{after_body, after_turn, turn_in}
 use Rattle.rhai_steps.specs.States.{state_of}
-use Rattle.rhai_steps.proofs.Pieces.{faulted, step_by}
+use Rattle.rhai_steps.proofs.Pieces.{step_by}
 use Rattle.rhai_context.specs.Ends.{came_turn}
-use Rattle.rhai_cycle.specs.Ends.{flat_end}
-use Rattle.rhai_cycle.proofs.Chain.{fails_on, flat_fails}
-
-err_same : {A E : Type 0} (r : Result A E) (x y : E) → r ≡ Err x → r ≡ Err y → x ≡ y
-err_same r x y this that = cc
+use Rattle.rhai_cycle.proofs.Chain.{fails_on}
 
 module _ {S H : Type 0} (rules : Rules S H) (loop : ForLoop) (k : List (Frame H)) where
   -- ---- the start
@@ -48,32 +45,22 @@ module _ {S H : Type 0} (rules : Rules S H) (loop : ForLoop) (k : List (Frame H)
         (at (Eval loop.items) (ForItems loop ∷ k) l)
     has_room is = step_by rules _ _ (Go (for_core false loop k l.local)) (rw is refl) here
 
-  -- what it walks is not there
-  pub items_fail : (r : Result (Dynamic H) (EvalAltResult H)) (e : EvalAltResult H) (l : State S H) →
-      Answers (Err e) (flat_end l.local.around.cells r (position_of loop.items)) →
-      Goes rules (at (ended r) (ForItems loop ∷ k) l) (at (Fail e) k l)
-  unfolding after
-  items_fail (Ok v) e l told = flat_fails rules v (position_of loop.items) k l e (ForItems loop) refl told
-  items_fail (Err x) e l told = next (faulted rules e x (λ m. err_same _ e x refl (told m)) k l)
-
-  -- or cannot be walked
-  pub starts_not : (r : Result (Dynamic H) (EvalAltResult H)) (v : Dynamic H) (e : EvalAltResult H) (l : State S H) →
-      Ok v ≡ flat_end l.local.around.cells r (position_of loop.items) → (is_out_of_memory e ≡ false → turns_of (layer_of v) ≡ None) →
+  -- what it walks cannot be walked
+  pub starts_not : (v w : Dynamic H) (e : EvalAltResult H) (l : State S H) →
+      Ok w ≡ flat l.local.around.cells v (position_of loop.items) → (is_out_of_memory e ≡ false → turns_of (layer_of w) ≡ None) →
       (is_out_of_memory e ≡ false → e ≡ error.ErrorFor (start_of loop.items)) →
-      Goes rules (at (ended r) (ForItems loop ∷ k) l) (at (Fail e) k l)
-  starts_not (Ok x) v e l is none told = fails_on rules x (ForItems loop) k l e (λ y. refl) (λ m. rw (← is, none m, told m) refl)
-  starts_not (Err x) v e l is none told = absurd cc
+      Goes rules (at (Back v) (ForItems loop ∷ k) l) (at (Fail e) k l)
+  starts_not v w e l is none told = fails_on rules v (ForItems loop) k l e (λ y. refl) (λ m. rw (← is, none m, told m) refl)
 
   -- its variables are there, and its turns
-  pub starts : (r : Result (Dynamic H) (EvalAltResult H)) (v : Dynamic H) (turns : Turns H) (t : S) (global : GlobalRuntimeState H)
-      (old new : Scope H) (held : Held H) (base : ℕ) →
-      Ok v ≡ flat_end (cells_of global.cells) r (position_of loop.items) → turns_of (layer_of v) ≡ Some turns →
+  pub starts : (v w : Dynamic H) (turns : Turns H) (t : S) (global : GlobalRuntimeState H) (old new : Scope H) (held : Held H)
+      (base : ℕ) →
+      Ok w ≡ flat (cells_of global.cells) v (position_of loop.items) → turns_of (layer_of w) ≡ Some turns →
       entries_of new ≡ entries_of old ++ loop_entries loop → base ≡ length (entries_of old) →
-      Goes rules (at (ended r) (ForItems loop ∷ k) (state_of t global old held))
+      Goes rules (at (Back v) (ForItems loop ∷ k) (state_of t global old held))
       (at (ForTurn loop turns 0 base) (RestoreScope base ∷ k) (state_of t global new held))
   unfolding after
-  starts (Ok x) v turns t global old new held base is some same there = next (rw (← is, some, same, there) here)
-  starts (Err x) v turns t global old new held base is some same there = absurd cc
+  starts v w turns t global old new held base is some same there = next (rw (← is, some, same, there) here)
 
   -- ---- the end
 

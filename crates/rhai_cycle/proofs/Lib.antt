@@ -1,4 +1,5 @@
 mod ArgsLeft
+mod AskedReads
 pub mod BodyLemmas
 mod CallSteps
 mod CandidateLemmas

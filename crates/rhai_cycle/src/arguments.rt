@@ -1,7 +1,7 @@
 //! The arguments of calls, and calls by name. Ports upstream's `func/call.rs`; the contracts speak of
 //! the machine's runs and of specs/Calls.antt.
 
-ghost use Rattle.std.specs.Prelude.{◌≡◌, ◌≤◌, ◌+◌, [], IfOk, IsTrue, OnOk, false, length, map, not};
+ghost use Rattle.std.specs.Prelude.{◌≡◌, ◌≤◌, ◌+◌, [], IsTrue, false, length, map, not};
 ghost use Rattle.std.specs.Prelude.{true};
 ghost use Rattle.std.specs.Option.{option_copied};
 ghost use Rattle.rhai_tree.specs.Frame.{all_resolve_exprs, tests_of};
@@ -13,21 +13,21 @@ ghost use Rattle.rhai_machine.specs.language.Frames.{CallNamed, ToCall, ToCallOn
 ghost use Rattle.rhai_machine.specs.language.Runs.{Runs};
 ghost use Rattle.rhai_pointers.specs.Leading.{all_args};
 ghost use Rattle.rhai_dispatch.specs.Going.{GoesOut};
+ghost use Rattle.rhai_context.specs.Ends.{came};
 ghost use Rattle.rhai_cycle.specs.Calls.{Collects, StartsAs};
 ghost use Rattle.rhai_cycle.specs.States.{names, state_in, under};
 
 use crate::evaluator::Evaluator;
 use rhai_calls::dispatch::Called;
+use rhai_context::outcomes::charge;
 use rhai_context::{Context, keep_list, lend_list};
-use rhai_dispatch::arguments::take_argument;
+use rhai_dispatch::arguments::push_argument;
 use rhai_dispatch::call_values;
 use rhai_dispatch::this::call_on_this;
 use rhai_dispatch::variable::call_on_variable;
 use rhai_pointers::arguments::{FirstVariable, first_variable, this_first};
-use rhai_state::error::EvalAltResult;
 use rhai_state::scope::Scope;
 use rhai_state::table::NativeTable;
-use rhai_steps::charges::track_operation;
 use rhai_tree::Items;
 use rhai_tree::expr::Expr;
 use rhai_tree::position::Position;
@@ -46,7 +46,7 @@ impl<'e, H: Host> Evaluator<'e, H> {
     /// A call by name. A variable that comes first, or `this`, is charged first and read last, and is lent to
     /// a native where it may be written; any other argument is passed by its value. A call that captures a
     /// scope which is not empty takes each argument by its value, and a function of a script runs on that
-    /// scope.
+    /// scope. How it ended stands in the run.
     #[cycle(eval)]
     pub(crate) fn run_named<T: NativeTable<H>>(
         &self,
@@ -61,15 +61,16 @@ impl<'e, H: Host> Evaluator<'e, H> {
         captures: bool,
         natives_alone: bool,
         pos: Position,
-    ) -> Result<Dynamic<H>, EvalAltResult<H>>
+    ) -> bool
         requires { IsTrue (all_resolve_exprs (map tests_of (all_args (option_copied first) rest.now))
             (names run.old)) }
-        ensures counts { OnOk result (run.old.global.num_operations ≤ run.new.global.num_operations) }
-        ensures names { OnOk result (names run.new ≡ names run.old) }
+        ensures counts { IsTrue result → run.old.global.num_operations ≤ run.new.global.num_operations }
+        ensures names { IsTrue result → names run.new ≡ names run.old }
         ensures runs { Runs (under H.name_of self.now T.natives)
             (CallNamed (record { name = name.now; token = token; at = pos }) curried
             (all_args (option_copied first.entry) rest.now) captures natives_alone)
-            (state_in (T.state table.old) run.old) result (state_in (T.state table.new) run.new) }
+            (state_in (T.state table.old) run.old)
+            (came result run.new.value run.new.error) (state_in (T.state table.new) run.new) }
     {
         if let Some(this_at) = this_first(
             &run.scope,
@@ -79,9 +80,14 @@ impl<'e, H: Host> Evaluator<'e, H> {
             captures,
         ) {
             drop(curried);
-            track_operation(self.limits, &mut run.global, this_at)?;
-            let made = lend_list(alloc, run);
-            let values = self.run_more_args(alloc, run, table, made, rest, true)?;
+            if !charge(self.limits, &mut run.global, &mut run.error, this_at) {
+                return false;
+            }
+            let mut values = lend_list(alloc, run);
+            if !self.run_more_args(alloc, run, table, &mut values, rest, true) {
+                keep_list(run, values);
+                return false;
+            }
             let called = self.call_with_this(
                 alloc,
                 run,
@@ -98,9 +104,14 @@ impl<'e, H: Host> Evaluator<'e, H> {
         match first_variable(&run.scope, curried.as_slice(), first, rest, captures) {
             Some(variable) => {
                 drop(curried);
-                track_operation(self.limits, &mut run.global, variable.pos)?;
-                let made = lend_list(alloc, run);
-                let values = self.run_more_args(alloc, run, table, made, variable.rest, true)?;
+                if !charge(self.limits, &mut run.global, &mut run.error, variable.pos) {
+                    return false;
+                }
+                let mut values = lend_list(alloc, run);
+                if !self.run_more_args(alloc, run, table, &mut values, variable.rest, true) {
+                    keep_list(run, values);
+                    return false;
+                }
                 let called = self.call_with_variable(
                     alloc,
                     run,
@@ -253,7 +264,8 @@ impl<'e, H: Host> Evaluator<'e, H> {
         called
     }
 
-    /// A call by name whose arguments are all passed by their values, behind those that a pointer has.
+    /// A call by name whose arguments are all passed by their values, behind those that a pointer has. How it ended
+    /// stands in the run.
     #[cycle(eval)]
     fn run_on_values<T: NativeTable<H>>(
         &self,
@@ -268,125 +280,104 @@ impl<'e, H: Host> Evaluator<'e, H> {
         captures: bool,
         natives_alone: bool,
         pos: Position,
-    ) -> Result<Dynamic<H>, EvalAltResult<H>>
+    ) -> bool
         requires { IsTrue (all_resolve_exprs (map tests_of (all_args (option_copied first) rest.now))
             (names run.old)) }
-        ensures counts { OnOk result (run.old.global.num_operations ≤ run.new.global.num_operations) }
-        ensures names { OnOk result (names run.new ≡ names run.old) }
+        ensures counts { IsTrue result → run.old.global.num_operations ≤ run.new.global.num_operations }
+        ensures names { IsTrue result → names run.new ≡ names run.old }
         ensures runs { let rules = under H.name_of self.now T.natives in
             StartsAs rules (arguments_core rules.setting
             (ToCall (record { name = name.now; token = token; at = pos }) curried
             (plainly natives_alone (is_captured captures (entries_of run.old.scope)))) []
             (all_args (option_copied first.entry) rest.now))
-            (state_in (T.state table.old) run.old) result (state_in (T.state table.new) run.new) }
+            (state_in (T.state table.old) run.old)
+            (came result run.new.value run.new.error) (state_in (T.state table.new) run.new) }
     {
         let on_scope = is_on_scope(&run.scope, captures);
-        let made = lend_list(alloc, run);
-        match first {
-            None => {
-                let called = self.call_with(
-                    alloc,
-                    run,
-                    table,
-                    name,
-                    token,
-                    curried,
-                    made,
-                    natives_alone,
-                    pos,
-                );
-                self.run_out(alloc, run, table, called, !on_scope, pos)
-            }
-            Some(arg) => {
-                let mut made = made;
-                match self.run_arg(alloc, run, table, arg) {
-                    Ok(value) => {
-                        let cells = &run.global.cells;
-                        match take_argument(alloc, cells, &mut made, value, true, arg.position()) {
-                            Ok(()) => match self.run_more_args(
-                                alloc, run, table, made, rest, true,
-                            ) {
-                                Ok(values) => {
-                                    let called = self.call_with(
-                                        alloc,
-                                        run,
-                                        table,
-                                        name,
-                                        token,
-                                        curried,
-                                        values,
-                                        natives_alone,
-                                        pos,
-                                    );
-                                    self.run_out(alloc, run, table, called, !on_scope, pos)
-                                }
-                                Err(error) => {
-                                    drop(curried);
-                                    Err(error)
-                                }
-                            },
-                            Err(error) => {
-                                drop(made);
-                                drop(curried);
-                                Err(error)
-                            }
-                        }
-                    }
-                    Err(error) => {
-                        drop(made);
-                        drop(curried);
-                        Err(error)
-                    }
-                }
-            }
+        let mut values = lend_list(alloc, run);
+        if !self.run_all_args(alloc, run, table, &mut values, first, rest) {
+            drop(curried);
+            keep_list(run, values);
+            return false;
         }
+        let called = self.call_with(
+            alloc,
+            run,
+            table,
+            name,
+            token,
+            curried,
+            values,
+            natives_alone,
+            pos,
+        );
+        self.run_out(alloc, run, table, called, !on_scope, pos)
     }
 
-    /// The values of arguments behind those that are there, which are evaluated from left to right. Those
-    /// of a function are flattened.
+    /// The values of all arguments of a function go behind those that are there, from left to right and flattened.
+    /// Whether it went well; an error stands in the run.
+    #[cycle(eval)]
+    fn run_all_args<T: NativeTable<H>>(
+        &self,
+        alloc: Global,
+        run: &mut Context<H>,
+        table: &mut T,
+        values: &mut Items<Dynamic<H>>,
+        first: Option<&Expr>,
+        rest: &[Expr],
+    ) -> bool
+        requires { IsTrue (all_resolve_exprs (map tests_of (all_args (option_copied first) rest.now))
+            (names run.old)) }
+        ensures counts { IsTrue result → run.old.global.num_operations ≤ run.new.global.num_operations }
+        ensures names { IsTrue result → names run.new ≡ names run.old }
+        ensures collects { Collects (under H.name_of self.now T.natives) true values.old
+            (all_args (option_copied first.entry) rest.now) (state_in (T.state table.old) run.old)
+            (came result values.new run.new.error) (state_in (T.state table.new) run.new) }
+    {
+        let Some(arg) = first else {
+            return true;
+        };
+        if !self.run_arg(alloc, run, table, arg) {
+            return false;
+        }
+        let cells = &run.global.cells;
+        let (out, place) = (&mut run.value, &mut run.error);
+        if !push_argument(alloc, cells, values, out, place, true, arg.position()) {
+            return false;
+        }
+        self.run_more_args(alloc, run, table, values, rest, true)
+    }
+
+    /// The values of arguments go behind those that are there, from left to right. Those of a function are
+    /// flattened. Whether it went well; an error stands in the run.
     #[cycle(eval)]
     pub(crate) fn run_more_args<T: NativeTable<H>>(
         &self,
         alloc: Global,
         run: &mut Context<H>,
         table: &mut T,
-        made: Items<Dynamic<H>>,
+        values: &mut Items<Dynamic<H>>,
         args: &[Expr],
         flattened: bool,
-    ) -> Result<Items<Dynamic<H>>, EvalAltResult<H>>
+    ) -> bool
         requires { IsTrue (all_resolve_exprs (map tests_of args.now) (names run.old)) }
-        ensures counts { OnOk result (run.old.global.num_operations ≤ run.new.global.num_operations) }
-        ensures names { OnOk result (names run.new ≡ names run.old) }
-        ensures more { IfOk result (λ values. length values ≡ length made + length args.now) }
-        ensures collects { Collects (under H.name_of self.now T.natives) flattened made args.now
-            (state_in (T.state table.old) run.old) result (state_in (T.state table.new) run.new) }
+        ensures counts { IsTrue result → run.old.global.num_operations ≤ run.new.global.num_operations }
+        ensures names { IsTrue result → names run.new ≡ names run.old }
+        ensures more { IsTrue result → length values.new ≡ length values.old + length args.now }
+        ensures collects { Collects (under H.name_of self.now T.natives) flattened values.old args.now
+            (state_in (T.state table.old) run.old) (came result values.new run.new.error)
+            (state_in (T.state table.new) run.new) }
     {
-        let mut values = made;
         'each_arg: for arg in args {
-            match self.run_arg(alloc, run, table, arg) {
-                Ok(value) => {
-                    let cells = &run.global.cells;
-                    match take_argument(
-                        alloc,
-                        cells,
-                        &mut values,
-                        value,
-                        flattened,
-                        arg.position(),
-                    ) {
-                        Ok(()) => {}
-                        Err(error) => {
-                            drop(values);
-                            return Err(error);
-                        }
-                    }
-                }
-                Err(error) => {
-                    drop(values);
-                    return Err(error);
-                }
+            if !self.run_arg(alloc, run, table, arg) {
+                return false;
+            }
+            let cells = &run.global.cells;
+            let (out, place) = (&mut run.value, &mut run.error);
+            if !push_argument(alloc, cells, values, out, place, flattened, arg.position()) {
+                return false;
             }
         }
-        Ok(values)
+        true
     }
 }

@@ -1,7 +1,7 @@
 //! Functions of scripts that are entered. Ports upstream's `call_script_fn`; the contracts speak of the
 //! machine's runs.
 
-ghost use Rattle.std.specs.Prelude.{◌≡◌, ◌≤◌, ◌<◌, OnOk, Some, false, is_some, length, true};
+ghost use Rattle.std.specs.Prelude.{◌≡◌, ◌≤◌, ◌<◌, IsTrue, Some, false, is_some, length, true};
 ghost use Rattle.std.specs.Option.{option_copied};
 ghost use Rattle.rhai_state.specs.Scope.{entries_of};
 ghost use Rattle.rhai_machine.specs.language.Activations.{NoObject};
@@ -14,23 +14,25 @@ ghost use Rattle.rhai_machine.specs.language.State.{HasMemory, deeper};
 ghost use Rattle.rhai_steps.specs.States.{local_of, state_of};
 ghost use Rattle.rhai_calls.specs.Called.{came_out};
 ghost use Rattle.rhai_calls.specs.Dispatch.{Offers};
+ghost use Rattle.rhai_calls.specs.Marks.{with_mark};
+ghost use Rattle.rhai_context.specs.Ends.{came};
 ghost use Rattle.rhai_steps.specs.Marked.{lending, RunsFrom};
 ghost use Rattle.rhai_cycle.specs.Bodies.{args_left, behind_call, entered, is_entered};
 ghost use Rattle.rhai_cycle.specs.Calls.{StartsAs};
 ghost use Rattle.rhai_cycle.specs.States.{names, offer_of, state_in, under};
 
 use crate::evaluator::Evaluator;
-use rhai_bodies::closing::close_function;
+use rhai_bodies::closing::close_body;
 use rhai_bodies::opening::{open_function, statements_of};
 use rhai_calls::dispatch::{Called, is_held, races};
-use rhai_context::ends::finish;
+use rhai_context::ends::{finish, put_unit, settle, stop};
+use rhai_context::outcomes::charge;
 use rhai_context::{Context, keep_list, put_aside, take_up};
 use rhai_functions::function::{Function, Offered};
 use rhai_methods::calls::MethodCall;
 use rhai_methods::methods::call_method;
 use rhai_state::error::EvalAltResult;
 use rhai_state::table::NativeTable;
-use rhai_steps::charges::track_operation;
 use rhai_steps::errors::{data_race, data_race_by};
 use rhai_steps::values::{let_go, unit_value};
 use rhai_tree::Items;
@@ -68,6 +70,20 @@ pub fn put_this<H: Host>(place: &mut Dynamic<H>, left: Option<Dynamic<H>>)
     }
 }
 
+/// How a function ended, for a caller that answers a `Result`: it changes nothing that a mark would tell of.
+fn finish_unmarked<H: Host>(
+    done: bool,
+    out: &mut Dynamic<H>,
+    place: &mut Option<EvalAltResult<H>>,
+) -> Result<(Dynamic<H>, bool), EvalAltResult<H>>
+    ensures { result ≡ with_mark false (came done out.old place.old) }
+{
+    match finish(done, out, place) {
+        Ok(value) => Ok((value, false)),
+        Err(error) => Err(error),
+    }
+}
+
 impl<'e, H: Host> Evaluator<'e, H> {
     /// The modules of the engine that functions are found in.
     pub fn offered(&self) -> Offered<'e, H>
@@ -80,7 +96,8 @@ impl<'e, H: Host> Evaluator<'e, H> {
     }
 
     /// A function that is entered at a level, on the variables and with the `this` that the run has, its call
-    /// charged first. `()` is left of its arguments where its body is entered. Its variables stay.
+    /// charged first. `()` is left of its arguments where its body is entered. Its variables stay. How it ended
+    /// stands in the run.
     #[cycle(eval)]
     pub fn run_body<T: NativeTable<H>>(
         &self,
@@ -93,10 +110,11 @@ impl<'e, H: Host> Evaluator<'e, H> {
         restores: bool,
         level: usize,
         pos: Position,
-    ) -> Result<Dynamic<H>, EvalAltResult<H>>
-        ensures charges { OnOk result (run.old.global.num_operations < run.new.global.num_operations) }
-        ensures args { HasMemory result → args.new ≡ args_left (is_entered self.now.limits.now
-            run.old.global.num_operations level (length (entries_of run.old.scope)) def.now)
+    ) -> bool
+        ensures charges { IsTrue result → run.old.global.num_operations < run.new.global.num_operations }
+        ensures args { HasMemory (came result run.new.value run.new.error) → args.new ≡ args_left
+            (is_entered self.now.limits.now run.old.global.num_operations level
+            (length (entries_of run.old.scope)) def.now)
             (length def.now.params) args.old }
         ensures runs { (scope : _) (held : _) (object : _) (is_fresh : _) →
             let caller = local_of run.old.global scope held in
@@ -105,21 +123,28 @@ impl<'e, H: Host> Evaluator<'e, H> {
             entries_of run.old.scope ≡ variables_before is_fresh caller.scope →
             run.old.this ≡ this_by object caller →
             Runs (under H.name_of self.now T.natives) (EnterFunction e)
-            (state_of (T.state table.old) run.old.global scope held) result
+            (state_of (T.state table.old) run.old.global scope held)
+            (came result run.new.value run.new.error)
             (behind_call e caller (state_in (T.state table.new) run.new)) }
     {
-        track_operation(self.limits, &mut run.global, pos)?;
+        if !charge(self.limits, &mut run.global, &mut run.error, pos) {
+            return false;
+        }
         let limits = self.limits;
         let (global, scope) = (&mut run.global, &mut run.scope);
         let def = def.def();
-        match open_function(limits, level, global, scope, def, environ, args, pos)? {
-            None => Ok(unit_value()),
-            Some(exit) => {
+        match open_function(limits, level, global, scope, def, environ, args, pos) {
+            Ok(None) => {
+                put_unit(&mut run.value);
+                true
+            }
+            Ok(Some(exit)) => {
                 let statements = statements_of(def);
                 let done = self.run_stmt_block(alloc, run, table, statements, restores);
-                let result = finish(done, &mut run.value, &mut run.error);
-                close_function(alloc, &mut run.global, def, environ, exit, result, pos)
+                let (global, out, place) = (&mut run.global, &mut run.value, &mut run.error);
+                close_body(alloc, global, out, place, def, environ, exit, done, pos)
             }
+            Err(error) => stop(&mut run.error, error),
         }
     }
 
@@ -133,14 +158,15 @@ impl<'e, H: Host> Evaluator<'e, H> {
         function: Function<H>,
         args: Items<Dynamic<H>>,
         pos: Position,
-    ) -> Result<Dynamic<H>, EvalAltResult<H>>
+    ) -> bool
         ensures counts { run.old.global.num_operations ≤ run.new.global.num_operations }
         ensures scope { run.new.scope ≡ run.old.scope }
         ensures this { run.new.this ≡ run.old.this }
         ensures runs { (scope : _) (held : _) → let caller = local_of run.old.global scope held in
             Runs (under H.name_of self.now T.natives)
             (EnterFunction (entry_of function NoObject true args pos caller))
-            (state_of (T.state table.old) run.old.global scope held) result
+            (state_of (T.state table.old) run.old.global scope held)
+            (came result run.new.value run.new.error)
             (state_of (T.state table.new) run.new.global scope held) }
     {
         let mut args = args;
@@ -148,11 +174,11 @@ impl<'e, H: Host> Evaluator<'e, H> {
         let level = level_below(run.global.level);
         let (def, environ) = (function.def.get(), environ_in(&function));
         let values = args.as_mut_slice();
-        let result = self.run_body(alloc, run, table, def, environ, values, true, level, pos);
+        let done = self.run_body(alloc, run, table, def, environ, values, true, level, pos);
         drop(take_up(run, aside));
         keep_list(run, args);
         drop(function);
-        result
+        done
     }
 
     /// The same on the caller's variables, without `this`. Its own go at its end.
@@ -165,14 +191,15 @@ impl<'e, H: Host> Evaluator<'e, H> {
         function: Function<H>,
         args: Items<Dynamic<H>>,
         pos: Position,
-    ) -> Result<Dynamic<H>, EvalAltResult<H>>
+    ) -> bool
         ensures counts { run.old.global.num_operations ≤ run.new.global.num_operations }
-        ensures names { OnOk result (names run.new ≡ names run.old) }
+        ensures names { IsTrue result → names run.new ≡ names run.old }
         ensures this { run.new.this ≡ run.old.this }
         ensures runs { (held : _) → let caller = local_of run.old.global run.old.scope held in
             Runs (under H.name_of self.now T.natives)
             (EnterFunction (entry_of function NoObject false args pos caller))
-            (state_of (T.state table.old) run.old.global run.old.scope held) result
+            (state_of (T.state table.old) run.old.global run.old.scope held)
+            (came result run.new.value run.new.error)
             (state_of (T.state table.new) run.new.global run.new.scope held) }
     {
         let mut args = args;
@@ -181,12 +208,12 @@ impl<'e, H: Host> Evaluator<'e, H> {
         let level = level_below(run.global.level);
         let (def, environ) = (function.def.get(), environ_in(&function));
         let values = args.as_mut_slice();
-        let result = self.run_body(alloc, run, table, def, environ, values, true, level, pos);
+        let done = self.run_body(alloc, run, table, def, environ, values, true, level, pos);
         run.scope.rewind(length);
         drop(replace(&mut run.this, outer));
         keep_list(run, args);
         drop(function);
-        result
+        done
     }
 
     /// What becomes of a call that lends nothing: it has ended, or enters a function, which has variables of its
@@ -200,14 +227,15 @@ impl<'e, H: Host> Evaluator<'e, H> {
         called: Called<H>,
         is_fresh: bool,
         pos: Position,
-    ) -> Result<Dynamic<H>, EvalAltResult<H>>
+    ) -> bool
         ensures counts { run.old.global.num_operations ≤ run.new.global.num_operations }
-        ensures names { OnOk result (names run.new ≡ names run.old) }
+        ensures names { IsTrue result → names run.new ≡ names run.old }
         ensures runs { StartsAs (under H.name_of self.now T.natives) (came_out is_fresh pos called)
-            (state_in (T.state table.old) run.old) result (state_in (T.state table.new) run.new) }
+            (state_in (T.state table.old) run.old)
+            (came result run.new.value run.new.error) (state_in (T.state table.new) run.new) }
     {
         match called {
-            Called::Ended(result) => result,
+            Called::Ended(result) => settle(&mut run.error, &mut run.value, result),
             Called::Enters(function, args) => {
                 if is_fresh {
                     self.enter_fresh(alloc, run, table, function, args, pos)
@@ -230,20 +258,21 @@ impl<'e, H: Host> Evaluator<'e, H> {
         focus: &mut Dynamic<H>,
         args: Items<Dynamic<H>>,
         pos: Position,
-    ) -> Result<Dynamic<H>, EvalAltResult<H>>
+    ) -> bool
         ensures counts { run.old.global.num_operations ≤ run.new.global.num_operations }
         ensures scope { run.new.scope ≡ run.old.scope }
         ensures this { run.new.this ≡ run.old.this }
         ensures runs { (scope : _) (held : _) → Runs (under H.name_of self.now T.natives)
             (EnterOnFocus function true args pos)
-            (state_of (T.state table.old) run.old.global scope (lending held focus.old)) result
+            (state_of (T.state table.old) run.old.global scope (lending held focus.old))
+            (came result run.new.value run.new.error)
             (state_of (T.state table.new) run.new.global scope (lending held focus.new)) }
     {
         let is_anothers = is_held(&run.global.cells, focus);
         if is_anothers {
             keep_list(run, args);
             drop(function);
-            return Err(data_race(alloc, pos));
+            return stop(&mut run.error, data_race(alloc, pos));
         }
         let above = step_in(&mut run.global.cells, focus);
         let is_racing = races(&run.global.cells, args.as_slice());
@@ -252,7 +281,7 @@ impl<'e, H: Host> Evaluator<'e, H> {
             step_out(&mut run.global.cells, focus, above);
             keep_list(run, args);
             drop(function);
-            return Err(error);
+            return stop(&mut run.error, error);
         }
         let this = replace(focus, unit_value());
         let mut args = args;
@@ -260,12 +289,12 @@ impl<'e, H: Host> Evaluator<'e, H> {
         let level = level_below(run.global.level);
         let (def, environ) = (function.def.get(), environ_in(&function));
         let values = args.as_mut_slice();
-        let result = self.run_body(alloc, run, table, def, environ, values, true, level, pos);
+        let done = self.run_body(alloc, run, table, def, environ, values, true, level, pos);
         put_this(focus, take_up(run, aside));
         step_out(&mut run.global.cells, focus, above);
         keep_list(run, args);
         drop(function);
-        result
+        done
     }
 
     /// A method that is called on a value, its arguments there, with the function that it enters. Whether the value
@@ -310,16 +339,12 @@ impl<'e, H: Host> Evaluator<'e, H> {
         ) {
             MethodCall::Ended(result) => result,
             MethodCall::OnTarget(function, args) => {
-                match self.enter_on_focus(alloc, run, table, function, focus, args, pos) {
-                    Ok(value) => Ok((value, false)),
-                    Err(error) => Err(error),
-                }
+                let done = self.enter_on_focus(alloc, run, table, function, focus, args, pos);
+                finish_unmarked(done, &mut run.value, &mut run.error)
             }
             MethodCall::Alone(function, args) => {
-                match self.enter_fresh(alloc, run, table, function, args, pos) {
-                    Ok(value) => Ok((value, false)),
-                    Err(error) => Err(error),
-                }
+                let done = self.enter_fresh(alloc, run, table, function, args, pos);
+                finish_unmarked(done, &mut run.value, &mut run.error)
             }
         }
     }

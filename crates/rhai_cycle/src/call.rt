@@ -1,7 +1,7 @@
 //! Calls: operators, keywords and pointers. Ports upstream's `func/call.rs`; the contracts speak of the
 //! machine's runs and of specs/Calls.antt.
 
-ghost use Rattle.std.specs.Prelude.{◌≡◌, ◌<◌, ◌≤◌, ◌∷◌, [], IsTrue, Some, OnOk, map};
+ghost use Rattle.std.specs.Prelude.{◌≡◌, ◌<◌, ◌≤◌, ◌∷◌, [], IsTrue, Some, map};
 ghost use Rattle.std.specs.Prelude.{true, false};
 ghost use Rattle.std.specs.Option.{option_copied};
 ghost use Rattle.rhai_tree.specs.Frame.{all_resolve_exprs, resolves_expr, resolves_call, tests_of};
@@ -13,13 +13,16 @@ ghost use Rattle.rhai_machine.specs.language.Runs.{Runs};
 ghost use Rattle.rhai_pointers.specs.Keywords.{word_of};
 ghost use Rattle.rhai_pointers.specs.Leading.{all_args};
 ghost use Rattle.rhai_dispatch.specs.Going.{GoesOut};
+ghost use Rattle.rhai_context.specs.Ends.{came};
 ghost use Rattle.rhai_cycle.specs.Calls.{RunsUnder, StartsAs, called, purpose_of};
 ghost use Rattle.rhai_cycle.specs.States.{names, state_in, under};
 
 use crate::evaluator::Evaluator;
 use rhai_calls::dispatch::Called;
 use rhai_calls::operators::{operate_one, operate_two};
-use rhai_context::{Context, lend_list};
+use rhai_context::ends::{put, settle, stop, take_value};
+use rhai_context::outcomes::flatten_value;
+use rhai_context::{Context, keep_list, lend_list};
 use rhai_dispatch::pointer::parts_of;
 use rhai_dispatch::{call_function, call_number};
 use rhai_functions::function::Function;
@@ -35,7 +38,7 @@ use rhai_pointers::pointers::{
 };
 use rhai_state::error::EvalAltResult;
 use rhai_state::table::NativeTable;
-use rhai_steps::values::{flatten, let_go};
+use rhai_steps::values::let_go;
 use rhai_tree::Items;
 use rhai_tree::expr::{Expr, FnCallExpr};
 use rhai_tree::literal::NativeId;
@@ -56,7 +59,7 @@ enum PointerUse<H> {
 }
 
 impl<'e, H: Host> Evaluator<'e, H> {
-    /// A call: an operator on its operands, or of a function.
+    /// A call: an operator on its operands, or of a function. How it ended stands in the run.
     #[cycle(eval)]
     pub fn run_fn_call_expr<T: NativeTable<H>>(
         &self,
@@ -65,17 +68,24 @@ impl<'e, H: Host> Evaluator<'e, H> {
         table: &mut T,
         call: &FnCallExpr,
         pos: Position,
-    ) -> Result<Dynamic<H>, EvalAltResult<H>>
+    ) -> bool
         requires resolves { IsTrue (resolves_call call.now pos (names run.old)) }
-        ensures counts { OnOk result (run.old.global.num_operations ≤ run.new.global.num_operations) }
-        ensures names { OnOk result (names run.new ≡ names run.old) }
+        ensures counts { IsTrue result → run.old.global.num_operations ≤ run.new.global.num_operations }
+        ensures names { IsTrue result → names run.new ≡ names run.old }
         ensures runs { Runs (under H.name_of self.now T.natives) (OpenExpr (layer.Expr::FnCall call.now pos))
-            (state_in (T.state table.old) run.old) result (state_in (T.state table.new) run.new) }
+            (state_in (T.state table.old) run.old)
+            (came result run.new.value run.new.error) (state_in (T.state table.new) run.new) }
     {
         match form_of(self.fast_operators, call) {
             CallForm::Unary(token, operand) => {
-                let value = self.run_arg(alloc, run, table, operand)?;
-                let value = flatten(alloc, &run.global.cells, value, operand.position())?;
+                if !self.run_arg(alloc, run, table, operand) {
+                    return false;
+                }
+                let at = operand.position();
+                if !flatten_value(alloc, &run.global.cells, &mut run.value, &mut run.error, at) {
+                    return false;
+                }
+                let value = take_value(&mut run.value);
                 let offered = self.offered();
                 let called = operate_one(
                     self.limits,
@@ -112,7 +122,7 @@ impl<'e, H: Host> Evaluator<'e, H> {
         }
     }
 
-    /// A call of a keyword, or of a function by its name.
+    /// A call of a keyword, or of a function by its name. How it ended stands in the run.
     #[cycle(eval)]
     pub fn run_call<T: NativeTable<H>>(
         &self,
@@ -125,15 +135,16 @@ impl<'e, H: Host> Evaluator<'e, H> {
         rest: &[Expr],
         captures: bool,
         pos: Position,
-    ) -> Result<Dynamic<H>, EvalAltResult<H>>
+    ) -> bool
         requires { IsTrue (all_resolve_exprs (map tests_of (all_args (option_copied first) rest.now))
             (names run.old)) }
-        ensures counts { OnOk result (run.old.global.num_operations ≤ run.new.global.num_operations) }
-        ensures names { OnOk result (names run.new ≡ names run.old) }
+        ensures counts { IsTrue result → run.old.global.num_operations ≤ run.new.global.num_operations }
+        ensures names { IsTrue result → names run.new ≡ names run.old }
         ensures runs { StartsAs (under H.name_of self.now T.natives)
             (called (record { name = name.now; token = token; at = pos })
             (all_args (option_copied first.entry) rest.now) captures)
-            (state_in (T.state table.old) run.old) result (state_in (T.state table.new) run.new) }
+            (state_in (T.state table.old) run.old)
+            (came result run.new.value run.new.error) (state_in (T.state table.new) run.new) }
     {
         match first {
             None => {
@@ -155,7 +166,7 @@ impl<'e, H: Host> Evaluator<'e, H> {
     }
 
     /// A keyword, from its first argument on. A pointer that is called is the function that it is linked
-    /// to, or a native's number, or else it is called by its name.
+    /// to, or a native's number, or else it is called by its name. How it ended stands in the run.
     #[cycle(eval)]
     fn run_keyword<T: NativeTable<H>>(
         &self,
@@ -167,33 +178,53 @@ impl<'e, H: Host> Evaluator<'e, H> {
         rest: &[Expr],
         captures: bool,
         pos: Position,
-    ) -> Result<Dynamic<H>, EvalAltResult<H>>
+    ) -> bool
         requires resolves { IsTrue (resolves_expr first.now (names run.old)) }
         requires resolves_rest { IsTrue (all_resolve_exprs (map tests_of rest.now) (names run.old)) }
-        ensures counts { OnOk result (run.old.global.num_operations ≤ run.new.global.num_operations) }
-        ensures names { OnOk result (names run.new ≡ names run.old) }
+        ensures counts { IsTrue result → run.old.global.num_operations ≤ run.new.global.num_operations }
+        ensures names { IsTrue result → names run.new ≡ names run.old }
         ensures runs { RunsUnder (under H.name_of self.now T.natives) (Argument first.now)
             (KeywordArgument (word_of word) pos (start_of first.now) rest.now captures)
-            (state_in (T.state table.old) run.old) result (state_in (T.state table.new) run.new) }
+            (state_in (T.state table.old) run.old)
+            (came result run.new.value run.new.error) (state_in (T.state table.new) run.new) }
     {
-        let value = self.run_arg(alloc, run, table, first)?;
+        if !self.run_arg(alloc, run, table, first) {
+            return false;
+        }
+        let value = take_value(&mut run.value);
         let start = first.start_position();
         match word {
-            Keyword::IsShared => Ok(is_shared(value)),
+            Keyword::IsShared => {
+                put(&mut run.value, is_shared(value));
+                true
+            }
             Keyword::IsDefinedVariable => {
-                let text = text_of(alloc, &run.global.cells, value, start)?;
-                Ok(is_defined(&run.scope, &text))
+                match text_of(alloc, &run.global.cells, value, start) {
+                    Ok(text) => {
+                        put(&mut run.value, is_defined(&run.scope, &text));
+                        true
+                    }
+                    Err(error) => stop(&mut run.error, error),
+                }
             }
-            Keyword::MakePointer => {
-                let text = text_of(alloc, &run.global.cells, value, start)?;
-                make_pointer(alloc, text, start)
-            }
-            Keyword::Curry => {
-                let pointer = pointer_of(alloc, &run.global.cells, value, start)?;
-                self.run_pointer(alloc, run, table, PointerUse::Curry(pointer), rest, pos)
-            }
+            Keyword::MakePointer => match text_of(alloc, &run.global.cells, value, start) {
+                Ok(text) => {
+                    let made = make_pointer(alloc, text, start);
+                    settle(&mut run.error, &mut run.value, made)
+                }
+                Err(error) => stop(&mut run.error, error),
+            },
+            Keyword::Curry => match pointer_of(alloc, &run.global.cells, value, start) {
+                Ok(pointer) => {
+                    self.run_pointer(alloc, run, table, PointerUse::Curry(pointer), rest, pos)
+                }
+                Err(error) => stop(&mut run.error, error),
+            },
             Keyword::CallPointer => {
-                let pointer = pointer_of(alloc, &run.global.cells, value, start)?;
+                let pointer = match pointer_of(alloc, &run.global.cells, value, start) {
+                    Ok(pointer) => pointer,
+                    Err(error) => return stop(&mut run.error, error),
+                };
                 match function_linked(&pointer, rest.len(), run.global.lib.as_slice()) {
                     Ok(Some(function)) => {
                         let (name, curried, _) = parts_of(pointer);
@@ -222,7 +253,7 @@ impl<'e, H: Host> Evaluator<'e, H> {
                     }
                     Err(_) => {
                         drop(pointer);
-                        Err(EvalAltResult::ErrorOutOfMemory(pos))
+                        stop(&mut run.error, EvalAltResult::ErrorOutOfMemory(pos))
                     }
                 }
             }
@@ -263,7 +294,7 @@ impl<'e, H: Host> Evaluator<'e, H> {
     }
 
     /// A pointer that gets more arguments, or is called as the function that it is linked to or by a native's
-    /// number. They are kept as they are.
+    /// number. They are kept as they are. How it ended stands in the run.
     #[cycle(eval)]
     fn run_pointer<T: NativeTable<H>>(
         &self,
@@ -273,29 +304,27 @@ impl<'e, H: Host> Evaluator<'e, H> {
         pointer: PointerUse<H>,
         args: &[Expr],
         pos: Position,
-    ) -> Result<Dynamic<H>, EvalAltResult<H>>
+    ) -> bool
         requires { IsTrue (all_resolve_exprs (map tests_of args.now) (names run.old)) }
-        ensures counts { OnOk result (run.old.global.num_operations ≤ run.new.global.num_operations) }
-        ensures names { OnOk result (names run.new ≡ names run.old) }
+        ensures counts { IsTrue result → run.old.global.num_operations ≤ run.new.global.num_operations }
+        ensures names { IsTrue result → names run.new ≡ names run.old }
         ensures runs { StartsAs (under H.name_of self.now T.natives)
             (arguments_core (under H.name_of self.now T.natives).setting (purpose_of pointer pos) [] args.now)
-            (state_in (T.state table.old) run.old) result (state_in (T.state table.new) run.new) }
+            (state_in (T.state table.old) run.old)
+            (came result run.new.value run.new.error) (state_in (T.state table.new) run.new) }
     {
-        let made = lend_list(alloc, run);
-        match self.run_more_args(alloc, run, table, made, args, false) {
-            Ok(values) => {
-                let called = self.use_pointer(alloc, run, table, pointer, values, pos);
-                self.run_out(alloc, run, table, called, true, pos)
-            }
-            Err(error) => {
-                drop(pointer);
-                Err(error)
-            }
+        let mut values = lend_list(alloc, run);
+        if !self.run_more_args(alloc, run, table, &mut values, args, false) {
+            drop(pointer);
+            keep_list(run, values);
+            return false;
         }
+        let called = self.use_pointer(alloc, run, table, pointer, values, pos);
+        self.run_out(alloc, run, table, called, true, pos)
     }
 
     /// A binary operator. On operands that stand a built-in is done in place; any others are evaluated, the
-    /// left one first.
+    /// left one first. How it ended stands in the run.
     #[cycle(eval)]
     fn run_operator<T: NativeTable<H>>(
         &self,
@@ -307,71 +336,71 @@ impl<'e, H: Host> Evaluator<'e, H> {
         left: &Expr,
         right: &Expr,
         pos: Position,
-    ) -> Result<Dynamic<H>, EvalAltResult<H>>
+    ) -> bool
         requires token { call.now.op_token ≡ Some token }
         requires args { call.now.args ≡ left.now ∷ right.now ∷ [] }
         requires resolves_left { IsTrue (resolves_expr left.now (names run.old)) }
         requires resolves_right { IsTrue (resolves_expr right.now (names run.old)) }
         requires fast { self.now.fast_operators ≡ true }
-        ensures counts { OnOk result (run.old.global.num_operations ≤ run.new.global.num_operations) }
-        ensures names { OnOk result (names run.new ≡ names run.old) }
+        ensures counts { IsTrue result → run.old.global.num_operations ≤ run.new.global.num_operations }
+        ensures names { IsTrue result → names run.new ≡ names run.old }
         ensures runs { Runs (under H.name_of self.now T.natives) (OpenExpr (layer.Expr::FnCall call.now pos))
-            (state_in (T.state table.old) run.old) result (state_in (T.state table.new) run.new) }
+            (state_in (T.state table.old) run.old)
+            (came result run.new.value run.new.error) (state_in (T.state table.new) run.new) }
     {
-        match operate_in_place(
+        let in_place = operate_in_place(
             self.limits,
             alloc,
             &mut run.global,
             &*table,
             &run.scope,
+            &mut run.value,
+            &mut run.error,
             call,
             token,
             left,
             right,
             pos,
-        ) {
-            Some(result) => result,
-            None => {
-                let first = self.run_arg(alloc, run, table, left)?;
-                let first = flatten(alloc, &run.global.cells, first, left.position())?;
-                match self.run_arg(alloc, run, table, right) {
-                    Err(error) => {
-                        let_go(first);
-                        Err(error)
-                    }
-                    Ok(second) => match flatten(
-                        alloc,
-                        &run.global.cells,
-                        second,
-                        right.position(),
-                    ) {
-                        Err(error) => {
-                            let_go(first);
-                            Err(error)
-                        }
-                        Ok(second) => {
-                            let offered = self.offered();
-                            let called = operate_two(
-                                self.limits,
-                                alloc,
-                                &offered,
-                                &mut run.global,
-                                table,
-                                call.name.get().as_str(),
-                                token,
-                                first,
-                                second,
-                                pos,
-                            );
-                            self.run_out(alloc, run, table, called, true, pos)
-                        }
-                    },
-                }
-            }
+        );
+        if let Some(done) = in_place {
+            return done;
         }
+        if !self.run_arg(alloc, run, table, left) {
+            return false;
+        }
+        let at = left.position();
+        if !flatten_value(alloc, &run.global.cells, &mut run.value, &mut run.error, at) {
+            return false;
+        }
+        let first = take_value(&mut run.value);
+        if !self.run_arg(alloc, run, table, right) {
+            let_go(first);
+            return false;
+        }
+        let at = right.position();
+        if !flatten_value(alloc, &run.global.cells, &mut run.value, &mut run.error, at) {
+            let_go(first);
+            return false;
+        }
+        let second = take_value(&mut run.value);
+        let offered = self.offered();
+        let called = operate_two(
+            self.limits,
+            alloc,
+            &offered,
+            &mut run.global,
+            table,
+            call.name.get().as_str(),
+            token,
+            first,
+            second,
+            pos,
+        );
+        self.run_out(alloc, run, table, called, true, pos)
     }
 
-    /// The value of an argument. A literal is charged here, anything else as an expression.
+    /// The value of an argument. A literal is charged here, anything else as an expression. How it ended stands in
+    /// the run.
     #[cycle(eval)]
     pub fn run_arg<T: NativeTable<H>>(
         &self,
@@ -379,15 +408,25 @@ impl<'e, H: Host> Evaluator<'e, H> {
         run: &mut Context<H>,
         table: &mut T,
         arg: &Expr,
-    ) -> Result<Dynamic<H>, EvalAltResult<H>>
+    ) -> bool
         requires { IsTrue (resolves_expr arg.now (names run.old)) }
-        ensures charges { OnOk result (run.old.global.num_operations < run.new.global.num_operations) }
-        ensures names { OnOk result (names run.new ≡ names run.old) }
+        ensures charges { IsTrue result → run.old.global.num_operations < run.new.global.num_operations }
+        ensures names { IsTrue result → names run.new ≡ names run.old }
         ensures runs { Runs (under H.name_of self.now T.natives) (Argument arg.now)
-            (state_in (T.state table.old) run.old) result (state_in (T.state table.new) run.new) }
+            (state_in (T.state table.old) run.old)
+            (came result run.new.value run.new.error) (state_in (T.state table.new) run.new) }
     {
-        match literal_arg(self.limits, alloc, &mut run.global, &*table, arg) {
-            Some(result) => result,
+        let in_place = literal_arg(
+            self.limits,
+            alloc,
+            &mut run.global,
+            &*table,
+            &mut run.value,
+            &mut run.error,
+            arg,
+        );
+        match in_place {
+            Some(done) => done,
             None => self.run_expr(alloc, run, table, arg),
         }
     }

@@ -2,7 +2,7 @@
 //! `eval_dot_index_chain`, up to the walk; the contracts speak of the machine's runs and of
 //! specs/Chains.antt.
 
-ghost use Rattle.std.specs.Prelude.{◌≡◌, ◌≤◌, IsTrue, OnOk, IfOk, IfErr, Some, [], true, is_some, length};
+ghost use Rattle.std.specs.Prelude.{◌≡◌, ◌≤◌, IsTrue, IfOk, IfErr, Some, true, is_some, length};
 ghost use Rattle.rhai_tree.specs.declared.expr.Expr.{out-Expr};
 ghost use Rattle.rhai_tree.specs.declared.expr.Expr.TheOpen as layer;
 ghost use Rattle.rhai_tree.specs.Frame.{resolves_expr, target_resolves, tests_of};
@@ -12,6 +12,7 @@ ghost use Rattle.rhai_machine.specs.language.Links.{first_in};
 ghost use Rattle.rhai_machine.specs.language.Runs.{Runs};
 ghost use Rattle.rhai_chains.specs.Chains.{Walks, chain_at, new_of};
 ghost use Rattle.rhai_chains.specs.Ready.{IsReady};
+ghost use Rattle.rhai_context.specs.Ends.{came};
 ghost use Rattle.rhai_cycle.specs.Chains.{Gathers, HasAsked, IsGiven, MayWalk, StartsFrom, AsksFirst};
 ghost use Rattle.rhai_cycle.specs.Chains.{behind_resolves};
 ghost use Rattle.rhai_cycle.specs.States.{names, state_in, under};
@@ -20,12 +21,12 @@ use crate::evaluator::Evaluator;
 use rhai_chains::arguments::{Ready, asked, needs_no_step, ready_value};
 use rhai_chains::chain::NewValue;
 use rhai_chains::links::{first_of, link_of};
+use rhai_context::ends::{put_unit, settle, stop, take_value};
+use rhai_context::outcomes::{charge, flatten_value};
 use rhai_context::{Context, keep_list, lend_list};
 use rhai_pointers::arguments::keep_argument;
 use rhai_state::error::EvalAltResult;
 use rhai_state::table::NativeTable;
-use rhai_steps::charges::track_operation;
-use rhai_steps::values::{flatten, let_go, unit_value};
 use rhai_tree::Items;
 use rhai_tree::expr::{Expr, OpAssignment};
 use rhai_values::base::value::{Dynamic, Host};
@@ -55,7 +56,8 @@ fn ready_args<H: Host>(
 
 impl<'e, H: Host> Evaluator<'e, H> {
     /// A chain that is read or assigned to: first what all its links ask for, then its root, and then the
-    /// walk. One link alone that asks for nothing, or for a literal, needs no step for what it asks for.
+    /// walk. One link alone that asks for nothing, or for a literal, needs no step for what it asks for. How it
+    /// ended stands in the run.
     #[cycle(eval)]
     pub fn run_chain<T: NativeTable<H>>(
         &self,
@@ -65,87 +67,87 @@ impl<'e, H: Host> Evaluator<'e, H> {
         root: &Expr,
         chain: &Expr,
         new: Option<NewValue<H>>,
-    ) -> Result<Dynamic<H>, EvalAltResult<H>>
+    ) -> bool
         requires root { IsTrue (resolves_expr root.now (names run.old)) }
         requires behind { IsTrue (behind_resolves (out-Expr chain.now) (names run.old)) }
         requires walks { MayWalk (is_some new) (out-Expr chain.now) }
         requires starts { StartsFrom (is_some new) (out-Expr root.now) }
-        ensures counts { OnOk result (run.old.global.num_operations ≤ run.new.global.num_operations) }
-        ensures names { OnOk result (names run.new ≡ names run.old) }
+        ensures counts { IsTrue result → run.old.global.num_operations ≤ run.new.global.num_operations }
+        ensures names { IsTrue result → names run.new ≡ names run.old }
         ensures runs { Runs (under H.name_of self.now T.natives)
             (OpenChain (chain_on root.now (out-Expr chain.now) (new_of new)))
-            (state_in (T.state table.old) run.old) result (state_in (T.state table.new) run.new) }
-        ensures asks { OnOk result (AsksFirst (under H.name_of self.now T.natives)
+            (state_in (T.state table.old) run.old)
+            (came result run.new.value run.new.error) (state_in (T.state table.new) run.new) }
+        ensures asks { IsTrue result → AsksFirst (under H.name_of self.now T.natives)
             (chain_on root.now (out-Expr chain.now) (new_of new))
-            (state_in (T.state table.old) run.old)) }
+            (state_in (T.state table.old) run.old) }
     {
         match needs_no_step::<H>(chain) {
             Some(ready) => match ready_args(alloc, run, ready) {
                 Ok(values) => {
                     let mut values = values;
                     let args = values.as_mut_slice();
-                    let result = self.run_root(alloc, run, table, root, chain, args, new);
+                    let done = self.run_root(alloc, run, table, root, chain, args, new);
                     keep_list(run, values);
-                    result
+                    done
                 }
                 Err(error) => {
                     drop(new);
-                    Err(error)
+                    stop(&mut run.error, error)
                 }
             },
             None => {
-                let made = lend_list(alloc, run);
-                match self.run_link_args(alloc, run, table, made, chain) {
-                    Ok(values) => {
-                        let mut values = values;
-                        let args = values.as_mut_slice();
-                        let result = self.run_root(alloc, run, table, root, chain, args, new);
-                        keep_list(run, values);
-                        result
-                    }
-                    Err(error) => {
-                        drop(new);
-                        Err(error)
-                    }
+                let mut values = lend_list(alloc, run);
+                if !self.run_link_args(alloc, run, table, &mut values, chain) {
+                    drop(new);
+                    keep_list(run, values);
+                    return false;
                 }
+                let args = values.as_mut_slice();
+                let done = self.run_root(alloc, run, table, root, chain, args, new);
+                keep_list(run, values);
+                done
             }
         }
     }
 
-    /// The values that the links of a chain ask for, behind those that are there, from left to right and
-    /// flattened. What stands behind each operator is charged first.
+    /// The values that the links of a chain ask for go behind those that are there, from left to right and
+    /// flattened. What stands behind each operator is charged first. Whether it went well; an error stands in the run.
     #[cycle(eval)]
     fn run_link_args<T: NativeTable<H>>(
         &self,
         alloc: Global,
         run: &mut Context<H>,
         table: &mut T,
-        made: Items<Dynamic<H>>,
+        values: &mut Items<Dynamic<H>>,
         chain: &Expr,
-    ) -> Result<Items<Dynamic<H>>, EvalAltResult<H>>
+    ) -> bool
         requires { IsTrue (behind_resolves (out-Expr chain.now) (names run.old)) }
-        ensures counts { OnOk result (run.old.global.num_operations ≤ run.new.global.num_operations) }
-        ensures names { OnOk result (names run.new ≡ names run.old) }
-        ensures asked { HasAsked result (length made) (out-Expr chain.now) }
-        ensures gathers { Gathers (under H.name_of self.now T.natives) (out-Expr chain.now) made
-            (state_in (T.state table.old) run.old) result (state_in (T.state table.new) run.new) }
+        ensures counts { IsTrue result → run.old.global.num_operations ≤ run.new.global.num_operations }
+        ensures names { IsTrue result → names run.new ≡ names run.old }
+        ensures asked { HasAsked (came result values.new run.new.error) (length values.old)
+            (out-Expr chain.now) }
+        ensures gathers { Gathers (under H.name_of self.now T.natives) (out-Expr chain.now) values.old
+            (state_in (T.state table.old) run.old) (came result values.new run.new.error)
+            (state_in (T.state table.new) run.new) }
     {
         let Some(link) = link_of(chain) else {
             unreachable!()
         };
-        if let Err(error) = track_operation(self.limits, &mut run.global, link.rest_at) {
-            drop(made);
-            return Err(error);
+        if !charge(self.limits, &mut run.global, &mut run.error, link.rest_at) {
+            return false;
         }
-        let values = self.run_more_args(alloc, run, table, made, asked(link), true)?;
+        if !self.run_more_args(alloc, run, table, values, asked(link), true) {
+            return false;
+        }
         match link.behind {
             Some(rest) => self.run_link_args(alloc, run, table, values, rest),
-            None => Ok(values),
+            None => true,
         }
     }
 
     /// A chain from its root on, its arguments there. A variable is charged and walked on in its place; any
-    /// other root is evaluated, and its value is walked on.
+    /// other root is evaluated, and its value is walked on. How it ended stands in the run.
     #[cycle(eval)]
     fn run_root<T: NativeTable<H>>(
         &self,
@@ -156,15 +158,16 @@ impl<'e, H: Host> Evaluator<'e, H> {
         chain: &Expr,
         args: &mut [Dynamic<H>],
         new: Option<NewValue<H>>,
-    ) -> Result<Dynamic<H>, EvalAltResult<H>>
+    ) -> bool
         requires root { IsTrue (resolves_expr root.now (names run.old)) }
         requires walks { Walks (is_some new) (out-Expr chain.now) (length args.old) }
         requires starts { StartsFrom (is_some new) (out-Expr root.now) }
-        ensures counts { OnOk result (run.old.global.num_operations ≤ run.new.global.num_operations) }
-        ensures names { OnOk result (names run.new ≡ names run.old) }
+        ensures counts { IsTrue result → run.old.global.num_operations ≤ run.new.global.num_operations }
+        ensures names { IsTrue result → names run.new ≡ names run.old }
         ensures runs { (in_place : _) → Runs (under H.name_of self.now T.natives)
             (ChainRoot (chain_at root.now (out-Expr chain.now) args.old new in_place))
-            (state_in (T.state table.old) run.old) result (state_in (T.state table.new) run.new) }
+            (state_in (T.state table.old) run.old)
+            (came result run.new.value run.new.error) (state_in (T.state table.new) run.new) }
     {
         match root {
             Expr::Variable {
@@ -173,30 +176,36 @@ impl<'e, H: Host> Evaluator<'e, H> {
                 pos,
                 ..
             } => {
-                if let Err(error) = track_operation(self.limits, &mut run.global, *pos) {
+                if !charge(self.limits, &mut run.global, &mut run.error, *pos) {
                     drop(new);
-                    return Err(error);
+                    return false;
                 }
-                self.walk_variable(
+                let answer = self.walk_variable(
                     alloc, run, table, *offset, name, *pos, root, chain, args, new,
-                )
+                );
+                settle(&mut run.error, &mut run.value, answer)
             }
             Expr::ThisPtr(pos) => {
-                if let Err(error) = track_operation(self.limits, &mut run.global, *pos) {
+                if !charge(self.limits, &mut run.global, &mut run.error, *pos) {
                     drop(new);
-                    return Err(error);
+                    return false;
                 }
-                self.walk_this(alloc, run, table, *pos, root, chain, args, new)
+                let answer = self.walk_this(alloc, run, table, *pos, root, chain, args, new);
+                settle(&mut run.error, &mut run.value, answer)
             }
             _ => {
                 drop(new);
-                let value = self.run_expr(alloc, run, table, root)?;
-                self.walk_value(alloc, run, table, value, root, chain, args)
+                if !self.run_expr(alloc, run, table, root) {
+                    return false;
+                }
+                let value = take_value(&mut run.value);
+                let answer = self.walk_value(alloc, run, table, value, root, chain, args);
+                settle(&mut run.error, &mut run.value, answer)
             }
         }
     }
 
-    /// An assignment to what a chain leads to, whose value is evaluated first.
+    /// An assignment to what a chain leads to, whose value is evaluated first. How it ended stands in the run.
     #[cycle(eval)]
     pub(crate) fn assign_chain<T: NativeTable<H>>(
         &self,
@@ -207,24 +216,33 @@ impl<'e, H: Host> Evaluator<'e, H> {
         lhs: &Expr,
         rhs: &Expr,
         restoring: bool,
-    ) -> Result<Dynamic<H>, EvalAltResult<H>>
+    ) -> bool
         requires chain { is_some (first_in (out-Expr lhs.now)) ≡ true }
         requires resolves_target { IsTrue (target_resolves (tests_of lhs.now) (names run.old)) }
         requires resolves { IsTrue (resolves_expr rhs.now (names run.old)) }
-        ensures counts { OnOk result (run.old.global.num_operations ≤ run.new.global.num_operations) }
-        ensures names { OnOk result (names run.new ≡ names run.old) }
+        ensures counts { IsTrue result → run.old.global.num_operations ≤ run.new.global.num_operations }
+        ensures names { IsTrue result → names run.new ≡ names run.old }
         ensures runs { Runs (under H.name_of self.now T.natives)
             (OpenStmt (layer.Assignment op lhs.now rhs.now) restoring)
-            (state_in (T.state table.old) run.old) result (state_in (T.state table.new) run.new) }
+            (state_in (T.state table.old) run.old)
+            (came result run.new.value run.new.error) (state_in (T.state table.new) run.new) }
     {
         let Some(root) = first_of(lhs) else {
             unreachable!()
         };
-        let value = self.run_expr(alloc, run, table, rhs)?;
-        let value = flatten(alloc, &run.global.cells, value, rhs.position())?;
+        if !self.run_expr(alloc, run, table, rhs) {
+            return false;
+        }
+        let at = rhs.position();
+        if !flatten_value(alloc, &run.global.cells, &mut run.value, &mut run.error, at) {
+            return false;
+        }
+        let value = take_value(&mut run.value);
         let new = Some(NewValue { op, value });
-        let left = self.run_chain(alloc, run, table, root, lhs, new)?;
-        let_go(left);
-        Ok(unit_value())
+        if !self.run_chain(alloc, run, table, root, lhs, new) {
+            return false;
+        }
+        put_unit(&mut run.value);
+        true
     }
 }

@@ -1,26 +1,28 @@
 //! Expressions that make data of their parts. Ports upstream's `eval/expr.rs`.
 
-ghost use Rattle.std.specs.Prelude.{◌≡◌, ◌≤◌, OnOk, IsTrue, map};
+ghost use Rattle.std.specs.Prelude.{◌≡◌, ◌≤◌, IsTrue, map};
 ghost use Rattle.rhai_tree.specs.Frame.{all_resolve_exprs, entries_resolve, tests_of, tests_of_entry};
 ghost use Rattle.rhai_tree.specs.declared.expr.Expr.TheOpen as layer;
 ghost use Rattle.rhai_machine.specs.language.Frames.{OpenExpr};
 ghost use Rattle.rhai_machine.specs.language.Runs.{Runs};
+ghost use Rattle.rhai_context.specs.Ends.{came};
 ghost use Rattle.rhai_cycle.specs.States.{names, state_in, under};
 
 use crate::evaluator::Evaluator;
 use rhai_context::Context;
+use rhai_context::ends::{settle, stop, take_value};
 use rhai_data::array::ArrayItems;
 use rhai_data::map::EntryValues;
 use rhai_data::text::{finish, join};
-use rhai_state::error::EvalAltResult;
 use rhai_state::table::NativeTable;
 use rhai_tree::expr::{Expr, MapEntry};
 use rhai_tree::position::Position;
-use rhai_values::base::value::{Dynamic, Host};
+use rhai_values::base::value::Host;
 use std::alloc::Global;
 
 impl<'e, H: Host> Evaluator<'e, H> {
-    /// An array of the values of its items, which are evaluated from left to right.
+    /// An array of the values of its items, which are evaluated from left to right. How it ended
+    /// stands in the run.
     #[cycle(eval)]
     pub(crate) fn run_array<T: NativeTable<H>>(
         &self,
@@ -29,39 +31,39 @@ impl<'e, H: Host> Evaluator<'e, H> {
         table: &mut T,
         items: &[Expr],
         pos: Position,
-    ) -> Result<Dynamic<H>, EvalAltResult<H>>
+    ) -> bool
         requires resolves { IsTrue (all_resolve_exprs (map tests_of items.now) (names run.old)) }
-        ensures counts { OnOk result (run.old.global.num_operations ≤ run.new.global.num_operations) }
-        ensures names { OnOk result (names run.new ≡ names run.old) }
+        ensures counts { IsTrue result → run.old.global.num_operations ≤ run.new.global.num_operations }
+        ensures names { IsTrue result → names run.new ≡ names run.old }
         ensures runs { Runs (under H.name_of self.now T.natives) (OpenExpr (layer.Array items.now pos))
-            (state_in (T.state table.old) run.old) result (state_in (T.state table.new) run.new) }
+            (state_in (T.state table.old) run.old)
+            (came result run.new.value run.new.error) (state_in (T.state table.new) run.new) }
     {
         let mut made = ArrayItems::new(alloc);
         'each_item: for item in items {
-            match self.run_expr(alloc, run, table, item) {
-                Ok(value) => {
-                    let added = made.add(
-                        alloc,
-                        self.limits,
-                        &run.global.cells,
-                        value,
-                        item.position(),
-                    );
-                    if let Err(error) = added {
-                        drop(made);
-                        return Err(error);
-                    }
-                }
-                Err(error) => {
-                    drop(made);
-                    return Err(error);
-                }
+            if !self.run_expr(alloc, run, table, item) {
+                drop(made);
+                return false;
+            }
+            let value = take_value(&mut run.value);
+            let added = made.add(
+                alloc,
+                self.limits,
+                &run.global.cells,
+                value,
+                item.position(),
+            );
+            if let Err(error) = added {
+                drop(made);
+                return stop(&mut run.error, error);
             }
         }
-        made.finish(alloc, pos)
+        let array = made.finish(alloc, pos);
+        settle(&mut run.error, &mut run.value, array)
     }
 
-    /// A map of the values of its entries, which are evaluated from left to right.
+    /// A map of the values of its entries, which are evaluated from left to right. How it ended
+    /// stands in the run.
     #[cycle(eval)]
     pub(crate) fn run_map<T: NativeTable<H>>(
         &self,
@@ -70,40 +72,40 @@ impl<'e, H: Host> Evaluator<'e, H> {
         table: &mut T,
         entries: &[MapEntry],
         pos: Position,
-    ) -> Result<Dynamic<H>, EvalAltResult<H>>
+    ) -> bool
         requires resolves { IsTrue (entries_resolve (map tests_of_entry entries.now) (names run.old)) }
-        ensures counts { OnOk result (run.old.global.num_operations ≤ run.new.global.num_operations) }
-        ensures names { OnOk result (names run.new ≡ names run.old) }
+        ensures counts { IsTrue result → run.old.global.num_operations ≤ run.new.global.num_operations }
+        ensures names { IsTrue result → names run.new ≡ names run.old }
         ensures runs { (template : _) → Runs (under H.name_of self.now T.natives)
             (OpenExpr (layer.Map entries.now template pos))
-            (state_in (T.state table.old) run.old) result (state_in (T.state table.new) run.new) }
+            (state_in (T.state table.old) run.old)
+            (came result run.new.value run.new.error) (state_in (T.state table.new) run.new) }
     {
         let mut made = EntryValues::new(alloc);
         'each_entry: for entry in entries {
-            match self.run_expr(alloc, run, table, &entry.value) {
-                Ok(value) => {
-                    let added = made.add(
-                        alloc,
-                        self.limits,
-                        &run.global.cells,
-                        value,
-                        entry.value.position(),
-                    );
-                    if let Err(error) = added {
-                        drop(made);
-                        return Err(error);
-                    }
-                }
-                Err(error) => {
-                    drop(made);
-                    return Err(error);
-                }
+            if !self.run_expr(alloc, run, table, &entry.value) {
+                drop(made);
+                return false;
+            }
+            let value = take_value(&mut run.value);
+            let added = made.add(
+                alloc,
+                self.limits,
+                &run.global.cells,
+                value,
+                entry.value.position(),
+            );
+            if let Err(error) = added {
+                drop(made);
+                return stop(&mut run.error, error);
             }
         }
-        made.finish(alloc, entries, pos)
+        let map = made.finish(alloc, entries, pos);
+        settle(&mut run.error, &mut run.value, map)
     }
 
-    /// A text that is joined of the values of its parts, which are evaluated from left to right.
+    /// A text that is joined of the values of its parts, which are evaluated from left to right. How it ended
+    /// stands in the run.
     #[cycle(eval)]
     pub(crate) fn run_interpolated<T: NativeTable<H>>(
         &self,
@@ -112,18 +114,22 @@ impl<'e, H: Host> Evaluator<'e, H> {
         table: &mut T,
         parts: &[Expr],
         pos: Position,
-    ) -> Result<Dynamic<H>, EvalAltResult<H>>
+    ) -> bool
         requires resolves { IsTrue (all_resolve_exprs (map tests_of parts.now) (names run.old)) }
-        ensures counts { OnOk result (run.old.global.num_operations ≤ run.new.global.num_operations) }
-        ensures names { OnOk result (names run.new ≡ names run.old) }
+        ensures counts { IsTrue result → run.old.global.num_operations ≤ run.new.global.num_operations }
+        ensures names { IsTrue result → names run.new ≡ names run.old }
         ensures runs { Runs (under H.name_of self.now T.natives)
             (OpenExpr (layer.InterpolatedString parts.now pos))
-            (state_in (T.state table.old) run.old) result (state_in (T.state table.new) run.new) }
+            (state_in (T.state table.old) run.old)
+            (came result run.new.value run.new.error) (state_in (T.state table.new) run.new) }
     {
         let mut text = String::new(alloc);
         'each_part: for part in parts {
-            let value = self.run_expr(alloc, run, table, part)?;
-            join(
+            if !self.run_expr(alloc, run, table, part) {
+                return false;
+            }
+            let value = take_value(&mut run.value);
+            let joined = join(
                 self.limits,
                 alloc,
                 &mut run.global,
@@ -131,8 +137,12 @@ impl<'e, H: Host> Evaluator<'e, H> {
                 &mut text,
                 value,
                 part.position(),
-            )?;
+            );
+            if let Err(error) = joined {
+                return stop(&mut run.error, error);
+            }
         }
-        finish(alloc, text, pos)
+        let whole = finish(alloc, text, pos);
+        settle(&mut run.error, &mut run.value, whole)
     }
 }

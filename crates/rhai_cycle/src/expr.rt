@@ -1,6 +1,6 @@
 //! Expressions. Ports upstream's `eval/expr.rs`; the contracts speak of the machine's runs.
 
-ghost use Rattle.std.specs.Prelude.{◌≡◌, ◌<◌, ◌&&◌, OnOk, IfOk, IfErr, IfSome, IsTrue, None, is_some, true, false};
+ghost use Rattle.std.specs.Prelude.{◌≡◌, ◌<◌, ◌&&◌, IfErr, IfSome, IsTrue, None, is_some, true, false};
 ghost use Rattle.rhai_tree.specs.declared.expr.Expr.{out-Expr};
 ghost use Rattle.rhai_tree.specs.Frame.{resolves_expr};
 ghost use Rattle.rhai_state.specs.Errors.{is_out_of_memory};
@@ -12,29 +12,27 @@ ghost use Rattle.rhai_machine.specs.language.Setting.{rules_of};
 ghost use Rattle.rhai_steps.specs.States.{state_of};
 ghost use Rattle.rhai_operands.specs.Standing.{said};
 ghost use Rattle.rhai_operands.specs.Tests.{Tests};
+ghost use Rattle.rhai_context.specs.Ends.{came, came_test, error_in};
 ghost use Rattle.rhai_cycle.specs.Memory.{asks_expr};
 ghost use Rattle.rhai_cycle.specs.States.{names, state_in, under};
 
 use crate::evaluator::Evaluator;
 use rhai_context::Context;
-use rhai_context::ends::finish;
+use rhai_context::outcomes::{charge_expr, truth_left};
 use rhai_operands::operators::holds_in_place;
+use rhai_operands::reading::read_expr;
 use rhai_state::error::EvalAltResult;
 use rhai_state::limits::Limits;
 use rhai_state::scope::Scope;
 use rhai_state::state::GlobalRuntimeState;
 use rhai_state::table::NativeTable;
-use rhai_steps::charges::track_operation;
-use rhai_steps::values::{
-    bool_value, char_value, constant_value, int_value, text_value, truth_value, unit_value,
-};
-use rhai_steps::variables::{read_this, read_variable};
 use rhai_tree::expr::Expr;
-use rhai_values::base::value::{Dynamic, Host};
+use rhai_values::base::value::Host;
 use std::alloc::Global;
 
 /// Whether a condition holds that is answered in place: under fast operators, one that compares operands
-/// which stand. None for any other: then nothing is charged. The table is not called.
+/// which stand; None in Some where it stopped the run. None for any other: then nothing is charged. The table is
+/// not called.
 ///
 /// # Errors
 /// `ErrorTooManyOperations` at the operator or an operand where the count has reached the limit.
@@ -44,29 +42,30 @@ fn holds_at_once<H: Host, T: NativeTable<H>>(
     global: &mut GlobalRuntimeState<H>,
     table: &T,
     scope: &Scope<H>,
+    place: &mut Option<EvalAltResult<H>>,
     test: &Expr,
     is_fast: bool,
-) -> Option<Result<bool, EvalAltResult<H>>>
+) -> Option<Option<bool>>
     requires { IsTrue (resolves_expr test.now (names_in scope.now)) }
     ensures found { is_some result ≡ (is_fast && is_some (said (out-Expr test.now) (entries_of scope.now))) }
     ensures left_alone { result ≡ None → global.new ≡ global.old }
-    ensures charges { IfSome result (λ result. OnOk result
-        (global.old.num_operations < global.new.num_operations)) }
-    ensures memory { IfSome result (λ result. IfErr result (λ error. is_out_of_memory error ≡ false)) }
+    ensures charges { IfSome result (λ told. IfSome told (λ _.
+        global.old.num_operations < global.new.num_operations)) }
+    ensures memory { IfSome result (λ told. told ≡ None → is_out_of_memory (error_in place.new) ≡ false) }
     ensures runs { (offer : _) (held : _) → offer.fast_operators ≡ is_fast →
-        IfSome result (λ result. Tests (rules_of limits.now H.name_of offer T.natives) test.now
+        IfSome result (λ told. Tests (rules_of limits.now H.name_of offer T.natives) test.now
         (state_of (T.state table.now) global.old scope.now held)
-        result (state_of (T.state table.now) global.new scope.now held)) }
+        (came_test told place.new) (state_of (T.state table.now) global.new scope.now held)) }
 {
     if is_fast {
-        holds_in_place(limits, alloc, global, table, scope, test)
+        holds_in_place(limits, alloc, global, table, scope, place, test)
     } else {
         None
     }
 }
 
 impl<'e, H: Host> Evaluator<'e, H> {
-    /// The value of an expression.
+    /// The value of an expression. How it ended stands in the run.
     #[cycle(eval)]
     pub fn run_expr<T: NativeTable<H>>(
         &self,
@@ -74,37 +73,25 @@ impl<'e, H: Host> Evaluator<'e, H> {
         run: &mut Context<H>,
         table: &mut T,
         expr: &Expr,
-    ) -> Result<Dynamic<H>, EvalAltResult<H>>
+    ) -> bool
         requires resolves { IsTrue (resolves_expr expr.now (names run.old)) }
-        ensures charges { OnOk result (run.old.global.num_operations < run.new.global.num_operations) }
-        ensures names { OnOk result (names run.new ≡ names run.old) }
+        ensures charges { IsTrue result → run.old.global.num_operations < run.new.global.num_operations }
+        ensures names { IsTrue result → names run.new ≡ names run.old }
         ensures runs { Runs (under H.name_of self.now T.natives) (Eval expr.now)
-            (state_in (T.state table.old) run.old) result (state_in (T.state table.new) run.new) }
-        ensures memory { IfErr result (λ error. is_out_of_memory error ≡ true →
-            IsTrue (asks_expr expr.now).0) }
-        ensures plain { IfOk result (λ value. is_handle value.value ≡ true → IsTrue (asks_expr expr.now).0) }
-        ensures truth { IfOk result (λ value. is_truth value.value ≡ false → IsTrue (asks_expr expr.now).1) }
+            (state_in (T.state table.old) run.old)
+            (came result run.new.value run.new.error) (state_in (T.state table.new) run.new) }
+        ensures memory { IfErr (came result run.new.value run.new.error) (λ error.
+            is_out_of_memory error ≡ true → IsTrue (asks_expr expr.now).0) }
+        ensures plain { IsTrue result → is_handle run.new.value.value ≡ true → IsTrue (asks_expr expr.now).0 }
+        ensures truth { IsTrue result → is_truth run.new.value.value ≡ false → IsTrue (asks_expr expr.now).1 }
     {
-        track_operation(self.limits, &mut run.global, expr.position())?;
+        if !charge_expr(self.limits, &mut run.global, &mut run.error, expr) {
+            return false;
+        }
         match expr {
-            Expr::DynamicConstant(literal, pos) => constant_value(alloc, literal, *pos),
-            Expr::BoolConstant(value, _) => Ok(bool_value(*value)),
-            Expr::IntegerConstant(value, _) => Ok(int_value(value)),
-            Expr::CharConstant(letter, _) => Ok(char_value(*letter)),
-            Expr::StringConstant(text, pos) => text_value(text, *pos),
-            Expr::Unit(_) => Ok(unit_value()),
-            Expr::Variable {
-                offset,
-                name,
-                pos,
-                ..
-            } => read_variable(alloc, &run.global, &run.scope, *offset, name, *pos),
-            Expr::ThisPtr(pos) => read_this(alloc, &run.this, *pos),
             Expr::FnCall(call, pos) => self.run_fn_call_expr(alloc, run, table, call, *pos),
             Expr::Stmt(block) => {
-                let statements = block.statements.as_slice();
-                let done = self.run_stmt_block(alloc, run, table, statements, true);
-                finish(done, &mut run.value, &mut run.error)
+                self.run_stmt_block(alloc, run, table, block.statements.as_slice(), true)
             }
             Expr::And(parts, _) => self.run_until(alloc, run, table, parts.as_slice(), false),
             Expr::Or(parts, _) => self.run_until(alloc, run, table, parts.as_slice(), true),
@@ -118,12 +105,20 @@ impl<'e, H: Host> Evaluator<'e, H> {
             }
             Expr::Dot(root, ..) => self.run_chain(alloc, run, table, root.get(), expr, None),
             Expr::Index(root, ..) => self.run_chain(alloc, run, table, root.get(), expr, None),
-            _ => unreachable!(),
+            _ => read_expr(
+                alloc,
+                &run.global,
+                &run.scope,
+                &run.this,
+                &mut run.value,
+                &mut run.error,
+                expr,
+            ),
         }
     }
 
     /// Whether a condition holds. Under fast operators one that compares operands which stand is answered
-    /// in place.
+    /// in place. None where it stopped the run, whose error stands there.
     #[cycle(eval)]
     pub(crate) fn run_condition<T: NativeTable<H>>(
         &self,
@@ -131,14 +126,16 @@ impl<'e, H: Host> Evaluator<'e, H> {
         run: &mut Context<H>,
         table: &mut T,
         test: &Expr,
-    ) -> Result<bool, EvalAltResult<H>>
+    ) -> Option<bool>
         requires resolves { IsTrue (resolves_expr test.now (names run.old)) }
-        ensures charges { OnOk result (run.old.global.num_operations < run.new.global.num_operations) }
-        ensures names { OnOk result (names run.new ≡ names run.old) }
+        ensures charges { IfSome result (λ _.
+            run.old.global.num_operations < run.new.global.num_operations) }
+        ensures names { IfSome result (λ _. names run.new ≡ names run.old) }
         ensures runs { Tests (under H.name_of self.now T.natives) test.now
-            (state_in (T.state table.old) run.old) result (state_in (T.state table.new) run.new) }
-        ensures memory { IfErr result (λ error. is_out_of_memory error ≡ true →
-            IsTrue (asks_expr test.now).1) }
+            (state_in (T.state table.old) run.old) (came_test result run.new.error)
+            (state_in (T.state table.new) run.new) }
+        ensures memory { result ≡ None → is_out_of_memory (error_in run.new.error) ≡ true →
+            IsTrue (asks_expr test.now).1 }
     {
         match holds_at_once(
             self.limits,
@@ -146,13 +143,17 @@ impl<'e, H: Host> Evaluator<'e, H> {
             &mut run.global,
             &*table,
             &run.scope,
+            &mut run.error,
             test,
             self.fast_operators,
         ) {
-            Some(result) => result,
+            Some(told) => told,
             None => {
-                let value = self.run_expr(alloc, run, table, test)?;
-                truth_value(alloc, &run.global.cells, value, test.position())
+                if !self.run_expr(alloc, run, table, test) {
+                    return None;
+                }
+                let at = test.position();
+                truth_left(alloc, &run.global.cells, &mut run.value, &mut run.error, at)
             }
         }
     }

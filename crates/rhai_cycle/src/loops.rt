@@ -17,7 +17,7 @@ ghost use Rattle.rhai_cycle.specs.States.{names, state_in, under};
 
 use crate::evaluator::Evaluator;
 use rhai_context::Context;
-use rhai_context::ends::{put_unit, settle, settle_turn, stop, take_value};
+use rhai_context::ends::{put_unit, settle_turn, stop, take_value};
 use rhai_context::outcomes::{BodyWay, body_way, charge, flatten_value, turn_end};
 use rhai_state::error::EvalAltResult;
 use rhai_state::table::NativeTable;
@@ -115,7 +115,7 @@ impl<'e, H: Host> Evaluator<'e, H> {
             return turn_end(done, &mut run.value, &mut run.error);
         }
         match self.run_condition(alloc, run, table, test) {
-            Ok(holds) => {
+            Some(holds) => {
                 if holds {
                     let statements = body.statements.as_slice();
                     let done = self.run_stmt_block(alloc, run, table, statements, true);
@@ -125,7 +125,7 @@ impl<'e, H: Host> Evaluator<'e, H> {
                     Some(true)
                 }
             }
-            Err(error) => Some(stop(&mut run.error, error)),
+            None => Some(false),
         }
     }
 
@@ -184,11 +184,11 @@ impl<'e, H: Host> Evaluator<'e, H> {
             BodyWay::Break => Some(true),
             BodyWay::Continue => None,
             BodyWay::Done => match self.run_condition(alloc, run, table, test) {
-                Ok(holds) => {
+                Some(holds) => {
                     let turn = do_next(options, holds);
                     settle_turn(&mut run.error, &mut run.value, Ok(turn))
                 }
-                Err(error) => Some(stop(&mut run.error, error)),
+                None => Some(false),
             },
         }
     }
@@ -217,8 +217,7 @@ impl<'e, H: Host> Evaluator<'e, H> {
                 stop(&mut run.error, error)
             }
             Some(value) => {
-                let answer = self.run_expr(alloc, run, table, value);
-                if !settle(&mut run.error, &mut run.value, answer) {
+                if !self.run_expr(alloc, run, table, value) {
                     return false;
                 }
                 let value = take_value(&mut run.value);
@@ -256,8 +255,7 @@ impl<'e, H: Host> Evaluator<'e, H> {
             }
             Some(value) => {
                 let at = value.position();
-                let answer = self.run_expr(alloc, run, table, value);
-                if !settle(&mut run.error, &mut run.value, answer) {
+                if !self.run_expr(alloc, run, table, value) {
                     return false;
                 }
                 if !flatten_value(alloc, &run.global.cells, &mut run.value, &mut run.error, at) {

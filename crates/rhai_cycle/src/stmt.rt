@@ -77,12 +77,12 @@ fn assign_at_once<H: Host, T: NativeTable<H>>(
         (state_of (T.state table.now) global.old scope.old held)
         (came done out.new place.new) (state_of (T.state table.now) global.new scope.new held)) }
 {
-    if !is_fast {
-        return None;
-    }
-    match assign_in_place(limits, alloc, global, table, scope, op, lhs, rhs) {
-        Some(answer) => Some(settle(place, out, answer)),
-        None => None,
+    if is_fast {
+        assign_in_place(
+            limits, alloc, global, table, scope, out, place, op, lhs, rhs,
+        )
+    } else {
+        None
     }
 }
 
@@ -115,8 +115,7 @@ impl<'e, H: Host> Evaluator<'e, H> {
                 true
             }
             Stmt::Expr(expr) => {
-                let answer = self.run_expr(alloc, run, table, expr);
-                if !settle(&mut run.error, &mut run.value, answer) {
+                if !self.run_expr(alloc, run, table, expr) {
                     return false;
                 }
                 let pos = expr.position();
@@ -128,10 +127,7 @@ impl<'e, H: Host> Evaluator<'e, H> {
                     pos,
                 )
             }
-            Stmt::FnCall(call, pos) => {
-                let answer = self.run_fn_call_expr(alloc, run, table, call, *pos);
-                settle(&mut run.error, &mut run.value, answer)
-            }
+            Stmt::FnCall(call, pos) => self.run_fn_call_expr(alloc, run, table, call, *pos),
             Stmt::Block(block) => {
                 self.run_stmt_block(alloc, run, table, block.statements.as_slice(), true)
             }
@@ -140,11 +136,11 @@ impl<'e, H: Host> Evaluator<'e, H> {
             }
             Stmt::If(test, body, branch, _) => {
                 match self.run_condition(alloc, run, table, test) {
-                    Ok(holds) => {
+                    Some(holds) => {
                         let statements = chosen(holds, body, branch);
                         self.run_stmt_block(alloc, run, table, statements, true)
                     }
-                    Err(error) => stop(&mut run.error, error),
+                    None => false,
                 }
             }
             Stmt::Var(ident, value, None, options, pos) => {
@@ -252,11 +248,9 @@ impl<'e, H: Host> Evaluator<'e, H> {
             ..
         } = lhs
         else {
-            let answer = self.assign_chain(alloc, run, table, op, lhs, rhs, restoring);
-            return settle(&mut run.error, &mut run.value, answer);
+            return self.assign_chain(alloc, run, table, op, lhs, rhs, restoring);
         };
-        let given = self.run_expr(alloc, run, table, rhs);
-        if !settle(&mut run.error, &mut run.value, given) {
+        if !self.run_expr(alloc, run, table, rhs) {
             return false;
         }
         let at = rhs.position();
@@ -304,8 +298,7 @@ impl<'e, H: Host> Evaluator<'e, H> {
         if run.this.is_none() {
             return stop(&mut run.error, EvalAltResult::ErrorUnboundThis(pos));
         }
-        let given = self.run_expr(alloc, run, table, rhs);
-        if !settle(&mut run.error, &mut run.value, given) {
+        if !self.run_expr(alloc, run, table, rhs) {
             return false;
         }
         let at = rhs.position();
@@ -365,8 +358,7 @@ impl<'e, H: Host> Evaluator<'e, H> {
         if let Err(error) = may {
             return stop(&mut run.error, error);
         }
-        let given = self.run_expr(alloc, run, table, value);
-        if !settle(&mut run.error, &mut run.value, given) {
+        if !self.run_expr(alloc, run, table, value) {
             return false;
         }
         let at = value.position();

@@ -9,10 +9,10 @@ ghost use Rattle.rhai_context.specs.Ends.{came};
 ghost use Rattle.rhai_cycle.specs.States.{names, state_in, under};
 
 use crate::evaluator::Evaluator;
-use crate::walks::flat_answer;
 use rhai_choices::{SwitchParts, candidates_for, default_result, written_truth};
 use rhai_context::Context;
-use rhai_context::ends::{put_unit, settle, stop};
+use rhai_context::ends::put_unit;
+use rhai_context::outcomes::flatten_value;
 use rhai_state::table::NativeTable;
 use rhai_values::base::value::Host;
 use std::alloc::Global;
@@ -38,9 +38,11 @@ impl<'e, H: Host> Evaluator<'e, H> {
             parts.entry.ranges.now parts.entry.default pos) restoring) (state_in (T.state table.old) run.old)
             (came result run.new.value run.new.error) (state_in (T.state table.new) run.new) }
     {
-        let answer = self.run_expr(alloc, run, table, parts.value);
-        let flat = flat_answer(alloc, &run.global.cells, answer, parts.value.position());
-        if !settle(&mut run.error, &mut run.value, flat) {
+        if !self.run_expr(alloc, run, table, parts.value) {
+            return false;
+        }
+        let at = parts.value.position();
+        if !flatten_value(alloc, &run.global.cells, &mut run.value, &mut run.error, at) {
             return false;
         }
         let mut left = candidates_for(&run.value, parts.cases, parts.ranges);
@@ -49,20 +51,16 @@ impl<'e, H: Host> Evaluator<'e, H> {
             let holds = match written_truth(&candidate.condition) {
                 Some(holds) => holds,
                 None => match self.run_condition(alloc, run, table, &candidate.condition) {
-                    Ok(holds) => holds,
-                    Err(error) => return stop(&mut run.error, error),
+                    Some(holds) => holds,
+                    None => return false,
                 },
             };
             if holds {
-                let answer = self.run_expr(alloc, run, table, &candidate.expr);
-                return settle(&mut run.error, &mut run.value, answer);
+                return self.run_expr(alloc, run, table, &candidate.expr);
             }
         }
         match default_result(parts.results, parts.default) {
-            Some(result) => {
-                let answer = self.run_expr(alloc, run, table, result);
-                settle(&mut run.error, &mut run.value, answer)
-            }
+            Some(result) => self.run_expr(alloc, run, table, result),
             None => {
                 put_unit(&mut run.value);
                 true

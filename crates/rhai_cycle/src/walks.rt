@@ -3,8 +3,6 @@
 ghost use Rattle.std.specs.Prelude.{◌≡◌, ◌≤◌, ◌<◌, ◌+◌, IsTrue, IfSome, None, length};
 ghost use Rattle.rhai_tree.specs.Frame.{resolves_block, resolves_expr, turn_names};
 ghost use Rattle.rhai_tree.specs.declared.expr.Expr.TheOpen as layer;
-ghost use Rattle.rhai_values.specs.Cells.{cells_of};
-ghost use Rattle.rhai_machine.specs.language.State.{Answers};
 ghost use Rattle.rhai_machine.specs.language.Frames.{ForTurn, OpenStmt};
 ghost use Rattle.rhai_machine.specs.language.Runs.{Runs, Steps};
 ghost use Rattle.rhai_machine.specs.language.Walks.{counters};
@@ -12,35 +10,20 @@ ghost use Rattle.rhai_steps.specs.Loops.{after_turn};
 ghost use Rattle.rhai_walks.specs.Left.{turns_in};
 ghost use Rattle.rhai_walks.specs.Loops.{loop_in};
 ghost use Rattle.rhai_context.specs.Ends.{came, came_turn};
-ghost use Rattle.rhai_cycle.specs.Ends.{flat_end};
 ghost use Rattle.rhai_cycle.specs.States.{names, state_in, under};
 
 use crate::evaluator::Evaluator;
 use rhai_context::Context;
-use rhai_context::ends::{put_unit, stop};
-use rhai_context::outcomes::{charge, turn_end};
+use rhai_context::ends::{put_unit, stop, take_value};
+use rhai_context::outcomes::{charge, flatten_value, turn_end};
 use rhai_state::error::EvalAltResult;
 use rhai_state::table::NativeTable;
-use rhai_steps::values::{flatten, let_go};
-use rhai_tree::position::Position;
-use rhai_values::base::value::{Dynamic, Host};
-use rhai_values::cells::CellStore;
+use rhai_steps::values::let_go;
+use rhai_values::base::value::Host;
 use rhai_walks::entering::enter_turn;
 use rhai_walks::parts::{ForParts, has_no_room, start_turns};
 use rhai_walks::turns::Turns;
 use std::alloc::Global;
-
-/// What an expression came to, without its handle.
-pub(crate) fn flat_answer<H: Host>(
-    alloc: Global,
-    cells: &CellStore<H>,
-    answer: Result<Dynamic<H>, EvalAltResult<H>>,
-    pos: Position,
-) -> Result<Dynamic<H>, EvalAltResult<H>>
-    ensures { Answers result (flat_end (cells_of cells.now) answer pos) }
-{
-    flatten(alloc, cells, answer?, pos)
-}
 
 /// The number of the turn after this one. It has 64 bits, since each turn was charged.
 fn next_number(turn: u64, num_operations: u64) -> u64
@@ -74,13 +57,15 @@ impl<'e, H: Host> Evaluator<'e, H> {
             let error = EvalAltResult::ErrorTooManyVariables(parts.variable.pos);
             return stop(&mut run.error, error);
         }
-        let answer = self.run_expr(alloc, run, table, parts.items);
-        let flat = flat_answer(alloc, &run.global.cells, answer, parts.items.position());
-        let value = match flat {
-            Ok(value) => value,
-            Err(error) => return stop(&mut run.error, error),
-        };
+        if !self.run_expr(alloc, run, table, parts.items) {
+            return false;
+        }
+        let at = parts.items.position();
+        if !flatten_value(alloc, &run.global.cells, &mut run.value, &mut run.error, at) {
+            return false;
+        }
         let base = run.scope.len();
+        let value = take_value(&mut run.value);
         let mut turns = match start_turns(&mut run.scope, parts, value) {
             Ok(turns) => turns,
             Err(error) => return stop(&mut run.error, error),
@@ -118,7 +103,8 @@ impl<'e, H: Host> Evaluator<'e, H> {
         ensures names_stay { result ≡ None → names run.new ≡ names run.old }
         ensures names { IfSome result (λ done. IsTrue done → names run.new ≡ names run.old) }
         ensures runs { Steps (under H.name_of self.now T.natives)
-            (ForTurn (loop_in parts.entry) (turns_in turns.old) turn base) (state_in (T.state table.old) run.old)
+            (ForTurn (loop_in parts.entry) (turns_in turns.old) turn base)
+            (state_in (T.state table.old) run.old)
             (after_turn (came_turn result run.new.value run.new.error)
             (ForTurn (loop_in parts.entry) (turns_in turns.new) (turn + 1) base))
             (state_in (T.state table.new) run.new) }

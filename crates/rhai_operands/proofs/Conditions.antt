@@ -1,5 +1,5 @@
 -- A condition that compares operands which stand, over the frame that asks for its truth value.
-use Rattle.std.proofs.Common.{◌≡◌, ◌<◌, ◌≤◌, ◌+◌, ℕ, Bool, true, IsTrue, List, [], ◌∷◌, Option, Some, Result, Ok, Err, refl, ap}
+use Rattle.std.proofs.Common.{◌≡◌, ◌<◌, ◌≤◌, ◌+◌, ℕ, Bool, true, IsTrue, List, [], ◌∷◌, Some, Result, Ok, Err, refl, ap}
 use Rattle.std.proofs.Common.{arith, subst, ◌∙◌}
 use Rattle.rhai_tree.specs.declared.position.Position.{Position}
 use Rattle.rhai_tree.specs.declared.token.Token.{Token}

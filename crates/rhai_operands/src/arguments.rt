@@ -1,6 +1,6 @@
 //! Arguments that are literals. Ports the first part of upstream's `get_arg_value`.
 
-ghost use Rattle.std.specs.Prelude.{◌≡◌, ◌<◌, IfSome, OnOk, Some, None, Ok, is_some};
+ghost use Rattle.std.specs.Prelude.{◌≡◌, ◌<◌, IfSome, IsTrue, Some, None, Ok, is_some};
 ghost use Rattle.rhai_tree.specs.declared.expr.Expr.{out-Expr};
 ghost use Rattle.rhai_machine.specs.language.Expressions.{literal_of};
 ghost use Rattle.rhai_machine.specs.language.Frames.{Argument};
@@ -8,12 +8,14 @@ ghost use Rattle.rhai_machine.specs.language.Runs.{Runs};
 ghost use Rattle.rhai_machine.specs.language.Setting.{rules_of};
 ghost use Rattle.rhai_machine.specs.language.State.{Answers};
 ghost use Rattle.rhai_steps.specs.States.{state_of};
+ghost use Rattle.rhai_context.specs.Ends.{came};
 
+use rhai_context::ends::{settle, stop};
 use rhai_state::error::EvalAltResult;
 use rhai_state::limits::Limits;
 use rhai_state::state::GlobalRuntimeState;
 use rhai_state::table::NativeTable;
-use rhai_steps::charges::track_operation;
+use rhai_steps::charges::charge_all;
 use rhai_steps::values::{
     bool_value, char_value, constant_value, int_value, text_value, unit_value,
 };
@@ -58,30 +60,38 @@ fn literal_value<H: Host>(
 
 /// An argument that is a literal: charged at its start, and then its value. None for any other
 /// expression: then nothing is charged. The table is not called.
+/// How it ended stands in the run's places.
 ///
 /// # Errors
 /// `ErrorTooManyOperations` at the literal where the count has reached the limit.
+#[inline(always)]
 pub fn literal_arg<H: Host, T: NativeTable<H>>(
     limits: &Limits,
     alloc: Global,
     global: &mut GlobalRuntimeState<H>,
     _table: &T,
+    out: &mut Dynamic<H>,
+    place: &mut Option<EvalAltResult<H>>,
     arg: &Expr,
-) -> Option<Result<Dynamic<H>, EvalAltResult<H>>>
+) -> Option<bool>
     ensures found { is_some result ≡ is_some (literal_of {H = H} (out-Expr arg.now)) }
     ensures left_alone { result ≡ None → global.new ≡ global.old }
-    ensures charges { IfSome result (λ result. OnOk result
-        (global.old.num_operations < global.new.num_operations)) }
+    ensures charges { IfSome result (λ done. IsTrue done →
+        global.old.num_operations < global.new.num_operations) }
     ensures runs { (offer : _) (scope : _) (held : _) →
-        IfSome result (λ result. Runs (rules_of limits.now H.name_of offer T.natives) (Argument arg.now)
+        IfSome result (λ done. Runs (rules_of limits.now H.name_of offer T.natives) (Argument arg.now)
         (state_of (T.state _table.now) global.old scope held)
-        result (state_of (T.state _table.now) global.new scope held)) }
+        (came done out.new place.new) (state_of (T.state _table.now) global.new scope held)) }
 {
     if !is_literal::<H>(arg) {
         return None;
     }
-    if let Err(error) = track_operation(limits, global, arg.start_position()) {
-        return Some(Err(error));
+    if !charge_all(limits, global, 1) {
+        let error = EvalAltResult::ErrorTooManyOperations(arg.start_position());
+        return Some(stop(place, error));
     }
-    literal_value(alloc, arg)
+    match literal_value(alloc, arg) {
+        Some(answer) => Some(settle(place, out, answer)),
+        None => None,
+    }
 }

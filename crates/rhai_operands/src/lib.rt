@@ -6,3 +6,4 @@
 pub mod arguments;
 pub mod operands;
 pub mod operators;
+pub mod reading;

@@ -16,8 +16,11 @@ ghost use Rattle.rhai_steps.specs.States.{state_of};
 ghost use Rattle.rhai_operands.specs.Standing.{assigned_known, compared, compared_known, integer_of};
 ghost use Rattle.rhai_operands.specs.Standing.{operated, said, standing, truth_answered};
 ghost use Rattle.rhai_operands.specs.Tests.{Tests};
+ghost use Rattle.rhai_context.specs.Ends.{came, came_test, error_in};
 
 use crate::operands::{integer_in_place, operand_in_place, two_operands};
+use rhai_context::ends::{put, settle};
+use rhai_context::outcomes::charge;
 use rhai_operators::builtin_binary;
 use rhai_operators::direct::{assign_integers, compare_integers};
 use rhai_state::error::EvalAltResult;
@@ -36,6 +39,7 @@ use std::alloc::Global;
 
 /// The value that an operator gives for two integers, None where one of them is none, or the operator gives
 /// no integer, or may not stand before an `=`.
+#[inline(always)]
 pub fn assign_known<H: Host>(token: Token, x: Option<i64>, y: Option<i64>) -> Option<Dynamic<H>>
     ensures { result ≡ assigned_known token x y }
 {
@@ -86,42 +90,44 @@ fn operate_values<H: Host, T: NativeTable<H>>(
     Some(applied(alloc, limits, outcome, pos))
 }
 
-/// The value that an operator gives for two operands that are integers as they stand, which are charged at
-/// once. None where that is not so, or the limit has no room for both: then nothing is charged.
+/// Puts what an operator gives for two operands that are integers as they stand, which are charged at once, into
+/// its place. False where that is not so, or the limit has no room for both: then nothing is charged.
 #[inline(always)]
 fn operate_integers<H: Host>(
     limits: &Limits,
     global: &mut GlobalRuntimeState<H>,
     scope: &Scope<H>,
+    out: &mut Dynamic<H>,
     token: Token,
     left: &Expr,
     right: &Expr,
-) -> Option<Dynamic<H>>
+) -> bool
     requires resolves_left { IsTrue (resolves_expr left.now (names_in scope.now)) }
     requires resolves_right { IsTrue (resolves_expr right.now (names_in scope.now)) }
-    ensures known { IfSome result (λ value. assigned_known token
+    ensures known { IsTrue result → assigned_known token
         (integer_of (standing (out-Expr left.now) (entries_of scope.now)))
-        (integer_of (standing (out-Expr right.now) (entries_of scope.now))) ≡ Some value) }
-    ensures room { IfSome result (λ _. global.old.num_operations + 2 ≤ limit_of limits.now.max_operations) }
-    ensures charged { IfSome result (λ _. global.new ≡ record global.old
-        { num_operations = global.old.num_operations + 2 }) }
-    ensures left_alone { result ≡ None → global.new ≡ global.old }
+        (integer_of (standing (out-Expr right.now) (entries_of scope.now))) ≡ Some out.new }
+    ensures room { IsTrue result → global.old.num_operations + 2 ≤ limit_of limits.now.max_operations }
+    ensures charged { IsTrue result → global.new ≡ record global.old
+        { num_operations = global.old.num_operations + 2 } }
+    ensures left_alone { result ≡ false → global.new ≡ global.old }
 {
     let first = integer_in_place(global, scope, left);
     let second = integer_in_place(global, scope, right);
     let Some(value) = assign_known(token, first, second) else {
-        return None;
+        return false;
     };
     if !charge_all(limits, global, 2) {
         drop(value);
-        return None;
+        return false;
     }
-    Some(value)
+    put(out, value);
+    true
 }
 
-/// A binary operator on two operands as they stand. None where one of them has to be evaluated, or
-/// there is no built-in for them: then nothing is charged. The table is not called. Of two integers no value
-/// is looked at.
+/// A binary operator on two operands as they stand; how it ended stands in the run's places. None where one of
+/// them has to be evaluated, or there is no built-in for them: then nothing is charged. The table is not called. Of
+/// two integers no value is looked at.
 ///
 /// # Errors
 /// `ErrorTooManyOperations` at an operand where the count has reached the limit. At the operator:
@@ -133,12 +139,14 @@ pub fn operate_in_place<H: Host, T: NativeTable<H>>(
     global: &mut GlobalRuntimeState<H>,
     _table: &T,
     scope: &Scope<H>,
+    out: &mut Dynamic<H>,
+    place: &mut Option<EvalAltResult<H>>,
     call: &FnCallExpr,
     token: Token,
     left: &Expr,
     right: &Expr,
     pos: Position,
-) -> Option<Result<Dynamic<H>, EvalAltResult<H>>>
+) -> Option<bool>
     requires token { call.now.op_token ≡ Some token }
     requires args { call.now.args ≡ left.now ∷ right.now ∷ [] }
     requires resolves_left { IsTrue (resolves_expr left.now (names_in scope.now)) }
@@ -149,17 +157,21 @@ pub fn operate_in_place<H: Host, T: NativeTable<H>>(
     ensures left_alone { result ≡ None → global.new ≡ global.old }
     ensures counts { global.old.num_operations ≤ global.new.num_operations }
     ensures runs { (offer : _) (held : _) → offer.fast_operators ≡ true →
-        IfSome result (λ result. Runs (rules_of limits.now H.name_of offer T.natives)
+        IfSome result (λ done. Runs (rules_of limits.now H.name_of offer T.natives)
         (OpenExpr (layer.Expr::FnCall call.now pos))
         (state_of (T.state _table.now) global.old scope.now held)
-        result (state_of (T.state _table.now) global.new scope.now held)) }
+        (came done out.new place.new) (state_of (T.state _table.now) global.new scope.now held)) }
 {
-    if let Some(value) = operate_integers(limits, global, scope, token, left, right) {
-        return Some(Ok(value));
+    if operate_integers(limits, global, scope, out, token, left, right) {
+        return Some(true);
     }
-    operate_values(
+    let answered = operate_values(
         limits, alloc, global, _table, scope, call, token, left, right, pos,
-    )
+    );
+    match answered {
+        Some(answer) => Some(settle(place, out, answer)),
+        None => None,
+    }
 }
 
 /// The truth value that an operator gave, None where it gave something else.
@@ -229,8 +241,8 @@ fn compare_in_place<H: Host>(
     compare_values(alloc, global, scope, token, left, right)
 }
 
-/// A condition that compares two operands as they stand. None where it is another expression, or an
-/// operand has to be evaluated: then nothing is charged. The table is not called.
+/// A condition that compares two operands as they stand; None in Some where it stopped the run. None where it is
+/// another expression, or an operand has to be evaluated: then nothing is charged. The table is not called.
 ///
 /// # Errors
 /// `ErrorTooManyOperations` at the operator or an operand where the count has reached the limit.
@@ -240,18 +252,19 @@ pub fn holds_in_place<H: Host, T: NativeTable<H>>(
     global: &mut GlobalRuntimeState<H>,
     _table: &T,
     scope: &Scope<H>,
+    place: &mut Option<EvalAltResult<H>>,
     test: &Expr,
-) -> Option<Result<bool, EvalAltResult<H>>>
+) -> Option<Option<bool>>
     requires { IsTrue (resolves_expr test.now (names_in scope.now)) }
     ensures found { is_some result ≡ is_some (said (out-Expr test.now) (entries_of scope.now)) }
     ensures left_alone { result ≡ None → global.new ≡ global.old }
-    ensures charges { IfSome result (λ result. OnOk result
-        (global.old.num_operations < global.new.num_operations)) }
-    ensures memory { IfSome result (λ result. IfErr result (λ error. is_out_of_memory error ≡ false)) }
+    ensures charges { IfSome result (λ told. IfSome told (λ _.
+        global.old.num_operations < global.new.num_operations)) }
+    ensures memory { IfSome result (λ told. told ≡ None → is_out_of_memory (error_in place.new) ≡ false) }
     ensures runs { (offer : _) (held : _) → offer.fast_operators ≡ true →
-        IfSome result (λ result. Tests (rules_of limits.now H.name_of offer T.natives) test.now
+        IfSome result (λ told. Tests (rules_of limits.now H.name_of offer T.natives) test.now
         (state_of (T.state _table.now) global.old scope.now held)
-        result (state_of (T.state _table.now) global.new scope.now held)) }
+        (came_test told place.new) (state_of (T.state _table.now) global.new scope.now held)) }
 {
     let Expr::FnCall(call, pos) = test else {
         return None;
@@ -260,16 +273,16 @@ pub fn holds_in_place<H: Host, T: NativeTable<H>>(
     let (left, right) = two_operands(call)?;
     let holds = compare_in_place(alloc, global, scope, token, left, right)?;
     if charge_all(limits, global, 3) {
-        return Some(Ok(holds));
+        return Some(Some(holds));
     }
-    if let Err(error) = track_operation(limits, global, *pos) {
-        return Some(Err(error));
+    if !charge(limits, global, place, *pos) {
+        return Some(None);
     }
-    if let Err(error) = track_operation(limits, global, left.position()) {
-        return Some(Err(error));
+    if !charge(limits, global, place, left.position()) {
+        return Some(None);
     }
-    if let Err(error) = track_operation(limits, global, right.position()) {
-        return Some(Err(error));
+    if !charge(limits, global, place, right.position()) {
+        return Some(None);
     }
-    Some(Ok(holds))
+    Some(Some(holds))
 }

@@ -1,96 +1,73 @@
 //! Calls by name, keywords and pointers.
 
-use rhai_build::Builder;
-use rhai_build::expressions::int;
-use rhai_build::statements::break_stmt;
-use rhai_tree::Items;
-use rhai_tree::expr::Stmt;
+use crate::parts::Part;
+use crate::parts::Part::{Break, Call, Const, Int, Let, Operator, Text, Value, Variable};
 use rhai_tree::token::Token;
-use std::alloc::{AllocError, Global};
 
 /// `break;`
-pub fn break_at_the_top(alloc: Global) -> Result<Items<Stmt>, AllocError> {
-    let tree = Builder::new(alloc);
-    tree.finish([break_stmt(None, 1)])
-}
+pub const BREAK_AT_THE_TOP: &[Part<'_>] = &[Break(1)];
 
 /// `eval("1")`
-pub fn call_of_eval(alloc: Global) -> Result<Items<Stmt>, AllocError> {
-    let mut tree = Builder::new(alloc);
-    let text = tree.text("1", 6);
-    let call = tree.call("eval", 1, [text]);
-    tree.finish([Stmt::Expr(call)])
-}
+pub const CALL_OF_EVAL: &[Part<'_>] = &[Text("1", 6), Call("eval", 1, 1), Value];
 
 /// `let x = 1; inc(x); x`
-pub fn variable_passed(alloc: Global) -> Result<Items<Stmt>, AllocError> {
-    let mut tree = Builder::new(alloc);
-    let x = tree.let_stmt("x", 5, int(1, 9), 1);
-    let arg = tree.variable("x", 1, 16);
-    let call = tree.call("inc", 12, [arg]);
-    let last = tree.variable("x", 1, 20);
-    tree.finish([x, Stmt::Expr(call), Stmt::Expr(last)])
-}
+pub const VARIABLE_PASSED: &[Part<'_>] = &[
+    Int(1, 9),
+    Let("x", 5, 1),
+    Variable("x", 1, 16),
+    Call("inc", 1, 12),
+    Value,
+    Variable("x", 1, 20),
+    Value,
+];
 
 /// `const x = 1; inc(x); x`
-pub fn constant_passed(alloc: Global) -> Result<Items<Stmt>, AllocError> {
-    let mut tree = Builder::new(alloc);
-    let x = tree.const_stmt("x", 7, int(1, 11), 1);
-    let arg = tree.variable("x", 1, 18);
-    let call = tree.call("inc", 14, [arg]);
-    let last = tree.variable("x", 1, 22);
-    tree.finish([x, Stmt::Expr(call), Stmt::Expr(last)])
-}
+pub const CONSTANT_PASSED: &[Part<'_>] = &[
+    Int(1, 11),
+    Const("x", 7, 1),
+    Variable("x", 1, 18),
+    Call("inc", 1, 14),
+    Value,
+    Variable("x", 1, 22),
+    Value,
+];
 
 /// `next() + next() * 10`
-pub fn counted_twice(alloc: Global) -> Result<Items<Stmt>, AllocError> {
-    let mut tree = Builder::new(alloc);
-    let first = tree.call("next", 1, []);
-    let second = tree.call("next", 10, []);
-    let tens = tree.operator(Token::Multiply, "*", 17, [second, int(10, 19)]);
-    let sum = tree.operator(Token::Plus, "+", 8, [first, tens]);
-    tree.finish([Stmt::Expr(sum)])
-}
+pub const COUNTED_TWICE: &[Part<'_>] = &[
+    Call("next", 0, 1),
+    Call("next", 0, 10),
+    Int(10, 19),
+    Operator(Token::Multiply, 17),
+    Operator(Token::Plus, 8),
+    Value,
+];
 
 /// `call(Fn("double"), 4)`
-pub fn pointer_called(alloc: Global) -> Result<Items<Stmt>, AllocError> {
-    let mut tree = Builder::new(alloc);
-    let name = tree.text("double", 9);
-    let pointer = tree.call("Fn", 6, [name]);
-    let call = tree.call("call", 1, [pointer, int(4, 20)]);
-    tree.finish([Stmt::Expr(call)])
-}
+pub const POINTER_CALLED: &[Part<'_>] = &[
+    Text("double", 9),
+    Call("Fn", 1, 6),
+    Int(4, 20),
+    Call("call", 2, 1),
+    Value,
+];
 
 /// `let f = curry(Fn("double"), 5); call(f)`
-pub fn curried_pointer_called(alloc: Global) -> Result<Items<Stmt>, AllocError> {
-    let mut tree = Builder::new(alloc);
-    let name = tree.text("double", 18);
-    let pointer = tree.call("Fn", 15, [name]);
-    let curried = tree.call("curry", 9, [pointer, int(5, 29)]);
-    let f = tree.let_stmt("f", 5, curried, 1);
-    let arg = tree.variable("f", 1, 38);
-    let call = tree.call("call", 33, [arg]);
-    tree.finish([f, Stmt::Expr(call)])
-}
+pub const CURRIED_POINTER_CALLED: &[Part<'_>] = &[
+    Text("double", 18),
+    Call("Fn", 1, 15),
+    Int(5, 29),
+    Call("curry", 2, 9),
+    Let("f", 5, 1),
+    Variable("f", 1, 38),
+    Call("call", 1, 33),
+    Value,
+];
 
 /// `type_of(1)`
-pub fn type_of_integer(alloc: Global) -> Result<Items<Stmt>, AllocError> {
-    let mut tree = Builder::new(alloc);
-    let call = tree.call("type_of", 1, [int(1, 9)]);
-    tree.finish([Stmt::Expr(call)])
-}
+pub const TYPE_OF_INTEGER: &[Part<'_>] = &[Int(1, 9), Call("type_of", 1, 1), Value];
 
 /// `Fn("1x")`
-pub fn pointer_of_no_name(alloc: Global) -> Result<Items<Stmt>, AllocError> {
-    let mut tree = Builder::new(alloc);
-    let name = tree.text("1x", 4);
-    let pointer = tree.call("Fn", 1, [name]);
-    tree.finish([Stmt::Expr(pointer)])
-}
+pub const POINTER_OF_NO_NAME: &[Part<'_>] = &[Text("1x", 4), Call("Fn", 1, 1), Value];
 
 /// `nope(1)`
-pub fn unknown_function(alloc: Global) -> Result<Items<Stmt>, AllocError> {
-    let mut tree = Builder::new(alloc);
-    let call = tree.call("nope", 1, [int(1, 6)]);
-    tree.finish([Stmt::Expr(call)])
-}
+pub const UNKNOWN_FUNCTION: &[Part<'_>] = &[Int(1, 6), Call("nope", 1, 1), Value];

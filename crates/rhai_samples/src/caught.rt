@@ -1,174 +1,190 @@
 //! `try` and `throw`.
 
-use rhai_build::Builder;
-use rhai_build::choices::{throw_stmt, try_catching, try_stmt};
-use rhai_build::expressions::{MapParts, int, unit};
-use rhai_build::statements::{assign, break_stmt, if_stmt, loop_stmt, no_block};
+use crate::parts::Part::{
+    Array, Assign, AssignBy, Block, Break, Call, Dot, For, If, Int, Let, Loop, Map, Method,
+    Operator, Property, Throw, ThrowValue, Try, TryCatching, Unit, Value, Variable,
+};
+use crate::parts::{Part, statements_of};
 use rhai_tree::Items;
 use rhai_tree::expr::Stmt;
 use rhai_tree::token::Token;
 use std::alloc::{AllocError, Global};
 
 /// `try { loop {} } catch {}`
-pub fn endless_loop_tried(alloc: Global) -> Result<Items<Stmt>, AllocError> {
-    let mut tree = Builder::new(alloc);
-    let body = tree.block([], 12, 13);
-    let body = tree.block([loop_stmt(body, 7)], 5, 15);
-    let branch = tree.block([], 23, 24);
-    tree.finish([try_stmt(body, branch, 1)])
-}
+pub const ENDLESS_LOOP_TRIED: &[Part<'_>] = &[
+    Block(0, 12, 13),
+    Loop(7),
+    Block(1, 5, 15),
+    Block(0, 23, 24),
+    Try(1),
+];
 
 /// `let m = #{}; try { m.x += 1; } catch {} m.x`
-pub fn entry_increased_in_a_try(alloc: Global) -> Result<Items<Stmt>, AllocError> {
-    let mut tree = Builder::new(alloc);
-    let declared = tree.let_stmt("m", 5, MapParts::new(alloc).map(9), 1);
-    let m = tree.variable("m", 1, 20);
-    let name = tree.property("x", 22);
-    let entry = tree.dot(m, 21, name);
-    let increased = assign(Some(Token::Plus), 24, entry, int(1, 27));
-    let body = tree.block([increased], 18, 30);
-    let branch = tree.block([], 38, 39);
-    let m = tree.variable("m", 1, 41);
-    let name = tree.property("x", 43);
-    let entry = tree.dot(m, 42, name);
-    tree.finish([declared, try_stmt(body, branch, 14), Stmt::Expr(entry)])
-}
-
-/// `try { throw 42; } catch (e) { e }`
-pub fn thrown_value_caught(alloc: Global) -> Result<Items<Stmt>, AllocError> {
-    let mut tree = Builder::new(alloc);
-    let body = tree.block([throw_stmt(Some(int(42, 13)), 7)], 5, 17);
-    let caught = tree.variable("e", 0, 26);
-    let e = tree.variable("e", 1, 31);
-    let branch = tree.block([Stmt::Expr(e)], 29, 33);
-    tree.finish([try_catching(body, caught, branch, 1)])
-}
+pub const ENTRY_INCREASED_IN_A_TRY: &[Part<'_>] = &[
+    Map(&[], 9),
+    Let("m", 5, 1),
+    Variable("m", 1, 20),
+    Property("x", 22),
+    Dot(21),
+    Int(1, 27),
+    AssignBy(Token::Plus, 24),
+    Block(1, 18, 30),
+    Block(0, 38, 39),
+    Try(14),
+    Variable("m", 1, 41),
+    Property("x", 43),
+    Dot(42),
+    Value,
+];
 
 /// `try { throw 42; } catch { throw; }`
-pub fn thrown_again(alloc: Global) -> Result<Items<Stmt>, AllocError> {
-    let mut tree = Builder::new(alloc);
-    let body = tree.block([throw_stmt(Some(int(42, 13)), 7)], 5, 17);
-    let branch = tree.block([throw_stmt(None, 27)], 25, 34);
-    tree.finish([try_stmt(body, branch, 1)])
-}
+pub const THROWN_AGAIN: &[Part<'_>] = &[
+    Int(42, 13),
+    ThrowValue(7),
+    Block(1, 5, 17),
+    Throw(27),
+    Block(1, 25, 34),
+    Try(1),
+];
 
 /// `try { g(); } catch {} try { g(); } catch {} p.call()`
-pub fn unknown_function_tried_twice(alloc: Global) -> Result<Items<Stmt>, AllocError> {
-    let mut tree = Builder::new(alloc);
-    let call = tree.call("g", 7, []);
-    let body = tree.block([Stmt::Expr(call)], 5, 12);
-    let branch = tree.block([], 20, 21);
-    let first = try_stmt(body, branch, 1);
-    let call = tree.call("g", 29, []);
-    let body = tree.block([Stmt::Expr(call)], 27, 34);
-    let branch = tree.block([], 42, 43);
-    let p = tree.variable("p", 0, 45);
-    let method = tree.method("call", 47, []);
-    let called = tree.dot(p, 46, method);
-    tree.finish([first, try_stmt(body, branch, 23), Stmt::Expr(called)])
-}
+pub const UNKNOWN_FUNCTION_TRIED_TWICE: &[Part<'_>] = &[
+    Call("g", 0, 7),
+    Value,
+    Block(1, 5, 12),
+    Block(0, 20, 21),
+    Try(1),
+    Call("g", 0, 29),
+    Value,
+    Block(1, 27, 34),
+    Block(0, 42, 43),
+    Try(23),
+    Variable("p", 0, 45),
+    Method("call", 0, 47),
+    Dot(46),
+    Value,
+];
 
 /// `let a = 1; throw 0;`
-pub fn thrown_at_the_top(alloc: Global) -> Result<Items<Stmt>, AllocError> {
-    let mut tree = Builder::new(alloc);
-    let start = tree.let_stmt("a", 5, int(1, 9), 1);
-    tree.finish([start, throw_stmt(Some(int(0, 18)), 12)])
-}
+pub const THROWN_AT_THE_TOP: &[Part<'_>] = &[Int(1, 9), Let("a", 5, 1), Int(0, 18), ThrowValue(12)];
 
 /// `for v in [1] { throw 0; }`
-pub fn thrown_in_a_walk(alloc: Global) -> Result<Items<Stmt>, AllocError> {
-    let mut tree = Builder::new(alloc);
-    let items = tree.array(10, [int(1, 11)]);
-    let body = tree.block([throw_stmt(Some(int(0, 22)), 16)], 14, 25);
-    let walk = tree.for_stmt("v", 5, items, body, 1);
-    tree.finish([walk])
-}
+pub const THROWN_IN_A_WALK: &[Part<'_>] = &[
+    Int(1, 11),
+    Array(1, 10),
+    Int(0, 22),
+    ThrowValue(16),
+    Block(1, 14, 25),
+    For("v", 5, 1),
+];
 
 /// `let n = 0; loop { try { n += 1; if n == 3 { break; } throw n; } catch {} } n`
-pub fn break_in_a_try(alloc: Global) -> Result<Items<Stmt>, AllocError> {
-    let mut tree = Builder::new(alloc);
-    let start = tree.let_stmt("n", 5, int(0, 9), 1);
-    let n = tree.variable("n", 1, 25);
-    let counted = assign(Some(Token::Plus), 27, n, int(1, 30));
-    let n = tree.variable("n", 1, 36);
-    let test = tree.operator(Token::EqualsTo, "==", 38, [n, int(3, 41)]);
-    let leave = tree.block([break_stmt(None, 45)], 43, 52);
-    let leave = if_stmt(test, leave, no_block(alloc), 33);
-    let n = tree.variable("n", 1, 60);
-    let body = tree.block([counted, leave, throw_stmt(Some(n), 54)], 23, 63);
-    let branch = tree.block([], 71, 72);
-    let body = tree.block([try_stmt(body, branch, 19)], 17, 74);
-    let n = tree.variable("n", 1, 76);
-    tree.finish([start, loop_stmt(body, 12), Stmt::Expr(n)])
-}
+pub const BREAK_IN_A_TRY: &[Part<'_>] = &[
+    Int(0, 9),
+    Let("n", 5, 1),
+    Variable("n", 1, 25),
+    Int(1, 30),
+    AssignBy(Token::Plus, 27),
+    Variable("n", 1, 36),
+    Int(3, 41),
+    Operator(Token::EqualsTo, 38),
+    Break(45),
+    Block(1, 43, 52),
+    If(33),
+    Variable("n", 1, 60),
+    ThrowValue(54),
+    Block(3, 23, 63),
+    Block(0, 71, 72),
+    Try(19),
+    Block(1, 17, 74),
+    Loop(12),
+    Variable("n", 1, 76),
+    Value,
+];
 
 /// `let r = (); try { nope(); } catch (e) { r = e.position; } r`
-pub fn position_of_what_was_caught(alloc: Global) -> Result<Items<Stmt>, AllocError> {
-    let mut tree = Builder::new(alloc);
-    let start = tree.let_stmt("r", 5, unit(9), 1);
-    let call = tree.call("nope", 19, []);
-    let body = tree.block([Stmt::Expr(call)], 17, 27);
-    let caught = tree.variable("e", 0, 36);
-    let r = tree.variable("r", 2, 41);
-    let e = tree.variable("e", 1, 45);
-    let name = tree.property("position", 47);
-    let position = tree.dot(e, 46, name);
-    let assigned = assign(None, 43, r, position);
-    let branch = tree.block([assigned], 39, 57);
-    let r = tree.variable("r", 1, 59);
-    tree.finish([start, try_catching(body, caught, branch, 13), Stmt::Expr(r)])
-}
+pub const POSITION_OF_WHAT_WAS_CAUGHT: &[Part<'_>] = &[
+    Unit(9),
+    Let("r", 5, 1),
+    Call("nope", 0, 19),
+    Value,
+    Block(1, 17, 27),
+    Variable("e", 0, 36),
+    Variable("r", 2, 41),
+    Variable("e", 1, 45),
+    Property("position", 47),
+    Dot(46),
+    Assign(43),
+    Block(1, 39, 57),
+    TryCatching(13),
+    Variable("r", 1, 59),
+    Value,
+];
 
 /// `let r = (); try { nope(); } catch (e) { r = e.message; } r`
-pub fn message_of_what_was_caught(alloc: Global) -> Result<Items<Stmt>, AllocError> {
-    let mut tree = Builder::new(alloc);
-    let start = tree.let_stmt("r", 5, unit(9), 1);
-    let call = tree.call("nope", 19, []);
-    let body = tree.block([Stmt::Expr(call)], 17, 27);
-    let caught = tree.variable("e", 0, 36);
-    let r = tree.variable("r", 2, 41);
-    let e = tree.variable("e", 1, 45);
-    let name = tree.property("message", 47);
-    let message = tree.dot(e, 46, name);
-    let assigned = assign(None, 43, r, message);
-    let branch = tree.block([assigned], 39, 56);
-    let r = tree.variable("r", 1, 58);
-    tree.finish([start, try_catching(body, caught, branch, 13), Stmt::Expr(r)])
-}
+pub const MESSAGE_OF_WHAT_WAS_CAUGHT: &[Part<'_>] = &[
+    Unit(9),
+    Let("r", 5, 1),
+    Call("nope", 0, 19),
+    Value,
+    Block(1, 17, 27),
+    Variable("e", 0, 36),
+    Variable("r", 2, 41),
+    Variable("e", 1, 45),
+    Property("message", 47),
+    Dot(46),
+    Assign(43),
+    Block(1, 39, 56),
+    TryCatching(13),
+    Variable("r", 1, 58),
+    Value,
+];
 
 /// `try { try { throw 1; } catch (e) {} } catch { 2 }`
-pub fn caught_in_an_empty_branch(alloc: Global) -> Result<Items<Stmt>, AllocError> {
-    let mut tree = Builder::new(alloc);
-    let body = tree.block([throw_stmt(Some(int(1, 19)), 13)], 11, 22);
-    let caught = tree.variable("e", 0, 31);
-    let branch = tree.block([], 34, 35);
-    let body = tree.block([try_catching(body, caught, branch, 7)], 5, 37);
-    let branch = tree.block([Stmt::Expr(int(2, 47))], 45, 49);
-    tree.finish([try_stmt(body, branch, 1)])
-}
+pub const CAUGHT_IN_AN_EMPTY_BRANCH: &[Part<'_>] = &[
+    Int(1, 19),
+    ThrowValue(13),
+    Block(1, 11, 22),
+    Variable("e", 0, 31),
+    Block(0, 34, 35),
+    TryCatching(7),
+    Block(1, 5, 37),
+    Int(2, 47),
+    Value,
+    Block(1, 45, 49),
+    Try(1),
+];
 
 /// `try { throw 1; } catch { try { throw 2; } catch { throw; } }`
-pub fn second_error_thrown_again(alloc: Global) -> Result<Items<Stmt>, AllocError> {
-    let mut tree = Builder::new(alloc);
-    let body = tree.block([throw_stmt(Some(int(1, 13)), 7)], 5, 16);
-    let inner = tree.block([throw_stmt(Some(int(2, 38)), 32)], 30, 41);
-    let branch = tree.block([throw_stmt(None, 51)], 49, 58);
-    let branch = tree.block([try_stmt(inner, branch, 26)], 24, 60);
-    tree.finish([try_stmt(body, branch, 1)])
-}
+pub const SECOND_ERROR_THROWN_AGAIN: &[Part<'_>] = &[
+    Int(1, 13),
+    ThrowValue(7),
+    Block(1, 5, 16),
+    Int(2, 38),
+    ThrowValue(32),
+    Block(1, 30, 41),
+    Throw(51),
+    Block(1, 49, 58),
+    Try(26),
+    Block(1, 24, 60),
+    Try(1),
+];
 
 /// `for i in 0..1000000 { try { throw 1; } catch {} }`, with as many turns in the place of the million.
 pub fn throws_in_turn(alloc: Global, turns: i64) -> Result<Items<Stmt>, AllocError> {
-    let mut tree = Builder::new(alloc);
-    let range = tree.operator(
-        Token::ExclusiveRange,
-        "..",
-        11,
-        [int(0, 10), int(turns, 13)],
-    );
-    let body = tree.block([throw_stmt(Some(int(1, 35)), 29)], 27, 38);
-    let branch = tree.block([], 46, 47);
-    let body = tree.block([try_stmt(body, branch, 23)], 21, 49);
-    let walk = tree.for_stmt("i", 5, range, body, 1);
-    tree.finish([walk])
+    statements_of(
+        alloc,
+        &[
+            Int(0, 10),
+            Int(turns, 13),
+            Operator(Token::ExclusiveRange, 11),
+            Int(1, 35),
+            ThrowValue(29),
+            Block(1, 27, 38),
+            Block(0, 46, 47),
+            Try(23),
+            Block(1, 21, 49),
+            For("i", 5, 1),
+        ],
+    )
 }

@@ -1,291 +1,314 @@
 //! Chains over arrays, integers, texts and maps.
 
-ghost use Rattle.std.specs.Prelude.{◌≢◌, ◌≤◌};
-
-use crate::data::ones;
-use rhai_build::expressions::{MapParts, character, int, unit};
-use rhai_build::statements::{assign, while_stmt};
-use rhai_build::{Builder, at};
+use crate::parts::Part::{
+    Array, Assign, AssignBy, Block, BlockValue, Character, Const, Dot, DotUnlessUnit, Index,
+    IndexOn, Int, Let, Map, Method, Ones, Operator, Property, Text, Unit, Value, Variable, While,
+};
+use crate::parts::{Part, statements_of};
 use rhai_tree::Items;
-use rhai_tree::expr::{Expr, Stmt};
+use rhai_tree::expr::Stmt;
 use rhai_tree::token::Token;
 use std::alloc::{AllocError, Global};
 
 /// `let a = [1, 2, 3]; a[-1]`
-pub fn last_item(alloc: Global) -> Result<Items<Stmt>, AllocError> {
-    item_of_three(alloc, -1)
-}
+pub const LAST_ITEM: &[Part<'_>] = &[
+    Int(1, 10),
+    Int(2, 13),
+    Int(3, 16),
+    Array(3, 9),
+    Let("a", 5, 1),
+    Variable("a", 1, 20),
+    Int(-1, 22),
+    Index(21),
+    Value,
+];
 
 /// `let a = [1, 2, 3]; a[3]`
-pub fn item_past_the_end(alloc: Global) -> Result<Items<Stmt>, AllocError> {
-    item_of_three(alloc, 3)
-}
-
-fn item_of_three(alloc: Global, index: i64) -> Result<Items<Stmt>, AllocError> {
-    let mut tree = Builder::new(alloc);
-    let items = tree.array(9, [int(1, 10), int(2, 13), int(3, 16)]);
-    let a = tree.let_stmt("a", 5, items, 1);
-    let array = tree.variable("a", 1, 20);
-    let item = tree.index(array, 21, int(index, 22));
-    tree.finish([a, Stmt::Expr(item)])
-}
+pub const ITEM_PAST_THE_END: &[Part<'_>] = &[
+    Int(1, 10),
+    Int(2, 13),
+    Int(3, 16),
+    Array(3, 9),
+    Let("a", 5, 1),
+    Variable("a", 1, 20),
+    Int(3, 22),
+    Index(21),
+    Value,
+];
 
 /// `let a = [5]; a[0]`
-pub fn only_item(alloc: Global) -> Result<Items<Stmt>, AllocError> {
-    let mut tree = Builder::new(alloc);
-    let items = tree.array(9, [int(5, 10)]);
-    let a = tree.let_stmt("a", 5, items, 1);
-    let array = tree.variable("a", 1, 14);
-    let item = tree.index(array, 15, int(0, 16));
-    tree.finish([a, Stmt::Expr(item)])
-}
+pub const ONLY_ITEM: &[Part<'_>] = &[
+    Int(5, 10),
+    Array(1, 9),
+    Let("a", 5, 1),
+    Variable("a", 1, 14),
+    Int(0, 16),
+    Index(15),
+    Value,
+];
 
 /// `let x = 10; x[1]`
-pub fn bit(alloc: Global) -> Result<Items<Stmt>, AllocError> {
-    let mut tree = Builder::new(alloc);
-    let x = tree.let_stmt("x", 5, int(10, 9), 1);
-    let number = tree.variable("x", 1, 13);
-    let bit = tree.index(number, 14, int(1, 15));
-    tree.finish([x, Stmt::Expr(bit)])
-}
+pub const BIT: &[Part<'_>] = &[
+    Int(10, 9),
+    Let("x", 5, 1),
+    Variable("x", 1, 13),
+    Int(1, 15),
+    Index(14),
+    Value,
+];
 
 /// `let x = 10; x[1..=3]`
-pub fn bits_with_the_last(alloc: Global) -> Result<Items<Stmt>, AllocError> {
-    let mut tree = Builder::new(alloc);
-    let x = tree.let_stmt("x", 5, int(10, 9), 1);
-    let number = tree.variable("x", 1, 13);
-    let ends = [int(1, 15), int(3, 19)];
-    let range = tree.operator(Token::InclusiveRange, "..=", 16, ends);
-    let bits = tree.index(number, 14, range);
-    tree.finish([x, Stmt::Expr(bits)])
-}
+pub const BITS_WITH_THE_LAST: &[Part<'_>] = &[
+    Int(10, 9),
+    Let("x", 5, 1),
+    Variable("x", 1, 13),
+    Int(1, 15),
+    Int(3, 19),
+    Operator(Token::InclusiveRange, 16),
+    Index(14),
+    Value,
+];
 
 /// `let x = 10; x[0..2]`
-pub fn lowest_bits(alloc: Global) -> Result<Items<Stmt>, AllocError> {
-    let mut tree = Builder::new(alloc);
-    let x = tree.let_stmt("x", 5, int(10, 9), 1);
-    let number = tree.variable("x", 1, 13);
-    let ends = [int(0, 15), int(2, 18)];
-    let range = tree.operator(Token::ExclusiveRange, "..", 16, ends);
-    let bits = tree.index(number, 14, range);
-    tree.finish([x, Stmt::Expr(bits)])
-}
+pub const LOWEST_BITS: &[Part<'_>] = &[
+    Int(10, 9),
+    Let("x", 5, 1),
+    Variable("x", 1, 13),
+    Int(0, 15),
+    Int(2, 18),
+    Operator(Token::ExclusiveRange, 16),
+    Index(14),
+    Value,
+];
 
 /// `let y = -1; y[60..=63]`
-pub fn highest_bits(alloc: Global) -> Result<Items<Stmt>, AllocError> {
-    let mut tree = Builder::new(alloc);
-    let y = tree.let_stmt("y", 5, int(-1, 9), 1);
-    let number = tree.variable("y", 1, 13);
-    let ends = [int(60, 15), int(63, 20)];
-    let range = tree.operator(Token::InclusiveRange, "..=", 17, ends);
-    let bits = tree.index(number, 14, range);
-    tree.finish([y, Stmt::Expr(bits)])
-}
+pub const HIGHEST_BITS: &[Part<'_>] = &[
+    Int(-1, 9),
+    Let("y", 5, 1),
+    Variable("y", 1, 13),
+    Int(60, 15),
+    Int(63, 20),
+    Operator(Token::InclusiveRange, 17),
+    Index(14),
+    Value,
+];
 
 /// `let y = -1; y[0..64]`
-pub fn all_bits(alloc: Global) -> Result<Items<Stmt>, AllocError> {
-    let mut tree = Builder::new(alloc);
-    let y = tree.let_stmt("y", 5, int(-1, 9), 1);
-    let number = tree.variable("y", 1, 13);
-    let ends = [int(0, 15), int(64, 18)];
-    let range = tree.operator(Token::ExclusiveRange, "..", 16, ends);
-    let bits = tree.index(number, 14, range);
-    tree.finish([y, Stmt::Expr(bits)])
-}
+pub const ALL_BITS: &[Part<'_>] = &[
+    Int(-1, 9),
+    Let("y", 5, 1),
+    Variable("y", 1, 13),
+    Int(0, 15),
+    Int(64, 18),
+    Operator(Token::ExclusiveRange, 16),
+    Index(14),
+    Value,
+];
 
 /// `let s = "hello"; s[1..3]`
-pub fn slice(alloc: Global) -> Result<Items<Stmt>, AllocError> {
-    let mut tree = Builder::new(alloc);
-    let s = greeting(&mut tree);
-    let text = tree.variable("s", 1, 18);
-    let ends = [int(1, 20), int(3, 23)];
-    let range = tree.operator(Token::ExclusiveRange, "..", 21, ends);
-    let slice = tree.index(text, 19, range);
-    tree.finish([s, Stmt::Expr(slice)])
-}
+pub const SLICE: &[Part<'_>] = &[
+    Text("hello", 9),
+    Let("s", 5, 1),
+    Variable("s", 1, 18),
+    Int(1, 20),
+    Int(3, 23),
+    Operator(Token::ExclusiveRange, 21),
+    Index(19),
+    Value,
+];
 
 /// `let s = "hello"; s[2..=2]`
-pub fn slice_of_one(alloc: Global) -> Result<Items<Stmt>, AllocError> {
-    slice_with_the_last(alloc, 2, 2)
-}
+pub const SLICE_OF_ONE: &[Part<'_>] = &[
+    Text("hello", 9),
+    Let("s", 5, 1),
+    Variable("s", 1, 18),
+    Int(2, 20),
+    Int(2, 24),
+    Operator(Token::InclusiveRange, 21),
+    Index(19),
+    Value,
+];
 
 /// `let s = "hello"; s[1..=9]`
-pub fn slice_past_the_end(alloc: Global) -> Result<Items<Stmt>, AllocError> {
-    slice_with_the_last(alloc, 1, 9)
-}
-
-fn slice_with_the_last(alloc: Global, start: i64, end: i64) -> Result<Items<Stmt>, AllocError> {
-    let mut tree = Builder::new(alloc);
-    let s = greeting(&mut tree);
-    let text = tree.variable("s", 1, 18);
-    let ends = [int(start, 20), int(end, 24)];
-    let range = tree.operator(Token::InclusiveRange, "..=", 21, ends);
-    let slice = tree.index(text, 19, range);
-    tree.finish([s, Stmt::Expr(slice)])
-}
+pub const SLICE_PAST_THE_END: &[Part<'_>] = &[
+    Text("hello", 9),
+    Let("s", 5, 1),
+    Variable("s", 1, 18),
+    Int(1, 20),
+    Int(9, 24),
+    Operator(Token::InclusiveRange, 21),
+    Index(19),
+    Value,
+];
 
 /// `let s = "hello"; s[-9..2]`
-pub fn slice_from_before_the_start(alloc: Global) -> Result<Items<Stmt>, AllocError> {
-    let mut tree = Builder::new(alloc);
-    let s = greeting(&mut tree);
-    let text = tree.variable("s", 1, 18);
-    let ends = [int(-9, 20), int(2, 24)];
-    let range = tree.operator(Token::ExclusiveRange, "..", 22, ends);
-    let slice = tree.index(text, 19, range);
-    tree.finish([s, Stmt::Expr(slice)])
-}
+pub const SLICE_FROM_BEFORE_THE_START: &[Part<'_>] = &[
+    Text("hello", 9),
+    Let("s", 5, 1),
+    Variable("s", 1, 18),
+    Int(-9, 20),
+    Int(2, 24),
+    Operator(Token::ExclusiveRange, 22),
+    Index(19),
+    Value,
+];
 
 /// `let s = "hello"; s[-1] = 'y'; s`
-pub fn last_character_assigned(alloc: Global) -> Result<Items<Stmt>, AllocError> {
-    let mut tree = Builder::new(alloc);
-    let s = greeting(&mut tree);
-    let text = tree.variable("s", 1, 18);
-    let last = tree.index(text, 19, int(-1, 20));
-    let assigned = assign(None, 24, last, character('y', 26));
-    let text = tree.variable("s", 1, 31);
-    tree.finish([s, assigned, Stmt::Expr(text)])
-}
-
-/// `let s = "hello";`
-fn greeting(tree: &mut Builder) -> Stmt {
-    let text = tree.text("hello", 9);
-    tree.let_stmt("s", 5, text, 1)
-}
+pub const LAST_CHARACTER_ASSIGNED: &[Part<'_>] = &[
+    Text("hello", 9),
+    Let("s", 5, 1),
+    Variable("s", 1, 18),
+    Int(-1, 20),
+    Index(19),
+    Character('y', 26),
+    Assign(24),
+    Variable("s", 1, 31),
+    Value,
+];
 
 /// `let i = 0; let a = [1, 2, 3]; a[{ i += 1; i }] = { i += 1; i }; a`
-pub fn index_that_counts(alloc: Global) -> Result<Items<Stmt>, AllocError> {
-    let mut tree = Builder::new(alloc);
-    let i = tree.let_stmt("i", 5, int(0, 9), 1);
-    let items = tree.array(20, [int(1, 21), int(2, 24), int(3, 27)]);
-    let a = tree.let_stmt("a", 16, items, 12);
-    let array = tree.variable("a", 1, 31);
-    let index = counted(&mut tree, 33);
-    let item = tree.index(array, 32, index);
-    let value = counted(&mut tree, 50);
-    let assigned = assign(None, 48, item, value);
-    let array = tree.variable("a", 1, 65);
-    tree.finish([i, a, assigned, Stmt::Expr(array)])
-}
-
-/// `{ i += 1; i }`, under one variable that was declared later.
-fn counted(tree: &mut Builder, column: u16) -> Expr
-    requires column { column ≢ 0 }
-    requires bound { column ≤ 1000 }
-{
-    let i = tree.variable("i", 2, column + 2);
-    let next = assign(Some(Token::Plus), column + 4, i, int(1, column + 7));
-    let i = tree.variable("i", 2, column + 10);
-    Expr::Stmt(tree.block([next, Stmt::Expr(i)], column, column + 12))
-}
+pub const INDEX_THAT_COUNTS: &[Part<'_>] = &[
+    Int(0, 9),
+    Let("i", 5, 1),
+    Int(1, 21),
+    Int(2, 24),
+    Int(3, 27),
+    Array(3, 20),
+    Let("a", 16, 12),
+    Variable("a", 1, 31),
+    Variable("i", 2, 35),
+    Int(1, 40),
+    AssignBy(Token::Plus, 37),
+    Variable("i", 2, 43),
+    Value,
+    Block(2, 33, 45),
+    BlockValue,
+    Index(32),
+    Variable("i", 2, 52),
+    Int(1, 57),
+    AssignBy(Token::Plus, 54),
+    Variable("i", 2, 60),
+    Value,
+    Block(2, 50, 62),
+    BlockValue,
+    Assign(48),
+    Variable("a", 1, 65),
+    Value,
+];
 
 /// `const m = #{}; m.a = 1;`
-pub fn entry_of_a_constant(alloc: Global) -> Result<Items<Stmt>, AllocError> {
-    let mut tree = Builder::new(alloc);
-    let m = tree.const_stmt("m", 7, MapParts::new(alloc).map(11), 1);
-    let map = tree.variable("m", 1, 16);
-    let name = tree.property("a", 18);
-    let entry = tree.dot(map, 17, name);
-    tree.finish([m, assign(None, 20, entry, int(1, 22))])
-}
-
-/// `let x = (); x?.foo`
-pub fn property_of_unit(alloc: Global) -> Result<Items<Stmt>, AllocError> {
-    let mut tree = Builder::new(alloc);
-    let x = tree.let_stmt("x", 5, unit(9), 1);
-    let object = tree.variable("x", 1, 13);
-    let name = tree.property("foo", 16);
-    let found = tree.dot_unless_unit(object, 14, name);
-    tree.finish([x, Stmt::Expr(found)])
-}
+pub const ENTRY_OF_A_CONSTANT: &[Part<'_>] = &[
+    Map(&[], 11),
+    Const("m", 7, 1),
+    Variable("m", 1, 16),
+    Property("a", 18),
+    Dot(17),
+    Int(1, 22),
+    Assign(20),
+];
 
 /// `let x = (); x?.a = 5; x`
-pub fn property_of_unit_assigned(alloc: Global) -> Result<Items<Stmt>, AllocError> {
-    let mut tree = Builder::new(alloc);
-    let x = tree.let_stmt("x", 5, unit(9), 1);
-    let object = tree.variable("x", 1, 13);
-    let name = tree.property("a", 16);
-    let found = tree.dot_unless_unit(object, 14, name);
-    let assigned = assign(None, 18, found, int(5, 20));
-    let x_after = tree.variable("x", 1, 23);
-    tree.finish([x, assigned, Stmt::Expr(x_after)])
-}
+pub const PROPERTY_OF_UNIT_ASSIGNED: &[Part<'_>] = &[
+    Unit(9),
+    Let("x", 5, 1),
+    Variable("x", 1, 13),
+    Property("a", 16),
+    DotUnlessUnit(14),
+    Int(5, 20),
+    Assign(18),
+    Variable("x", 1, 23),
+    Value,
+];
 
 /// `let m = #{}; m.b`
-pub fn missing_entry(alloc: Global) -> Result<Items<Stmt>, AllocError> {
-    let mut tree = Builder::new(alloc);
-    let m = tree.let_stmt("m", 5, MapParts::new(alloc).map(9), 1);
-    let map = tree.variable("m", 1, 14);
-    let name = tree.property("b", 16);
-    let entry = tree.dot(map, 15, name);
-    tree.finish([m, Stmt::Expr(entry)])
-}
+pub const MISSING_ENTRY: &[Part<'_>] = &[
+    Map(&[], 9),
+    Let("m", 5, 1),
+    Variable("m", 1, 14),
+    Property("b", 16),
+    Dot(15),
+    Value,
+];
 
 /// `let m = #{}; m.x += 1;`
-pub fn missing_entry_increased(alloc: Global) -> Result<Items<Stmt>, AllocError> {
-    let mut tree = Builder::new(alloc);
-    let m = tree.let_stmt("m", 5, MapParts::new(alloc).map(9), 1);
-    let map = tree.variable("m", 1, 14);
-    let name = tree.property("x", 16);
-    let entry = tree.dot(map, 15, name);
-    let increased = assign(Some(Token::Plus), 18, entry, int(1, 21));
-    tree.finish([m, increased])
-}
+pub const MISSING_ENTRY_INCREASED: &[Part<'_>] = &[
+    Map(&[], 9),
+    Let("m", 5, 1),
+    Variable("m", 1, 14),
+    Property("x", 16),
+    Dot(15),
+    Int(1, 21),
+    AssignBy(Token::Plus, 18),
+];
 
 /// `let a = [1]; a[0].inc(); a[0]`
-pub fn method_on_an_item(alloc: Global) -> Result<Items<Stmt>, AllocError> {
-    let mut tree = Builder::new(alloc);
-    let items = tree.array(9, [int(1, 10)]);
-    let a = tree.let_stmt("a", 5, items, 1);
-    let method = tree.method("inc", 19, []);
-    let rest = tree.dot(int(0, 16), 18, method);
-    let array = tree.variable("a", 1, 14);
-    let called = tree.index_on(array, 15, rest);
-    let array = tree.variable("a", 1, 26);
-    let item = tree.index(array, 27, int(0, 28));
-    tree.finish([a, Stmt::Expr(called), Stmt::Expr(item)])
-}
+pub const METHOD_ON_AN_ITEM: &[Part<'_>] = &[
+    Int(1, 10),
+    Array(1, 9),
+    Let("a", 5, 1),
+    Variable("a", 1, 14),
+    Int(0, 16),
+    Method("inc", 0, 19),
+    Dot(18),
+    IndexOn(15),
+    Value,
+    Variable("a", 1, 26),
+    Int(0, 28),
+    Index(27),
+    Value,
+];
 
 /// `let a = [[1, 2], [3, 4]]; a[0][1] = 5; a`
-pub fn item_of_an_item_assigned(alloc: Global) -> Result<Items<Stmt>, AllocError> {
-    let mut tree = Builder::new(alloc);
-    let first = tree.array(10, [int(1, 11), int(2, 14)]);
-    let second = tree.array(18, [int(3, 19), int(4, 22)]);
-    let items = tree.array(9, [first, second]);
-    let a = tree.let_stmt("a", 5, items, 1);
-    let rest = tree.index(int(0, 29), 31, int(1, 32));
-    let array = tree.variable("a", 1, 27);
-    let item = tree.index_on(array, 28, rest);
-    let assigned = assign(None, 35, item, int(5, 37));
-    let array = tree.variable("a", 1, 40);
-    tree.finish([a, assigned, Stmt::Expr(array)])
-}
+pub const ITEM_OF_AN_ITEM_ASSIGNED: &[Part<'_>] = &[
+    Int(1, 11),
+    Int(2, 14),
+    Array(2, 10),
+    Int(3, 19),
+    Int(4, 22),
+    Array(2, 18),
+    Array(2, 9),
+    Let("a", 5, 1),
+    Variable("a", 1, 27),
+    Int(0, 29),
+    Int(1, 32),
+    Index(31),
+    IndexOn(28),
+    Int(5, 37),
+    Assign(35),
+    Variable("a", 1, 40),
+    Value,
+];
 
 /// `let a = [1]; let i = 0; let n = 1000000; while n > 0 { a[i] += 1; n -= 1; } a[i]`, with as many
 /// literals, which all stand at one place, the last index, and as many turns in the place of the
 /// million.
 pub fn increments(alloc: Global, length: u32, turns: i64) -> Result<Items<Stmt>, AllocError> {
-    let items = Expr::Array(ones(alloc, length)?, at(9));
-    let mut tree = Builder::new(alloc);
-    let a = tree.let_stmt("a", 5, items, 1);
-    let i = tree.let_stmt("i", 18, int(i64::from(length) - 1, 22), 14);
-    let n = tree.let_stmt("n", 29, int(turns, 33), 25);
-    let left = [tree.variable("n", 1, 48), int(0, 52)];
-    let left = tree.operator(Token::GreaterThan, ">", 50, left);
-    let item = item_at(&mut tree, 56);
-    let increased = assign(Some(Token::Plus), 61, item, int(1, 64));
-    let count = tree.variable("n", 1, 67);
-    let counted = assign(Some(Token::Minus), 69, count, int(1, 72));
-    let body = tree.block([increased, counted], 54, 75);
-    let item = item_at(&mut tree, 77);
-    tree.finish([a, i, n, while_stmt(left, body, 42), Stmt::Expr(item)])
-}
-
-/// `a[i]`, under one variable that was declared later.
-fn item_at(tree: &mut Builder, column: u16) -> Expr
-    requires column { column ≢ 0 }
-    requires bound { column ≤ 1000 }
-{
-    let array = tree.variable("a", 3, column);
-    let index = tree.variable("i", 2, column + 2);
-    tree.index(array, column + 1, index)
+    statements_of(
+        alloc,
+        &[
+            Ones(length, 10, 9),
+            Let("a", 5, 1),
+            Int(i64::from(length) - 1, 22),
+            Let("i", 18, 14),
+            Int(turns, 33),
+            Let("n", 29, 25),
+            Variable("n", 1, 48),
+            Int(0, 52),
+            Operator(Token::GreaterThan, 50),
+            Variable("a", 3, 56),
+            Variable("i", 2, 58),
+            Index(57),
+            Int(1, 64),
+            AssignBy(Token::Plus, 61),
+            Variable("n", 1, 67),
+            Int(1, 72),
+            AssignBy(Token::Minus, 69),
+            Block(2, 54, 75),
+            While(42),
+            Variable("a", 3, 77),
+            Variable("i", 2, 79),
+            Index(78),
+            Value,
+        ],
+    )
 }

@@ -1,6 +1,8 @@
-//! Trees of the worked examples, each of the text that stands above it.
+//! Trees of the worked examples, each of the text that stands above it: lists of their parts (`parts`), or what
+//! the builder makes (`built`).
 #![tactic(auto)]
 
+pub mod built;
 pub mod calls;
 pub mod caught;
 pub mod cells;
@@ -10,9 +12,11 @@ pub mod choices;
 pub mod data;
 pub mod functions;
 pub mod loops;
+mod making;
 pub mod operators;
 pub mod order;
 pub mod pairs;
+pub mod parts;
 pub mod refused;
 pub mod thrown;
 pub mod variables;

@@ -1,53 +1,44 @@
 //! What stops early, and the order in which parts are evaluated.
 
-use rhai_build::Builder;
-use rhai_build::expressions::{MapParts, int, truth};
-use rhai_tree::Items;
-use rhai_tree::expr::Stmt;
-use std::alloc::{AllocError, Global};
+use crate::parts::Part;
+use crate::parts::Part::{
+    And, Array, Call, Coalesce, Index, Int, Let, Map, Truth, Value, Variable,
+};
 
 /// `false && 1`
-pub fn false_and_integer(alloc: Global) -> Result<Items<Stmt>, AllocError> {
-    let mut tree = Builder::new(alloc);
-    let both = tree.and(7, [truth(false, 1), int(1, 10)]);
-    tree.finish([Stmt::Expr(both)])
-}
+pub const FALSE_AND_INTEGER: &[Part<'_>] = &[Truth(false, 1), Int(1, 10), And(7), Value];
 
 /// `3 ?? y`
-pub fn integer_or_unknown_name(alloc: Global) -> Result<Items<Stmt>, AllocError> {
-    let mut tree = Builder::new(alloc);
-    let y = tree.variable("y", 0, 6);
-    let first = tree.coalesce(3, [int(3, 1), y]);
-    tree.finish([Stmt::Expr(first)])
-}
+pub const INTEGER_OR_UNKNOWN_NAME: &[Part<'_>] = &[
+    Int(3, 1),
+    Variable("y", 0, 6),
+    Coalesce(3),
+    Value,
+];
 
 /// `#{c: next(), b: next(), a: 5}`
-pub fn counted_entries(alloc: Global) -> Result<Items<Stmt>, AllocError> {
-    let mut tree = Builder::new(alloc);
-    let mut map = MapParts::new(alloc);
-    let first = tree.call("next", 6, []);
-    tree.entry(&mut map, "c", first);
-    let second = tree.call("next", 17, []);
-    tree.entry(&mut map, "b", second);
-    tree.entry(&mut map, "a", int(5, 28));
-    tree.finish([Stmt::Expr(map.map(1))])
-}
+pub const COUNTED_ENTRIES: &[Part<'_>] = &[
+    Call("next", 0, 6),
+    Call("next", 0, 17),
+    Int(5, 28),
+    Map(&["c", "b", "a"], 1),
+    Value,
+];
 
 /// `[next(), next()][next()]`
-pub fn counted_items(alloc: Global) -> Result<Items<Stmt>, AllocError> {
-    let mut tree = Builder::new(alloc);
-    let items = [tree.call("next", 2, []), tree.call("next", 10, [])];
-    let array = tree.array(1, items);
-    let index = tree.call("next", 18, []);
-    let item = tree.index(array, 17, index);
-    tree.finish([Stmt::Expr(item)])
-}
+pub const COUNTED_ITEMS: &[Part<'_>] = &[
+    Call("next", 0, 2),
+    Call("next", 0, 10),
+    Array(2, 1),
+    Call("next", 0, 18),
+    Index(17),
+    Value,
+];
 
 /// `let x = 1; let x = y;`
-pub fn declared_as_unknown_name(alloc: Global) -> Result<Items<Stmt>, AllocError> {
-    let mut tree = Builder::new(alloc);
-    let x = tree.let_stmt("x", 5, int(1, 9), 1);
-    let y = tree.variable("y", 0, 20);
-    let again = tree.let_stmt("x", 16, y, 12);
-    tree.finish([x, again])
-}
+pub const DECLARED_AS_UNKNOWN_NAME: &[Part<'_>] = &[
+    Int(1, 9),
+    Let("x", 5, 1),
+    Variable("y", 0, 20),
+    Let("x", 16, 12),
+];

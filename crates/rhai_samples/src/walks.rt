@@ -1,190 +1,174 @@
 //! `for`, over ranges, arrays and texts.
 
-use crate::data::ones;
-use rhai_build::expressions::int;
-use rhai_build::statements::{assign, continue_stmt, if_stmt, no_block};
-use rhai_build::{Builder, at};
+use crate::parts::Part::{
+    Array, Assign, AssignBy, Block, Call, Continue, For, ForCounted, If, Int, Let, Ones, Operator,
+    Text, Value, Variable,
+};
+use crate::parts::{Part, statements_of};
 use rhai_tree::Items;
-use rhai_tree::expr::{Expr, Stmt};
+use rhai_tree::expr::Stmt;
 use rhai_tree::token::Token;
 use std::alloc::{AllocError, Global};
 
-/// `let s = 0; for (v, i) in [5, 6] { s += v * 10 + i; } s`
-pub fn items_and_counter_summed(alloc: Global) -> Result<Items<Stmt>, AllocError> {
-    let mut tree = Builder::new(alloc);
-    let start = tree.let_stmt("s", 5, int(0, 9), 1);
-    let items = tree.array(26, [int(5, 27), int(6, 30)]);
-    let s = tree.variable("s", 3, 35);
-    let v = tree.variable("v", 1, 40);
-    let tens = tree.operator(Token::Multiply, "*", 42, [v, int(10, 44)]);
-    let i = tree.variable("i", 2, 49);
-    let sum = tree.operator(Token::Plus, "+", 47, [tens, i]);
-    let assigned = assign(Some(Token::Plus), 37, s, sum);
-    let body = tree.block([assigned], 33, 52);
-    let walk = tree.for_counted("v", 17, "i", 20, items, body, 12);
-    let s = tree.variable("s", 1, 54);
-    tree.finish([start, walk, Stmt::Expr(s)])
-}
-
 /// `let a = [1, 2]; let n = 0; for v in a { a = []; n += 1; } n`
-pub fn array_emptied_in_its_walk(alloc: Global) -> Result<Items<Stmt>, AllocError> {
-    let mut tree = Builder::new(alloc);
-    let items = tree.array(9, [int(1, 10), int(2, 13)]);
-    let declared = tree.let_stmt("a", 5, items, 1);
-    let start = tree.let_stmt("n", 21, int(0, 25), 17);
-    let a = tree.variable("a", 2, 37);
-    let place = tree.variable("a", 3, 41);
-    let nothing = tree.array(45, []);
-    let emptied = assign(None, 43, place, nothing);
-    let n = tree.variable("n", 2, 49);
-    let counted = assign(Some(Token::Plus), 51, n, int(1, 54));
-    let body = tree.block([emptied, counted], 39, 57);
-    let walk = tree.for_stmt("v", 32, a, body, 28);
-    let n = tree.variable("n", 1, 59);
-    tree.finish([declared, start, walk, Stmt::Expr(n)])
-}
+pub const ARRAY_EMPTIED_IN_ITS_WALK: &[Part<'_>] = &[
+    Int(1, 10),
+    Int(2, 13),
+    Array(2, 9),
+    Let("a", 5, 1),
+    Int(0, 25),
+    Let("n", 21, 17),
+    Variable("a", 2, 37),
+    Variable("a", 3, 41),
+    Array(0, 45),
+    Assign(43),
+    Variable("n", 2, 49),
+    Int(1, 54),
+    AssignBy(Token::Plus, 51),
+    Block(2, 39, 57),
+    For("v", 32, 28),
+    Variable("n", 1, 59),
+    Value,
+];
 
 /// `for (x, i) in [1] {}`
-pub fn walk_with_a_counter(alloc: Global) -> Result<Items<Stmt>, AllocError> {
-    let mut tree = Builder::new(alloc);
-    let items = tree.array(15, [int(1, 16)]);
-    let body = tree.block([], 19, 20);
-    let walk = tree.for_counted("x", 6, "i", 9, items, body, 1);
-    tree.finish([walk])
-}
+pub const WALK_WITH_A_COUNTER: &[Part<'_>] = &[
+    Int(1, 16),
+    Array(1, 15),
+    Block(0, 19, 20),
+    ForCounted("x", 6, "i", 9, 1),
+];
 
 /// `let s = ""; for c in "ab" { s = c + s; } s`
-pub fn text_reversed(alloc: Global) -> Result<Items<Stmt>, AllocError> {
-    let mut tree = Builder::new(alloc);
-    let text = tree.text("", 9);
-    let start = tree.let_stmt("s", 5, text, 1);
-    let letters = tree.text("ab", 22);
-    let s = tree.variable("s", 2, 29);
-    let c = tree.variable("c", 1, 33);
-    let s_before = tree.variable("s", 2, 37);
-    let joined = tree.operator(Token::Plus, "+", 35, [c, s_before]);
-    let assigned = assign(None, 31, s, joined);
-    let body = tree.block([assigned], 27, 40);
-    let walk = tree.for_stmt("c", 17, letters, body, 13);
-    let s = tree.variable("s", 1, 42);
-    tree.finish([start, walk, Stmt::Expr(s)])
-}
+pub const TEXT_REVERSED: &[Part<'_>] = &[
+    Text("", 9),
+    Let("s", 5, 1),
+    Text("ab", 22),
+    Variable("s", 2, 29),
+    Variable("c", 1, 33),
+    Variable("s", 2, 37),
+    Operator(Token::Plus, 35),
+    Assign(31),
+    Block(1, 27, 40),
+    For("c", 17, 13),
+    Variable("s", 1, 42),
+    Value,
+];
 
 /// `for v in 3..0 {}`
-pub fn empty_range_walked(alloc: Global) -> Result<Items<Stmt>, AllocError> {
-    let mut tree = Builder::new(alloc);
-    let range = tree.operator(Token::ExclusiveRange, "..", 11, [int(3, 10), int(0, 13)]);
-    let body = tree.block([], 15, 16);
-    let walk = tree.for_stmt("v", 5, range, body, 1);
-    tree.finish([walk])
-}
-
-/// `for x in 5 {}`
-pub fn integer_walked(alloc: Global) -> Result<Items<Stmt>, AllocError> {
-    let mut tree = Builder::new(alloc);
-    let body = tree.block([], 12, 13);
-    let walk = tree.for_stmt("x", 5, int(5, 10), body, 1);
-    tree.finish([walk])
-}
+pub const EMPTY_RANGE_WALKED: &[Part<'_>] = &[
+    Int(3, 10),
+    Int(0, 13),
+    Operator(Token::ExclusiveRange, 11),
+    Block(0, 15, 16),
+    For("v", 5, 1),
+];
 
 /// `let n = 0; for x in 9223372036854775806..=9223372036854775807 { n += 1; } n`
-pub fn greatest_integers_walked(alloc: Global) -> Result<Items<Stmt>, AllocError> {
-    let mut tree = Builder::new(alloc);
-    let start = tree.let_stmt("n", 5, int(0, 9), 1);
-    let range = tree.operator(
-        Token::InclusiveRange,
-        "..=",
-        40,
-        [int(i64::MAX - 1, 21), int(i64::MAX, 43)],
-    );
-    let n = tree.variable("n", 2, 65);
-    let counted = assign(Some(Token::Plus), 67, n, int(1, 70));
-    let body = tree.block([counted], 63, 73);
-    let walk = tree.for_stmt("x", 16, range, body, 12);
-    let n = tree.variable("n", 1, 75);
-    tree.finish([start, walk, Stmt::Expr(n)])
-}
+pub const GREATEST_INTEGERS_WALKED: &[Part<'_>] = &[
+    Int(0, 9),
+    Let("n", 5, 1),
+    Int(i64::MAX - 1, 21),
+    Int(i64::MAX, 43),
+    Operator(Token::InclusiveRange, 40),
+    Variable("n", 2, 65),
+    Int(1, 70),
+    AssignBy(Token::Plus, 67),
+    Block(1, 63, 73),
+    For("x", 16, 12),
+    Variable("n", 1, 75),
+    Value,
+];
 
 /// `for x in 1..=3 {}`
-pub fn three_empty_turns(alloc: Global) -> Result<Items<Stmt>, AllocError> {
-    let mut tree = Builder::new(alloc);
-    let range = tree.operator(Token::InclusiveRange, "..=", 11, [int(1, 10), int(3, 14)]);
-    let body = tree.block([], 16, 17);
-    let walk = tree.for_stmt("x", 5, range, body, 1);
-    tree.finish([walk])
-}
+pub const THREE_EMPTY_TURNS: &[Part<'_>] = &[
+    Int(1, 10),
+    Int(3, 14),
+    Operator(Token::InclusiveRange, 11),
+    Block(0, 16, 17),
+    For("x", 5, 1),
+];
 
 /// `for x in 1 + 1 {}`
-pub fn sum_walked(alloc: Global) -> Result<Items<Stmt>, AllocError> {
-    let mut tree = Builder::new(alloc);
-    let sum = tree.operator(Token::Plus, "+", 12, [int(1, 10), int(1, 14)]);
-    let body = tree.block([], 16, 17);
-    let walk = tree.for_stmt("x", 5, sum, body, 1);
-    tree.finish([walk])
-}
+pub const SUM_WALKED: &[Part<'_>] = &[
+    Int(1, 10),
+    Int(1, 14),
+    Operator(Token::Plus, 12),
+    Block(0, 16, 17),
+    For("x", 5, 1),
+];
 
 /// `for x in nope() {}`
-pub fn unknown_call_walked(alloc: Global) -> Result<Items<Stmt>, AllocError> {
-    let mut tree = Builder::new(alloc);
-    let call = tree.call("nope", 10, []);
-    let body = tree.block([], 17, 18);
-    let walk = tree.for_stmt("x", 5, call, body, 1);
-    tree.finish([walk])
-}
+pub const UNKNOWN_CALL_WALKED: &[Part<'_>] = &[
+    Call("nope", 0, 10),
+    Block(0, 17, 18),
+    For("x", 5, 1),
+];
 
 /// `let n = 0; for (x, i) in 5..8 { if i == 1 { continue; } n = n * 100 + x * 10 + i; } n`
-pub fn item_skipped(alloc: Global) -> Result<Items<Stmt>, AllocError> {
-    let mut tree = Builder::new(alloc);
-    let start = tree.let_stmt("n", 5, int(0, 9), 1);
-    let range = tree.operator(Token::ExclusiveRange, "..", 27, [int(5, 26), int(8, 29)]);
-    let i = tree.variable("i", 2, 36);
-    let test = tree.operator(Token::EqualsTo, "==", 38, [i, int(1, 41)]);
-    let next = tree.block([continue_stmt(45)], 43, 55);
-    let next = if_stmt(test, next, no_block(alloc), 33);
-    let n = tree.variable("n", 3, 57);
-    let n_before = tree.variable("n", 3, 61);
-    let hundreds = tree.operator(Token::Multiply, "*", 63, [n_before, int(100, 65)]);
-    let x = tree.variable("x", 1, 71);
-    let tens = tree.operator(Token::Multiply, "*", 73, [x, int(10, 75)]);
-    let sum = tree.operator(Token::Plus, "+", 69, [hundreds, tens]);
-    let i = tree.variable("i", 2, 80);
-    let sum = tree.operator(Token::Plus, "+", 78, [sum, i]);
-    let assigned = assign(None, 59, n, sum);
-    let body = tree.block([next, assigned], 31, 83);
-    let walk = tree.for_counted("x", 17, "i", 20, range, body, 12);
-    let n = tree.variable("n", 1, 85);
-    tree.finish([start, walk, Stmt::Expr(n)])
-}
+pub const ITEM_SKIPPED: &[Part<'_>] = &[
+    Int(0, 9),
+    Let("n", 5, 1),
+    Int(5, 26),
+    Int(8, 29),
+    Operator(Token::ExclusiveRange, 27),
+    Variable("i", 2, 36),
+    Int(1, 41),
+    Operator(Token::EqualsTo, 38),
+    Continue(45),
+    Block(1, 43, 55),
+    If(33),
+    Variable("n", 3, 57),
+    Variable("n", 3, 61),
+    Int(100, 65),
+    Operator(Token::Multiply, 63),
+    Variable("x", 1, 71),
+    Int(10, 75),
+    Operator(Token::Multiply, 73),
+    Operator(Token::Plus, 69),
+    Variable("i", 2, 80),
+    Operator(Token::Plus, 78),
+    Assign(59),
+    Block(2, 31, 83),
+    ForCounted("x", 17, "i", 20, 12),
+    Variable("n", 1, 85),
+    Value,
+];
 
 /// `let x = 0; for i in 0..1000000 { x += i; }`, with as many turns in the place of the million.
 pub fn range_summed(alloc: Global, turns: i64) -> Result<Items<Stmt>, AllocError> {
-    let mut tree = Builder::new(alloc);
-    let start = tree.let_stmt("x", 5, int(0, 9), 1);
-    let range = tree.operator(
-        Token::ExclusiveRange,
-        "..",
-        22,
-        [int(0, 21), int(turns, 24)],
-    );
-    let x = tree.variable("x", 2, 34);
-    let i = tree.variable("i", 1, 39);
-    let added = assign(Some(Token::Plus), 36, x, i);
-    let body = tree.block([added], 32, 42);
-    let walk = tree.for_stmt("i", 16, range, body, 12);
-    tree.finish([start, walk])
+    statements_of(
+        alloc,
+        &[
+            Int(0, 9),
+            Let("x", 5, 1),
+            Int(0, 21),
+            Int(turns, 24),
+            Operator(Token::ExclusiveRange, 22),
+            Variable("x", 2, 34),
+            Variable("i", 1, 39),
+            AssignBy(Token::Plus, 36),
+            Block(1, 32, 42),
+            For("i", 16, 12),
+        ],
+    )
 }
 
 /// `let a = [1, 1, 1]; let x = 0; for i in a { x += i; }`, with so many literals, which all stand at one place.
 pub fn array_summed(alloc: Global, length: u32) -> Result<Items<Stmt>, AllocError> {
-    let items = Expr::Array(ones(alloc, length)?, at(9));
-    let mut tree = Builder::new(alloc);
-    let declared = tree.let_stmt("a", 5, items, 1);
-    let start = tree.let_stmt("x", 24, int(0, 28), 20);
-    let a = tree.variable("a", 2, 40);
-    let x = tree.variable("x", 2, 44);
-    let i = tree.variable("i", 1, 49);
-    let added = assign(Some(Token::Plus), 46, x, i);
-    let body = tree.block([added], 42, 52);
-    let walk = tree.for_stmt("i", 35, a, body, 31);
-    tree.finish([declared, start, walk])
+    statements_of(
+        alloc,
+        &[
+            Ones(length, 10, 9),
+            Let("a", 5, 1),
+            Int(0, 28),
+            Let("x", 24, 20),
+            Variable("a", 2, 40),
+            Variable("x", 2, 44),
+            Variable("i", 1, 49),
+            AssignBy(Token::Plus, 46),
+            Block(1, 42, 52),
+            For("i", 35, 31),
+        ],
+    )
 }

@@ -13,10 +13,11 @@ use rhai_eval::check::{CheckedFn, CheckedTree, check_tree};
 use rhai_eval::engine::Engine;
 use rhai_eval::script::FnKey;
 use rhai_eval::target::{Part, Target};
+use rhai_samples::built::variable_of_the_caller_increased;
 use rhai_samples::functions::{
-    empty_function, method_that_changes_an_item, parameter_assigned, variable_declared,
-    variable_of_the_caller_increased,
+    EMPTY_FUNCTION, METHOD_THAT_CHANGES_AN_ITEM, PARAMETER_ASSIGNED, VARIABLE_DECLARED,
 };
+use rhai_samples::parts::tree_of;
 use rhai_state::caches::Caches;
 use rhai_state::state::GlobalRuntimeState;
 use rhai_tables::host::Pair;
@@ -245,15 +246,14 @@ pub fn write_call(alloc: Global, name: &str, out: &mut Vec<u8>) -> io::Result<()
 
 /// The tree with the function of a call.
 fn parts_for(alloc: Global, name: &str) -> Result<TreeParts, AllocError> {
-    match name {
-        "this" | "a method" | "a racing method" | "on a target" => method_that_changes_an_item(
-            alloc,
-        ),
-        "all variables" | "its variables" | "too deep" => variable_declared(alloc),
-        "a reference" | "a value" => parameter_assigned(alloc),
-        "the scope" | "a method on the scope" => variable_of_the_caller_increased(alloc),
-        _ => empty_function(alloc),
-    }
+    let parts = match name {
+        "this" | "a method" | "a racing method" | "on a target" => METHOD_THAT_CHANGES_AN_ITEM,
+        "all variables" | "its variables" | "too deep" => VARIABLE_DECLARED,
+        "a reference" | "a value" => PARAMETER_ASSIGNED,
+        "the scope" | "a method on the scope" => return variable_of_the_caller_increased(alloc),
+        _ => EMPTY_FUNCTION,
+    };
+    tree_of(alloc, parts)
 }
 
 fn write_called(

@@ -7,7 +7,8 @@ use rhai_eval::base::{
 };
 use rhai_eval::check::{CheckedFn, CheckedTree, check_tree};
 use rhai_eval::script::EncapsulatedEnviron;
-use rhai_samples::functions::{function_g, function_h};
+use rhai_samples::functions::{FUNCTION_G, FUNCTION_H};
+use rhai_samples::parts::tree_of;
 use rhai_tables::host::Pair;
 use std::alloc::{AllocError, Global};
 
@@ -31,7 +32,7 @@ pub(crate) fn pointer_with_a_library(alloc: Global) -> Result<Scope<Pair>, Alloc
 
 /// What is around the function: a library with the other.
 fn environ_of_g(alloc: Global) -> Result<EncapsulatedEnviron<Pair>, AllocError> {
-    let tree = checked(alloc, function_g(alloc)?)?;
+    let tree = checked(alloc, tree_of(alloc, FUNCTION_G)?)?;
     let mut lib = Items::new(alloc);
     lib.push(Shared::new(alloc, library_of(alloc, &tree)?)?)?;
     Ok(EncapsulatedEnviron {
@@ -42,7 +43,7 @@ fn environ_of_g(alloc: Global) -> Result<EncapsulatedEnviron<Pair>, AllocError> 
 }
 
 fn checked_h(alloc: Global) -> Result<Shared<CheckedFn>, AllocError> {
-    let tree = checked(alloc, function_h(alloc)?)?;
+    let tree = checked(alloc, tree_of(alloc, FUNCTION_H)?)?;
     match tree.functions() {
         [function, ..] => function.share(),
         [] => Err(AllocError),

@@ -3,9 +3,10 @@
 use crate::rows::Row;
 use crate::script::Script;
 use rhai_eval::base::Items;
+use rhai_samples::built::truth_chosen;
 use rhai_samples::choices::{
-    case_under_a_test, character_chosen, choices_in_turn, default_under_false,
-    integer_as_a_condition, integer_chosen, text_chosen, truth_chosen,
+    CASE_UNDER_A_TEST, CHARACTER_CHOSEN, DEFAULT_UNDER_FALSE, INTEGER_AS_A_CONDITION,
+    choices_in_turn, integer_chosen, text_chosen,
 };
 use std::alloc::{AllocError, Global};
 
@@ -13,21 +14,21 @@ use std::alloc::{AllocError, Global};
 pub(crate) fn cases(alloc: Global) -> Result<Items<Script>, AllocError> {
     let mut row = Row::new(alloc);
     for value in [1, 5, 7, 8, 10, 11] {
-        row.add(integer_chosen(alloc, value));
+        row.add_made(integer_chosen(alloc, value));
     }
-    row.add(text_chosen(alloc, "hello"));
-    row.add(text_chosen(alloc, "other"));
-    row.add(character_chosen(alloc));
-    row.add(truth_chosen(alloc));
+    row.add_made(text_chosen(alloc, "hello"));
+    row.add_made(text_chosen(alloc, "other"));
+    row.add(CHARACTER_CHOSEN);
+    row.add_statements(truth_chosen(alloc));
     row.finish()
 }
 
 /// Conditions of cases, and of a default, which no row has.
 pub fn conditions(alloc: Global) -> Result<Items<Script>, AllocError> {
     let mut row = Row::new(alloc);
-    row.add(integer_as_a_condition(alloc));
-    row.add(case_under_a_test(alloc));
-    row.add(default_under_false(alloc));
+    row.add(INTEGER_AS_A_CONDITION);
+    row.add(CASE_UNDER_A_TEST);
+    row.add(DEFAULT_UNDER_FALSE);
     row.finish()
 }
 

@@ -3,24 +3,23 @@
 use crate::rows::Row;
 use crate::script::Script;
 use rhai_eval::base::Items;
-use rhai_samples::data::{
-    greatest_and_one, items_of_three_types, joined_parts, many_items, three_items,
-};
+use rhai_samples::built::{items_of_three_types, joined_parts};
+use rhai_samples::data::{GREATEST_AND_ONE, THREE_ITEMS, many_items};
 use std::alloc::{AllocError, Global};
 
 /// An array and a number that are larger than they may be.
 pub(crate) fn too_large(alloc: Global) -> Result<Items<Script>, AllocError> {
     let mut row = Row::new(alloc);
-    row.add_with_max_array_size(three_items(alloc), 2);
-    row.add(greatest_and_one(alloc));
+    row.add_with_max_array_size(THREE_ITEMS, 2);
+    row.add(GREATEST_AND_ONE);
     row.finish()
 }
 
 /// A text that is joined of parts, and an array of an integer, a text and a map.
 pub(crate) fn joined_and_gathered(alloc: Global) -> Result<Items<Script>, AllocError> {
     let mut row = Row::new(alloc);
-    row.add(joined_parts(alloc));
-    row.add(items_of_three_types(alloc));
+    row.add_statements(joined_parts(alloc));
+    row.add_statements(items_of_three_types(alloc));
     row.finish()
 }
 

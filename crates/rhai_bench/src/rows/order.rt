@@ -4,8 +4,8 @@ use crate::rows::Row;
 use crate::script::Script;
 use rhai_eval::base::Items;
 use rhai_samples::order::{
-    counted_entries, counted_items, declared_as_unknown_name, false_and_integer,
-    integer_or_unknown_name,
+    COUNTED_ENTRIES, COUNTED_ITEMS, DECLARED_AS_UNKNOWN_NAME, FALSE_AND_INTEGER,
+    INTEGER_OR_UNKNOWN_NAME,
 };
 use std::alloc::{AllocError, Global};
 
@@ -13,10 +13,10 @@ use std::alloc::{AllocError, Global};
 /// variable that may not hide another, which no row has.
 pub fn evaluated_in_order(alloc: Global) -> Result<Items<Script>, AllocError> {
     let mut row = Row::new(alloc);
-    row.add(false_and_integer(alloc));
-    row.add(integer_or_unknown_name(alloc));
-    row.add(counted_entries(alloc));
-    row.add(counted_items(alloc));
-    row.add_without_shadowing(declared_as_unknown_name(alloc));
+    row.add(FALSE_AND_INTEGER);
+    row.add(INTEGER_OR_UNKNOWN_NAME);
+    row.add(COUNTED_ENTRIES);
+    row.add(COUNTED_ITEMS);
+    row.add_without_shadowing(DECLARED_AS_UNKNOWN_NAME);
     row.finish()
 }

@@ -19,6 +19,7 @@ use crate::engine::Engine;
 use crate::this::{give_back_with, take_with};
 use rhai_chains::chain::NewValue;
 use rhai_chains::links::first_of;
+use rhai_context::ends::finish;
 use rhai_context::{give_back, take};
 use rhai_state::caches::Caches;
 use rhai_state::error::EvalAltResult;
@@ -125,13 +126,15 @@ impl<H: Host> Engine<H> {
         match this {
             Some(place) => {
                 let mut run = take_with(alloc, global, scope, place);
-                let result = evaluator.run_chain(alloc, &mut run, table, root, expr, new);
+                let done = evaluator.run_chain(alloc, &mut run, table, root, expr, new);
+                let result = finish(done, &mut run.value, &mut run.error);
                 give_back_with(run, global, scope, place);
                 result
             }
             None => {
                 let mut run = take(alloc, global, scope);
-                let result = evaluator.run_chain(alloc, &mut run, table, root, expr, new);
+                let done = evaluator.run_chain(alloc, &mut run, table, root, expr, new);
+                let result = finish(done, &mut run.value, &mut run.error);
                 give_back(run, global, scope);
                 result
             }

@@ -19,6 +19,7 @@ ghost use Rattle.rhai_eval.specs.States.{under};
 use crate::engine::Engine;
 use crate::eval::search::{function_named, seen_variable, variable_mut};
 use crate::this::{give_back_with, take_with};
+use rhai_context::ends::finish;
 use rhai_context::{give_back, take};
 use rhai_places::target::{Part, Target};
 use rhai_state::caches::Caches;
@@ -129,13 +130,15 @@ impl<H: Host> Engine<H> {
         match this {
             Some(place) => {
                 let mut run = take_with(alloc, global, scope, place);
-                let result = evaluator.run_expr(alloc, &mut run, table, expr);
+                let done = evaluator.run_expr(alloc, &mut run, table, expr);
+                let result = finish(done, &mut run.value, &mut run.error);
                 give_back_with(run, global, scope, place);
                 result
             }
             None => {
                 let mut run = take(alloc, global, scope);
-                let result = evaluator.run_expr(alloc, &mut run, table, expr);
+                let done = evaluator.run_expr(alloc, &mut run, table, expr);
+                let result = finish(done, &mut run.value, &mut run.error);
                 give_back(run, global, scope);
                 result
             }

@@ -20,6 +20,7 @@ ghost use Rattle.rhai_eval.specs.States.{under};
 
 use crate::engine::Engine;
 use crate::this::{give_back_with, take_with};
+use rhai_context::ends::finish;
 use rhai_context::{give_back, take};
 use rhai_state::caches::Caches;
 use rhai_state::error::EvalAltResult;
@@ -82,13 +83,15 @@ impl<H: Host> Engine<H> {
         match this {
             Some(place) => {
                 let mut run = take_with(alloc, global, scope, place);
-                let result = evaluator.run_fn_call_expr(alloc, &mut run, table, expr, pos);
+                let done = evaluator.run_fn_call_expr(alloc, &mut run, table, expr, pos);
+                let result = finish(done, &mut run.value, &mut run.error);
                 give_back_with(run, global, scope, place);
                 result
             }
             None => {
                 let mut run = take(alloc, global, scope);
-                let result = evaluator.run_fn_call_expr(alloc, &mut run, table, expr, pos);
+                let done = evaluator.run_fn_call_expr(alloc, &mut run, table, expr, pos);
+                let result = finish(done, &mut run.value, &mut run.error);
                 give_back(run, global, scope);
                 result
             }
@@ -129,13 +132,15 @@ impl<H: Host> Engine<H> {
         match this {
             Some(place) => {
                 let mut run = take_with(alloc, global, scope, place);
-                let result = evaluator.run_arg(alloc, &mut run, table, arg_expr);
+                let done = evaluator.run_arg(alloc, &mut run, table, arg_expr);
+                let result = finish(done, &mut run.value, &mut run.error);
                 give_back_with(run, global, scope, place);
                 starting_at(result, arg_expr.start_position())
             }
             None => {
                 let mut run = take(alloc, global, scope);
-                let result = evaluator.run_arg(alloc, &mut run, table, arg_expr);
+                let done = evaluator.run_arg(alloc, &mut run, table, arg_expr);
+                let result = finish(done, &mut run.value, &mut run.error);
                 give_back(run, global, scope);
                 starting_at(result, arg_expr.start_position())
             }
@@ -186,17 +191,19 @@ impl<H: Host> Engine<H> {
         match this {
             Some(place) => {
                 let mut run = take_with(alloc, global, scope, place);
-                let result = evaluator.run_call(
+                let done = evaluator.run_call(
                     alloc, &mut run, table, fn_name, token, first_arg, args_expr, captures, pos,
                 );
+                let result = finish(done, &mut run.value, &mut run.error);
                 give_back_with(run, global, scope, place);
                 result
             }
             None => {
                 let mut run = take(alloc, global, scope);
-                let result = evaluator.run_call(
+                let done = evaluator.run_call(
                     alloc, &mut run, table, fn_name, token, first_arg, args_expr, captures, pos,
                 );
+                let result = finish(done, &mut run.value, &mut run.error);
                 give_back(run, global, scope);
                 result
             }

@@ -10,6 +10,7 @@ ghost use Rattle.rhai_cycle.specs.States.{under as under_what_is_read};
 
 use rhai_calls::dispatch::{is_held, races};
 use rhai_context::Context;
+use rhai_context::ends::finish;
 use rhai_cycle::bodies::{environ_in, level_below, put_this};
 use rhai_cycle::evaluator::Evaluator;
 use rhai_functions::function::Function;
@@ -66,7 +67,8 @@ pub(crate) fn enter_with_this<H: Host, T: NativeTable<H>>(
     let level = level_below(run.global.level);
     let (def, environ) = (function.def.get(), environ_in(&function));
     let values = args.as_mut_slice();
-    let result = evaluator.run_body(alloc, run, table, def, environ, values, true, level, pos);
+    let done = evaluator.run_body(alloc, run, table, def, environ, values, true, level, pos);
+    let result = finish(done, &mut run.value, &mut run.error);
     run.scope.rewind(length);
     let left = replace(&mut run.this, outer);
     put_this(focus, left);

@@ -29,6 +29,7 @@ use crate::func::arguments::empty_all;
 use crate::func::captured::enter_with_this;
 use rhai_calls::dispatch::{Dispatched, Seeks, pass_all, pass_call};
 use rhai_calls::native::{Passing, marked};
+use rhai_context::ends::finish;
 use rhai_context::{give_back, take};
 use rhai_functions::function::Function;
 use rhai_methods::calls::{MethodCall, on_target};
@@ -364,7 +365,8 @@ impl<H: Host> Engine<H> {
         let mut run = take(alloc, global, &mut scope);
         let limits = self.limits();
         let evaluator = self.evaluator(&limits);
-        let result = evaluator.enter_on_focus(alloc, &mut run, table, function, place, args, pos);
+        let done = evaluator.enter_on_focus(alloc, &mut run, table, function, place, args, pos);
+        let result = finish(done, &mut run.value, &mut run.error);
         give_back(run, global, &mut scope);
         drop(scope);
         marked(result, false)
@@ -420,7 +422,8 @@ impl<H: Host> Engine<H> {
                 let mut run = take(alloc, global, scope);
                 let limits = self.limits();
                 let evaluator = self.evaluator(&limits);
-                let result = evaluator.enter_captured(alloc, &mut run, table, function, args, pos);
+                let done = evaluator.enter_captured(alloc, &mut run, table, function, args, pos);
+                let result = finish(done, &mut run.value, &mut run.error);
                 give_back(run, global, scope);
                 marked(result, false)
             }
@@ -449,7 +452,8 @@ impl<H: Host> Engine<H> {
                 let mut run = take(alloc, global, &mut scope);
                 let limits = self.limits();
                 let evaluator = self.evaluator(&limits);
-                let result = evaluator.enter_fresh(alloc, &mut run, table, function, args, pos);
+                let done = evaluator.enter_fresh(alloc, &mut run, table, function, args, pos);
+                let result = finish(done, &mut run.value, &mut run.error);
                 give_back(run, global, &mut scope);
                 drop(scope);
                 marked(result, false)

@@ -23,6 +23,7 @@ ghost use Rattle.rhai_eval.specs.States.{limits_of, under};
 
 use crate::engine::Engine;
 use crate::this::{give_back_with, take_with};
+use rhai_context::ends::finish;
 use rhai_context::{Context, give_back, take};
 use rhai_functions::key::FnKey;
 use rhai_functions::lookup::find_function;
@@ -76,17 +77,8 @@ impl<H: Host> Engine<H> {
         let level = run.global.level;
         let limits = self.limits();
         let evaluator = self.evaluator(&limits);
-        let result = evaluator.run_body(
-            alloc,
-            run,
-            table,
-            def,
-            env,
-            args,
-            rewind_scope,
-            level,
-            pos,
-        );
+        let done = evaluator.run_body(alloc, run, table, def, env, args, rewind_scope, level, pos);
+        let result = finish(done, &mut run.value, &mut run.error);
         leave_variables(&mut run.scope, before, parameters, rewind_scope);
         result
     }

@@ -14,7 +14,8 @@ use rhai_eval::engine::Engine;
 use rhai_eval::state::{Caches, GlobalRuntimeState};
 use rhai_eval::table::NativeTable;
 use rhai_natives::Natives;
-use rhai_samples::operators::sum;
+use rhai_samples::operators::SUM;
+use rhai_samples::parts::statements_of;
 use rhai_tables::host::Pair;
 use rhai_tables::tables::counting::Counting;
 use std::alloc::Global;
@@ -167,7 +168,7 @@ impl Run {
 
     /// What `40 + 2` comes to over what the run left.
     fn sum(&mut self, alloc: Global) -> Option<i64> {
-        let tree = check_tree(alloc, sum(alloc).ok()?, Items::new(alloc)).ok()?;
+        let tree = check_tree(alloc, statements_of(alloc, SUM).ok()?, Items::new(alloc)).ok()?;
         self.global.num_operations = 0;
         match self.run_tree(alloc, Settings::USUAL, &tree).0 {
             Ending::Value(value) => integer_in(&value),

@@ -3,9 +3,10 @@
 use crate::vectors::reader::Reader;
 use crate::vectors::shown::Sheet;
 use rhai_check::check::{CheckFault, check_tree};
+use rhai_samples::built::{dot_that_ends_and_goes_on, method_of_a_module};
+use rhai_samples::parts::statements_of;
 use rhai_samples::refused::{
-    dot_that_ends_and_goes_on, integer_assigned, integer_behind_a_dot, method_assigned,
-    method_of_a_module, property_alone,
+    INTEGER_ASSIGNED, INTEGER_BEHIND_A_DOT, METHOD_ASSIGNED, PROPERTY_ALONE,
 };
 use rhai_tree::Items;
 use rhai_tree::expr::Stmt;
@@ -23,16 +24,16 @@ pub fn answer(line: &mut Reader<'_>, out: &mut Sheet) {
 
 /// The tree of a name.
 fn tree_of(alloc: Global, name: &str) -> Result<Option<Items<Stmt>>, AllocError> {
-    let tree = match name {
-        "integer_behind_a_dot" => integer_behind_a_dot(alloc),
-        "dot_that_ends_and_goes_on" => dot_that_ends_and_goes_on(alloc),
-        "integer_assigned" => integer_assigned(alloc),
-        "method_assigned" => method_assigned(alloc),
-        "property_alone" => property_alone(alloc),
-        "method_of_a_module" => method_of_a_module(alloc),
+    let parts = match name {
+        "integer_behind_a_dot" => INTEGER_BEHIND_A_DOT,
+        "dot_that_ends_and_goes_on" => return dot_that_ends_and_goes_on(alloc).map(Some),
+        "integer_assigned" => INTEGER_ASSIGNED,
+        "method_assigned" => METHOD_ASSIGNED,
+        "property_alone" => PROPERTY_ALONE,
+        "method_of_a_module" => return method_of_a_module(alloc).map(Some),
         _ => return Ok(None),
     };
-    tree.map(Some)
+    statements_of(alloc, parts).map(Some)
 }
 
 fn check(line: &mut Reader<'_>, statements: Items<Stmt>, out: &mut Sheet) {

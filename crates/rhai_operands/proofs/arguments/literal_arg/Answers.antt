@@ -1,18 +1,19 @@
-use Rattle.std.proofs.Common.{refl, sym, ap, ◌∙◌}
+use Rattle.std.proofs.Common.{refl, sym, ap, arith, ◌∙◌, Some}
 use Rattle.rhai_state.specs.declared.error.EvalAltResult.TheVariants as error
 use Rattle.rhai_machine.specs.language.Setting.{rules_of}
 use Rattle.rhai_operands.proofs.Literals.{literal_told, literal_refused}
 use Rattle.rhai_operands.proofs.arguments.literal_arg.Goals as goal
 
-pub returns-in-Err-clause-runs : goal.returns-in-Err-clause-runs
-returns-in-Err-clause-runs g c offer scope held =
-    literal_refused (rules_of c.args.limits.now g.H.Host.name_of offer g.T.NativeTable.natives) _ c.args.global.now
-    c.track_operation.new.global scope held c.args.arg.now _ refl (sym c.is_literal.ensures ∙ c.if-not-is_literal.false) _
-    c.in-Err.ensures.full (c.in-Err.ensures.refused ∙ ap error.ErrorTooManyOperations c.start_position.ensures) c.in-Err.ensures.same
+pub returns-then-not-charge_all-clause-runs : goal.returns-then-not-charge_all-clause-runs
+returns-then-not-charge_all-clause-runs g c offer scope held =
+    rw c.stop.ensures.stopped (literal_refused (rules_of c.args.limits.now g.H.Host.name_of offer g.T.NativeTable.natives) _
+    c.args.global.now c.charge_all.new.global scope held c.args.arg.now _ refl (sym c.is_literal.ensures ∙ c.if-not-is_literal.false) _
+    (omega (arith, c.charge_all.ensures.full c.if-not-charge_all.true))
+    (c.stop.ensures.told ∙ ap error.ErrorTooManyOperations c.start_position.ensures) (c.charge_all.ensures.same c.if-not-charge_all.true))
 
-pub returns-clause-runs : goal.returns-clause-runs
-returns-clause-runs g c offer scope held =
-    literal_told (rules_of c.args.limits.now g.H.Host.name_of offer g.T.NativeTable.natives) _ c.args.global.now
-    c.track_operation.new.global scope held c.args.arg.now _ refl (sym c.is_literal.ensures ∙ c.if-not-is_literal.false)
-    c.in_default.ensures.room
-    c.in_default.ensures.charged _ c.literal_value.ensures.exact
+pub returns-in-Some-clause-runs : goal.returns-in-Some-clause-runs
+returns-in-Some-clause-runs g c offer scope held =
+    rw c.settle.ensures (literal_told (rules_of c.args.limits.now g.H.Host.name_of offer g.T.NativeTable.natives) _ c.args.global.now
+    c.charge_all.new.global scope held c.args.arg.now _ refl (sym c.is_literal.ensures ∙ c.if-not-is_literal.false)
+    (omega (arith, c.charge_all.ensures.room c.if-not-charge_all.false)) (c.charge_all.ensures.charged c.if-not-charge_all.false)
+    (Some c.in-Some.answer) c.in-Some.ensures.exact)

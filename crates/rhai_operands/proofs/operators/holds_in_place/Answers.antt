@@ -4,6 +4,7 @@ use Rattle.rhai_tree.specs.declared.expr.Expr.TheVariants as exprs
 use Rattle.rhai_tree.specs.declared.expr.Expr.TheOpen as layer
 use Rattle.rhai_state.specs.Scope.{names_in, entries_of}
 use Rattle.rhai_machine.specs.language.Setting.{rules_of}
+use Rattle.rhai_context.specs.Ends.{error_in}
 use Rattle.rhai_operands.specs.Standing.{standing}
 use Rattle.rhai_operands.proofs.Names.{call_resolves}
 use Rattle.rhai_operands.proofs.Conditions.{from_same, test_refused, test_left_refused, test_right_refused, test_holds, test_holds_at_once}
@@ -21,8 +22,8 @@ compare_in_place-requires-clause-resolves_right g c = (call_resolves c.args.test
     c.in_ok-left.right.now (names_in c.args.scope.now) (rw (c.in-FnCall.is, exprs.outs-FnCall) refl)
     (two_args _ _ _ c.in_ok-left.ensures) c.requires).1
 
-pub returns-in-Err-clause-runs : goal.returns-in-Err-clause-runs
-returns-in-Err-clause-runs g c offer held fast =
+pub returns-then-not-charge-clause-runs : goal.returns-then-not-charge-clause-runs
+returns-then-not-charge-clause-runs g c offer held fast =
     let rules = rules_of c.args.limits.now g.H.Host.name_of offer g.T.NativeTable.natives in
     let form : out-Expr c.args.test.now ≡ layer.Expr::FnCall c.in-FnCall.call c.in-FnCall.pos = rw (c.in-FnCall.is, exprs.outs-FnCall)
     refl in
@@ -31,16 +32,16 @@ returns-in-Err-clause-runs g c offer held fast =
     let seen = compared_stands c.in_ok-token.token (standing (out-Expr c.in_ok-left.left.now) (entries_of c.args.scope.now))
     (standing (out-Expr c.in_ok-left.right.now) (entries_of c.args.scope.now)) c.in_ok-holds.holds (sym c.in_ok-holds.ensures) in
     from_same rules (g.T.NativeTable.state c.args._table.now) c.args.scope.now held c.args.test.now c.args.global.now
-    c.charge_all.new.global c.track_operation.new.global _ (c.charge_all.ensures.same c.if-charge_all.false) (
+    c.charge_all.new.global c.charge.new.global _ (c.charge_all.ensures.same c.if-charge_all.false) (
     test_refused rules (g.T.NativeTable.state c.args._table.now) c.args.scope.now held c.args.test.now c.in-FnCall.call
     c.in_ok-token.token
     c.in_ok-left.left.now c.in_ok-left.right.now c.in-FnCall.pos seen.0 seen.1 fast form c.in_ok-token.was
     (two_args _ _ _ c.in_ok-left.ensures) both.0
-    both.1 seen.2 seen.3 c.charge_all.new.global c.track_operation.new.global c.in-Err.error c.in-Err.ensures.full
-    c.in-Err.ensures.refused c.in-Err.ensures.same)
+    both.1 seen.2 seen.3 c.charge_all.new.global c.charge.new.global (error_in c.charge.new.place) (c.if-not-charge.ensures.full refl)
+    (c.if-not-charge.ensures.refused refl) (c.if-not-charge.ensures.same refl))
 
-pub returns-in-Err-track_operation-clause-runs : goal.returns-in-Err-track_operation-clause-runs
-returns-in-Err-track_operation-clause-runs g c offer held fast =
+pub returns-then-not-charge-2-clause-runs : goal.returns-then-not-charge-2-clause-runs
+returns-then-not-charge-2-clause-runs g c offer held fast =
     let rules = rules_of c.args.limits.now g.H.Host.name_of offer g.T.NativeTable.natives in
     let form : out-Expr c.args.test.now ≡ layer.Expr::FnCall c.in-FnCall.call c.in-FnCall.pos = rw (c.in-FnCall.is, exprs.outs-FnCall)
     refl in
@@ -49,17 +50,17 @@ returns-in-Err-track_operation-clause-runs g c offer held fast =
     let seen = compared_stands c.in_ok-token.token (standing (out-Expr c.in_ok-left.left.now) (entries_of c.args.scope.now))
     (standing (out-Expr c.in_ok-left.right.now) (entries_of c.args.scope.now)) c.in_ok-holds.holds (sym c.in_ok-holds.ensures) in
     from_same rules (g.T.NativeTable.state c.args._table.now) c.args.scope.now held c.args.test.now c.args.global.now
-    c.charge_all.new.global c.track_operation-2.new.global _ (c.charge_all.ensures.same c.if-charge_all.false) (
+    c.charge_all.new.global c.charge-2.new.global _ (c.charge_all.ensures.same c.if-charge_all.false) (
     test_left_refused rules (g.T.NativeTable.state c.args._table.now) c.args.scope.now held c.args.test.now c.in-FnCall.call
     c.in_ok-token.token c.in_ok-left.left.now c.in_ok-left.right.now c.in-FnCall.pos seen.0 seen.1 fast form c.in_ok-token.was
-    (two_args _ _ _ c.in_ok-left.ensures) both.0 both.1 seen.2 seen.3 c.charge_all.new.global c.track_operation.new.global
-    c.in_default-track_operation.ensures.room c.in_default-track_operation.ensures.charged c.track_operation-2.new.global
-    c.in-Err-track_operation.error c.in-Err-track_operation.ensures.full (rw c.position.ensures
-    at c.in-Err-track_operation.ensures.refused)
-    c.in-Err-track_operation.ensures.same)
+    (two_args _ _ _ c.in_ok-left.ensures) both.0 both.1 seen.2 seen.3 c.charge_all.new.global c.charge.new.global
+    (c.if-not-charge.ensures.room refl) (c.if-not-charge.ensures.charged refl) c.charge-2.new.global
+    (error_in c.charge-2.new.place) (c.if-not-charge-2.ensures.full refl) (rw c.position.ensures
+    at (c.if-not-charge-2.ensures.refused refl))
+    (c.if-not-charge-2.ensures.same refl))
 
-pub returns-in-Err-track_operation-2-clause-runs : goal.returns-in-Err-track_operation-2-clause-runs
-returns-in-Err-track_operation-2-clause-runs g c offer held fast =
+pub returns-then-not-charge-3-clause-runs : goal.returns-then-not-charge-3-clause-runs
+returns-then-not-charge-3-clause-runs g c offer held fast =
     let rules = rules_of c.args.limits.now g.H.Host.name_of offer g.T.NativeTable.natives in
     let form : out-Expr c.args.test.now ≡ layer.Expr::FnCall c.in-FnCall.call c.in-FnCall.pos = rw (c.in-FnCall.is, exprs.outs-FnCall)
     refl in
@@ -68,14 +69,14 @@ returns-in-Err-track_operation-2-clause-runs g c offer held fast =
     let seen = compared_stands c.in_ok-token.token (standing (out-Expr c.in_ok-left.left.now) (entries_of c.args.scope.now))
     (standing (out-Expr c.in_ok-left.right.now) (entries_of c.args.scope.now)) c.in_ok-holds.holds (sym c.in_ok-holds.ensures) in
     from_same rules (g.T.NativeTable.state c.args._table.now) c.args.scope.now held c.args.test.now c.args.global.now
-    c.charge_all.new.global c.track_operation-3.new.global _ (c.charge_all.ensures.same c.if-charge_all.false) (
+    c.charge_all.new.global c.charge-3.new.global _ (c.charge_all.ensures.same c.if-charge_all.false) (
     test_right_refused rules (g.T.NativeTable.state c.args._table.now) c.args.scope.now held c.args.test.now c.in-FnCall.call
     c.in_ok-token.token c.in_ok-left.left.now c.in_ok-left.right.now c.in-FnCall.pos seen.0 seen.1 fast form c.in_ok-token.was
-    (two_args _ _ _ c.in_ok-left.ensures) both.0 both.1 seen.2 seen.3 c.charge_all.new.global c.track_operation.new.global
-    c.in_default-track_operation.ensures.room c.in_default-track_operation.ensures.charged c.track_operation-2.new.global
-    c.in_default-track_operation-2.ensures.room c.in_default-track_operation-2.ensures.charged c.track_operation-3.new.global
-    c.in-Err-track_operation-2.error c.in-Err-track_operation-2.ensures.full
-    (rw c.position-2.ensures at c.in-Err-track_operation-2.ensures.refused) c.in-Err-track_operation-2.ensures.same)
+    (two_args _ _ _ c.in_ok-left.ensures) both.0 both.1 seen.2 seen.3 c.charge_all.new.global c.charge.new.global
+    (c.if-not-charge.ensures.room refl) (c.if-not-charge.ensures.charged refl) c.charge-2.new.global
+    (c.if-not-charge-2.ensures.room refl) (c.if-not-charge-2.ensures.charged refl) c.charge-3.new.global
+    (error_in c.charge-3.new.place) (c.if-not-charge-3.ensures.full refl)
+    (rw c.position-2.ensures at c.if-not-charge-3.ensures.refused refl) (c.if-not-charge-3.ensures.same refl))
 
 pub returns-clause-runs : goal.returns-clause-runs
 returns-clause-runs g c offer held fast =
@@ -87,13 +88,13 @@ returns-clause-runs g c offer held fast =
     let seen = compared_stands c.in_ok-token.token (standing (out-Expr c.in_ok-left.left.now) (entries_of c.args.scope.now))
     (standing (out-Expr c.in_ok-left.right.now) (entries_of c.args.scope.now)) c.in_ok-holds.holds (sym c.in_ok-holds.ensures) in
     from_same rules (g.T.NativeTable.state c.args._table.now) c.args.scope.now held c.args.test.now c.args.global.now
-    c.charge_all.new.global c.track_operation-3.new.global _ (c.charge_all.ensures.same c.if-charge_all.false) (
+    c.charge_all.new.global c.charge-3.new.global _ (c.charge_all.ensures.same c.if-charge_all.false) (
     test_holds rules (g.T.NativeTable.state c.args._table.now) c.args.scope.now held c.args.test.now c.in-FnCall.call
     c.in_ok-token.token c.in_ok-left.left.now c.in_ok-left.right.now c.in-FnCall.pos seen.0 seen.1 fast form c.in_ok-token.was
-    (two_args _ _ _ c.in_ok-left.ensures) both.0 both.1 seen.2 seen.3 c.charge_all.new.global c.track_operation.new.global
-    c.in_default-track_operation.ensures.room c.in_default-track_operation.ensures.charged c.track_operation-2.new.global
-    c.in_default-track_operation-2.ensures.room c.in_default-track_operation-2.ensures.charged c.track_operation-3.new.global
-    c.in_default-track_operation-3.ensures.room c.in_default-track_operation-3.ensures.charged c.in_ok-holds.holds seen.4)
+    (two_args _ _ _ c.in_ok-left.ensures) both.0 both.1 seen.2 seen.3 c.charge_all.new.global c.charge.new.global
+    (c.if-not-charge.ensures.room refl) (c.if-not-charge.ensures.charged refl) c.charge-2.new.global
+    (c.if-not-charge-2.ensures.room refl) (c.if-not-charge-2.ensures.charged refl) c.charge-3.new.global
+    (c.if-not-charge-3.ensures.room refl) (c.if-not-charge-3.ensures.charged refl) c.in_ok-holds.holds seen.4)
 
 pub returns-then-charge_all-clause-runs : goal.returns-then-charge_all-clause-runs
 returns-then-charge_all-clause-runs g c offer held fast =

@@ -38,35 +38,35 @@ use Rattle.rhai_cycle.proofs.evaluator.Evaluator.+eval.Answers.Tries as tries
 use Rattle.rhai_cycle.proofs.evaluator.Evaluator.+eval.Answers.Walk as walking
 use Rattle.rhai_cycle.proofs.evaluator.Evaluator.+eval.Answers.Walks as walks
 
-pub run_body-returns-in_err-track_operation-clause-runs : goal.run_body-returns-in_err-track_operation-clause-runs
-run_body-returns-in_err-track_operation-clause-runs = bodies.run_body-returns-in_err-track_operation-clause-runs
+pub run_body-returns-then-not-charge-clause-runs : goal.run_body-returns-then-not-charge-clause-runs
+run_body-returns-then-not-charge-clause-runs = bodies.run_body-returns-then-not-charge-clause-runs
 
-pub run_body-returns-in_err-open_function-clause-runs : goal.run_body-returns-in_err-open_function-clause-runs
-run_body-returns-in_err-open_function-clause-runs = bodies.run_body-returns-in_err-open_function-clause-runs
+pub run_body-returns-in-Err-clause-runs : goal.run_body-returns-in-Err-clause-runs
+run_body-returns-in-Err-clause-runs = bodies.run_body-returns-in-Err-clause-runs
 
 pub run_body-run_stmt_block-done-requires : goal.run_body-run_stmt_block-done-requires
 run_body-run_stmt_block-done-requires = bodies.run_body-run_stmt_block-done-requires
 
-pub run_body-returns-in-None-clause-runs : goal.run_body-returns-in-None-clause-runs
-run_body-returns-in-None-clause-runs = bodies.run_body-returns-in-None-clause-runs
+pub run_body-returns-in-Ok-None-clause-runs : goal.run_body-returns-in-Ok-None-clause-runs
+run_body-returns-in-Ok-None-clause-runs = bodies.run_body-returns-in-Ok-None-clause-runs
 
-pub run_body-returns-in-Some-clause-charges : goal.run_body-returns-in-Some-clause-charges
-run_body-returns-in-Some-clause-charges = bodies.run_body-returns-in-Some-clause-charges
+pub run_body-returns-in-Ok-Some-clause-charges : goal.run_body-returns-in-Ok-Some-clause-charges
+run_body-returns-in-Ok-Some-clause-charges = bodies.run_body-returns-in-Ok-Some-clause-charges
 
-pub run_body-returns-in-Some-clause-runs : goal.run_body-returns-in-Some-clause-runs
-run_body-returns-in-Some-clause-runs = bodies.run_body-returns-in-Some-clause-runs
+pub run_body-returns-in-Ok-Some-clause-runs : goal.run_body-returns-in-Ok-Some-clause-runs
+run_body-returns-in-Ok-Some-clause-runs = bodies.run_body-returns-in-Ok-Some-clause-runs
 
-pub run_body-returns-in_err-track_operation-clause-args : goal.run_body-returns-in_err-track_operation-clause-args
-run_body-returns-in_err-track_operation-clause-args = bodies.run_body-returns-in_err-track_operation-clause-args
+pub run_body-returns-then-not-charge-clause-args : goal.run_body-returns-then-not-charge-clause-args
+run_body-returns-then-not-charge-clause-args = bodies.run_body-returns-then-not-charge-clause-args
 
-pub run_body-returns-in_err-open_function-clause-args : goal.run_body-returns-in_err-open_function-clause-args
-run_body-returns-in_err-open_function-clause-args = bodies.run_body-returns-in_err-open_function-clause-args
+pub run_body-returns-in-Err-clause-args : goal.run_body-returns-in-Err-clause-args
+run_body-returns-in-Err-clause-args = bodies.run_body-returns-in-Err-clause-args
 
-pub run_body-returns-in-None-clause-args : goal.run_body-returns-in-None-clause-args
-run_body-returns-in-None-clause-args = bodies.run_body-returns-in-None-clause-args
+pub run_body-returns-in-Ok-None-clause-args : goal.run_body-returns-in-Ok-None-clause-args
+run_body-returns-in-Ok-None-clause-args = bodies.run_body-returns-in-Ok-None-clause-args
 
-pub run_body-returns-in-Some-clause-args : goal.run_body-returns-in-Some-clause-args
-run_body-returns-in-Some-clause-args = bodies.run_body-returns-in-Some-clause-args
+pub run_body-returns-in-Ok-Some-clause-args : goal.run_body-returns-in-Ok-Some-clause-args
+run_body-returns-in-Ok-Some-clause-args = bodies.run_body-returns-in-Ok-Some-clause-args
 
 pub enter_captured-returns-clause-runs : goal.enter_captured-returns-clause-runs
 enter_captured-returns-clause-runs = bodies.enter_captured-returns-clause-runs
@@ -110,17 +110,11 @@ enter_on_focus-returns-clause-counts = bodies.enter_on_focus-returns-clause-coun
 pub run_method-returns-in-Ended-clause-runs : goal.run_method-returns-in-Ended-clause-runs
 run_method-returns-in-Ended-clause-runs = bodies.run_method-returns-in-Ended-clause-runs
 
-pub run_method-returns-in-Ok-clause-runs : goal.run_method-returns-in-Ok-clause-runs
-run_method-returns-in-Ok-clause-runs = bodies.run_method-returns-in-Ok-clause-runs
+pub run_method-returns-in-OnTarget-clause-runs : goal.run_method-returns-in-OnTarget-clause-runs
+run_method-returns-in-OnTarget-clause-runs = bodies.run_method-returns-in-OnTarget-clause-runs
 
-pub run_method-returns-in-Err-clause-runs : goal.run_method-returns-in-Err-clause-runs
-run_method-returns-in-Err-clause-runs = bodies.run_method-returns-in-Err-clause-runs
-
-pub run_method-returns-in-Ok-enter_fresh-clause-runs : goal.run_method-returns-in-Ok-enter_fresh-clause-runs
-run_method-returns-in-Ok-enter_fresh-clause-runs = bodies.run_method-returns-in-Ok-enter_fresh-clause-runs
-
-pub run_method-returns-in-Err-enter_fresh-clause-runs : goal.run_method-returns-in-Err-enter_fresh-clause-runs
-run_method-returns-in-Err-enter_fresh-clause-runs = bodies.run_method-returns-in-Err-enter_fresh-clause-runs
+pub run_method-returns-in-Alone-clause-runs : goal.run_method-returns-in-Alone-clause-runs
+run_method-returns-in-Alone-clause-runs = bodies.run_method-returns-in-Alone-clause-runs
 
 pub run_fn_call_expr-run_arg-requires : goal.run_fn_call_expr-run_arg-requires
 run_fn_call_expr-run_arg-requires = calls.run_fn_call_expr-run_arg-requires
@@ -128,14 +122,14 @@ run_fn_call_expr-run_arg-requires = calls.run_fn_call_expr-run_arg-requires
 pub run_fn_call_expr-run_operator-requires : goal.run_fn_call_expr-run_operator-requires
 run_fn_call_expr-run_operator-requires = calls.run_fn_call_expr-run_operator-requires
 
-pub run_fn_call_expr-returns-in_err-value-in-Unary-clause-runs : goal.run_fn_call_expr-returns-in_err-value-in-Unary-clause-runs
-run_fn_call_expr-returns-in_err-value-in-Unary-clause-runs = calls.run_fn_call_expr-returns-in_err-value-in-Unary-clause-runs
+pub run_fn_call_expr-returns-then-not-run_arg-clause-runs : goal.run_fn_call_expr-returns-then-not-run_arg-clause-runs
+run_fn_call_expr-returns-then-not-run_arg-clause-runs = calls.run_fn_call_expr-returns-then-not-run_arg-clause-runs
 
-pub run_fn_call_expr-returns-in_err-value-in-Unary-2-clause-runs : goal.run_fn_call_expr-returns-in_err-value-in-Unary-2-clause-runs
-run_fn_call_expr-returns-in_err-value-in-Unary-2-clause-runs = calls.run_fn_call_expr-returns-in_err-value-in-Unary-2-clause-runs
+pub run_fn_call_expr-returns-then-not-flatten_value-clause-runs : goal.run_fn_call_expr-returns-then-not-flatten_value-clause-runs
+run_fn_call_expr-returns-then-not-flatten_value-clause-runs = calls.run_fn_call_expr-returns-then-not-flatten_value-clause-runs
 
-pub run_fn_call_expr-returns-in_ok-value-in-Unary-2-clause-runs : goal.run_fn_call_expr-returns-in_ok-value-in-Unary-2-clause-runs
-run_fn_call_expr-returns-in_ok-value-in-Unary-2-clause-runs = calls.run_fn_call_expr-returns-in_ok-value-in-Unary-2-clause-runs
+pub run_fn_call_expr-returns-else-not-flatten_value-clause-runs : goal.run_fn_call_expr-returns-else-not-flatten_value-clause-runs
+run_fn_call_expr-returns-else-not-flatten_value-clause-runs = calls.run_fn_call_expr-returns-else-not-flatten_value-clause-runs
 
 pub run_fn_call_expr-run_call-requires : goal.run_fn_call_expr-run_call-requires
 run_fn_call_expr-run_call-requires = calls.run_fn_call_expr-run_call-requires
@@ -146,38 +140,38 @@ run_fn_call_expr-returns-in-Function-clause-runs = calls.run_fn_call_expr-return
 pub run_operator-returns-in-Some-clause-runs : goal.run_operator-returns-in-Some-clause-runs
 run_operator-returns-in-Some-clause-runs = calls.run_operator-returns-in-Some-clause-runs
 
+pub run_operator-run_arg-requires : goal.run_operator-run_arg-requires
+run_operator-run_arg-requires = calls.run_operator-run_arg-requires
+
+pub run_operator-run_arg-requires-2 : goal.run_operator-run_arg-requires-2
+run_operator-run_arg-requires-2 = calls.run_operator-run_arg-requires-2
+
+pub run_operator-returns-then-not-run_arg-clause-runs : goal.run_operator-returns-then-not-run_arg-clause-runs
+run_operator-returns-then-not-run_arg-clause-runs = calls.run_operator-returns-then-not-run_arg-clause-runs
+
+pub run_operator-returns-then-not-flatten_value-clause-runs : goal.run_operator-returns-then-not-flatten_value-clause-runs
+run_operator-returns-then-not-flatten_value-clause-runs = calls.run_operator-returns-then-not-flatten_value-clause-runs
+
+pub run_operator-returns-then-not-run_arg-2-clause-runs : goal.run_operator-returns-then-not-run_arg-2-clause-runs
+run_operator-returns-then-not-run_arg-2-clause-runs = calls.run_operator-returns-then-not-run_arg-2-clause-runs
+
+pub run_operator-returns-then-not-flatten_value-2-clause-runs : goal.run_operator-returns-then-not-flatten_value-2-clause-runs
+run_operator-returns-then-not-flatten_value-2-clause-runs = calls.run_operator-returns-then-not-flatten_value-2-clause-runs
+
+pub run_operator-returns-clause-runs : goal.run_operator-returns-clause-runs
+run_operator-returns-clause-runs = calls.run_operator-returns-clause-runs
+
 pub run_arg-returns-in-Some-clause-runs : goal.run_arg-returns-in-Some-clause-runs
 run_arg-returns-in-Some-clause-runs = calls.run_arg-returns-in-Some-clause-runs
 
 pub run_arg-returns-in-None-clause-runs : goal.run_arg-returns-in-None-clause-runs
 run_arg-returns-in-None-clause-runs = calls.run_arg-returns-in-None-clause-runs
 
-pub run_operator-run_arg-requires : goal.run_operator-run_arg-requires
-run_operator-run_arg-requires = calls.run_operator-run_arg-requires
-
-pub run_operator-run_arg-requires-in-None : goal.run_operator-run_arg-requires-in-None
-run_operator-run_arg-requires-in-None = calls.run_operator-run_arg-requires-in-None
-
-pub run_operator-returns-in_err-first-in-None-clause-runs : goal.run_operator-returns-in_err-first-in-None-clause-runs
-run_operator-returns-in_err-first-in-None-clause-runs = calls.run_operator-returns-in_err-first-in-None-clause-runs
-
-pub run_operator-returns-in_err-first-in-None-2-clause-runs : goal.run_operator-returns-in_err-first-in-None-2-clause-runs
-run_operator-returns-in_err-first-in-None-2-clause-runs = calls.run_operator-returns-in_err-first-in-None-2-clause-runs
-
-pub run_operator-returns-in-Err-clause-runs : goal.run_operator-returns-in-Err-clause-runs
-run_operator-returns-in-Err-clause-runs = calls.run_operator-returns-in-Err-clause-runs
-
-pub run_operator-returns-in-Err-flatten-clause-runs : goal.run_operator-returns-in-Err-flatten-clause-runs
-run_operator-returns-in-Err-flatten-clause-runs = calls.run_operator-returns-in-Err-flatten-clause-runs
-
-pub run_operator-returns-in-Ok-flatten-clause-runs : goal.run_operator-returns-in-Ok-flatten-clause-runs
-run_operator-returns-in-Ok-flatten-clause-runs = calls.run_operator-returns-in-Ok-flatten-clause-runs
-
 pub run_chain-ready_args-requires : goal.run_chain-ready_args-requires
 run_chain-ready_args-requires = chains.run_chain-ready_args-requires
 
-pub run_chain-run_root-result-requires : goal.run_chain-run_root-result-requires
-run_chain-run_root-result-requires = chains.run_chain-run_root-result-requires
+pub run_chain-run_root-done-requires : goal.run_chain-run_root-done-requires
+run_chain-run_root-done-requires = chains.run_chain-run_root-done-requires
 
 pub run_chain-returns-in-Ok-clause-runs : goal.run_chain-returns-in-Ok-clause-runs
 run_chain-returns-in-Ok-clause-runs = chains.run_chain-returns-in-Ok-clause-runs
@@ -191,17 +185,17 @@ run_chain-returns-in-Err-clause-runs = chains.run_chain-returns-in-Err-clause-ru
 pub run_chain-run_link_args-requires : goal.run_chain-run_link_args-requires
 run_chain-run_link_args-requires = chains.run_chain-run_link_args-requires
 
-pub run_chain-run_root-result-requires-in-Ok-run_link_args : goal.run_chain-run_root-result-requires-in-Ok-run_link_args
-run_chain-run_root-result-requires-in-Ok-run_link_args = chains.run_chain-run_root-result-requires-in-Ok-run_link_args
+pub run_chain-run_root-done-requires-in-None : goal.run_chain-run_root-done-requires-in-None
+run_chain-run_root-done-requires-in-None = chains.run_chain-run_root-done-requires-in-None
 
-pub run_chain-returns-in-Ok-run_link_args-clause-runs : goal.run_chain-returns-in-Ok-run_link_args-clause-runs
-run_chain-returns-in-Ok-run_link_args-clause-runs = chains.run_chain-returns-in-Ok-run_link_args-clause-runs
+pub run_chain-returns-else-not-run_link_args-clause-runs : goal.run_chain-returns-else-not-run_link_args-clause-runs
+run_chain-returns-else-not-run_link_args-clause-runs = chains.run_chain-returns-else-not-run_link_args-clause-runs
 
-pub run_chain-returns-in-Ok-run_link_args-clause-asks : goal.run_chain-returns-in-Ok-run_link_args-clause-asks
-run_chain-returns-in-Ok-run_link_args-clause-asks = chains.run_chain-returns-in-Ok-run_link_args-clause-asks
+pub run_chain-returns-else-not-run_link_args-clause-asks : goal.run_chain-returns-else-not-run_link_args-clause-asks
+run_chain-returns-else-not-run_link_args-clause-asks = chains.run_chain-returns-else-not-run_link_args-clause-asks
 
-pub run_chain-returns-in-Err-run_link_args-clause-runs : goal.run_chain-returns-in-Err-run_link_args-clause-runs
-run_chain-returns-in-Err-run_link_args-clause-runs = chains.run_chain-returns-in-Err-run_link_args-clause-runs
+pub run_chain-returns-then-not-run_link_args-clause-runs : goal.run_chain-returns-then-not-run_link_args-clause-runs
+run_chain-returns-then-not-run_link_args-clause-runs = chains.run_chain-returns-then-not-run_link_args-clause-runs
 
 pub run_link_args-unreachable-requires : goal.run_link_args-unreachable-requires
 run_link_args-unreachable-requires = chains.run_link_args-unreachable-requires
@@ -212,11 +206,11 @@ run_link_args-run_more_args-requires = chains.run_link_args-run_more_args-requir
 pub run_link_args-run_link_args-requires : goal.run_link_args-run_link_args-requires
 run_link_args-run_link_args-requires = chains.run_link_args-run_link_args-requires
 
-pub run_link_args-returns-in-Err-clause-gathers : goal.run_link_args-returns-in-Err-clause-gathers
-run_link_args-returns-in-Err-clause-gathers = chains.run_link_args-returns-in-Err-clause-gathers
+pub run_link_args-returns-then-not-charge-clause-gathers : goal.run_link_args-returns-then-not-charge-clause-gathers
+run_link_args-returns-then-not-charge-clause-gathers = chains.run_link_args-returns-then-not-charge-clause-gathers
 
-pub run_link_args-returns-in_err-values-clause-gathers : goal.run_link_args-returns-in_err-values-clause-gathers
-run_link_args-returns-in_err-values-clause-gathers = chains.run_link_args-returns-in_err-values-clause-gathers
+pub run_link_args-returns-then-not-run_more_args-clause-gathers : goal.run_link_args-returns-then-not-run_more_args-clause-gathers
+run_link_args-returns-then-not-run_more_args-clause-gathers = chains.run_link_args-returns-then-not-run_more_args-clause-gathers
 
 pub run_link_args-returns-in-Some-behind-clause-gathers : goal.run_link_args-returns-in-Some-behind-clause-gathers
 run_link_args-returns-in-Some-behind-clause-gathers = chains.run_link_args-returns-in-Some-behind-clause-gathers
@@ -230,32 +224,32 @@ run_link_args-returns-in-None-clause-gathers = chains.run_link_args-returns-in-N
 pub run_link_args-returns-in-None-clause-asked : goal.run_link_args-returns-in-None-clause-asked
 run_link_args-returns-in-None-clause-asked = chains.run_link_args-returns-in-None-clause-asked
 
-pub run_root-walk_value-requires : goal.run_root-walk_value-requires
-run_root-walk_value-requires = chains.run_root-walk_value-requires
+pub run_root-walk_value-answer-requires : goal.run_root-walk_value-answer-requires
+run_root-walk_value-answer-requires = chains.run_root-walk_value-answer-requires
 
-pub run_root-returns-in_err-value-in_default-clause-runs : goal.run_root-returns-in_err-value-in_default-clause-runs
-run_root-returns-in_err-value-in_default-clause-runs = chains.run_root-returns-in_err-value-in_default-clause-runs
+pub run_root-returns-then-not-run_expr-clause-runs : goal.run_root-returns-then-not-run_expr-clause-runs
+run_root-returns-then-not-run_expr-clause-runs = chains.run_root-returns-then-not-run_expr-clause-runs
 
-pub run_root-returns-in_ok-value-in_default-clause-runs : goal.run_root-returns-in_ok-value-in_default-clause-runs
-run_root-returns-in_ok-value-in_default-clause-runs = chains.run_root-returns-in_ok-value-in_default-clause-runs
+pub run_root-returns-else-not-run_expr-clause-runs : goal.run_root-returns-else-not-run_expr-clause-runs
+run_root-returns-else-not-run_expr-clause-runs = chains.run_root-returns-else-not-run_expr-clause-runs
 
-pub run_root-returns-in-Err-clause-runs : goal.run_root-returns-in-Err-clause-runs
-run_root-returns-in-Err-clause-runs = chains.run_root-returns-in-Err-clause-runs
+pub run_root-returns-then-not-charge-clause-runs : goal.run_root-returns-then-not-charge-clause-runs
+run_root-returns-then-not-charge-clause-runs = chains.run_root-returns-then-not-charge-clause-runs
 
-pub run_root-walk_variable-requires : goal.run_root-walk_variable-requires
-run_root-walk_variable-requires = chains.run_root-walk_variable-requires
+pub run_root-walk_variable-answer-requires : goal.run_root-walk_variable-answer-requires
+run_root-walk_variable-answer-requires = chains.run_root-walk_variable-answer-requires
 
-pub run_root-returns-in_default-track_operation-clause-runs : goal.run_root-returns-in_default-track_operation-clause-runs
-run_root-returns-in_default-track_operation-clause-runs = chains.run_root-returns-in_default-track_operation-clause-runs
+pub run_root-returns-else-not-charge-clause-runs : goal.run_root-returns-else-not-charge-clause-runs
+run_root-returns-else-not-charge-clause-runs = chains.run_root-returns-else-not-charge-clause-runs
 
-pub run_root-returns-in-Err-track_operation-clause-runs : goal.run_root-returns-in-Err-track_operation-clause-runs
-run_root-returns-in-Err-track_operation-clause-runs = chains.run_root-returns-in-Err-track_operation-clause-runs
+pub run_root-returns-then-not-charge-2-clause-runs : goal.run_root-returns-then-not-charge-2-clause-runs
+run_root-returns-then-not-charge-2-clause-runs = chains.run_root-returns-then-not-charge-2-clause-runs
 
-pub run_root-walk_this-requires : goal.run_root-walk_this-requires
-run_root-walk_this-requires = chains.run_root-walk_this-requires
+pub run_root-walk_this-answer-requires : goal.run_root-walk_this-answer-requires
+run_root-walk_this-answer-requires = chains.run_root-walk_this-answer-requires
 
-pub run_root-returns-in_default-track_operation-2-clause-runs : goal.run_root-returns-in_default-track_operation-2-clause-runs
-run_root-returns-in_default-track_operation-2-clause-runs = chains.run_root-returns-in_default-track_operation-2-clause-runs
+pub run_root-returns-else-not-charge-2-clause-runs : goal.run_root-returns-else-not-charge-2-clause-runs
+run_root-returns-else-not-charge-2-clause-runs = chains.run_root-returns-else-not-charge-2-clause-runs
 
 pub assign_chain-unreachable-requires : goal.assign_chain-unreachable-requires
 assign_chain-unreachable-requires = chains.assign_chain-unreachable-requires
@@ -263,14 +257,14 @@ assign_chain-unreachable-requires = chains.assign_chain-unreachable-requires
 pub assign_chain-run_chain-requires : goal.assign_chain-run_chain-requires
 assign_chain-run_chain-requires = chains.assign_chain-run_chain-requires
 
-pub assign_chain-returns-in_err-value-clause-runs : goal.assign_chain-returns-in_err-value-clause-runs
-assign_chain-returns-in_err-value-clause-runs = chains.assign_chain-returns-in_err-value-clause-runs
+pub assign_chain-returns-then-not-run_expr-clause-runs : goal.assign_chain-returns-then-not-run_expr-clause-runs
+assign_chain-returns-then-not-run_expr-clause-runs = chains.assign_chain-returns-then-not-run_expr-clause-runs
 
-pub assign_chain-returns-in_err-value-2-clause-runs : goal.assign_chain-returns-in_err-value-2-clause-runs
-assign_chain-returns-in_err-value-2-clause-runs = chains.assign_chain-returns-in_err-value-2-clause-runs
+pub assign_chain-returns-then-not-flatten_value-clause-runs : goal.assign_chain-returns-then-not-flatten_value-clause-runs
+assign_chain-returns-then-not-flatten_value-clause-runs = chains.assign_chain-returns-then-not-flatten_value-clause-runs
 
-pub assign_chain-returns-in_err-left-clause-runs : goal.assign_chain-returns-in_err-left-clause-runs
-assign_chain-returns-in_err-left-clause-runs = chains.assign_chain-returns-in_err-left-clause-runs
+pub assign_chain-returns-then-not-run_chain-clause-runs : goal.assign_chain-returns-then-not-run_chain-clause-runs
+assign_chain-returns-then-not-run_chain-clause-runs = chains.assign_chain-returns-then-not-run_chain-clause-runs
 
 pub assign_chain-returns-clause-runs : goal.assign_chain-returns-clause-runs
 assign_chain-returns-clause-runs = chains.assign_chain-returns-clause-runs
@@ -287,8 +281,8 @@ run_expr-returns-in-Dot-clause-runs = chains.run_expr-returns-in-Dot-clause-runs
 pub run_expr-returns-in-Index-clause-runs : goal.run_expr-returns-in-Index-clause-runs
 run_expr-returns-in-Index-clause-runs = chains.run_expr-returns-in-Index-clause-runs
 
-pub run_assignment-assign_chain-answer-requires : goal.run_assignment-assign_chain-answer-requires
-run_assignment-assign_chain-answer-requires = chains.run_assignment-assign_chain-answer-requires
+pub run_assignment-assign_chain-requires : goal.run_assignment-assign_chain-requires
+run_assignment-assign_chain-requires = chains.run_assignment-assign_chain-requires
 
 pub run_until-run_condition-requires : goal.run_until-run_condition-requires
 run_until-run_condition-requires = choices.run_until-run_condition-requires
@@ -299,8 +293,8 @@ run_until-each_part-init = choices.run_until-each_part-init
 pub run_until-each_part-preserved : goal.run_until-each_part-preserved
 run_until-each_part-preserved = choices.run_until-each_part-preserved
 
-pub run_until-returns-in_err-holds-clause-runs : goal.run_until-returns-in_err-holds-clause-runs
-run_until-returns-in_err-holds-clause-runs = choices.run_until-returns-in_err-holds-clause-runs
+pub run_until-returns-in_default-clause-runs : goal.run_until-returns-in_default-clause-runs
+run_until-returns-in_default-clause-runs = choices.run_until-returns-in_default-clause-runs
 
 pub run_until-returns-then-is_same-clause-runs : goal.run_until-returns-then-is_same-clause-runs
 run_until-returns-then-is_same-clause-runs = choices.run_until-returns-then-is_same-clause-runs
@@ -317,14 +311,14 @@ run_coalesce-each_part-init = choices.run_coalesce-each_part-init
 pub run_coalesce-each_part-preserved : goal.run_coalesce-each_part-preserved
 run_coalesce-each_part-preserved = choices.run_coalesce-each_part-preserved
 
-pub run_coalesce-returns-in_err-last-clause-runs : goal.run_coalesce-returns-in_err-last-clause-runs
-run_coalesce-returns-in_err-last-clause-runs = choices.run_coalesce-returns-in_err-last-clause-runs
+pub run_coalesce-returns-then-not-run_expr-clause-runs : goal.run_coalesce-returns-then-not-run_expr-clause-runs
+run_coalesce-returns-then-not-run_expr-clause-runs = choices.run_coalesce-returns-then-not-run_expr-clause-runs
 
-pub run_coalesce-returns-in_err-is_unit-clause-runs : goal.run_coalesce-returns-in_err-is_unit-clause-runs
-run_coalesce-returns-in_err-is_unit-clause-runs = choices.run_coalesce-returns-in_err-is_unit-clause-runs
+pub run_coalesce-returns-in-None-clause-runs : goal.run_coalesce-returns-in-None-clause-runs
+run_coalesce-returns-in-None-clause-runs = choices.run_coalesce-returns-in-None-clause-runs
 
-pub run_coalesce-returns-then-not-branch-clause-runs : goal.run_coalesce-returns-then-not-branch-clause-runs
-run_coalesce-returns-then-not-branch-clause-runs = choices.run_coalesce-returns-then-not-branch-clause-runs
+pub run_coalesce-returns-in-Some-false-clause-runs : goal.run_coalesce-returns-in-Some-false-clause-runs
+run_coalesce-returns-in-Some-false-clause-runs = choices.run_coalesce-returns-in-Some-false-clause-runs
 
 pub run_coalesce-returns-clause-runs : goal.run_coalesce-returns-clause-runs
 run_coalesce-returns-clause-runs = choices.run_coalesce-returns-clause-runs
@@ -338,11 +332,14 @@ run_array-each_item-init = making.run_array-each_item-init
 pub run_array-each_item-preserved : goal.run_array-each_item-preserved
 run_array-each_item-preserved = making.run_array-each_item-preserved
 
-pub run_array-returns-in-Err-added-clause-runs : goal.run_array-returns-in-Err-added-clause-runs
-run_array-returns-in-Err-added-clause-runs = making.run_array-returns-in-Err-added-clause-runs
-
 pub run_array-returns-in-Err-clause-runs : goal.run_array-returns-in-Err-clause-runs
 run_array-returns-in-Err-clause-runs = making.run_array-returns-in-Err-clause-runs
+
+pub run_array-returns-then-not-run_expr-clause-runs : goal.run_array-returns-then-not-run_expr-clause-runs
+run_array-returns-then-not-run_expr-clause-runs = making.run_array-returns-then-not-run_expr-clause-runs
+
+pub run_array-returns-clause-runs : goal.run_array-returns-clause-runs
+run_array-returns-clause-runs = making.run_array-returns-clause-runs
 
 pub run_map-run_expr-requires : goal.run_map-run_expr-requires
 run_map-run_expr-requires = making.run_map-run_expr-requires
@@ -353,11 +350,11 @@ run_map-each_entry-init = making.run_map-each_entry-init
 pub run_map-each_entry-preserved : goal.run_map-each_entry-preserved
 run_map-each_entry-preserved = making.run_map-each_entry-preserved
 
-pub run_map-returns-in-Err-added-clause-runs : goal.run_map-returns-in-Err-added-clause-runs
-run_map-returns-in-Err-added-clause-runs = making.run_map-returns-in-Err-added-clause-runs
-
 pub run_map-returns-in-Err-clause-runs : goal.run_map-returns-in-Err-clause-runs
 run_map-returns-in-Err-clause-runs = making.run_map-returns-in-Err-clause-runs
+
+pub run_map-returns-then-not-run_expr-clause-runs : goal.run_map-returns-then-not-run_expr-clause-runs
+run_map-returns-then-not-run_expr-clause-runs = making.run_map-returns-then-not-run_expr-clause-runs
 
 pub run_map-returns-clause-runs : goal.run_map-returns-clause-runs
 run_map-returns-clause-runs = making.run_map-returns-clause-runs
@@ -371,35 +368,32 @@ run_interpolated-each_part-init = making.run_interpolated-each_part-init
 pub run_interpolated-each_part-preserved : goal.run_interpolated-each_part-preserved
 run_interpolated-each_part-preserved = making.run_interpolated-each_part-preserved
 
-pub run_interpolated-returns-in_err-value-clause-runs : goal.run_interpolated-returns-in_err-value-clause-runs
-run_interpolated-returns-in_err-value-clause-runs = making.run_interpolated-returns-in_err-value-clause-runs
+pub run_interpolated-returns-then-not-run_expr-clause-runs : goal.run_interpolated-returns-then-not-run_expr-clause-runs
+run_interpolated-returns-then-not-run_expr-clause-runs = making.run_interpolated-returns-then-not-run_expr-clause-runs
 
-pub run_interpolated-returns-in_err-join-clause-runs : goal.run_interpolated-returns-in_err-join-clause-runs
-run_interpolated-returns-in_err-join-clause-runs = making.run_interpolated-returns-in_err-join-clause-runs
+pub run_interpolated-returns-in-Err-clause-runs : goal.run_interpolated-returns-in-Err-clause-runs
+run_interpolated-returns-in-Err-clause-runs = making.run_interpolated-returns-in-Err-clause-runs
 
 pub run_interpolated-returns-clause-runs : goal.run_interpolated-returns-clause-runs
 run_interpolated-returns-clause-runs = making.run_interpolated-returns-clause-runs
 
-pub run_array-returns-clause-runs : goal.run_array-returns-clause-runs
-run_array-returns-clause-runs = making.run_array-returns-clause-runs
+pub run_expr-returns-then-not-charge_expr-clause-runs : goal.run_expr-returns-then-not-charge_expr-clause-runs
+run_expr-returns-then-not-charge_expr-clause-runs = expressions.run_expr-returns-then-not-charge_expr-clause-runs
 
-pub run_expr-returns-in_err-track_operation-clause-runs : goal.run_expr-returns-in_err-track_operation-clause-runs
-run_expr-returns-in_err-track_operation-clause-runs = expressions.run_expr-returns-in_err-track_operation-clause-runs
+pub run_expr-returns-then-not-charge_expr-clause-memory : goal.run_expr-returns-then-not-charge_expr-clause-memory
+run_expr-returns-then-not-charge_expr-clause-memory = expressions.run_expr-returns-then-not-charge_expr-clause-memory
 
-pub run_expr-returns-in-BoolConstant-clause-runs : goal.run_expr-returns-in-BoolConstant-clause-runs
-run_expr-returns-in-BoolConstant-clause-runs = expressions.run_expr-returns-in-BoolConstant-clause-runs
+pub run_expr-returns-in_default-clause-runs : goal.run_expr-returns-in_default-clause-runs
+run_expr-returns-in_default-clause-runs = expressions.run_expr-returns-in_default-clause-runs
 
-pub run_expr-returns-in-IntegerConstant-clause-runs : goal.run_expr-returns-in-IntegerConstant-clause-runs
-run_expr-returns-in-IntegerConstant-clause-runs = expressions.run_expr-returns-in-IntegerConstant-clause-runs
+pub run_expr-returns-in_default-clause-memory : goal.run_expr-returns-in_default-clause-memory
+run_expr-returns-in_default-clause-memory = expressions.run_expr-returns-in_default-clause-memory
 
-pub run_expr-returns-in-CharConstant-clause-runs : goal.run_expr-returns-in-CharConstant-clause-runs
-run_expr-returns-in-CharConstant-clause-runs = expressions.run_expr-returns-in-CharConstant-clause-runs
+pub run_expr-returns-in_default-clause-plain : goal.run_expr-returns-in_default-clause-plain
+run_expr-returns-in_default-clause-plain = expressions.run_expr-returns-in_default-clause-plain
 
-pub run_expr-returns-in-StringConstant-clause-runs : goal.run_expr-returns-in-StringConstant-clause-runs
-run_expr-returns-in-StringConstant-clause-runs = expressions.run_expr-returns-in-StringConstant-clause-runs
-
-pub run_expr-returns-in-DynamicConstant-clause-runs : goal.run_expr-returns-in-DynamicConstant-clause-runs
-run_expr-returns-in-DynamicConstant-clause-runs = expressions.run_expr-returns-in-DynamicConstant-clause-runs
+pub run_expr-returns-in_default-clause-truth : goal.run_expr-returns-in_default-clause-truth
+run_expr-returns-in_default-clause-truth = expressions.run_expr-returns-in_default-clause-truth
 
 pub run_expr-returns-in-Array-clause-runs : goal.run_expr-returns-in-Array-clause-runs
 run_expr-returns-in-Array-clause-runs = expressions.run_expr-returns-in-Array-clause-runs
@@ -409,24 +403,6 @@ run_expr-returns-in-Map-clause-runs = expressions.run_expr-returns-in-Map-clause
 
 pub run_expr-returns-in-InterpolatedString-clause-runs : goal.run_expr-returns-in-InterpolatedString-clause-runs
 run_expr-returns-in-InterpolatedString-clause-runs = expressions.run_expr-returns-in-InterpolatedString-clause-runs
-
-pub run_expr-returns-in-Unit-clause-runs : goal.run_expr-returns-in-Unit-clause-runs
-run_expr-returns-in-Unit-clause-runs = expressions.run_expr-returns-in-Unit-clause-runs
-
-pub run_expr-read_variable-requires : goal.run_expr-read_variable-requires
-run_expr-read_variable-requires = expressions.run_expr-read_variable-requires
-
-pub run_expr-returns-in-Variable-clause-runs : goal.run_expr-returns-in-Variable-clause-runs
-run_expr-returns-in-Variable-clause-runs = expressions.run_expr-returns-in-Variable-clause-runs
-
-pub run_expr-returns-in-ThisPtr-clause-runs : goal.run_expr-returns-in-ThisPtr-clause-runs
-run_expr-returns-in-ThisPtr-clause-runs = expressions.run_expr-returns-in-ThisPtr-clause-runs
-
-pub run_expr-returns-in-Stmt-clause-runs : goal.run_expr-returns-in-Stmt-clause-runs
-run_expr-returns-in-Stmt-clause-runs = expressions.run_expr-returns-in-Stmt-clause-runs
-
-pub run_expr-returns-in-Stmt-clause-charges : goal.run_expr-returns-in-Stmt-clause-charges
-run_expr-returns-in-Stmt-clause-charges = expressions.run_expr-returns-in-Stmt-clause-charges
 
 pub run_expr-returns-in-FnCall-clause-runs : goal.run_expr-returns-in-FnCall-clause-runs
 run_expr-returns-in-FnCall-clause-runs = expressions.run_expr-returns-in-FnCall-clause-runs
@@ -440,14 +416,23 @@ run_expr-returns-in-Or-clause-runs = expressions.run_expr-returns-in-Or-clause-r
 pub run_expr-returns-in-Coalesce-clause-runs : goal.run_expr-returns-in-Coalesce-clause-runs
 run_expr-returns-in-Coalesce-clause-runs = expressions.run_expr-returns-in-Coalesce-clause-runs
 
+pub run_expr-returns-in-Stmt-clause-runs : goal.run_expr-returns-in-Stmt-clause-runs
+run_expr-returns-in-Stmt-clause-runs = expressions.run_expr-returns-in-Stmt-clause-runs
+
+pub run_expr-returns-in-Stmt-clause-charges : goal.run_expr-returns-in-Stmt-clause-charges
+run_expr-returns-in-Stmt-clause-charges = expressions.run_expr-returns-in-Stmt-clause-charges
+
 pub run_condition-returns-in-Some-clause-runs : goal.run_condition-returns-in-Some-clause-runs
 run_condition-returns-in-Some-clause-runs = expressions.run_condition-returns-in-Some-clause-runs
 
-pub run_condition-returns-in_err-value-in-None-clause-runs : goal.run_condition-returns-in_err-value-in-None-clause-runs
-run_condition-returns-in_err-value-in-None-clause-runs = expressions.run_condition-returns-in_err-value-in-None-clause-runs
+pub run_condition-returns-then-not-run_expr-clause-runs : goal.run_condition-returns-then-not-run_expr-clause-runs
+run_condition-returns-then-not-run_expr-clause-runs = expressions.run_condition-returns-then-not-run_expr-clause-runs
 
-pub run_condition-returns-in_ok-value-in-None-clause-runs : goal.run_condition-returns-in_ok-value-in-None-clause-runs
-run_condition-returns-in_ok-value-in-None-clause-runs = expressions.run_condition-returns-in_ok-value-in-None-clause-runs
+pub run_condition-returns-then-not-run_expr-clause-memory : goal.run_condition-returns-then-not-run_expr-clause-memory
+run_condition-returns-then-not-run_expr-clause-memory = expressions.run_condition-returns-then-not-run_expr-clause-memory
+
+pub run_condition-returns-else-not-run_expr-clause-runs : goal.run_condition-returns-else-not-run_expr-clause-runs
+run_condition-returns-else-not-run_expr-clause-runs = expressions.run_condition-returns-else-not-run_expr-clause-runs
 
 pub run_call-run_named-requires : goal.run_call-run_named-requires
 run_call-run_named-requires = functions.run_call-run_named-requires
@@ -479,32 +464,32 @@ run_keyword-run_pointer-requires-in-Some = functions.run_keyword-run_pointer-req
 pub run_keyword-run_named-requires : goal.run_keyword-run_named-requires
 run_keyword-run_named-requires = functions.run_keyword-run_named-requires
 
-pub run_keyword-returns-in_err-value-clause-runs : goal.run_keyword-returns-in_err-value-clause-runs
-run_keyword-returns-in_err-value-clause-runs = functions.run_keyword-returns-in_err-value-clause-runs
+pub run_keyword-returns-then-not-run_arg-clause-runs : goal.run_keyword-returns-then-not-run_arg-clause-runs
+run_keyword-returns-then-not-run_arg-clause-runs = functions.run_keyword-returns-then-not-run_arg-clause-runs
 
 pub run_keyword-returns-in-IsShared-clause-runs : goal.run_keyword-returns-in-IsShared-clause-runs
 run_keyword-returns-in-IsShared-clause-runs = functions.run_keyword-returns-in-IsShared-clause-runs
 
-pub run_keyword-returns-in_err-text-in-IsDefinedVariable-clause-runs : goal.run_keyword-returns-in_err-text-in-IsDefinedVariable-clause-runs
-run_keyword-returns-in_err-text-in-IsDefinedVariable-clause-runs = functions.run_keyword-returns-in_err-text-in-IsDefinedVariable-clause-runs
+pub run_keyword-returns-in-Err-clause-runs : goal.run_keyword-returns-in-Err-clause-runs
+run_keyword-returns-in-Err-clause-runs = functions.run_keyword-returns-in-Err-clause-runs
 
-pub run_keyword-returns-in_ok-text-in-IsDefinedVariable-clause-runs : goal.run_keyword-returns-in_ok-text-in-IsDefinedVariable-clause-runs
-run_keyword-returns-in_ok-text-in-IsDefinedVariable-clause-runs = functions.run_keyword-returns-in_ok-text-in-IsDefinedVariable-clause-runs
+pub run_keyword-returns-in-Ok-clause-runs : goal.run_keyword-returns-in-Ok-clause-runs
+run_keyword-returns-in-Ok-clause-runs = functions.run_keyword-returns-in-Ok-clause-runs
 
-pub run_keyword-returns-in_err-text-in-MakePointer-clause-runs : goal.run_keyword-returns-in_err-text-in-MakePointer-clause-runs
-run_keyword-returns-in_err-text-in-MakePointer-clause-runs = functions.run_keyword-returns-in_err-text-in-MakePointer-clause-runs
+pub run_keyword-returns-in-Err-text_of-clause-runs : goal.run_keyword-returns-in-Err-text_of-clause-runs
+run_keyword-returns-in-Err-text_of-clause-runs = functions.run_keyword-returns-in-Err-text_of-clause-runs
 
-pub run_keyword-returns-in_ok-text-in-MakePointer-clause-runs : goal.run_keyword-returns-in_ok-text-in-MakePointer-clause-runs
-run_keyword-returns-in_ok-text-in-MakePointer-clause-runs = functions.run_keyword-returns-in_ok-text-in-MakePointer-clause-runs
+pub run_keyword-returns-in-Ok-text_of-clause-runs : goal.run_keyword-returns-in-Ok-text_of-clause-runs
+run_keyword-returns-in-Ok-text_of-clause-runs = functions.run_keyword-returns-in-Ok-text_of-clause-runs
 
-pub run_keyword-returns-in_err-pointer-in-Curry-clause-runs : goal.run_keyword-returns-in_err-pointer-in-Curry-clause-runs
-run_keyword-returns-in_err-pointer-in-Curry-clause-runs = functions.run_keyword-returns-in_err-pointer-in-Curry-clause-runs
+pub run_keyword-returns-in-Err-pointer_of-clause-runs : goal.run_keyword-returns-in-Err-pointer_of-clause-runs
+run_keyword-returns-in-Err-pointer_of-clause-runs = functions.run_keyword-returns-in-Err-pointer_of-clause-runs
 
-pub run_keyword-returns-in_ok-pointer-in-Curry-clause-runs : goal.run_keyword-returns-in_ok-pointer-in-Curry-clause-runs
-run_keyword-returns-in_ok-pointer-in-Curry-clause-runs = functions.run_keyword-returns-in_ok-pointer-in-Curry-clause-runs
+pub run_keyword-returns-in-Ok-pointer_of-clause-runs : goal.run_keyword-returns-in-Ok-pointer_of-clause-runs
+run_keyword-returns-in-Ok-pointer_of-clause-runs = functions.run_keyword-returns-in-Ok-pointer_of-clause-runs
 
-pub run_keyword-returns-in_err-pointer-in-CallPointer-clause-runs : goal.run_keyword-returns-in_err-pointer-in-CallPointer-clause-runs
-run_keyword-returns-in_err-pointer-in-CallPointer-clause-runs = functions.run_keyword-returns-in_err-pointer-in-CallPointer-clause-runs
+pub run_keyword-returns-in-Err-pointer_of-2-clause-runs : goal.run_keyword-returns-in-Err-pointer_of-2-clause-runs
+run_keyword-returns-in-Err-pointer_of-2-clause-runs = functions.run_keyword-returns-in-Err-pointer_of-2-clause-runs
 
 pub run_keyword-returns-in-Ok-Some-clause-runs : goal.run_keyword-returns-in-Ok-Some-clause-runs
 run_keyword-returns-in-Ok-Some-clause-runs = functions.run_keyword-returns-in-Ok-Some-clause-runs
@@ -515,17 +500,17 @@ run_keyword-returns-in-Some-clause-runs = functions.run_keyword-returns-in-Some-
 pub run_keyword-returns-in-None-clause-runs : goal.run_keyword-returns-in-None-clause-runs
 run_keyword-returns-in-None-clause-runs = functions.run_keyword-returns-in-None-clause-runs
 
-pub run_keyword-returns-in-Err-clause-runs : goal.run_keyword-returns-in-Err-clause-runs
-run_keyword-returns-in-Err-clause-runs = functions.run_keyword-returns-in-Err-clause-runs
+pub run_keyword-returns-in-Err-function_linked-clause-runs : goal.run_keyword-returns-in-Err-function_linked-clause-runs
+run_keyword-returns-in-Err-function_linked-clause-runs = functions.run_keyword-returns-in-Err-function_linked-clause-runs
 
 pub run_pointer-run_more_args-requires : goal.run_pointer-run_more_args-requires
 run_pointer-run_more_args-requires = functions.run_pointer-run_more_args-requires
 
-pub run_pointer-returns-in-Err-clause-runs : goal.run_pointer-returns-in-Err-clause-runs
-run_pointer-returns-in-Err-clause-runs = functions.run_pointer-returns-in-Err-clause-runs
+pub run_pointer-returns-then-not-run_more_args-clause-runs : goal.run_pointer-returns-then-not-run_more_args-clause-runs
+run_pointer-returns-then-not-run_more_args-clause-runs = functions.run_pointer-returns-then-not-run_more_args-clause-runs
 
-pub run_pointer-returns-in-Ok-clause-runs : goal.run_pointer-returns-in-Ok-clause-runs
-run_pointer-returns-in-Ok-clause-runs = functions.run_pointer-returns-in-Ok-clause-runs
+pub run_pointer-returns-clause-runs : goal.run_pointer-returns-clause-runs
+run_pointer-returns-clause-runs = functions.run_pointer-returns-clause-runs
 
 pub run_named-run_more_args-requires : goal.run_named-run_more_args-requires
 run_named-run_more_args-requires = functions.run_named-run_more_args-requires
@@ -536,47 +521,35 @@ run_named-run_more_args-requires-in-Some-first_variable = functions.run_named-ru
 pub run_named-call_with_variable-called-requires : goal.run_named-call_with_variable-called-requires
 run_named-call_with_variable-called-requires = functions.run_named-call_with_variable-called-requires
 
-pub run_named-returns-in_err-track_operation-clause-runs : goal.run_named-returns-in_err-track_operation-clause-runs
-run_named-returns-in_err-track_operation-clause-runs = functions.run_named-returns-in_err-track_operation-clause-runs
+pub run_named-returns-then-not-charge-clause-runs : goal.run_named-returns-then-not-charge-clause-runs
+run_named-returns-then-not-charge-clause-runs = functions.run_named-returns-then-not-charge-clause-runs
 
-pub run_named-returns-in_err-values-clause-runs : goal.run_named-returns-in_err-values-clause-runs
-run_named-returns-in_err-values-clause-runs = functions.run_named-returns-in_err-values-clause-runs
+pub run_named-returns-then-not-run_more_args-clause-runs : goal.run_named-returns-then-not-run_more_args-clause-runs
+run_named-returns-then-not-run_more_args-clause-runs = functions.run_named-returns-then-not-run_more_args-clause-runs
 
 pub run_named-returns-in-Some-clause-runs : goal.run_named-returns-in-Some-clause-runs
 run_named-returns-in-Some-clause-runs = functions.run_named-returns-in-Some-clause-runs
 
-pub run_named-returns-in_err-track_operation-in-Some-first_variable-clause-runs : goal.run_named-returns-in_err-track_operation-in-Some-first_variable-clause-runs
-run_named-returns-in_err-track_operation-in-Some-first_variable-clause-runs = functions.run_named-returns-in_err-track_operation-in-Some-first_variable-clause-runs
+pub run_named-returns-then-not-charge-2-clause-runs : goal.run_named-returns-then-not-charge-2-clause-runs
+run_named-returns-then-not-charge-2-clause-runs = functions.run_named-returns-then-not-charge-2-clause-runs
 
-pub run_named-returns-in_err-values-in-Some-first_variable-clause-runs : goal.run_named-returns-in_err-values-in-Some-first_variable-clause-runs
-run_named-returns-in_err-values-in-Some-first_variable-clause-runs = functions.run_named-returns-in_err-values-in-Some-first_variable-clause-runs
+pub run_named-returns-then-not-run_more_args-2-clause-runs : goal.run_named-returns-then-not-run_more_args-2-clause-runs
+run_named-returns-then-not-run_more_args-2-clause-runs = functions.run_named-returns-then-not-run_more_args-2-clause-runs
 
-pub run_named-returns-in_ok-values-in-Some-first_variable-clause-runs : goal.run_named-returns-in_ok-values-in-Some-first_variable-clause-runs
-run_named-returns-in_ok-values-in-Some-first_variable-clause-runs = functions.run_named-returns-in_ok-values-in-Some-first_variable-clause-runs
+pub run_named-returns-else-not-run_more_args-2-clause-runs : goal.run_named-returns-else-not-run_more_args-2-clause-runs
+run_named-returns-else-not-run_more_args-2-clause-runs = functions.run_named-returns-else-not-run_more_args-2-clause-runs
 
 pub run_named-returns-in-None-clause-runs : goal.run_named-returns-in-None-clause-runs
 run_named-returns-in-None-clause-runs = functions.run_named-returns-in-None-clause-runs
 
-pub run_on_values-run_arg-requires : goal.run_on_values-run_arg-requires
-run_on_values-run_arg-requires = functions.run_on_values-run_arg-requires
+pub run_on_values-run_all_args-requires : goal.run_on_values-run_all_args-requires
+run_on_values-run_all_args-requires = functions.run_on_values-run_all_args-requires
 
-pub run_on_values-run_more_args-requires : goal.run_on_values-run_more_args-requires
-run_on_values-run_more_args-requires = functions.run_on_values-run_more_args-requires
+pub run_on_values-returns-then-not-run_all_args-clause-runs : goal.run_on_values-returns-then-not-run_all_args-clause-runs
+run_on_values-returns-then-not-run_all_args-clause-runs = functions.run_on_values-returns-then-not-run_all_args-clause-runs
 
-pub run_on_values-returns-in-None-clause-runs : goal.run_on_values-returns-in-None-clause-runs
-run_on_values-returns-in-None-clause-runs = functions.run_on_values-returns-in-None-clause-runs
-
-pub run_on_values-returns-in-Err-clause-runs : goal.run_on_values-returns-in-Err-clause-runs
-run_on_values-returns-in-Err-clause-runs = functions.run_on_values-returns-in-Err-clause-runs
-
-pub run_on_values-returns-in-Err-take_argument-clause-runs : goal.run_on_values-returns-in-Err-take_argument-clause-runs
-run_on_values-returns-in-Err-take_argument-clause-runs = functions.run_on_values-returns-in-Err-take_argument-clause-runs
-
-pub run_on_values-returns-in-Err-run_more_args-clause-runs : goal.run_on_values-returns-in-Err-run_more_args-clause-runs
-run_on_values-returns-in-Err-run_more_args-clause-runs = functions.run_on_values-returns-in-Err-run_more_args-clause-runs
-
-pub run_on_values-returns-in-Ok-run_more_args-clause-runs : goal.run_on_values-returns-in-Ok-run_more_args-clause-runs
-run_on_values-returns-in-Ok-run_more_args-clause-runs = functions.run_on_values-returns-in-Ok-run_more_args-clause-runs
+pub run_on_values-returns-clause-runs : goal.run_on_values-returns-clause-runs
+run_on_values-returns-clause-runs = functions.run_on_values-returns-clause-runs
 
 pub run_more_args-run_arg-requires : goal.run_more_args-run_arg-requires
 run_more_args-run_arg-requires = functions.run_more_args-run_arg-requires
@@ -587,11 +560,11 @@ run_more_args-each_arg-init = functions.run_more_args-each_arg-init
 pub run_more_args-each_arg-preserved : goal.run_more_args-each_arg-preserved
 run_more_args-each_arg-preserved = functions.run_more_args-each_arg-preserved
 
-pub run_more_args-returns-in-Err-clause-collects : goal.run_more_args-returns-in-Err-clause-collects
-run_more_args-returns-in-Err-clause-collects = functions.run_more_args-returns-in-Err-clause-collects
+pub run_more_args-returns-then-not-run_arg-clause-collects : goal.run_more_args-returns-then-not-run_arg-clause-collects
+run_more_args-returns-then-not-run_arg-clause-collects = functions.run_more_args-returns-then-not-run_arg-clause-collects
 
-pub run_more_args-returns-in-Err-take_argument-clause-collects : goal.run_more_args-returns-in-Err-take_argument-clause-collects
-run_more_args-returns-in-Err-take_argument-clause-collects = functions.run_more_args-returns-in-Err-take_argument-clause-collects
+pub run_more_args-returns-then-not-push_argument-clause-collects : goal.run_more_args-returns-then-not-push_argument-clause-collects
+run_more_args-returns-then-not-push_argument-clause-collects = functions.run_more_args-returns-then-not-push_argument-clause-collects
 
 pub run_more_args-returns-clause-collects : goal.run_more_args-returns-clause-collects
 run_more_args-returns-clause-collects = functions.run_more_args-returns-clause-collects
@@ -599,20 +572,44 @@ run_more_args-returns-clause-collects = functions.run_more_args-returns-clause-c
 pub run_more_args-returns-clause-more : goal.run_more_args-returns-clause-more
 run_more_args-returns-clause-more = functions.run_more_args-returns-clause-more
 
+pub run_all_args-run_arg-requires : goal.run_all_args-run_arg-requires
+run_all_args-run_arg-requires = functions.run_all_args-run_arg-requires
+
+pub run_all_args-returns-then-not-run_arg-clause-collects : goal.run_all_args-returns-then-not-run_arg-clause-collects
+run_all_args-returns-then-not-run_arg-clause-collects = functions.run_all_args-returns-then-not-run_arg-clause-collects
+
+pub run_all_args-returns-then-not-push_argument-clause-collects : goal.run_all_args-returns-then-not-push_argument-clause-collects
+run_all_args-returns-then-not-push_argument-clause-collects = functions.run_all_args-returns-then-not-push_argument-clause-collects
+
+pub run_all_args-run_more_args-requires : goal.run_all_args-run_more_args-requires
+run_all_args-run_more_args-requires = functions.run_all_args-run_more_args-requires
+
+pub run_all_args-returns-in_default-clause-collects : goal.run_all_args-returns-in_default-clause-collects
+run_all_args-returns-in_default-clause-collects = functions.run_all_args-returns-in_default-clause-collects
+
+pub run_all_args-returns-clause-counts : goal.run_all_args-returns-clause-counts
+run_all_args-returns-clause-counts = functions.run_all_args-returns-clause-counts
+
+pub run_all_args-returns-clause-names : goal.run_all_args-returns-clause-names
+run_all_args-returns-clause-names = functions.run_all_args-returns-clause-names
+
+pub run_all_args-returns-clause-collects : goal.run_all_args-returns-clause-collects
+run_all_args-returns-clause-collects = functions.run_all_args-returns-clause-collects
+
 pub run_break-returns-in-None-clause-runs : goal.run_break-returns-in-None-clause-runs
 run_break-returns-in-None-clause-runs = leaving.run_break-returns-in-None-clause-runs
 
-pub run_break-returns-then-not-settle-clause-runs : goal.run_break-returns-then-not-settle-clause-runs
-run_break-returns-then-not-settle-clause-runs = leaving.run_break-returns-then-not-settle-clause-runs
+pub run_break-returns-then-not-run_expr-clause-runs : goal.run_break-returns-then-not-run_expr-clause-runs
+run_break-returns-then-not-run_expr-clause-runs = leaving.run_break-returns-then-not-run_expr-clause-runs
 
-pub run_break-returns-else-not-settle-clause-runs : goal.run_break-returns-else-not-settle-clause-runs
-run_break-returns-else-not-settle-clause-runs = leaving.run_break-returns-else-not-settle-clause-runs
+pub run_break-returns-else-not-run_expr-clause-runs : goal.run_break-returns-else-not-run_expr-clause-runs
+run_break-returns-else-not-run_expr-clause-runs = leaving.run_break-returns-else-not-run_expr-clause-runs
 
 pub run_return-returns-in-None-clause-runs : goal.run_return-returns-in-None-clause-runs
 run_return-returns-in-None-clause-runs = leaving.run_return-returns-in-None-clause-runs
 
-pub run_return-returns-then-not-settle-clause-runs : goal.run_return-returns-then-not-settle-clause-runs
-run_return-returns-then-not-settle-clause-runs = leaving.run_return-returns-then-not-settle-clause-runs
+pub run_return-returns-then-not-run_expr-clause-runs : goal.run_return-returns-then-not-run_expr-clause-runs
+run_return-returns-then-not-run_expr-clause-runs = leaving.run_return-returns-then-not-run_expr-clause-runs
 
 pub run_return-returns-then-not-flatten_value-clause-runs : goal.run_return-returns-then-not-flatten_value-clause-runs
 run_return-returns-then-not-flatten_value-clause-runs = leaving.run_return-returns-then-not-flatten_value-clause-runs
@@ -719,20 +716,20 @@ do_turn-returns-in-Continue-clause-names = loops.do_turn-returns-in-Continue-cla
 pub do_turn-run_condition-requires : goal.do_turn-run_condition-requires
 do_turn-run_condition-requires = loops.do_turn-run_condition-requires
 
-pub do_turn-returns-in-Err-clause-runs : goal.do_turn-returns-in-Err-clause-runs
-do_turn-returns-in-Err-clause-runs = loops.do_turn-returns-in-Err-clause-runs
+pub do_turn-returns-in-None-clause-runs : goal.do_turn-returns-in-None-clause-runs
+do_turn-returns-in-None-clause-runs = loops.do_turn-returns-in-None-clause-runs
 
-pub do_turn-returns-in-Ok-clause-runs : goal.do_turn-returns-in-Ok-clause-runs
-do_turn-returns-in-Ok-clause-runs = loops.do_turn-returns-in-Ok-clause-runs
+pub do_turn-returns-in-Some-clause-runs : goal.do_turn-returns-in-Some-clause-runs
+do_turn-returns-in-Some-clause-runs = loops.do_turn-returns-in-Some-clause-runs
 
-pub do_turn-returns-in-Ok-clause-charges : goal.do_turn-returns-in-Ok-clause-charges
-do_turn-returns-in-Ok-clause-charges = loops.do_turn-returns-in-Ok-clause-charges
+pub do_turn-returns-in-Some-clause-charges : goal.do_turn-returns-in-Some-clause-charges
+do_turn-returns-in-Some-clause-charges = loops.do_turn-returns-in-Some-clause-charges
 
-pub do_turn-returns-in-Ok-clause-names : goal.do_turn-returns-in-Ok-clause-names
-do_turn-returns-in-Ok-clause-names = loops.do_turn-returns-in-Ok-clause-names
+pub do_turn-returns-in-Some-clause-names : goal.do_turn-returns-in-Some-clause-names
+do_turn-returns-in-Some-clause-names = loops.do_turn-returns-in-Some-clause-names
 
-pub while_turn-returns-in-Err-clause-runs : goal.while_turn-returns-in-Err-clause-runs
-while_turn-returns-in-Err-clause-runs = loops.while_turn-returns-in-Err-clause-runs
+pub while_turn-returns-in-None-clause-runs : goal.while_turn-returns-in-None-clause-runs
+while_turn-returns-in-None-clause-runs = loops.while_turn-returns-in-None-clause-runs
 
 pub while_turn-returns-then-is_empty-clause-runs : goal.while_turn-returns-then-is_empty-clause-runs
 while_turn-returns-then-is_empty-clause-runs = loops.while_turn-returns-then-is_empty-clause-runs
@@ -869,11 +866,11 @@ run_stmt-returns-then-not-charge_stmt-clause-memory = statements.run_stmt-return
 pub run_stmt-returns-in-Noop-clause-runs : goal.run_stmt-returns-in-Noop-clause-runs
 run_stmt-returns-in-Noop-clause-runs = statements.run_stmt-returns-in-Noop-clause-runs
 
-pub run_stmt-returns-then-not-settle-clause-runs : goal.run_stmt-returns-then-not-settle-clause-runs
-run_stmt-returns-then-not-settle-clause-runs = statements.run_stmt-returns-then-not-settle-clause-runs
+pub run_stmt-returns-then-not-run_expr-clause-runs : goal.run_stmt-returns-then-not-run_expr-clause-runs
+run_stmt-returns-then-not-run_expr-clause-runs = statements.run_stmt-returns-then-not-run_expr-clause-runs
 
-pub run_stmt-returns-else-not-settle-clause-runs : goal.run_stmt-returns-else-not-settle-clause-runs
-run_stmt-returns-else-not-settle-clause-runs = statements.run_stmt-returns-else-not-settle-clause-runs
+pub run_stmt-returns-else-not-run_expr-clause-runs : goal.run_stmt-returns-else-not-run_expr-clause-runs
+run_stmt-returns-else-not-run_expr-clause-runs = statements.run_stmt-returns-else-not-run_expr-clause-runs
 
 pub run_stmt-returns-in-FnCall-clause-runs : goal.run_stmt-returns-in-FnCall-clause-runs
 run_stmt-returns-in-FnCall-clause-runs = statements.run_stmt-returns-in-FnCall-clause-runs
@@ -881,11 +878,11 @@ run_stmt-returns-in-FnCall-clause-runs = statements.run_stmt-returns-in-FnCall-c
 pub run_stmt-returns-in-Block-clause-runs : goal.run_stmt-returns-in-Block-clause-runs
 run_stmt-returns-in-Block-clause-runs = statements.run_stmt-returns-in-Block-clause-runs
 
-pub run_stmt-returns-in-Err-clause-runs : goal.run_stmt-returns-in-Err-clause-runs
-run_stmt-returns-in-Err-clause-runs = statements.run_stmt-returns-in-Err-clause-runs
+pub run_stmt-returns-in-None-clause-runs : goal.run_stmt-returns-in-None-clause-runs
+run_stmt-returns-in-None-clause-runs = statements.run_stmt-returns-in-None-clause-runs
 
-pub run_stmt-returns-in-Ok-clause-runs : goal.run_stmt-returns-in-Ok-clause-runs
-run_stmt-returns-in-Ok-clause-runs = statements.run_stmt-returns-in-Ok-clause-runs
+pub run_stmt-returns-in-Some-clause-runs : goal.run_stmt-returns-in-Some-clause-runs
+run_stmt-returns-in-Some-clause-runs = statements.run_stmt-returns-in-Some-clause-runs
 
 pub run_stmt-run_assignment-requires : goal.run_stmt-run_assignment-requires
 run_stmt-run_assignment-requires = statements.run_stmt-run_assignment-requires
@@ -935,8 +932,8 @@ run_stmt-returns-in-Var-default-default-None-default-default-clause-runs = state
 pub run_assignment-returns-in-Some-clause-runs : goal.run_assignment-returns-in-Some-clause-runs
 run_assignment-returns-in-Some-clause-runs = statements.run_assignment-returns-in-Some-clause-runs
 
-pub run_assignment-returns-then-not-settle-clause-runs : goal.run_assignment-returns-then-not-settle-clause-runs
-run_assignment-returns-then-not-settle-clause-runs = statements.run_assignment-returns-then-not-settle-clause-runs
+pub run_assignment-returns-then-not-run_expr-clause-runs : goal.run_assignment-returns-then-not-run_expr-clause-runs
+run_assignment-returns-then-not-run_expr-clause-runs = statements.run_assignment-returns-then-not-run_expr-clause-runs
 
 pub run_assignment-returns-then-not-flatten_value-clause-runs : goal.run_assignment-returns-then-not-flatten_value-clause-runs
 run_assignment-returns-then-not-flatten_value-clause-runs = statements.run_assignment-returns-then-not-flatten_value-clause-runs
@@ -953,8 +950,8 @@ run_assignment-assign_to_this-requires = statements.run_assignment-assign_to_thi
 pub assign_to_this-returns-then-is_none-clause-runs : goal.assign_to_this-returns-then-is_none-clause-runs
 assign_to_this-returns-then-is_none-clause-runs = statements.assign_to_this-returns-then-is_none-clause-runs
 
-pub assign_to_this-returns-then-not-settle-clause-runs : goal.assign_to_this-returns-then-not-settle-clause-runs
-assign_to_this-returns-then-not-settle-clause-runs = statements.assign_to_this-returns-then-not-settle-clause-runs
+pub assign_to_this-returns-then-not-run_expr-clause-runs : goal.assign_to_this-returns-then-not-run_expr-clause-runs
+assign_to_this-returns-then-not-run_expr-clause-runs = statements.assign_to_this-returns-then-not-run_expr-clause-runs
 
 pub assign_to_this-returns-then-not-flatten_value-clause-runs : goal.assign_to_this-returns-then-not-flatten_value-clause-runs
 assign_to_this-returns-then-not-flatten_value-clause-runs = statements.assign_to_this-returns-then-not-flatten_value-clause-runs
@@ -971,8 +968,8 @@ assign_to_this-returns-in-None-clause-runs = statements.assign_to_this-returns-i
 pub run_var-returns-in-Err-clause-runs : goal.run_var-returns-in-Err-clause-runs
 run_var-returns-in-Err-clause-runs = statements.run_var-returns-in-Err-clause-runs
 
-pub run_var-returns-then-not-settle-clause-runs : goal.run_var-returns-then-not-settle-clause-runs
-run_var-returns-then-not-settle-clause-runs = statements.run_var-returns-then-not-settle-clause-runs
+pub run_var-returns-then-not-run_expr-clause-runs : goal.run_var-returns-then-not-run_expr-clause-runs
+run_var-returns-then-not-run_expr-clause-runs = statements.run_var-returns-then-not-run_expr-clause-runs
 
 pub run_var-returns-then-not-flatten_value-clause-runs : goal.run_var-returns-then-not-flatten_value-clause-runs
 run_var-returns-then-not-flatten_value-clause-runs = statements.run_var-returns-then-not-flatten_value-clause-runs
@@ -1016,8 +1013,11 @@ run_statements-returns-clause-runs = statements.run_statements-returns-clause-ru
 pub run_statements-returns-then-not-run_stmt-clause-memory : goal.run_statements-returns-then-not-run_stmt-clause-memory
 run_statements-returns-then-not-run_stmt-clause-memory = statements.run_statements-returns-then-not-run_stmt-clause-memory
 
-pub run_switch-returns-then-not-settle-clause-runs : goal.run_switch-returns-then-not-settle-clause-runs
-run_switch-returns-then-not-settle-clause-runs = switches.run_switch-returns-then-not-settle-clause-runs
+pub run_switch-returns-then-not-run_expr-clause-runs : goal.run_switch-returns-then-not-run_expr-clause-runs
+run_switch-returns-then-not-run_expr-clause-runs = switches.run_switch-returns-then-not-run_expr-clause-runs
+
+pub run_switch-returns-then-not-flatten_value-clause-runs : goal.run_switch-returns-then-not-flatten_value-clause-runs
+run_switch-returns-then-not-flatten_value-clause-runs = switches.run_switch-returns-then-not-flatten_value-clause-runs
 
 pub run_switch-run_condition-requires : goal.run_switch-run_condition-requires
 run_switch-run_condition-requires = switches.run_switch-run_condition-requires
@@ -1028,17 +1028,17 @@ run_switch-each_candidate-init = switches.run_switch-each_candidate-init
 pub run_switch-returns-in-None-default_result-clause-runs : goal.run_switch-returns-in-None-default_result-clause-runs
 run_switch-returns-in-None-default_result-clause-runs = switches.run_switch-returns-in-None-default_result-clause-runs
 
-pub run_switch-returns-in-Err-clause-runs : goal.run_switch-returns-in-Err-clause-runs
-run_switch-returns-in-Err-clause-runs = switches.run_switch-returns-in-Err-clause-runs
+pub run_switch-returns-in-None-run_condition-clause-runs : goal.run_switch-returns-in-None-run_condition-clause-runs
+run_switch-returns-in-None-run_condition-clause-runs = switches.run_switch-returns-in-None-run_condition-clause-runs
 
-pub run_switch-run_expr-answer-requires-in-Some-default_result : goal.run_switch-run_expr-answer-requires-in-Some-default_result
-run_switch-run_expr-answer-requires-in-Some-default_result = switches.run_switch-run_expr-answer-requires-in-Some-default_result
+pub run_switch-run_expr-requires-in-Some-default_result : goal.run_switch-run_expr-requires-in-Some-default_result
+run_switch-run_expr-requires-in-Some-default_result = switches.run_switch-run_expr-requires-in-Some-default_result
 
 pub run_switch-returns-in-Some-default_result-clause-runs : goal.run_switch-returns-in-Some-default_result-clause-runs
 run_switch-returns-in-Some-default_result-clause-runs = switches.run_switch-returns-in-Some-default_result-clause-runs
 
-pub run_switch-run_expr-answer-requires-then-holds : goal.run_switch-run_expr-answer-requires-then-holds
-run_switch-run_expr-answer-requires-then-holds = switches.run_switch-run_expr-answer-requires-then-holds
+pub run_switch-run_expr-requires-then-holds : goal.run_switch-run_expr-requires-then-holds
+run_switch-run_expr-requires-then-holds = switches.run_switch-run_expr-requires-then-holds
 
 pub run_switch-returns-then-holds-clause-runs : goal.run_switch-returns-then-holds-clause-runs
 run_switch-returns-then-holds-clause-runs = switches.run_switch-returns-then-holds-clause-runs
@@ -1094,11 +1094,14 @@ walk_chain-returns-in-Enters-clause-runs = walking.walk_chain-returns-in-Enters-
 pub run_for-returns-then-has_no_room-clause-runs : goal.run_for-returns-then-has_no_room-clause-runs
 run_for-returns-then-has_no_room-clause-runs = walks.run_for-returns-then-has_no_room-clause-runs
 
+pub run_for-returns-then-not-run_expr-clause-runs : goal.run_for-returns-then-not-run_expr-clause-runs
+run_for-returns-then-not-run_expr-clause-runs = walks.run_for-returns-then-not-run_expr-clause-runs
+
+pub run_for-returns-then-not-flatten_value-clause-runs : goal.run_for-returns-then-not-flatten_value-clause-runs
+run_for-returns-then-not-flatten_value-clause-runs = walks.run_for-returns-then-not-flatten_value-clause-runs
+
 pub run_for-returns-in-Err-clause-runs : goal.run_for-returns-in-Err-clause-runs
 run_for-returns-in-Err-clause-runs = walks.run_for-returns-in-Err-clause-runs
-
-pub run_for-returns-in-Err-start_turns-clause-runs : goal.run_for-returns-in-Err-start_turns-clause-runs
-run_for-returns-in-Err-start_turns-clause-runs = walks.run_for-returns-in-Err-start_turns-clause-runs
 
 pub run_for-turns-init : goal.run_for-turns-init
 run_for-turns-init = walks.run_for-turns-init

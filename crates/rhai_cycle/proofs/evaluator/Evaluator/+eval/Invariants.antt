@@ -79,6 +79,9 @@ decreases-run_call g l = measured l.self.now l.run.now 0 12
 abbrev pub decreases-run_more_args : goal.decreases-run_more_args
 decreases-run_more_args g l = measured l.self.now l.run.now 0 3
 
+abbrev pub decreases-run_all_args : goal.decreases-run_all_args
+decreases-run_all_args g l = measured l.self.now l.run.now 0 4
+
 abbrev pub decreases-run_condition : goal.decreases-run_condition
 decreases-run_condition g l = measured l.self.now l.run.now 0 2
 
@@ -224,7 +227,7 @@ invariant-run_coalesce-each_part g l = record {
   steps : (k : List (Frame g.row.H.Denot)) → Goes (under g.H.Host.name_of l.self g.T.NativeTable.natives)
       (with_core (coalesce_core unit_value l.parts k (state_in (g.T.NativeTable.state l.fn.table) l.fn.run).local)
       (state_in (g.T.NativeTable.state l.fn.table) l.fn.run))
-      (with_core (coalesce_core l.last (drop l.part-index l.parts) k (state_in (g.T.NativeTable.state l.table) l.run).local)
+      (with_core (coalesce_core l.run.value (drop l.part-index l.parts) k (state_in (g.T.NativeTable.state l.table) l.run).local)
       (state_in (g.T.NativeTable.state l.table) l.run));
 }
 
@@ -232,10 +235,10 @@ abbrev pub invariant-run_more_args-each_arg : goal.invariant-run_more_args-each_
 invariant-run_more_args-each_arg g l = record {
   counts : l.fn.run.global.num_operations ≤ l.run.global.num_operations;
   names : names l.run ≡ names l.fn.run;
-  more : length l.values + length (drop l.arg-index l.args) ≡ length l.fn.made + length l.args;
+  more : length l.values + length (drop l.arg-index l.args) ≡ length l.fn.values + length l.args;
   steps : (purpose : Purpose g.row.H.Denot) → flattens purpose ≡ l.flattened → (k : List (Frame g.row.H.Denot)) →
       Goes (under g.H.Host.name_of l.self g.T.NativeTable.natives)
-      (with_core (arguments_core (under g.H.Host.name_of l.self g.T.NativeTable.natives).setting purpose l.fn.made l.args k
+      (with_core (arguments_core (under g.H.Host.name_of l.self g.T.NativeTable.natives).setting purpose l.fn.values l.args k
       (state_in (g.T.NativeTable.state l.fn.table) l.fn.run).local)
       (state_in (g.T.NativeTable.state l.fn.table) l.fn.run))
       (with_core (arguments_core (under g.H.Host.name_of l.self g.T.NativeTable.natives).setting purpose l.values (drop l.arg-index l.args) k

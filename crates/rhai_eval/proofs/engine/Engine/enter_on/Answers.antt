@@ -16,11 +16,12 @@ returns-clause-runs g c scope held =
     let runs = runs_unmarked (under_what_is_read g.H.Host.name_of c.evaluator-evaluator.result g.T.NativeTable.natives)
     (EnterOnFocus c.args.function true c.args.args c.args.pos)
     (state_of (g.T.NativeTable.state c.args.table.now) c.take-run.result.global scope (lending held c.args.place.now))
-    (state_of (g.T.NativeTable.state c.enter_on_focus-result.new.table) c.enter_on_focus-result.new.run.global scope
-    (lending held c.enter_on_focus-result.new.focus))
-    c.enter_on_focus-result.result c.marked.result c.marked.ensures (c.enter_on_focus-result.ensures.runs scope held) in
+    (state_of (g.T.NativeTable.state c.enter_on_focus-done.new.table) c.enter_on_focus-done.new.run.global scope
+    (lending held c.enter_on_focus-done.new.focus))
+    c.finish-result.result c.marked.result c.marked.ensures (
+    (rw (← c.finish-result.ensures.came) at c.enter_on_focus-done.ensures.runs) scope held) in
     handed_apart reads (λ rules old new. MarkedRuns rules (EnterOnFocus c.args.function true c.args.args c.args.pos) old c.marked.result new)
-    (g.T.NativeTable.state c.args.table.now) (g.T.NativeTable.state c.enter_on_focus-result.new.table) c.take-run.result
-    c.enter_on_focus-result.new.run c.args.global.now c.give_back.new.global c.give_back.ensures.global scope scope
-    (lending held c.args.place.now) (lending held c.enter_on_focus-result.new.focus)
+    (g.T.NativeTable.state c.args.table.now) (g.T.NativeTable.state c.enter_on_focus-done.new.table) c.take-run.result
+    c.enter_on_focus-done.new.run c.args.global.now c.give_back.new.global c.give_back.ensures.global scope scope
+    (lending held c.args.place.now) (lending held c.enter_on_focus-done.new.focus)
     (ap (λ (run : Context _). run.global) c.take-run.ensures.run) runs

@@ -9,6 +9,7 @@ use Rattle.rhai_tree.specs.declared.expr.Expr.{out-Expr}
 use Rattle.rhai_state.specs.Scope.{names_in}
 use Rattle.rhai_machine.specs.language.Links.{first_in}
 use Rattle.rhai_chains.specs.Chains.{new_of}
+use Rattle.rhai_cycle.proofs.Chain.{on_done}
 use Rattle.rhai_cycle.specs.Chains.{AsksFirst, MayWalk, StartsFrom}
 use Rattle.std.specs.Prelude.{OnOk}
 use Rattle.rhai_eval.specs.Chains.{assigned_in, chain_of, whole_chain}
@@ -30,53 +31,53 @@ unreachable-requires g c =
     let none : first_in (out-Expr c.args.expr.now) ≡ None = sym c.first_of.ensures ∙ ap option_copied c.in_default.is in
     let clear : false ≡ true = ap is_some (sym none) ∙ c.requires.chain in cc
 
-pub run_chain-result-requires-clause-root : goal.run_chain-result-requires-clause-root
-run_chain-result-requires-clause-root g c =
+pub run_chain-done-requires-clause-root : goal.run_chain-done-requires-clause-root
+run_chain-done-requires-clause-root g c =
     let found = sym c.first_of.ensures ∙ ap option_copied c.in-Some.is in
     rw c.take_with-run.ensures.run (chain_may_run (is_some c.args.new_val) c.args.expr.now c.in-Some.root.now (names_in c.args.scope.now) found
     c.requires.resolves).root_runs
 
-pub run_chain-result-requires-clause-behind : goal.run_chain-result-requires-clause-behind
-run_chain-result-requires-clause-behind g c =
+pub run_chain-done-requires-clause-behind : goal.run_chain-done-requires-clause-behind
+run_chain-done-requires-clause-behind g c =
     let found = sym c.first_of.ensures ∙ ap option_copied c.in-Some.is in
     rw c.take_with-run.ensures.run (chain_may_run (is_some c.args.new_val) c.args.expr.now c.in-Some.root.now (names_in c.args.scope.now) found
     c.requires.resolves).behind_runs
 
-pub run_chain-result-requires-clause-walks : goal.run_chain-result-requires-clause-walks
-run_chain-result-requires-clause-walks g c =
+pub run_chain-done-requires-clause-walks : goal.run_chain-done-requires-clause-walks
+run_chain-done-requires-clause-walks g c =
     let found = sym c.first_of.ensures ∙ ap option_copied c.in-Some.is in
     subst (λ (assigned : Bool). MayWalk assigned (out-Expr c.args.expr.now)) (sym c.new_value-new.ensures.given)
     (chain_may_run (is_some c.args.new_val) c.args.expr.now c.in-Some.root.now (names_in c.args.scope.now) found
     c.requires.resolves).walks
 
-pub run_chain-result-requires-clause-starts : goal.run_chain-result-requires-clause-starts
-run_chain-result-requires-clause-starts g c =
+pub run_chain-done-requires-clause-starts : goal.run_chain-done-requires-clause-starts
+run_chain-done-requires-clause-starts g c =
     let found = sym c.first_of.ensures ∙ ap option_copied c.in-Some.is in
     subst (λ (assigned : Bool). StartsFrom assigned (out-Expr c.in-Some.root.now)) (sym c.new_value-new.ensures.given)
     (chain_may_run (is_some c.args.new_val) c.args.expr.now c.in-Some.root.now (names_in c.args.scope.now) found
     c.requires.resolves).starts
 
-pub run_chain-result-requires-in-None-clause-root : goal.run_chain-result-requires-in-None-clause-root
-run_chain-result-requires-in-None-clause-root g c =
+pub run_chain-done-requires-in-None-clause-root : goal.run_chain-done-requires-in-None-clause-root
+run_chain-done-requires-in-None-clause-root g c =
     let found = sym c.first_of.ensures ∙ ap option_copied c.in-Some.is in
     rw c.take-run.ensures.run (chain_may_run (is_some c.args.new_val) c.args.expr.now c.in-Some.root.now (names_in c.args.scope.now) found
     c.requires.resolves).root_runs
 
-pub run_chain-result-requires-in-None-clause-behind : goal.run_chain-result-requires-in-None-clause-behind
-run_chain-result-requires-in-None-clause-behind g c =
+pub run_chain-done-requires-in-None-clause-behind : goal.run_chain-done-requires-in-None-clause-behind
+run_chain-done-requires-in-None-clause-behind g c =
     let found = sym c.first_of.ensures ∙ ap option_copied c.in-Some.is in
     rw c.take-run.ensures.run (chain_may_run (is_some c.args.new_val) c.args.expr.now c.in-Some.root.now (names_in c.args.scope.now) found
     c.requires.resolves).behind_runs
 
-pub run_chain-result-requires-in-None-clause-walks : goal.run_chain-result-requires-in-None-clause-walks
-run_chain-result-requires-in-None-clause-walks g c =
+pub run_chain-done-requires-in-None-clause-walks : goal.run_chain-done-requires-in-None-clause-walks
+run_chain-done-requires-in-None-clause-walks g c =
     let found = sym c.first_of.ensures ∙ ap option_copied c.in-Some.is in
     subst (λ (assigned : Bool). MayWalk assigned (out-Expr c.args.expr.now)) (sym c.new_value-new.ensures.given)
     (chain_may_run (is_some c.args.new_val) c.args.expr.now c.in-Some.root.now (names_in c.args.scope.now) found
     c.requires.resolves).walks
 
-pub run_chain-result-requires-in-None-clause-starts : goal.run_chain-result-requires-in-None-clause-starts
-run_chain-result-requires-in-None-clause-starts g c =
+pub run_chain-done-requires-in-None-clause-starts : goal.run_chain-done-requires-in-None-clause-starts
+run_chain-done-requires-in-None-clause-starts g c =
     let found = sym c.first_of.ensures ∙ ap option_copied c.in-Some.is in
     subst (λ (assigned : Bool). StartsFrom assigned (out-Expr c.in-Some.root.now)) (sym c.new_value-new.ensures.given)
     (chain_may_run (is_some c.args.new_val) c.args.expr.now c.in-Some.root.now (names_in c.args.scope.now) found
@@ -89,7 +90,7 @@ left_on g c place =
     let answer = r g.row.H g.row.T g.H.laws g.T.laws g.H.Host-dict g.H.Destruct-dict g.T.NativeTable-dict in
     let types = xs g.row.H g.row.T g.H.laws g.T.laws g.H.Host-dict g.H.Destruct-dict g.T.NativeTable-dict in
     let given : Args (ended_of 10 kinds answer).signature c.lifetimes = (c.args.self, (c.args.alloc, (c.args.global, (c.args._caches, (c.args.table, (c.args.scope, (place, (c.args.expr, (c.args.new_val, tt))))))))) in
-    left_by (at_exit (ended_of 10 kinds answer) c.lifetimes given (lasts_p c.lifetimes 4 kinds types given (c.args.self, (tt, (c.args.global, (c.args._caches, (c.args.table, (c.args.scope, (Some (record c.in-Some-this.place { now = c.give_back_with.new.this }), (c.args.expr, five (five (five (five (five (five (five (tt, (tt, (tt, (tt, (tt, (tt, tt)))))))))))))))))))))).1.1.1.1.1.1.0
+    left_by (at_exit (ended_of 10 kinds answer) c.lifetimes given (lasts_p c.lifetimes 4 kinds types given (c.args.self, (tt, (c.args.global, (c.args._caches, (c.args.table, (c.args.scope, (Some (record c.in-Some-this.place { now = c.give_back_with.new.this }), (c.args.expr, five (five (five (five (five (five (five (five (five (tt, (tt, tt)))))))))))))))))))).1.1.1.1.1.1.0
 
 this_on : (g : Over) (c : goal.After-give_back_with g) → left_on g c c.args.this ≡ Some c.give_back_with.new.this
 this_on g c = subst (λ place. left_on g c place ≡ Some c.give_back_with.new.this) (sym c.in-Some-this.is) refl
@@ -98,62 +99,66 @@ this_on g c = subst (λ place. left_on g c place ≡ Some c.give_back_with.new.t
 runs_on : (g : Over) (c : goal.After-give_back_with g) → Runs (under g.H.Host.name_of c.args.self.now g.T.NativeTable.natives)
     (whole_chain c.args.expr.now (assigned_in c.args.new_val))
     (state_of (g.T.NativeTable.state c.args.table.now) c.args.global.now c.args.scope.now (holding (was c.args.this)))
-    c.run_chain-result.result (state_of (g.T.NativeTable.state c.run_chain-result.new.table) c.give_back_with.new.global
+    c.finish-result.result (state_of (g.T.NativeTable.state c.run_chain-done.new.table) c.give_back_with.new.global
     c.give_back_with.new.scope (holding (left_on g c c.args.this)))
 runs_on g c =
     let reads = same_rules g.H.Host.name_of g.T.NativeTable.natives c.args.self.now c.evaluator-evaluator.result
     c.evaluator-evaluator.ensures.limits c.evaluator-evaluator.ensures.offer in
     let runs = over_root (under_what_is_read g.H.Host.name_of c.evaluator-evaluator.result g.T.NativeTable.natives) c.args.expr.now
-    c.in-Some.root.now (new_of c.new_value-new.result) (assigned_in c.args.new_val) _ c.run_chain-result.result _
-    (sym c.first_of.ensures ∙ ap option_copied c.in-Some.is) c.new_value-new.ensures.same c.run_chain-result.ensures.runs in
-    handed_on reads (λ r old new. Runs r (whole_chain c.args.expr.now (assigned_in c.args.new_val)) old c.run_chain-result.result new)
-    (g.T.NativeTable.state c.args.table.now) (g.T.NativeTable.state c.run_chain-result.new.table) c.take_with-run.result
-    c.run_chain-result.new.run c.args.global.now c.give_back_with.new.global c.give_back_with.ensures.global c.args.scope.now
+    c.in-Some.root.now (new_of c.new_value-new.result) (assigned_in c.args.new_val) _ c.finish-result.result _
+    (sym c.first_of.ensures ∙ ap option_copied c.in-Some.is) c.new_value-new.ensures.same
+    (rw (← c.finish-result.ensures.came) at c.run_chain-done.ensures.runs) in
+    handed_on reads (λ r old new. Runs r (whole_chain c.args.expr.now (assigned_in c.args.new_val)) old c.finish-result.result new)
+    (g.T.NativeTable.state c.args.table.now) (g.T.NativeTable.state c.run_chain-done.new.table) c.take_with-run.result
+    c.run_chain-done.new.run c.args.global.now c.give_back_with.new.global c.give_back_with.ensures.global c.args.scope.now
     c.give_back_with.new.scope c.give_back_with.ensures.scope
     (kept (under_what_is_read g.H.Host.name_of c.evaluator-evaluator.result g.T.NativeTable.natives)
-    (whole_chain c.args.expr.now (assigned_in c.args.new_val)) (ended c.run_chain-result.result) _ _ tt
+    (whole_chain c.args.expr.now (assigned_in c.args.new_val)) (ended c.finish-result.result) _ _ tt
     (over_root (under_what_is_read g.H.Host.name_of c.evaluator-evaluator.result g.T.NativeTable.natives) c.args.expr.now
-    c.in-Some.root.now (new_of c.new_value-new.result) (assigned_in c.args.new_val) _ c.run_chain-result.result _
-    (sym c.first_of.ensures ∙ ap option_copied c.in-Some.is) c.new_value-new.ensures.same c.run_chain-result.ensures.runs)).bound
+    c.in-Some.root.now (new_of c.new_value-new.result) (assigned_in c.args.new_val) _ c.finish-result.result _
+    (sym c.first_of.ensures ∙ ap option_copied c.in-Some.is) c.new_value-new.ensures.same
+    (rw (← c.finish-result.ensures.came) at c.run_chain-done.ensures.runs))).bound
     (was c.args.this) (left_on g c c.args.this) c.in-Some-this.place.now c.give_back_with.new.this (ap was c.in-Some-this.is)
     (this_on g c) c.take_with-run.ensures.run c.give_back_with.ensures.this runs
 
-asks_on : (g : Over) (c : goal.After-give_back_with g) → OnOk c.run_chain-result.result
+asks_on : (g : Over) (c : goal.After-give_back_with g) → OnOk c.finish-result.result
     (AsksFirst (under g.H.Host.name_of c.args.self.now g.T.NativeTable.natives) (chain_of c.args.expr.now (assigned_in c.args.new_val))
     (state_of (g.T.NativeTable.state c.args.table.now) c.args.global.now c.args.scope.now (holding (was c.args.this))))
 asks_on g c =
     let reads = same_rules g.H.Host.name_of g.T.NativeTable.natives c.args.self.now c.evaluator-evaluator.result
     c.evaluator-evaluator.ensures.limits c.evaluator-evaluator.ensures.offer in
     let asks = asks_over_root (under_what_is_read g.H.Host.name_of c.evaluator-evaluator.result g.T.NativeTable.natives) c.args.expr.now
-    c.in-Some.root.now (new_of c.new_value-new.result) (assigned_in c.args.new_val) _ c.run_chain-result.result
-    (sym c.first_of.ensures ∙ ap option_copied c.in-Some.is) c.new_value-new.ensures.same c.run_chain-result.ensures.asks in
-    handed_on reads (λ r old new. OnOk c.run_chain-result.result (AsksFirst r (chain_of c.args.expr.now (assigned_in c.args.new_val)) old))
-    (g.T.NativeTable.state c.args.table.now) (g.T.NativeTable.state c.run_chain-result.new.table) c.take_with-run.result
-    c.run_chain-result.new.run c.args.global.now c.give_back_with.new.global c.give_back_with.ensures.global c.args.scope.now
+    c.in-Some.root.now (new_of c.new_value-new.result) (assigned_in c.args.new_val) _ c.finish-result.result
+    (sym c.first_of.ensures ∙ ap option_copied c.in-Some.is) c.new_value-new.ensures.same
+    (on_done _ _ c.finish-result.ensures.done c.run_chain-done.ensures.asks) in
+    handed_on reads (λ r old new. OnOk c.finish-result.result (AsksFirst r (chain_of c.args.expr.now (assigned_in c.args.new_val)) old))
+    (g.T.NativeTable.state c.args.table.now) (g.T.NativeTable.state c.run_chain-done.new.table) c.take_with-run.result
+    c.run_chain-done.new.run c.args.global.now c.give_back_with.new.global c.give_back_with.ensures.global c.args.scope.now
     c.give_back_with.new.scope c.give_back_with.ensures.scope
     (kept (under_what_is_read g.H.Host.name_of c.evaluator-evaluator.result g.T.NativeTable.natives)
-    (whole_chain c.args.expr.now (assigned_in c.args.new_val)) (ended c.run_chain-result.result) _ _ tt
+    (whole_chain c.args.expr.now (assigned_in c.args.new_val)) (ended c.finish-result.result) _ _ tt
     (over_root (under_what_is_read g.H.Host.name_of c.evaluator-evaluator.result g.T.NativeTable.natives) c.args.expr.now
-    c.in-Some.root.now (new_of c.new_value-new.result) (assigned_in c.args.new_val) _ c.run_chain-result.result _
-    (sym c.first_of.ensures ∙ ap option_copied c.in-Some.is) c.new_value-new.ensures.same c.run_chain-result.ensures.runs)).bound
+    c.in-Some.root.now (new_of c.new_value-new.result) (assigned_in c.args.new_val) _ c.finish-result.result _
+    (sym c.first_of.ensures ∙ ap option_copied c.in-Some.is) c.new_value-new.ensures.same
+    (rw (← c.finish-result.ensures.came) at c.run_chain-done.ensures.runs))).bound
     (was c.args.this) (left_on g c c.args.this) c.in-Some-this.place.now c.give_back_with.new.this (ap was c.in-Some-this.is)
     (this_on g c) c.take_with-run.ensures.run c.give_back_with.ensures.this asks
 
 pub returns-in-Some-this-clause-ends : goal.returns-in-Some-this-clause-ends
 returns-in-Some-this-clause-ends g c = ends_as (under g.H.Host.name_of c.args.self.now g.T.NativeTable.natives)
-    (whole_chain c.args.expr.now (assigned_in c.args.new_val)) _ _ c.run_chain-result.result (runs_on g c)
+    (whole_chain c.args.expr.now (assigned_in c.args.new_val)) _ _ c.finish-result.result (runs_on g c)
 
 pub returns-in-Some-this-clause-kept : goal.returns-in-Some-this-clause-kept
 returns-in-Some-this-clause-kept g c = kept (under g.H.Host.name_of c.args.self.now g.T.NativeTable.natives)
-    (whole_chain c.args.expr.now (assigned_in c.args.new_val)) (ended c.run_chain-result.result) _ _ tt (runs_on g c)
+    (whole_chain c.args.expr.now (assigned_in c.args.new_val)) (ended c.finish-result.result) _ _ tt (runs_on g c)
 
 pub returns-in-Some-this-clause-names : goal.returns-in-Some-this-clause-names
 returns-in-Some-this-clause-names g c = names_stay (under g.H.Host.name_of c.args.self.now g.T.NativeTable.natives)
-    (whole_chain c.args.expr.now (assigned_in c.args.new_val)) (ended c.run_chain-result.result) _ _ tt tt (runs_on g c)
+    (whole_chain c.args.expr.now (assigned_in c.args.new_val)) (ended c.finish-result.result) _ _ tt tt (runs_on g c)
 
 pub returns-in-Some-this-clause-assigns : goal.returns-in-Some-this-clause-assigns
 returns-in-Some-this-clause-assigns g c = chain_assigns (under g.H.Host.name_of c.args.self.now g.T.NativeTable.natives) c.args.expr.now
-    (assigned_in c.args.new_val) _ _ c.run_chain-result.result (runs_on g c) (asks_on g c)
+    (assigned_in c.args.new_val) _ _ c.finish-result.result (runs_on g c) (asks_on g c)
 
 -- what stands in the place of `this` as its loan ends, were this the place
 abbrev left_free : (g : Over) → goal.After-give_back g → Option (MutBor (Dynamic g.row.H.Denot)) → Option (Dynamic g.row.H.Denot)
@@ -162,7 +167,7 @@ left_free g c place =
     let answer = r g.row.H g.row.T g.H.laws g.T.laws g.H.Host-dict g.H.Destruct-dict g.T.NativeTable-dict in
     let types = xs g.row.H g.row.T g.H.laws g.T.laws g.H.Host-dict g.H.Destruct-dict g.T.NativeTable-dict in
     let given : Args (ended_of 10 kinds answer).signature c.lifetimes = (c.args.self, (c.args.alloc, (c.args.global, (c.args._caches, (c.args.table, (c.args.scope, (place, (c.args.expr, (c.args.new_val, tt))))))))) in
-    left_by (at_exit (ended_of 10 kinds answer) c.lifetimes given (lasts_p c.lifetimes 4 kinds types given (c.args.self, (tt, (c.args.global, (c.args._caches, (c.args.table, (c.args.scope, (place, (c.args.expr, five (five (five (five (five (five (five (tt, (tt, (tt, (tt, (tt, (tt, tt)))))))))))))))))))))).1.1.1.1.1.1.0
+    left_by (at_exit (ended_of 10 kinds answer) c.lifetimes given (lasts_p c.lifetimes 4 kinds types given (c.args.self, (tt, (c.args.global, (c.args._caches, (c.args.table, (c.args.scope, (place, (c.args.expr, five (five (five (five (five (five (five (five (five (tt, (tt, tt)))))))))))))))))))).1.1.1.1.1.1.0
 
 this_free : (g : Over) (c : goal.After-give_back g) → left_free g c c.args.this ≡ None
 this_free g c = subst (λ place. left_free g c place ≡ None) (sym c.in-None.is) refl
@@ -171,56 +176,60 @@ this_free g c = subst (λ place. left_free g c place ≡ None) (sym c.in-None.is
 runs_free : (g : Over) (c : goal.After-give_back g) → Runs (under g.H.Host.name_of c.args.self.now g.T.NativeTable.natives)
     (whole_chain c.args.expr.now (assigned_in c.args.new_val))
     (state_of (g.T.NativeTable.state c.args.table.now) c.args.global.now c.args.scope.now (holding (was c.args.this)))
-    c.run_chain-result-in-None.result (state_of (g.T.NativeTable.state c.run_chain-result-in-None.new.table) c.give_back.new.global
+    c.finish-result-in-None.result (state_of (g.T.NativeTable.state c.run_chain-done-in-None.new.table) c.give_back.new.global
     c.give_back.new.scope (holding (left_free g c c.args.this)))
 runs_free g c =
     let reads = same_rules g.H.Host.name_of g.T.NativeTable.natives c.args.self.now c.evaluator-evaluator.result
     c.evaluator-evaluator.ensures.limits c.evaluator-evaluator.ensures.offer in
     let runs = over_root (under_what_is_read g.H.Host.name_of c.evaluator-evaluator.result g.T.NativeTable.natives) c.args.expr.now
-    c.in-Some.root.now (new_of c.new_value-new.result) (assigned_in c.args.new_val) _ c.run_chain-result-in-None.result _
-    (sym c.first_of.ensures ∙ ap option_copied c.in-Some.is) c.new_value-new.ensures.same c.run_chain-result-in-None.ensures.runs in
+    c.in-Some.root.now (new_of c.new_value-new.result) (assigned_in c.args.new_val) _ c.finish-result-in-None.result _
+    (sym c.first_of.ensures ∙ ap option_copied c.in-Some.is) c.new_value-new.ensures.same
+    (rw (← c.finish-result-in-None.ensures.came) at c.run_chain-done-in-None.ensures.runs) in
     handed_free reads (λ r old new. Runs r (whole_chain c.args.expr.now (assigned_in c.args.new_val)) old
-    c.run_chain-result-in-None.result new) (g.T.NativeTable.state c.args.table.now)
-    (g.T.NativeTable.state c.run_chain-result-in-None.new.table) c.take-run.result c.run_chain-result-in-None.new.run c.args.global.now
+    c.finish-result-in-None.result new) (g.T.NativeTable.state c.args.table.now)
+    (g.T.NativeTable.state c.run_chain-done-in-None.new.table) c.take-run.result c.run_chain-done-in-None.new.run c.args.global.now
     c.give_back.new.global c.give_back.ensures.global c.args.scope.now c.give_back.new.scope c.give_back.ensures.scope
     (kept (under_what_is_read g.H.Host.name_of c.evaluator-evaluator.result g.T.NativeTable.natives)
-    (whole_chain c.args.expr.now (assigned_in c.args.new_val)) (ended c.run_chain-result-in-None.result) _ _ tt
+    (whole_chain c.args.expr.now (assigned_in c.args.new_val)) (ended c.finish-result-in-None.result) _ _ tt
     (over_root (under_what_is_read g.H.Host.name_of c.evaluator-evaluator.result g.T.NativeTable.natives) c.args.expr.now
-    c.in-Some.root.now (new_of c.new_value-new.result) (assigned_in c.args.new_val) _ c.run_chain-result-in-None.result _
-    (sym c.first_of.ensures ∙ ap option_copied c.in-Some.is) c.new_value-new.ensures.same c.run_chain-result-in-None.ensures.runs)).bound
+    c.in-Some.root.now (new_of c.new_value-new.result) (assigned_in c.args.new_val) _ c.finish-result-in-None.result _
+    (sym c.first_of.ensures ∙ ap option_copied c.in-Some.is) c.new_value-new.ensures.same
+    (rw (← c.finish-result-in-None.ensures.came) at c.run_chain-done-in-None.ensures.runs))).bound
     (was c.args.this) (left_free g c c.args.this) (ap was c.in-None.is) (this_free g c) c.take-run.ensures.run runs
 
-asks_free : (g : Over) (c : goal.After-give_back g) → OnOk c.run_chain-result-in-None.result
+asks_free : (g : Over) (c : goal.After-give_back g) → OnOk c.finish-result-in-None.result
     (AsksFirst (under g.H.Host.name_of c.args.self.now g.T.NativeTable.natives) (chain_of c.args.expr.now (assigned_in c.args.new_val))
     (state_of (g.T.NativeTable.state c.args.table.now) c.args.global.now c.args.scope.now (holding (was c.args.this))))
 asks_free g c =
     let reads = same_rules g.H.Host.name_of g.T.NativeTable.natives c.args.self.now c.evaluator-evaluator.result
     c.evaluator-evaluator.ensures.limits c.evaluator-evaluator.ensures.offer in
     let asks = asks_over_root (under_what_is_read g.H.Host.name_of c.evaluator-evaluator.result g.T.NativeTable.natives) c.args.expr.now
-    c.in-Some.root.now (new_of c.new_value-new.result) (assigned_in c.args.new_val) _ c.run_chain-result-in-None.result
-    (sym c.first_of.ensures ∙ ap option_copied c.in-Some.is) c.new_value-new.ensures.same c.run_chain-result-in-None.ensures.asks in
-    handed_free reads (λ r old new. OnOk c.run_chain-result-in-None.result (AsksFirst r (chain_of c.args.expr.now (assigned_in c.args.new_val)) old)) (g.T.NativeTable.state c.args.table.now)
-    (g.T.NativeTable.state c.run_chain-result-in-None.new.table) c.take-run.result c.run_chain-result-in-None.new.run c.args.global.now
+    c.in-Some.root.now (new_of c.new_value-new.result) (assigned_in c.args.new_val) _ c.finish-result-in-None.result
+    (sym c.first_of.ensures ∙ ap option_copied c.in-Some.is) c.new_value-new.ensures.same
+    (on_done _ _ c.finish-result-in-None.ensures.done c.run_chain-done-in-None.ensures.asks) in
+    handed_free reads (λ r old new. OnOk c.finish-result-in-None.result (AsksFirst r (chain_of c.args.expr.now (assigned_in c.args.new_val)) old)) (g.T.NativeTable.state c.args.table.now)
+    (g.T.NativeTable.state c.run_chain-done-in-None.new.table) c.take-run.result c.run_chain-done-in-None.new.run c.args.global.now
     c.give_back.new.global c.give_back.ensures.global c.args.scope.now c.give_back.new.scope c.give_back.ensures.scope
     (kept (under_what_is_read g.H.Host.name_of c.evaluator-evaluator.result g.T.NativeTable.natives)
-    (whole_chain c.args.expr.now (assigned_in c.args.new_val)) (ended c.run_chain-result-in-None.result) _ _ tt
+    (whole_chain c.args.expr.now (assigned_in c.args.new_val)) (ended c.finish-result-in-None.result) _ _ tt
     (over_root (under_what_is_read g.H.Host.name_of c.evaluator-evaluator.result g.T.NativeTable.natives) c.args.expr.now
-    c.in-Some.root.now (new_of c.new_value-new.result) (assigned_in c.args.new_val) _ c.run_chain-result-in-None.result _
-    (sym c.first_of.ensures ∙ ap option_copied c.in-Some.is) c.new_value-new.ensures.same c.run_chain-result-in-None.ensures.runs)).bound
+    c.in-Some.root.now (new_of c.new_value-new.result) (assigned_in c.args.new_val) _ c.finish-result-in-None.result _
+    (sym c.first_of.ensures ∙ ap option_copied c.in-Some.is) c.new_value-new.ensures.same
+    (rw (← c.finish-result-in-None.ensures.came) at c.run_chain-done-in-None.ensures.runs))).bound
     (was c.args.this) (left_free g c c.args.this) (ap was c.in-None.is) (this_free g c) c.take-run.ensures.run asks
 
 pub returns-in-None-clause-ends : goal.returns-in-None-clause-ends
 returns-in-None-clause-ends g c = ends_as (under g.H.Host.name_of c.args.self.now g.T.NativeTable.natives)
-    (whole_chain c.args.expr.now (assigned_in c.args.new_val)) _ _ c.run_chain-result-in-None.result (runs_free g c)
+    (whole_chain c.args.expr.now (assigned_in c.args.new_val)) _ _ c.finish-result-in-None.result (runs_free g c)
 
 pub returns-in-None-clause-kept : goal.returns-in-None-clause-kept
 returns-in-None-clause-kept g c = kept (under g.H.Host.name_of c.args.self.now g.T.NativeTable.natives)
-    (whole_chain c.args.expr.now (assigned_in c.args.new_val)) (ended c.run_chain-result-in-None.result) _ _ tt (runs_free g c)
+    (whole_chain c.args.expr.now (assigned_in c.args.new_val)) (ended c.finish-result-in-None.result) _ _ tt (runs_free g c)
 
 pub returns-in-None-clause-names : goal.returns-in-None-clause-names
 returns-in-None-clause-names g c = names_stay (under g.H.Host.name_of c.args.self.now g.T.NativeTable.natives)
-    (whole_chain c.args.expr.now (assigned_in c.args.new_val)) (ended c.run_chain-result-in-None.result) _ _ tt tt (runs_free g c)
+    (whole_chain c.args.expr.now (assigned_in c.args.new_val)) (ended c.finish-result-in-None.result) _ _ tt tt (runs_free g c)
 
 pub returns-in-None-clause-assigns : goal.returns-in-None-clause-assigns
 returns-in-None-clause-assigns g c = chain_assigns (under g.H.Host.name_of c.args.self.now g.T.NativeTable.natives) c.args.expr.now
-    (assigned_in c.args.new_val) _ _ c.run_chain-result-in-None.result (runs_free g c) (asks_free g c)
+    (assigned_in c.args.new_val) _ _ c.finish-result-in-None.result (runs_free g c) (asks_free g c)

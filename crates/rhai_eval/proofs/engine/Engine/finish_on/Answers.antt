@@ -19,11 +19,12 @@ returns-in-Enters-clause-runs g c held =
     let reads = same_rules g.H.Host.name_of g.T.NativeTable.natives c.args.self.now c.evaluator-evaluator.result
     c.evaluator-evaluator.ensures.limits c.evaluator-evaluator.ensures.offer in
     let runs = handed_held reads (λ rules old new. Runs rules
-    (EnterFunction (entry_of c.in-Enters.function NoObject false c.in-Enters.args c.args.pos old.local)) old c.enter_captured-result.result
-    new) (g.T.NativeTable.state c.args.table.now) (g.T.NativeTable.state c.enter_captured-result.new.table) c.take-run.result
-    c.enter_captured-result.new.run c.args.global.now c.give_back.new.global c.give_back.ensures.global c.args.scope.now
-    c.give_back.new.scope c.give_back.ensures.scope None held held c.take-run.ensures.run (c.enter_captured-result.ensures.runs held) in
+    (EnterFunction (entry_of c.in-Enters.function NoObject false c.in-Enters.args c.args.pos old.local)) old c.finish-result.result
+    new) (g.T.NativeTable.state c.args.table.now) (g.T.NativeTable.state c.enter_captured-done.new.table) c.take-run.result
+    c.enter_captured-done.new.run c.args.global.now c.give_back.new.global c.give_back.ensures.global c.args.scope.now
+    c.give_back.new.scope c.give_back.ensures.scope None held held c.take-run.ensures.run (
+    (rw (← c.finish-result.ensures.came) at c.enter_captured-done.ensures.runs) held) in
     entered_runs (under g.H.Host.name_of c.args.self.now g.T.NativeTable.natives) false c.args.pos c.args.outcome c.in-Enters.function
     c.in-Enters.args (state_of (g.T.NativeTable.state c.args.table.now) c.args.global.now c.args.scope.now held)
-    (state_of (g.T.NativeTable.state c.enter_captured-result.new.table) c.give_back.new.global c.give_back.new.scope held)
-    c.enter_captured-result.result c.marked.result c.in-Enters.is c.marked.ensures runs
+    (state_of (g.T.NativeTable.state c.enter_captured-done.new.table) c.give_back.new.global c.give_back.new.scope held)
+    c.finish-result.result c.marked.result c.in-Enters.is c.marked.ensures runs

@@ -24,7 +24,7 @@ left_on g c place =
     let answer = r g.row.H g.row.T g.H.laws g.T.laws g.H.Host-dict g.H.Destruct-dict g.T.NativeTable-dict in
     let types = xs g.row.H g.row.T g.H.laws g.T.laws g.H.Host-dict g.H.Destruct-dict g.T.NativeTable-dict in
     let given : Args (ended_of 9 kinds answer).signature c.lifetimes = (c.args.self, (c.args.alloc, (c.args.global, (c.args._caches, (c.args.table, (c.args.scope, (place, (c.args.arg_expr, tt)))))))) in
-    left_by (at_exit (ended_of 9 kinds answer) c.lifetimes given (lasts_p c.lifetimes 4 kinds types given (c.args.self, (tt, (c.args.global, (c.args._caches, (c.args.table, (c.args.scope, (Some (record c.in-Some.place { now = c.give_back_with.new.this }), (c.args.arg_expr, five (five (five (five (five (five (tt, (tt, (tt, (tt, (tt, (tt, (tt, tt)))))))))))))))))))))).1.1.1.1.1.1.0
+    left_by (at_exit (ended_of 9 kinds answer) c.lifetimes given (lasts_p c.lifetimes 4 kinds types given (c.args.self, (tt, (c.args.global, (c.args._caches, (c.args.table, (c.args.scope, (Some (record c.in-Some.place { now = c.give_back_with.new.this }), (c.args.arg_expr, five (five (five (five (five (five (five (five (tt, (tt, (tt, tt)))))))))))))))))))).1.1.1.1.1.1.0
 
 this_on : (g : Over) (c : goal.After-starting_at g) → left_on g c c.args.this ≡ Some c.give_back_with.new.this
 this_on g c = subst (λ place. left_on g c place ≡ Some c.give_back_with.new.this) (sym c.in-Some.is) refl
@@ -32,32 +32,33 @@ this_on g c = subst (λ place. left_on g c place ≡ Some c.give_back_with.new.t
 -- the run, where the caller has a `this`
 runs_on : (g : Over) (c : goal.After-starting_at g) → Runs (under g.H.Host.name_of c.args.self.now g.T.NativeTable.natives)
     (Argument c.args.arg_expr.now) (state_of (g.T.NativeTable.state c.args.table.now) c.args.global.now c.args.scope.now
-    (holding (was c.args.this))) c.run_arg-result.result (state_of (g.T.NativeTable.state c.run_arg-result.new.table)
+    (holding (was c.args.this))) c.finish-result.result (state_of (g.T.NativeTable.state c.run_arg-done.new.table)
     c.give_back_with.new.global c.give_back_with.new.scope (holding (left_on g c c.args.this)))
 runs_on g c =
     let reads = same_rules g.H.Host.name_of g.T.NativeTable.natives c.args.self.now c.evaluator-evaluator.result
     c.evaluator-evaluator.ensures.limits c.evaluator-evaluator.ensures.offer in
-    let runs = c.run_arg-result.ensures.runs in
-    handed_on reads (λ r old new. Runs r (Argument c.args.arg_expr.now) old c.run_arg-result.result new)
-    (g.T.NativeTable.state c.args.table.now) (g.T.NativeTable.state c.run_arg-result.new.table) c.take_with-run.result
-    c.run_arg-result.new.run c.args.global.now c.give_back_with.new.global c.give_back_with.ensures.global c.args.scope.now
+    let runs = (rw (← c.finish-result.ensures.came) at c.run_arg-done.ensures.runs) in
+    handed_on reads (λ r old new. Runs r (Argument c.args.arg_expr.now) old c.finish-result.result new)
+    (g.T.NativeTable.state c.args.table.now) (g.T.NativeTable.state c.run_arg-done.new.table) c.take_with-run.result
+    c.run_arg-done.new.run c.args.global.now c.give_back_with.new.global c.give_back_with.ensures.global c.args.scope.now
     c.give_back_with.new.scope c.give_back_with.ensures.scope
     (kept (under_what_is_read g.H.Host.name_of c.evaluator-evaluator.result g.T.NativeTable.natives) (Argument c.args.arg_expr.now)
-    (ended c.run_arg-result.result) _ _ tt c.run_arg-result.ensures.runs).bound (was c.args.this) (left_on g c c.args.this)
+    (ended c.finish-result.result) _ _ tt
+    (rw (← c.finish-result.ensures.came) at c.run_arg-done.ensures.runs)).bound (was c.args.this) (left_on g c c.args.this)
     c.in-Some.place.now c.give_back_with.new.this (ap was c.in-Some.is) (this_on g c) c.take_with-run.ensures.run
     c.give_back_with.ensures.this runs
 
 pub returns-in-Some-clause-ends : goal.returns-in-Some-clause-ends
 returns-in-Some-clause-ends g c = ends_as_told (under g.H.Host.name_of c.args.self.now g.T.NativeTable.natives)
-    (Argument c.args.arg_expr.now) _ _ c.run_arg-result.result (value_with c.starting_at.result) c.starting_at.ensures.value (runs_on g c)
+    (Argument c.args.arg_expr.now) _ _ c.finish-result.result (value_with c.starting_at.result) c.starting_at.ensures.value (runs_on g c)
 
 pub returns-in-Some-clause-kept : goal.returns-in-Some-clause-kept
 returns-in-Some-clause-kept g c = kept (under g.H.Host.name_of c.args.self.now g.T.NativeTable.natives) (Argument c.args.arg_expr.now)
-    (ended c.run_arg-result.result) _ _ tt (runs_on g c)
+    (ended c.finish-result.result) _ _ tt (runs_on g c)
 
 pub returns-in-Some-clause-names : goal.returns-in-Some-clause-names
 returns-in-Some-clause-names g c = names_stay (under g.H.Host.name_of c.args.self.now g.T.NativeTable.natives)
-    (Argument c.args.arg_expr.now) (ended c.run_arg-result.result) _ _ tt tt (runs_on g c)
+    (Argument c.args.arg_expr.now) (ended c.finish-result.result) _ _ tt tt (runs_on g c)
 
 -- what stands in the place of `this` as its loan ends, were this the place
 abbrev left_free : (g : Over) → goal.After-starting_at-in-None g → Option (MutBor (Dynamic g.row.H.Denot)) → Option
@@ -67,7 +68,7 @@ left_free g c place =
     let answer = r g.row.H g.row.T g.H.laws g.T.laws g.H.Host-dict g.H.Destruct-dict g.T.NativeTable-dict in
     let types = xs g.row.H g.row.T g.H.laws g.T.laws g.H.Host-dict g.H.Destruct-dict g.T.NativeTable-dict in
     let given : Args (ended_of 9 kinds answer).signature c.lifetimes = (c.args.self, (c.args.alloc, (c.args.global, (c.args._caches, (c.args.table, (c.args.scope, (place, (c.args.arg_expr, tt)))))))) in
-    left_by (at_exit (ended_of 9 kinds answer) c.lifetimes given (lasts_p c.lifetimes 4 kinds types given (c.args.self, (tt, (c.args.global, (c.args._caches, (c.args.table, (c.args.scope, (place, (c.args.arg_expr, five (five (five (five (five (five (tt, (tt, (tt, (tt, (tt, (tt, (tt, tt)))))))))))))))))))))).1.1.1.1.1.1.0
+    left_by (at_exit (ended_of 9 kinds answer) c.lifetimes given (lasts_p c.lifetimes 4 kinds types given (c.args.self, (tt, (c.args.global, (c.args._caches, (c.args.table, (c.args.scope, (place, (c.args.arg_expr, five (five (five (five (five (five (five (five (tt, (tt, (tt, tt)))))))))))))))))))).1.1.1.1.1.1.0
 
 this_free : (g : Over) (c : goal.After-starting_at-in-None g) → left_free g c c.args.this ≡ None
 this_free g c = subst (λ place. left_free g c place ≡ None) (sym c.in-None.is) refl
@@ -75,30 +76,31 @@ this_free g c = subst (λ place. left_free g c place ≡ None) (sym c.in-None.is
 -- and where he has none
 runs_free : (g : Over) (c : goal.After-starting_at-in-None g) → Runs (under g.H.Host.name_of c.args.self.now g.T.NativeTable.natives)
     (Argument c.args.arg_expr.now) (state_of (g.T.NativeTable.state c.args.table.now) c.args.global.now c.args.scope.now
-    (holding (was c.args.this))) c.run_arg-result-in-None.result
-    (state_of (g.T.NativeTable.state c.run_arg-result-in-None.new.table) c.give_back.new.global c.give_back.new.scope
+    (holding (was c.args.this))) c.finish-result-in-None.result
+    (state_of (g.T.NativeTable.state c.run_arg-done-in-None.new.table) c.give_back.new.global c.give_back.new.scope
     (holding (left_free g c c.args.this)))
 runs_free g c =
     let reads = same_rules g.H.Host.name_of g.T.NativeTable.natives c.args.self.now c.evaluator-evaluator.result
     c.evaluator-evaluator.ensures.limits c.evaluator-evaluator.ensures.offer in
-    let runs = c.run_arg-result-in-None.ensures.runs in
-    handed_free reads (λ r old new. Runs r (Argument c.args.arg_expr.now) old c.run_arg-result-in-None.result new)
-    (g.T.NativeTable.state c.args.table.now) (g.T.NativeTable.state c.run_arg-result-in-None.new.table) c.take-run.result
-    c.run_arg-result-in-None.new.run c.args.global.now c.give_back.new.global c.give_back.ensures.global c.args.scope.now
+    let runs = (rw (← c.finish-result-in-None.ensures.came) at c.run_arg-done-in-None.ensures.runs) in
+    handed_free reads (λ r old new. Runs r (Argument c.args.arg_expr.now) old c.finish-result-in-None.result new)
+    (g.T.NativeTable.state c.args.table.now) (g.T.NativeTable.state c.run_arg-done-in-None.new.table) c.take-run.result
+    c.run_arg-done-in-None.new.run c.args.global.now c.give_back.new.global c.give_back.ensures.global c.args.scope.now
     c.give_back.new.scope c.give_back.ensures.scope (kept (under_what_is_read g.H.Host.name_of c.evaluator-evaluator.result
-    g.T.NativeTable.natives) (Argument c.args.arg_expr.now) (ended c.run_arg-result-in-None.result) _ _ tt
-    c.run_arg-result-in-None.ensures.runs).bound (was c.args.this) (left_free g c c.args.this) (ap was c.in-None.is) (this_free g c)
+    g.T.NativeTable.natives) (Argument c.args.arg_expr.now) (ended c.finish-result-in-None.result) _ _ tt
+    (rw (← c.finish-result-in-None.ensures.came) at c.run_arg-done-in-None.ensures.runs)).bound (was c.args.this) (left_free g c c.args.this) (ap was c.in-None.is) (this_free g
+    c)
     c.take-run.ensures.run runs
 
 pub returns-in-None-clause-ends : goal.returns-in-None-clause-ends
 returns-in-None-clause-ends g c = ends_as_told (under g.H.Host.name_of c.args.self.now g.T.NativeTable.natives)
-    (Argument c.args.arg_expr.now) _ _ c.run_arg-result-in-None.result (value_with c.starting_at-in-None.result)
+    (Argument c.args.arg_expr.now) _ _ c.finish-result-in-None.result (value_with c.starting_at-in-None.result)
     c.starting_at-in-None.ensures.value (runs_free g c)
 
 pub returns-in-None-clause-kept : goal.returns-in-None-clause-kept
 returns-in-None-clause-kept g c = kept (under g.H.Host.name_of c.args.self.now g.T.NativeTable.natives) (Argument c.args.arg_expr.now)
-    (ended c.run_arg-result-in-None.result) _ _ tt (runs_free g c)
+    (ended c.finish-result-in-None.result) _ _ tt (runs_free g c)
 
 pub returns-in-None-clause-names : goal.returns-in-None-clause-names
 returns-in-None-clause-names g c = names_stay (under g.H.Host.name_of c.args.self.now g.T.NativeTable.natives)
-    (Argument c.args.arg_expr.now) (ended c.run_arg-result-in-None.result) _ _ tt tt (runs_free g c)
+    (Argument c.args.arg_expr.now) (ended c.finish-result-in-None.result) _ _ tt tt (runs_free g c)

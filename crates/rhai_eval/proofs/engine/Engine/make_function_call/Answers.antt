@@ -24,7 +24,7 @@ left_on g c place =
     let answer = r g.row.H g.row.T g.H.laws g.T.laws g.H.Host-dict g.H.Destruct-dict g.T.NativeTable-dict in
     let types = xs g.row.H g.row.T g.H.laws g.T.laws g.H.Host-dict g.H.Destruct-dict g.T.NativeTable-dict in
     let given : Args (ended_of 12 kinds answer).signature c.lifetimes = (c.args.self, (c.args.alloc, (c.args.global, (c.args._caches, (c.args.table, (c.args.scope, (place, (c.args.fn_name, (c.args.op_token, (c.args.first_arg, (c.args.args_expr, (c.args.capture_parent_scope, (c.args.pos, tt))))))))))))) in
-    left_by (at_exit (ended_of 12 kinds answer) c.lifetimes given (lasts_p c.lifetimes 4 kinds types given (c.args.self, (tt, (c.args.global, (c.args._caches, (c.args.table, (c.args.scope, (Some (record c.in-Some.place { now = c.give_back_with.new.this }), (c.args.fn_name, (c.args.op_token, (c.args.first_arg, (c.args.args_expr, five (five (five (five (five (five (five (tt, (tt, (tt, (tt, (tt, tt)))))))))))))))))))))))).1.1.1.1.1.1.0
+    left_by (at_exit (ended_of 12 kinds answer) c.lifetimes given (lasts_p c.lifetimes 4 kinds types given (c.args.self, (tt, (c.args.global, (c.args._caches, (c.args.table, (c.args.scope, (Some (record c.in-Some.place { now = c.give_back_with.new.this }), (c.args.fn_name, (c.args.op_token, (c.args.first_arg, (c.args.args_expr, five (five (five (five (five (five (five (five (five (tt, tt)))))))))))))))))))))).1.1.1.1.1.1.0
 
 this_on : (g : Over) (c : goal.After-give_back_with g) → left_on g c c.args.this ≡ Some c.give_back_with.new.this
 this_on g c = subst (λ place. left_on g c place ≡ Some c.give_back_with.new.this) (sym c.in-Some.is) refl
@@ -34,43 +34,45 @@ runs_on : (g : Over) (c : goal.After-give_back_with g) → StartsAs (under g.H.H
     (called (record { name = c.args.fn_name.now; token = option_copied c.args.op_token; at = c.args.pos })
     (all_args (option_copied c.args.first_arg) c.args.args_expr.now) c.args.capture_parent_scope)
     (state_of (g.T.NativeTable.state c.args.table.now) c.args.global.now c.args.scope.now (holding (was c.args.this)))
-    c.run_call-result.result (state_of (g.T.NativeTable.state c.run_call-result.new.table) c.give_back_with.new.global
+    c.finish-result.result (state_of (g.T.NativeTable.state c.run_call-done.new.table) c.give_back_with.new.global
     c.give_back_with.new.scope (holding (left_on g c c.args.this)))
 runs_on g c =
     let reads = same_rules g.H.Host.name_of g.T.NativeTable.natives c.args.self.now c.evaluator-evaluator.result
     c.evaluator-evaluator.ensures.limits c.evaluator-evaluator.ensures.offer in
-    let runs = (rw c.copied-token.ensures at c.run_call-result.ensures.runs) in
+    let runs = (rw c.copied-token.ensures at (rw (← c.finish-result.ensures.came) at c.run_call-done.ensures.runs)) in
     handed_on reads (λ r old new. StartsAs r (called (record {
       name = c.args.fn_name.now;
       token = option_copied c.args.op_token;
       at =
           c.args.pos;
     }) (all_args (option_copied c.args.first_arg) c.args.args_expr.now) c.args.capture_parent_scope) old
-    c.run_call-result.result new) (g.T.NativeTable.state c.args.table.now) (g.T.NativeTable.state c.run_call-result.new.table)
-    c.take_with-run.result c.run_call-result.new.run c.args.global.now c.give_back_with.new.global c.give_back_with.ensures.global
+    c.finish-result.result new) (g.T.NativeTable.state c.args.table.now) (g.T.NativeTable.state c.run_call-done.new.table)
+    c.take_with-run.result c.run_call-done.new.run c.args.global.now c.give_back_with.new.global c.give_back_with.ensures.global
     c.args.scope.now c.give_back_with.new.scope c.give_back_with.ensures.scope
     (call_kept (under_what_is_read g.H.Host.name_of c.evaluator-evaluator.result g.T.NativeTable.natives)
     (record { name = c.args.fn_name.now; token = option_copied c.args.op_token; at = c.args.pos })
-    (all_args (option_copied c.args.first_arg) c.args.args_expr.now) c.args.capture_parent_scope _ _ c.run_call-result.result
-    (rw c.copied-token.ensures at c.run_call-result.ensures.runs)).bound (was c.args.this) (left_on g c c.args.this) c.in-Some.place.now
+    (all_args (option_copied c.args.first_arg) c.args.args_expr.now) c.args.capture_parent_scope _ _ c.finish-result.result
+    (rw c.copied-token.ensures at
+    (rw (← c.finish-result.ensures.came) at c.run_call-done.ensures.runs))).bound (was c.args.this) (left_on g c c.args.this)
+    c.in-Some.place.now
     c.give_back_with.new.this (ap was c.in-Some.is) (this_on g c) c.take_with-run.ensures.run c.give_back_with.ensures.this runs
 
 pub returns-in-Some-clause-ends : goal.returns-in-Some-clause-ends
 returns-in-Some-clause-ends g c = ends_from (under g.H.Host.name_of c.args.self.now g.T.NativeTable.natives)
     (record { name = c.args.fn_name.now; token = option_copied c.args.op_token; at = c.args.pos })
-    (all_args (option_copied c.args.first_arg) c.args.args_expr.now) c.args.capture_parent_scope _ _ c.run_call-result.result
+    (all_args (option_copied c.args.first_arg) c.args.args_expr.now) c.args.capture_parent_scope _ _ c.finish-result.result
     (runs_on g c)
 
 pub returns-in-Some-clause-kept : goal.returns-in-Some-clause-kept
 returns-in-Some-clause-kept g c = call_kept (under g.H.Host.name_of c.args.self.now g.T.NativeTable.natives)
     (record { name = c.args.fn_name.now; token = option_copied c.args.op_token; at = c.args.pos })
-    (all_args (option_copied c.args.first_arg) c.args.args_expr.now) c.args.capture_parent_scope _ _ c.run_call-result.result
+    (all_args (option_copied c.args.first_arg) c.args.args_expr.now) c.args.capture_parent_scope _ _ c.finish-result.result
     (runs_on g c)
 
 pub returns-in-Some-clause-names : goal.returns-in-Some-clause-names
 returns-in-Some-clause-names g c = call_names (under g.H.Host.name_of c.args.self.now g.T.NativeTable.natives)
     (record { name = c.args.fn_name.now; token = option_copied c.args.op_token; at = c.args.pos })
-    (all_args (option_copied c.args.first_arg) c.args.args_expr.now) c.args.capture_parent_scope _ _ c.run_call-result.result
+    (all_args (option_copied c.args.first_arg) c.args.args_expr.now) c.args.capture_parent_scope _ _ c.finish-result.result
     (runs_on g c)
 
 -- what stands in the place of `this` as its loan ends, were this the place
@@ -80,7 +82,7 @@ left_free g c place =
     let answer = r g.row.H g.row.T g.H.laws g.T.laws g.H.Host-dict g.H.Destruct-dict g.T.NativeTable-dict in
     let types = xs g.row.H g.row.T g.H.laws g.T.laws g.H.Host-dict g.H.Destruct-dict g.T.NativeTable-dict in
     let given : Args (ended_of 12 kinds answer).signature c.lifetimes = (c.args.self, (c.args.alloc, (c.args.global, (c.args._caches, (c.args.table, (c.args.scope, (place, (c.args.fn_name, (c.args.op_token, (c.args.first_arg, (c.args.args_expr, (c.args.capture_parent_scope, (c.args.pos, tt))))))))))))) in
-    left_by (at_exit (ended_of 12 kinds answer) c.lifetimes given (lasts_p c.lifetimes 4 kinds types given (c.args.self, (tt, (c.args.global, (c.args._caches, (c.args.table, (c.args.scope, (place, (c.args.fn_name, (c.args.op_token, (c.args.first_arg, (c.args.args_expr, five (five (five (five (five (five (five (tt, (tt, (tt, (tt, (tt, tt)))))))))))))))))))))))).1.1.1.1.1.1.0
+    left_by (at_exit (ended_of 12 kinds answer) c.lifetimes given (lasts_p c.lifetimes 4 kinds types given (c.args.self, (tt, (c.args.global, (c.args._caches, (c.args.table, (c.args.scope, (place, (c.args.fn_name, (c.args.op_token, (c.args.first_arg, (c.args.args_expr, five (five (five (five (five (five (five (five (five (tt, tt)))))))))))))))))))))).1.1.1.1.1.1.0
 
 this_free : (g : Over) (c : goal.After-give_back g) → left_free g c c.args.this ≡ None
 this_free g c = subst (λ place. left_free g c place ≡ None) (sym c.in-None.is) refl
@@ -90,38 +92,40 @@ runs_free : (g : Over) (c : goal.After-give_back g) → StartsAs (under g.H.Host
     (called (record { name = c.args.fn_name.now; token = option_copied c.args.op_token; at = c.args.pos })
     (all_args (option_copied c.args.first_arg) c.args.args_expr.now) c.args.capture_parent_scope)
     (state_of (g.T.NativeTable.state c.args.table.now) c.args.global.now c.args.scope.now (holding (was c.args.this)))
-    c.run_call-result-in-None.result (state_of (g.T.NativeTable.state c.run_call-result-in-None.new.table) c.give_back.new.global
+    c.finish-result-in-None.result (state_of (g.T.NativeTable.state c.run_call-done-in-None.new.table) c.give_back.new.global
     c.give_back.new.scope (holding (left_free g c c.args.this)))
 runs_free g c =
     let reads = same_rules g.H.Host.name_of g.T.NativeTable.natives c.args.self.now c.evaluator-evaluator.result
     c.evaluator-evaluator.ensures.limits c.evaluator-evaluator.ensures.offer in
-    let runs = (rw c.copied-token.ensures at c.run_call-result-in-None.ensures.runs) in
+    let runs = (rw c.copied-token.ensures at (rw (← c.finish-result-in-None.ensures.came) at c.run_call-done-in-None.ensures.runs)) in
     handed_free reads (λ r old new. StartsAs r (called (record
     { name = c.args.fn_name.now; token = option_copied c.args.op_token; at = c.args.pos })
-    (all_args (option_copied c.args.first_arg) c.args.args_expr.now) c.args.capture_parent_scope) old c.run_call-result-in-None.result
-    new) (g.T.NativeTable.state c.args.table.now) (g.T.NativeTable.state c.run_call-result-in-None.new.table) c.take-run.result
-    c.run_call-result-in-None.new.run c.args.global.now c.give_back.new.global c.give_back.ensures.global c.args.scope.now
+    (all_args (option_copied c.args.first_arg) c.args.args_expr.now) c.args.capture_parent_scope) old c.finish-result-in-None.result
+    new) (g.T.NativeTable.state c.args.table.now) (g.T.NativeTable.state c.run_call-done-in-None.new.table) c.take-run.result
+    c.run_call-done-in-None.new.run c.args.global.now c.give_back.new.global c.give_back.ensures.global c.args.scope.now
     c.give_back.new.scope c.give_back.ensures.scope (call_kept
     (under_what_is_read g.H.Host.name_of c.evaluator-evaluator.result g.T.NativeTable.natives)
     (record { name = c.args.fn_name.now; token = option_copied c.args.op_token; at = c.args.pos })
-    (all_args (option_copied c.args.first_arg) c.args.args_expr.now) c.args.capture_parent_scope _ _ c.run_call-result-in-None.result
-    (rw c.copied-token.ensures at c.run_call-result-in-None.ensures.runs)).bound (was c.args.this) (left_free g c c.args.this)
+    (all_args (option_copied c.args.first_arg) c.args.args_expr.now) c.args.capture_parent_scope _ _ c.finish-result-in-None.result
+    (rw c.copied-token.ensures at
+    (rw (← c.finish-result-in-None.ensures.came) at c.run_call-done-in-None.ensures.runs))).bound (was c.args.this) (left_free g c
+    c.args.this)
     (ap was c.in-None.is) (this_free g c) c.take-run.ensures.run runs
 
 pub returns-in-None-clause-ends : goal.returns-in-None-clause-ends
 returns-in-None-clause-ends g c = ends_from (under g.H.Host.name_of c.args.self.now g.T.NativeTable.natives)
     (record { name = c.args.fn_name.now; token = option_copied c.args.op_token; at = c.args.pos })
-    (all_args (option_copied c.args.first_arg) c.args.args_expr.now) c.args.capture_parent_scope _ _ c.run_call-result-in-None.result
+    (all_args (option_copied c.args.first_arg) c.args.args_expr.now) c.args.capture_parent_scope _ _ c.finish-result-in-None.result
     (runs_free g c)
 
 pub returns-in-None-clause-kept : goal.returns-in-None-clause-kept
 returns-in-None-clause-kept g c = call_kept (under g.H.Host.name_of c.args.self.now g.T.NativeTable.natives)
     (record { name = c.args.fn_name.now; token = option_copied c.args.op_token; at = c.args.pos })
-    (all_args (option_copied c.args.first_arg) c.args.args_expr.now) c.args.capture_parent_scope _ _ c.run_call-result-in-None.result
+    (all_args (option_copied c.args.first_arg) c.args.args_expr.now) c.args.capture_parent_scope _ _ c.finish-result-in-None.result
     (runs_free g c)
 
 pub returns-in-None-clause-names : goal.returns-in-None-clause-names
 returns-in-None-clause-names g c = call_names (under g.H.Host.name_of c.args.self.now g.T.NativeTable.natives)
     (record { name = c.args.fn_name.now; token = option_copied c.args.op_token; at = c.args.pos })
-    (all_args (option_copied c.args.first_arg) c.args.args_expr.now) c.args.capture_parent_scope _ _ c.run_call-result-in-None.result
+    (all_args (option_copied c.args.first_arg) c.args.args_expr.now) c.args.capture_parent_scope _ _ c.finish-result-in-None.result
     (runs_free g c)

@@ -54,29 +54,30 @@ returns g c = record {
       let stands = c.replace-outer.ensures.after ∙ ap Some c.replace-this.ensures.value in
       let runs = captured_ends rules c.args.function TheFocus c.args.args c.args.pos entered scope (lending held inner) c.get-def.result.now
       (option_copied c.environ_in-environ.result) c.level_below-level.result (g.T.NativeTable.state c.args.table.now)
-      (g.T.NativeTable.state c.run_body-result.new.table) c.run_body-result.new.run c.run_body-result.result c.get-def.ensures
+      (g.T.NativeTable.state c.run_body-done.new.table) c.run_body-done.new.run c.finish-result.result c.get-def.ensures
       c.environ_in-environ.ensures c.level_below-level.ensures
       (rw c.as_mut_slice-values.ensures.value at
-      (c.run_body-result.ensures.runs scope (lending held inner) TheFocus false refl stands))
+      ((rw (← c.finish-result.ensures.came) at c.run_body-done.ensures.runs) scope (lending held inner) TheFocus false refl stands))
       c.rewind.new.self c.len-length.result c.len-length.ensures c.rewind.ensures c.replace-left.result c.replace-left.ensures.value in
       let owned : Held _ = record { this = Some inner; focus = None } in
       let owns = captured_ends rules c.args.function OwnThis c.args.args c.args.pos entered scope owned c.get-def.result.now
       (option_copied c.environ_in-environ.result) c.level_below-level.result (g.T.NativeTable.state c.args.table.now)
-      (g.T.NativeTable.state c.run_body-result.new.table) c.run_body-result.new.run c.run_body-result.result c.get-def.ensures
+      (g.T.NativeTable.state c.run_body-done.new.table) c.run_body-done.new.run c.finish-result.result c.get-def.ensures
       c.environ_in-environ.ensures c.level_below-level.ensures
-      (rw c.as_mut_slice-values.ensures.value at (c.run_body-result.ensures.runs scope owned OwnThis false refl stands))
+      (rw c.as_mut_slice-values.ensures.value at (
+      (rw (← c.finish-result.ensures.came) at c.run_body-done.ensures.runs) scope owned OwnThis false refl stands))
       c.rewind.new.self c.len-length.result c.len-length.ensures c.rewind.ensures c.replace-left.result c.replace-left.ensures.value in
       let bound = (kept rules (EnterFunction (entry_of c.args.function OwnThis false c.args.args c.args.pos (local_of entered scope owned)))
-      (ended c.run_body-result.result) _ _ tt owns).bound in
+      (ended c.finish-result.result) _ _ tt owns).bound in
       enters_focus rules c.args.function false c.args.args c.args.pos
       (state_of (g.T.NativeTable.state c.args.table.now) c.args.run.now.global scope (lending held c.args.focus.now))
-      (state_of (g.T.NativeTable.state c.run_body-result.new.table) c.run_body-result.new.run.global c.rewind.new.self
+      (state_of (g.T.NativeTable.state c.run_body-done.new.table) c.run_body-done.new.run.global c.rewind.new.self
       (lending held c.put_this.new.place))
-      c.run_body-result.result c.step_in-above.result c.args.focus.now inner c.put_this.new.place
+      c.finish-result.result c.step_in-above.result c.args.focus.now inner c.put_this.new.place
       c.step_out-2.new.focus (cells_of c.args.run.now.global.cells) (cells_of c.step_in-above.new.cells)
-      (cells_of c.run_body-result.new.run.global.cells) (cells_of c.step_out-2.new.cells) c.step_in-above.ensures
+      (cells_of c.run_body-done.new.run.global.cells) (cells_of c.step_out-2.new.cells) c.step_in-above.ensures
       (inside_runs rules c.args.function false c.args.args c.args.pos
-      (state_of (g.T.NativeTable.state c.args.table.now) entered scope (lending held inner)) _ c.run_body-result.result
+      (state_of (g.T.NativeTable.state c.args.table.now) entered scope (lending held inner)) _ c.finish-result.result
       (sym (rw c.as_slice.ensures at c.races.ensures) ∙ c.if-races.false) (rw (c.put_this.ensures bound) at runs))
       c.step_out-2.ensures;
 }

@@ -10,7 +10,6 @@ use Rattle.rhai_machine.specs.language.Frames.{Enter, EnterFunction, EnterOnFocu
 use Rattle.rhai_machine.specs.language.Runs.{Steps}
 use Rattle.rhai_machine.specs.language.State.{Held, deeper}
 use Rattle.rhai_steps.specs.States.{holding, local_of, state_of}
-use Rattle.rhai_steps.proofs.Pieces.{passed}
 use Rattle.rhai_bodies.specs.Closing.{taken_back}
 use Rattle.rhai_context.specs.declared.Context.{Context}
 use Rattle.rhai_laws.proofs.KeptLaws.{counted, kept, names_stay}
@@ -19,179 +18,186 @@ use Rattle.rhai_methods.specs.Methods.{CallsFrom}
 use Rattle.rhai_cycle.specs.Bodies.{entered}
 use Rattle.rhai_cycle.specs.Calls.{StartsAs}
 use Rattle.rhai_cycle.specs.States.{offer_of, under}
-use Rattle.rhai_cycle.proofs.Chain.{on_ok}
-use Rattle.rhai_cycle.proofs.BodyLemmas.{body_resolves, brings_no_charge, captured_ends, failed_ends, fresh_ends, passed_ends, refused_ends}
-use Rattle.rhai_cycle.proofs.ArgsLeft.{entered_never, entered_not, entered_nothing, entered_so, has_memory}
-use Rattle.rhai_cycle.proofs.BodyLemmas.{whole_ends}
-use Rattle.rhai_cycle.proofs.FocusSteps.{enters_focus, focus_held, inside_races, inside_runs, may_be_entered}
+use Rattle.rhai_cycle.proofs.BodyLemmas.{body_resolves, brings_no_charge, captured_ends, failed_ends, fresh_ends, passed_ends}
+use Rattle.rhai_cycle.proofs.BodyLemmas.{refused_ends, whole_ends}
+use Rattle.rhai_cycle.proofs.ArgsLeft.{entered_never, entered_not, entered_nothing, entered_so}
+use Rattle.rhai_cycle.proofs.FocusSteps.{enters_focus, focus_held, inside_races, inside_runs, may_be_entered, unmarked_ends}
 use Rattle.rhai_cycle.proofs.evaluator.Evaluator.+eval.Goals as goal
+use Rattle.rhai_context.specs.Ends.{came}
 
-pub run_body-returns-in_err-track_operation-clause-runs : goal.run_body-returns-in_err-track_operation-clause-runs
-run_body-returns-in_err-track_operation-clause-runs g t c scope held object is_fresh scope_is this_is =
+pub run_body-returns-then-not-charge-clause-runs : goal.run_body-returns-then-not-charge-clause-runs
+run_body-returns-then-not-charge-clause-runs g t c scope held object is_fresh scope_is this_is =
     let rules = under g.H.Host.name_of c.args.self.now g.T.NativeTable.natives in
     let e = entered c.args.def.now (option_copied c.args.environ) object is_fresh c.args.restores c.args.args.now c.args.level c.args.pos in
     let table = g.T.NativeTable.state c.args.table.now in
-    rw (passed _ c.from_residual.ensures)
-    (refused_ends rules e table c.args.run.now.global c.track_operation.new.global scope held c.args.run.now scope_is this_is _
-    c.in_err-track_operation.ensures.full c.in_err-track_operation.ensures.refused c.in_err-track_operation.ensures.same
-    (record c.args.run.now { global = c.track_operation.new.global }) refl)
+    refused_ends rules e table c.args.run.now.global c.charge.new.global scope held c.args.run.now scope_is this_is _
+    (c.if-not-charge.ensures.full refl) (c.if-not-charge.ensures.refused refl) (c.if-not-charge.ensures.same refl)
+    (record c.args.run.now { global = c.charge.new.global }) refl
 
-pub run_body-returns-in_err-open_function-clause-runs : goal.run_body-returns-in_err-open_function-clause-runs
-run_body-returns-in_err-open_function-clause-runs g t c scope held object is_fresh scope_is this_is =
+pub run_body-returns-in-Err-clause-runs : goal.run_body-returns-in-Err-clause-runs
+run_body-returns-in-Err-clause-runs g t c scope held object is_fresh scope_is this_is =
     let rules = under g.H.Host.name_of c.args.self.now g.T.NativeTable.natives in
     let e = entered c.args.def.now (option_copied c.args.environ) object is_fresh c.args.restores c.args.args.now c.args.level c.args.pos in
     let table = g.T.NativeTable.state c.args.table.now in
-    rw (passed _ c.from_residual-in_err-open_function.ensures)
-    (failed_ends rules e table c.args.run.now.global c.track_operation.new.global scope held c.args.run.now scope_is this_is
-    c.in_ok-track_operation.ensures.room
-    c.in_ok-track_operation.ensures.charged _
-    (rw c.def-def.ensures.value at c.in_err-open_function.ensures.refused)
-    (rw c.def-def.ensures.value at c.in_err-open_function.ensures.wanting)
+    rw (c.stop.ensures.stopped, c.stop.ensures.told)
+    (failed_ends rules e table c.args.run.now.global c.charge.new.global scope held c.args.run.now scope_is this_is
+    (c.if-not-charge.ensures.room refl)
+    (c.if-not-charge.ensures.charged refl) c.in-Err.error
+    (rw c.def-def.ensures.value at c.in-Err.ensures.refused)
+    (rw c.def-def.ensures.value at c.in-Err.ensures.wanting)
     (record c.args.run.now { global = c.open_function.new.global; scope = c.open_function.new.scope })
-    c.in_err-open_function.ensures.same_state c.in_err-open_function.ensures.same_scope refl)
+    c.in-Err.ensures.same_state c.in-Err.ensures.same_scope refl)
 
 pub run_body-run_stmt_block-done-requires : goal.run_body-run_stmt_block-done-requires
 run_body-run_stmt_block-done-requires g t c =
     let resolved = body_resolves c.args.def.now c.args.args.now (entries_of c.args.run.now.scope) (entries_of c.open_function.new.scope)
-    c.def-def.ensures.resolves (rw (c.in-Some.is, c.def-def.ensures.value) at c.in_ok-open_function.ensures.variables) in
+    c.def-def.ensures.resolves (rw (c.in-Ok-Some.field-0-is, c.def-def.ensures.value) at c.in-Ok-Some.ensures.variables) in
     λ κs lives. (
       omega (
         arith,
-        c.in_ok-track_operation.ensures.room,
-        ap (λ (global : GlobalRuntimeState _). global.num_operations) c.in_ok-track_operation.ensures.charged,
-        brings_no_charge (option_copied c.args.environ) c.args.level c.track_operation.new.global c.open_function.new.global
-            (rw c.in-Some.is at c.in_ok-open_function.ensures.state),
+        c.if-not-charge.ensures.room refl,
+        ap (λ (global : GlobalRuntimeState _). global.num_operations) (c.if-not-charge.ensures.charged refl),
+        brings_no_charge (option_copied c.args.environ) c.args.level c.charge.new.global c.open_function.new.global
+            (rw c.in-Ok-Some.field-0-is at c.in-Ok-Some.ensures.state),
       ),
       (lives.0, (lives.1, rw (c.statements_of-statements.ensures, c.def-def.ensures.value) resolved)),
     )
 
-pub run_body-returns-in-None-clause-runs : goal.run_body-returns-in-None-clause-runs
-run_body-returns-in-None-clause-runs g t c scope held object is_fresh scope_is this_is =
+pub run_body-returns-in-Ok-None-clause-runs : goal.run_body-returns-in-Ok-None-clause-runs
+run_body-returns-in-Ok-None-clause-runs g t c scope held object is_fresh scope_is this_is =
     let rules = under g.H.Host.name_of c.args.self.now g.T.NativeTable.natives in
     let e = entered c.args.def.now (option_copied c.args.environ) object is_fresh c.args.restores c.args.args.now c.args.level c.args.pos in
     let table = g.T.NativeTable.state c.args.table.now in
-    rw c.unit_value.ensures
-    (passed_ends rules e table c.args.run.now.global c.track_operation.new.global scope held c.args.run.now scope_is this_is
-    c.in_ok-track_operation.ensures.room
-    c.in_ok-track_operation.ensures.charged
-    c.in_ok-open_function.ensures.not_deep (rw c.def-def.ensures.value at c.in_ok-open_function.ensures.not_full)
-    (rw (c.in-None.is, c.def-def.ensures.value) at c.in_ok-open_function.ensures.no_body)
+    rw c.put_unit.ensures
+    (passed_ends rules e table c.args.run.now.global c.charge.new.global scope held c.args.run.now scope_is this_is
+    (c.if-not-charge.ensures.room refl)
+    (c.if-not-charge.ensures.charged refl)
+    c.in-Ok-None.ensures.not_deep (rw c.def-def.ensures.value at c.in-Ok-None.ensures.not_full)
+    (rw (c.in-Ok-None.field-0-is, c.def-def.ensures.value) at c.in-Ok-None.ensures.no_body)
     (record c.args.run.now { global = c.open_function.new.global; scope = c.open_function.new.scope })
-    (rw c.in-None.is at c.in_ok-open_function.ensures.same_state) (rw c.in-None.is at c.in_ok-open_function.ensures.same_scope) refl)
+    (rw c.in-Ok-None.field-0-is at c.in-Ok-None.ensures.same_state) (rw c.in-Ok-None.field-0-is at c.in-Ok-None.ensures.same_scope) refl)
 
-pub run_body-returns-in-Some-clause-charges : goal.run_body-returns-in-Some-clause-charges
-run_body-returns-in-Some-clause-charges g t c =
+pub run_body-returns-in-Ok-Some-clause-charges : goal.run_body-returns-in-Ok-Some-clause-charges
+run_body-returns-in-Ok-Some-clause-charges g t c done =
     let rules = under g.H.Host.name_of c.args.self.now g.T.NativeTable.natives in
-    on_ok c.close_function.result (omega (
+    let outcome = came c.run_stmt_block-done.result c.run_stmt_block-done.new.run.value c.run_stmt_block-done.new.run.error in
+    omega (
       arith,
-      ap (λ (global : GlobalRuntimeState _). global.num_operations) c.in_ok-track_operation.ensures.charged,
-      brings_no_charge (option_copied c.args.environ) c.args.level c.track_operation.new.global c.open_function.new.global
-          (rw c.in-Some.is at c.in_ok-open_function.ensures.state),
-      counted rules (Enter c.statements_of-statements.result.now c.args.restores) (ended c.finish-result.result) _ _
-          (rw (← c.finish-result.ensures.came) at c.run_stmt_block-done.ensures.runs),
-      ap (λ (global : GlobalRuntimeState _). global.num_operations) c.close_function.ensures.state,
-    ))
+      ap (λ (global : GlobalRuntimeState _). global.num_operations) (c.if-not-charge.ensures.charged refl),
+      brings_no_charge (option_copied c.args.environ) c.args.level c.charge.new.global c.open_function.new.global
+          (rw c.in-Ok-Some.field-0-is at c.in-Ok-Some.ensures.state),
+      counted rules (Enter c.statements_of-statements.result.now c.args.restores) (ended outcome) _ _ c.run_stmt_block-done.ensures.runs,
+      ap (λ (global : GlobalRuntimeState _). global.num_operations) c.close_body.ensures.state,
+    )
 
-pub run_body-returns-in-Some-clause-runs : goal.run_body-returns-in-Some-clause-runs
-run_body-returns-in-Some-clause-runs g t c scope held object is_fresh scope_is this_is =
+pub run_body-returns-in-Ok-Some-clause-runs : goal.run_body-returns-in-Ok-Some-clause-runs
+run_body-returns-in-Ok-Some-clause-runs g t c scope held object is_fresh scope_is this_is =
     let rules = under g.H.Host.name_of c.args.self.now g.T.NativeTable.natives in
     let e = entered c.args.def.now (option_copied c.args.environ) object is_fresh c.args.restores c.args.args.now c.args.level c.args.pos in
     let table = g.T.NativeTable.state c.args.table.now in
-    whole_ends rules e table c.args.run.now.global c.track_operation.new.global scope held c.args.run.now scope_is this_is
-    c.in_ok-track_operation.ensures.room
-    c.in_ok-track_operation.ensures.charged
-    c.in_ok-open_function.ensures.not_deep (rw c.def-def.ensures.value at c.in_ok-open_function.ensures.not_full)
-    (rw (c.in-Some.is, c.def-def.ensures.value) at c.in_ok-open_function.ensures.body)
+    let outcome = came c.run_stmt_block-done.result c.run_stmt_block-done.new.run.value c.run_stmt_block-done.new.run.error in
+    whole_ends rules e table c.args.run.now.global c.charge.new.global scope held c.args.run.now scope_is this_is
+    (c.if-not-charge.ensures.room refl)
+    (c.if-not-charge.ensures.charged refl)
+    c.in-Ok-Some.ensures.not_deep (rw c.def-def.ensures.value at c.in-Ok-Some.ensures.not_full)
+    (rw (c.in-Ok-Some.field-0-is, c.def-def.ensures.value) at c.in-Ok-Some.ensures.body)
     (record c.args.run.now { global = c.open_function.new.global; scope = c.open_function.new.scope })
-    (rw c.in-Some.is at c.in_ok-open_function.ensures.state)
-    (rw (c.in-Some.is, c.def-def.ensures.value) at c.in_ok-open_function.ensures.variables) refl c.finish-result.result
+    (rw c.in-Ok-Some.field-0-is at c.in-Ok-Some.ensures.state)
+    (rw (c.in-Ok-Some.field-0-is, c.def-def.ensures.value) at c.in-Ok-Some.ensures.variables) refl outcome
     (g.T.NativeTable.state c.run_stmt_block-done.new.table) c.run_stmt_block-done.new.run
-    (rw (c.statements_of-statements.ensures, c.def-def.ensures.value, ← c.finish-result.ensures.came) at c.run_stmt_block-done.ensures.runs)
-    c.close_function.result c.close_function.new.global
-    (c.close_function.ensures.state ∙ ap (λ exit. taken_back exit c.run_stmt_block-done.new.run.global)
-    (rw c.in-Some.is at c.in_ok-open_function.ensures.exit))
-    (rw c.def-def.ensures.value at c.close_function.ensures.outcome)
+    (rw (c.statements_of-statements.ensures, c.def-def.ensures.value) at c.run_stmt_block-done.ensures.runs)
+    (came c.close_body.result c.close_body.new.out c.close_body.new.place) c.close_body.new.global
+    (c.close_body.ensures.state ∙ ap (λ exit. taken_back exit c.run_stmt_block-done.new.run.global)
+    (rw c.in-Ok-Some.field-0-is at c.in-Ok-Some.ensures.exit))
+    (rw c.def-def.ensures.value at c.close_body.ensures.outcome)
 
--- its arguments
-
-pub run_body-returns-in_err-track_operation-clause-args : goal.run_body-returns-in_err-track_operation-clause-args
-run_body-returns-in_err-track_operation-clause-args g t c memory =
+pub run_body-returns-then-not-charge-clause-args : goal.run_body-returns-then-not-charge-clause-args
+run_body-returns-then-not-charge-clause-args g t c memory =
     rw (entered_never c.args.self.now.limits.now c.args.run.now.global.num_operations c.args.level
-    (length (entries_of c.args.run.now.scope)) c.args.def.now c.in_err-track_operation.ensures.full) refl
+    (length (entries_of c.args.run.now.scope)) c.args.def.now (c.if-not-charge.ensures.full refl)) refl
 
-pub run_body-returns-in_err-open_function-clause-args : goal.run_body-returns-in_err-open_function-clause-args
-run_body-returns-in_err-open_function-clause-args g t c memory =
-    let has = has_memory _ _ (passed _ c.from_residual-in_err-open_function.ensures) memory in
+pub run_body-returns-in-Err-clause-args : goal.run_body-returns-in-Err-clause-args
+run_body-returns-in-Err-clause-args g t c memory =
+    let has = rw (c.stop.ensures.stopped, c.stop.ensures.told) at memory in
     rw (entered_not c.args.self.now.limits.now c.args.run.now.global.num_operations c.args.level
     (length (entries_of c.args.run.now.scope)) c.args.def.now c.args.pos _
-    (rw c.def-def.ensures.value at (c.in_err-open_function.ensures.refused has))) (c.in_err-open_function.ensures.untaken has)
+    (rw c.def-def.ensures.value at (c.in-Err.ensures.refused has))) (c.in-Err.ensures.untaken has)
 
-pub run_body-returns-in-None-clause-args : goal.run_body-returns-in-None-clause-args
-run_body-returns-in-None-clause-args g t c memory =
+pub run_body-returns-in-Ok-None-clause-args : goal.run_body-returns-in-Ok-None-clause-args
+run_body-returns-in-Ok-None-clause-args g t c memory =
     rw (entered_nothing c.args.self.now.limits.now c.args.run.now.global.num_operations c.args.level
     (length (entries_of c.args.run.now.scope)) c.args.def.now
-    (rw (c.in-None.is, c.def-def.ensures.value) at c.in_ok-open_function.ensures.no_body))
-    (rw c.in-None.is at c.in_ok-open_function.ensures.same_args)
+    (rw (c.in-Ok-None.field-0-is, c.def-def.ensures.value) at c.in-Ok-None.ensures.no_body))
+    (rw c.in-Ok-None.field-0-is at c.in-Ok-None.ensures.same_args)
 
-pub run_body-returns-in-Some-clause-args : goal.run_body-returns-in-Some-clause-args
-run_body-returns-in-Some-clause-args g t c memory =
+pub run_body-returns-in-Ok-Some-clause-args : goal.run_body-returns-in-Ok-Some-clause-args
+run_body-returns-in-Ok-Some-clause-args g t c memory =
     rw (entered_so c.args.self.now.limits.now c.args.run.now.global.num_operations c.args.level
-    (length (entries_of c.args.run.now.scope)) c.args.def.now c.in_ok-track_operation.ensures.room
-    c.in_ok-open_function.ensures.not_deep (rw c.def-def.ensures.value at c.in_ok-open_function.ensures.not_full)
-    (rw (c.in-Some.is, c.def-def.ensures.value) at c.in_ok-open_function.ensures.body))
-    (rw (c.in-Some.is, c.def-def.ensures.value) at c.in_ok-open_function.ensures.left)
+    (length (entries_of c.args.run.now.scope)) c.args.def.now (c.if-not-charge.ensures.room refl)
+    c.in-Ok-Some.ensures.not_deep (rw c.def-def.ensures.value at c.in-Ok-Some.ensures.not_full)
+    (rw (c.in-Ok-Some.field-0-is, c.def-def.ensures.value) at c.in-Ok-Some.ensures.body))
+    (rw (c.in-Ok-Some.field-0-is, c.def-def.ensures.value) at c.in-Ok-Some.ensures.left)
+
+-- its arguments
 
 pub enter_captured-returns-clause-runs : goal.enter_captured-returns-clause-runs
 enter_captured-returns-clause-runs g t c held =
     let rules = under g.H.Host.name_of c.args.self.now g.T.NativeTable.natives in
+    let result = came c.run_body-done.result c.run_body-done.new.run.value c.run_body-done.new.run.error in
     rw c.keep_list.ensures
-    (captured_ends rules c.args.function NoObject c.args.args c.args.pos c.args.run.now.global c.args.run.now.scope held c.get-def.result.now
-    (option_copied c.environ_in-environ.result) c.level_below-level.result (g.T.NativeTable.state c.args.table.now)
-    (g.T.NativeTable.state c.run_body-result.new.table) c.run_body-result.new.run c.run_body-result.result c.get-def.ensures
+    (captured_ends rules c.args.function NoObject c.args.args c.args.pos c.args.run.now.global c.args.run.now.scope held
+    c.get-def.result.now (option_copied c.environ_in-environ.result) c.level_below-level.result (g.T.NativeTable.state c.args.table.now)
+    (g.T.NativeTable.state c.run_body-done.new.table) c.run_body-done.new.run result c.get-def.ensures
     c.environ_in-environ.ensures c.level_below-level.ensures
     (rw c.as_mut_slice-values.ensures.value at
-    (c.run_body-result.ensures.runs c.args.run.now.scope held NoObject false refl c.replace-outer.ensures.after))
-    c.rewind.new.self c.len-length.result c.len-length.ensures c.rewind.ensures c.run_body-result.new.run.this refl)
+    (c.run_body-done.ensures.runs c.args.run.now.scope held NoObject false refl c.replace-outer.ensures.after))
+    c.rewind.new.self c.len-length.result c.len-length.ensures c.rewind.ensures c.run_body-done.new.run.this refl)
 
 pub enter_captured-returns-clause-counts : goal.enter_captured-returns-clause-counts
 enter_captured-returns-clause-counts g t c =
     let rules = under g.H.Host.name_of c.args.self.now g.T.NativeTable.natives in
+    let result = came c.run_body-done.result c.keep_list.new.run.value c.keep_list.new.run.error in
     counted rules (EnterFunction (entry_of c.args.function NoObject false c.args.args c.args.pos
-    (local_of c.args.run.now.global c.args.run.now.scope (holding None)))) (ended c.run_body-result.result) _ _
+    (local_of c.args.run.now.global c.args.run.now.scope (holding None)))) (ended result) _ _
     (enter_captured-returns-clause-runs g t c (holding None))
 
 pub enter_captured-returns-clause-names : goal.enter_captured-returns-clause-names
-enter_captured-returns-clause-names g t c =
+enter_captured-returns-clause-names g t c done =
     let rules = under g.H.Host.name_of c.args.self.now g.T.NativeTable.natives in
-    on_ok c.run_body-result.result (names_stay rules (EnterFunction (entry_of c.args.function NoObject false c.args.args c.args.pos
-    (local_of c.args.run.now.global c.args.run.now.scope (holding None)))) (ended c.run_body-result.result) _ _ refl tt
-    (enter_captured-returns-clause-runs g t c (holding None)))
+    let result = came c.run_body-done.result c.keep_list.new.run.value c.keep_list.new.run.error in
+    names_stay rules (EnterFunction (entry_of c.args.function NoObject false c.args.args c.args.pos
+    (local_of c.args.run.now.global c.args.run.now.scope (holding None)))) (ended result) _ _ refl tt
+    (enter_captured-returns-clause-runs g t c (holding None))
 
 pub enter_fresh-returns-clause-runs : goal.enter_fresh-returns-clause-runs
 enter_fresh-returns-clause-runs g t c scope held =
     let rules = under g.H.Host.name_of c.args.self.now g.T.NativeTable.natives in
-    rw c.keep_list.ensures
+    let result = came c.run_body-done.result c.run_body-done.new.run.value c.run_body-done.new.run.error in
+    let value_is : c.take_up.new.run.value ≡ c.run_body-done.new.run.value = ap (λ (r : Context _). r.value) c.take_up.ensures.run in
+    let error_is : c.take_up.new.run.error ≡ c.run_body-done.new.run.error = ap (λ (r : Context _). r.error) c.take_up.ensures.run in
+    rw (c.keep_list.ensures, value_is, error_is)
     (fresh_ends rules c.args.function NoObject c.args.args c.args.pos c.args.run.now.global scope held c.get-def.result.now
     (option_copied c.environ_in-environ.result) c.level_below-level.result c.put_aside-aside.new.run.global
-    (g.T.NativeTable.state c.args.table.now) (g.T.NativeTable.state c.run_body-result.new.table) c.run_body-result.new.run
-    c.run_body-result.result c.get-def.ensures c.environ_in-environ.ensures
+    (g.T.NativeTable.state c.args.table.now) (g.T.NativeTable.state c.run_body-done.new.table) c.run_body-done.new.run
+    result c.get-def.ensures c.environ_in-environ.ensures
     (c.level_below-level.ensures ∙ ap (λ (r : Context _). deeper r.global.level) c.put_aside-aside.ensures.rest)
     (ap (λ (r : Context _). r.global) c.put_aside-aside.ensures.rest)
     (rw c.as_mut_slice-values.ensures.value at
-    (c.run_body-result.ensures.runs scope held NoObject true c.put_aside-aside.ensures.scope c.put_aside-aside.ensures.this))
+    (c.run_body-done.ensures.runs scope held NoObject true c.put_aside-aside.ensures.scope c.put_aside-aside.ensures.this))
     c.take_up.new.run.global c.take_up.result (ap (λ (r : Context _). r.global) c.take_up.ensures.run) c.take_up.ensures.this)
 
 pub enter_fresh-returns-clause-counts : goal.enter_fresh-returns-clause-counts
 enter_fresh-returns-clause-counts g t c =
     let rules = under g.H.Host.name_of c.args.self.now g.T.NativeTable.natives in
+    let result = came c.run_body-done.result c.keep_list.new.run.value c.keep_list.new.run.error in
     counted rules (EnterFunction (entry_of c.args.function NoObject true c.args.args c.args.pos
-    (local_of c.args.run.now.global c.args.run.now.scope (holding None)))) (ended c.run_body-result.result) _ _
+    (local_of c.args.run.now.global c.args.run.now.scope (holding None)))) (ended result) _ _
     (enter_fresh-returns-clause-runs g t c c.args.run.now.scope (holding None))
 
 pub run_out-returns-in-Ended-clause-runs : goal.run_out-returns-in-Ended-clause-runs
 unfolding StartsAs
 run_out-returns-in-Ended-clause-runs g t c k =
-    rw c.in-Ended.is here
+    rw (c.in-Ended.is, c.settle.ensures) here
 
 pub run_out-returns-then-is_fresh-clause-runs : goal.run_out-returns-then-is_fresh-clause-runs
 unfolding StartsAs Steps
@@ -208,7 +214,7 @@ run_out-returns-else-is_fresh-clause-runs g t c k =
 pub enter_on_focus-returns-then-is_anothers-clause-runs : goal.enter_on_focus-returns-then-is_anothers-clause-runs
 enter_on_focus-returns-then-is_anothers-clause-runs g t c scope held =
     let rules = under g.H.Host.name_of c.args.self.now g.T.NativeTable.natives in
-    rw c.keep_list.ensures
+    rw (c.stop.ensures.stopped, c.stop.ensures.told, c.keep_list.ensures)
     (focus_held rules c.args.function true c.args.args c.args.pos c.data_race.result c.args.focus.now
     (state_of (g.T.NativeTable.state c.args.table.now) c.args.run.now.global scope (lending held c.args.focus.now)) refl
     (sym c.is_held-is_anothers.ensures ∙ c.if-is_anothers.true) c.data_race.ensures)
@@ -223,7 +229,7 @@ enter_on_focus-returns-then-is_racing-clause-runs g t c scope held =
     let rules = under g.H.Host.name_of c.args.self.now g.T.NativeTable.natives in
     let lent = state_of (g.T.NativeTable.state c.args.table.now) (record c.args.run.now.global { cells = c.step_in-above.new.cells }) scope
     (lending held c.step_in-above.new.focus) in
-    rw c.keep_list-then-is_racing.ensures
+    rw (c.stop-then-is_racing.ensures.stopped, c.stop-then-is_racing.ensures.told, c.keep_list-then-is_racing.ensures)
     (enters_focus rules c.args.function true c.args.args c.args.pos
     (state_of (g.T.NativeTable.state c.args.table.now) c.args.run.now.global scope (lending held c.args.focus.now)) lent
     (Err c.data_race_by-error.result) c.step_in-above.result c.args.focus.now c.step_in-above.new.focus c.step_in-above.new.focus
@@ -237,6 +243,9 @@ enter_on_focus-returns-then-is_racing-clause-runs g t c scope held =
 pub enter_on_focus-returns-clause-runs : goal.enter_on_focus-returns-clause-runs
 enter_on_focus-returns-clause-runs g t c scope held =
     let rules = under g.H.Host.name_of c.args.self.now g.T.NativeTable.natives in
+    let result = came c.run_body-done.result c.run_body-done.new.run.value c.run_body-done.new.run.error in
+    let value_is : c.take_up.new.run.value ≡ c.run_body-done.new.run.value = ap (λ (r : Context _). r.value) c.take_up.ensures.run in
+    let error_is : c.take_up.new.run.error ≡ c.run_body-done.new.run.error = ap (λ (r : Context _). r.error) c.take_up.ensures.run in
     let inner = c.step_in-above.new.focus in
     let entered : GlobalRuntimeState _ = record c.args.run.now.global { cells = c.step_in-above.new.cells } in
     let stands : c.put_aside-aside.new.run.this ≡ Some inner = c.put_aside-aside.ensures.this ∙ ap Some c.replace-this.ensures.value in
@@ -244,37 +253,38 @@ enter_on_focus-returns-clause-runs g t c scope held =
     let global_is = ap (λ (r : Context _). r.global) c.put_aside-aside.ensures.rest in
     let runs = fresh_ends rules c.args.function TheFocus c.args.args c.args.pos entered scope (lending held inner) c.get-def.result.now
     (option_copied c.environ_in-environ.result) c.level_below-level.result c.put_aside-aside.new.run.global
-    (g.T.NativeTable.state c.args.table.now) (g.T.NativeTable.state c.run_body-result.new.table) c.run_body-result.new.run
-    c.run_body-result.result c.get-def.ensures c.environ_in-environ.ensures level_is global_is
+    (g.T.NativeTable.state c.args.table.now) (g.T.NativeTable.state c.run_body-done.new.table) c.run_body-done.new.run
+    result c.get-def.ensures c.environ_in-environ.ensures level_is global_is
     (rw c.as_mut_slice-values.ensures.value at
-    (c.run_body-result.ensures.runs scope (lending held inner) TheFocus true c.put_aside-aside.ensures.scope stands))
+    (c.run_body-done.ensures.runs scope (lending held inner) TheFocus true c.put_aside-aside.ensures.scope stands))
     c.take_up.new.run.global c.take_up.result (ap (λ (r : Context _). r.global) c.take_up.ensures.run) c.take_up.ensures.this in
     let owned : Held _ = record { this = Some inner; focus = None } in
     let owns = fresh_ends rules c.args.function OwnThis c.args.args c.args.pos entered scope owned c.get-def.result.now
     (option_copied c.environ_in-environ.result) c.level_below-level.result c.put_aside-aside.new.run.global
-    (g.T.NativeTable.state c.args.table.now) (g.T.NativeTable.state c.run_body-result.new.table) c.run_body-result.new.run
-    c.run_body-result.result c.get-def.ensures c.environ_in-environ.ensures level_is global_is
+    (g.T.NativeTable.state c.args.table.now) (g.T.NativeTable.state c.run_body-done.new.table) c.run_body-done.new.run
+    result c.get-def.ensures c.environ_in-environ.ensures level_is global_is
     (rw c.as_mut_slice-values.ensures.value at
-    (c.run_body-result.ensures.runs scope owned OwnThis true c.put_aside-aside.ensures.scope stands))
+    (c.run_body-done.ensures.runs scope owned OwnThis true c.put_aside-aside.ensures.scope stands))
     c.take_up.new.run.global c.take_up.result (ap (λ (r : Context _). r.global) c.take_up.ensures.run) c.take_up.ensures.this in
     let bound = (kept rules (EnterFunction (entry_of c.args.function OwnThis true c.args.args c.args.pos (local_of entered scope owned)))
-    (ended c.run_body-result.result) _ _ tt owns).bound in
-    rw c.keep_list-2.ensures
+    (ended result) _ _ tt owns).bound in
+    rw (c.keep_list-2.ensures, value_is, error_is)
     (enters_focus rules c.args.function true c.args.args c.args.pos
     (state_of (g.T.NativeTable.state c.args.table.now) c.args.run.now.global scope (lending held c.args.focus.now))
-    (state_of (g.T.NativeTable.state c.run_body-result.new.table) c.take_up.new.run.global scope (lending held c.put_this.new.place))
-    c.run_body-result.result c.step_in-above.result c.args.focus.now inner c.put_this.new.place
+    (state_of (g.T.NativeTable.state c.run_body-done.new.table) c.take_up.new.run.global scope (lending held c.put_this.new.place))
+    result c.step_in-above.result c.args.focus.now inner c.put_this.new.place
     c.step_out-2.new.focus (cells_of c.args.run.now.global.cells) (cells_of c.step_in-above.new.cells)
     (cells_of c.take_up.new.run.global.cells) (cells_of c.step_out-2.new.cells) c.step_in-above.ensures
     (inside_runs rules c.args.function true c.args.args c.args.pos
-    (state_of (g.T.NativeTable.state c.args.table.now) entered scope (lending held inner)) _ c.run_body-result.result
+    (state_of (g.T.NativeTable.state c.args.table.now) entered scope (lending held inner)) _ result
     (sym (rw c.as_slice.ensures at c.races-is_racing.ensures) ∙ c.if-is_racing.false) (rw (c.put_this.ensures bound) at runs))
     c.step_out-2.ensures)
 
 pub enter_on_focus-returns-clause-counts : goal.enter_on_focus-returns-clause-counts
 enter_on_focus-returns-clause-counts g t c =
     let rules = under g.H.Host.name_of c.args.self.now g.T.NativeTable.natives in
-    counted rules (EnterOnFocus c.args.function true c.args.args c.args.pos) (ended c.run_body-result.result) _ _
+    let result = came c.run_body-done.result c.keep_list-2.new.run.value c.keep_list-2.new.run.error in
+    counted rules (EnterOnFocus c.args.function true c.args.args c.args.pos) (ended result) _ _
     (enter_on_focus-returns-clause-runs g t c c.args.run.now.scope (holding None))
 
 pub run_method-returns-in-Ended-clause-runs : goal.run_method-returns-in-Ended-clause-runs
@@ -282,26 +292,18 @@ unfolding CallsFrom RunsFrom
 run_method-returns-in-Ended-clause-runs g t c scope held k =
     (rw c.in-Ended.is at (c.call_method.ensures.runs (offer_of c.args.self.now) scope held c.offered-offered.ensures)) k
 
-pub run_method-returns-in-Ok-clause-runs : goal.run_method-returns-in-Ok-clause-runs
+pub run_method-returns-in-OnTarget-clause-runs : goal.run_method-returns-in-OnTarget-clause-runs
 unfolding CallsFrom RunsFrom Steps
-run_method-returns-in-Ok-clause-runs g t c scope held k =
-    (rw c.in-OnTarget.is at (c.call_method.ensures.runs (offer_of c.args.self.now) scope held c.offered-offered.ensures)) k
-    ⨾ (rw c.in-Ok.is at (c.enter_on_focus.ensures.runs scope held)) k
+run_method-returns-in-OnTarget-clause-runs g t c scope held k =
+    let result = came c.enter_on_focus-done.result c.enter_on_focus-done.new.run.value c.enter_on_focus-done.new.run.error in
+    rw (c.finish_unmarked.ensures, unmarked_ends result)
+    ((rw c.in-OnTarget.is at (c.call_method.ensures.runs (offer_of c.args.self.now) scope held c.offered-offered.ensures)) k
+    ⨾ c.enter_on_focus-done.ensures.runs scope held k)
 
-pub run_method-returns-in-Err-clause-runs : goal.run_method-returns-in-Err-clause-runs
+pub run_method-returns-in-Alone-clause-runs : goal.run_method-returns-in-Alone-clause-runs
 unfolding CallsFrom RunsFrom Steps
-run_method-returns-in-Err-clause-runs g t c scope held k =
-    (rw c.in-OnTarget.is at (c.call_method.ensures.runs (offer_of c.args.self.now) scope held c.offered-offered.ensures)) k
-    ⨾ (rw c.in-Err.is at (c.enter_on_focus.ensures.runs scope held)) k
-
-pub run_method-returns-in-Ok-enter_fresh-clause-runs : goal.run_method-returns-in-Ok-enter_fresh-clause-runs
-unfolding CallsFrom RunsFrom Steps
-run_method-returns-in-Ok-enter_fresh-clause-runs g t c scope held k =
-    (rw c.in-Alone.is at (c.call_method.ensures.runs (offer_of c.args.self.now) scope held c.offered-offered.ensures)) k
-    ⨾ (rw c.in-Ok-enter_fresh.is at (c.enter_fresh.ensures.runs scope (lending held c.call_method.new.target))) k
-
-pub run_method-returns-in-Err-enter_fresh-clause-runs : goal.run_method-returns-in-Err-enter_fresh-clause-runs
-unfolding CallsFrom RunsFrom Steps
-run_method-returns-in-Err-enter_fresh-clause-runs g t c scope held k =
-    (rw c.in-Alone.is at (c.call_method.ensures.runs (offer_of c.args.self.now) scope held c.offered-offered.ensures)) k
-    ⨾ (rw c.in-Err-enter_fresh.is at (c.enter_fresh.ensures.runs scope (lending held c.call_method.new.target))) k
+run_method-returns-in-Alone-clause-runs g t c scope held k =
+    let result = came c.enter_fresh-done.result c.enter_fresh-done.new.run.value c.enter_fresh-done.new.run.error in
+    rw (c.finish_unmarked-in-Alone.ensures, unmarked_ends result)
+    ((rw c.in-Alone.is at (c.call_method.ensures.runs (offer_of c.args.self.now) scope held c.offered-offered.ensures)) k
+    ⨾ c.enter_fresh-done.ensures.runs scope (lending held c.call_method.new.target) k)

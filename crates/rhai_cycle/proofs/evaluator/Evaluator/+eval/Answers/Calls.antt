@@ -5,7 +5,7 @@ use Rattle.rhai_machine.specs.machine.Point.{after}
 use Rattle.rhai_machine.specs.machine.Memory.{here, next, ◌⨾◌}
 use Rattle.rhai_machine.specs.language.Frames.{core, Eval, UnaryOperand, LeftOperand, RightOperand}
 use Rattle.rhai_machine.specs.language.Runs.{Steps}
-use Rattle.rhai_steps.proofs.Pieces.{exits, step_by}
+use Rattle.rhai_steps.proofs.Pieces.{step_by}
 use Rattle.rhai_cycle.specs.Calls.{StartsAs}
 use Rattle.rhai_cycle.specs.States.{names, offer_of, state_in, under}
 use Rattle.rhai_operands.proofs.Names.{call_is_plain, operands_of_call, operands_resolve}
@@ -29,34 +29,33 @@ run_fn_call_expr-run_operator-requires g t c =
     c.requires.resolves in
     λ κs lives. (omega arith, (lives.0, (lives.1, (form.1, (form.2, (resolved.0, (resolved.1, form.0)))))))
 
-pub run_fn_call_expr-returns-in_err-value-in-Unary-clause-runs : goal.run_fn_call_expr-returns-in_err-value-in-Unary-clause-runs
+pub run_fn_call_expr-returns-then-not-run_arg-clause-runs : goal.run_fn_call_expr-returns-then-not-run_arg-clause-runs
 unfolding after Steps
-run_fn_call_expr-returns-in_err-value-in-Unary-clause-runs g t c =
+run_fn_call_expr-returns-then-not-run_arg-clause-runs g t c k =
     let rules = under g.H.Host.name_of c.args.self.now g.T.NativeTable.natives in
     let form = rw c.in-Unary.is at c.form_of.ensures in
-    exits rules _ _ _ _ _ c.from_residual.ensures (λ k.
     opens_unary rules c.args.call.now c.in-Unary.token c.in-Unary.operand.now c.args.pos k _ form.0 form.1 form.2
-    ⨾ c.in_err-value-in-Unary.ensures.runs (UnaryOperand _ _ ∷ k) ⨾ next here)
+    ⨾ c.if-not-run_arg.ensures.runs (UnaryOperand _ _ ∷ k) ⨾ next here
 
-pub run_fn_call_expr-returns-in_err-value-in-Unary-2-clause-runs : goal.run_fn_call_expr-returns-in_err-value-in-Unary-2-clause-runs
+pub run_fn_call_expr-returns-then-not-flatten_value-clause-runs : goal.run_fn_call_expr-returns-then-not-flatten_value-clause-runs
 unfolding after Steps
-run_fn_call_expr-returns-in_err-value-in-Unary-2-clause-runs g t c =
+run_fn_call_expr-returns-then-not-flatten_value-clause-runs g t c k =
     let rules = under g.H.Host.name_of c.args.self.now g.T.NativeTable.natives in
     let form = rw c.in-Unary.is at c.form_of.ensures in
-    exits rules _ _ _ _ _ c.from_residual-in_err-value-in-Unary-2.ensures (λ k.
     opens_unary rules c.args.call.now c.in-Unary.token c.in-Unary.operand.now c.args.pos k _ form.0 form.1 form.2
-    ⨾ c.in_ok-value-in-Unary.ensures.runs (UnaryOperand _ _ ∷ k)
-    ⨾ flat_fails rules _ _ k _ _ (UnaryOperand _ _) refl (rw c.position.ensures at c.in_err-value-in-Unary-2.ensures.exact))
+    ⨾ c.if-not-run_arg.ensures.runs (UnaryOperand _ _ ∷ k)
+    ⨾ flat_fails rules _ _ k _ _ (UnaryOperand _ _) refl (rw c.position-at.ensures at c.if-not-flatten_value.ensures.exact)
 
-pub run_fn_call_expr-returns-in_ok-value-in-Unary-2-clause-runs : goal.run_fn_call_expr-returns-in_ok-value-in-Unary-2-clause-runs
+pub run_fn_call_expr-returns-else-not-flatten_value-clause-runs : goal.run_fn_call_expr-returns-else-not-flatten_value-clause-runs
 unfolding after Steps StartsAs
-run_fn_call_expr-returns-in_ok-value-in-Unary-2-clause-runs g t c k =
+run_fn_call_expr-returns-else-not-flatten_value-clause-runs g t c k =
     let rules = under g.H.Host.name_of c.args.self.now g.T.NativeTable.natives in
     let form = rw c.in-Unary.is at c.form_of.ensures in
     opens_unary rules c.args.call.now c.in-Unary.token c.in-Unary.operand.now c.args.pos k _ form.0 form.1 form.2
-    ⨾ c.in_ok-value-in-Unary.ensures.runs (UnaryOperand _ _ ∷ k)
-    ⨾ next (rw (← c.position.ensures, ← (c.in_ok-value-in-Unary-2.ensures.exact tt))
-    ((rw (c.as_str.ensures, c.get.ensures) at (c.operate_one-called.ensures.runs (offer_of c.args.self.now) c.run_arg.new.run.scope
+    ⨾ c.if-not-run_arg.ensures.runs (UnaryOperand _ _ ∷ k)
+    ⨾ next (rw (← c.position-at.ensures, ← (c.if-not-flatten_value.ensures.exact tt))
+    ((rw (c.take_value-value.ensures.taken, c.as_str.ensures, c.get.ensures)
+    at (c.operate_one-called.ensures.runs (offer_of c.args.self.now) c.run_arg.new.run.scope
     (holding c.run_arg.new.run.this) c.offered-offered.ensures)) k))
     ⨾ c.run_out.ensures.runs k
 
@@ -86,6 +85,71 @@ pub run_operator-returns-in-Some-clause-runs : goal.run_operator-returns-in-Some
 run_operator-returns-in-Some-clause-runs g t c =
     c.in-Some.ensures.runs (offer_of c.args.self.now) (holding c.args.run.now.this) c.requires.fast
 
+pub run_operator-run_arg-requires : goal.run_operator-run_arg-requires
+run_operator-run_arg-requires g t c =
+    λ κs lives. (omega (arith, c.operate_in_place-in_place.ensures.counts), (lives.0, (lives.1, c.requires.resolves_left)))
+
+pub run_operator-run_arg-requires-2 : goal.run_operator-run_arg-requires-2
+run_operator-run_arg-requires-2 g t c =
+    λ κs lives. (
+      omega (arith, c.operate_in_place-in_place.ensures.counts, c.if-not-run_arg.ensures.charges refl),
+      (lives.0, (lives.1, rw (c.if-not-run_arg.ensures.names refl) c.requires.resolves_right)),
+    )
+
+pub run_operator-returns-then-not-run_arg-clause-runs : goal.run_operator-returns-then-not-run_arg-clause-runs
+unfolding after Steps
+run_operator-returns-then-not-run_arg-clause-runs g t c k =
+    let rules = under g.H.Host.name_of c.args.self.now g.T.NativeTable.natives in
+    opens_binary rules c.args.call.now c.args.token c.args.left.now c.args.right.now c.args.pos k _ c.requires.fast c.requires.token
+    c.requires.args
+    ⨾ (rw (c.operate_in_place-in_place.ensures.left_alone c.in_default.is) at c.if-not-run_arg.ensures.runs) (LeftOperand _ _ _ ∷ k)
+    ⨾ next here
+
+pub run_operator-returns-then-not-flatten_value-clause-runs : goal.run_operator-returns-then-not-flatten_value-clause-runs
+unfolding after Steps
+run_operator-returns-then-not-flatten_value-clause-runs g t c k =
+    let rules = under g.H.Host.name_of c.args.self.now g.T.NativeTable.natives in
+    opens_binary rules c.args.call.now c.args.token c.args.left.now c.args.right.now c.args.pos k _ c.requires.fast c.requires.token
+    c.requires.args
+    ⨾ (rw (c.operate_in_place-in_place.ensures.left_alone c.in_default.is) at c.if-not-run_arg.ensures.runs) (LeftOperand _ _ _ ∷ k)
+    ⨾ flat_fails rules _ _ k _ _ (LeftOperand _ _ _) refl (rw c.position-at.ensures at c.if-not-flatten_value.ensures.exact)
+
+pub run_operator-returns-then-not-run_arg-2-clause-runs : goal.run_operator-returns-then-not-run_arg-2-clause-runs
+unfolding after Steps
+run_operator-returns-then-not-run_arg-2-clause-runs g t c k =
+    let rules = under g.H.Host.name_of c.args.self.now g.T.NativeTable.natives in
+    opens_binary rules c.args.call.now c.args.token c.args.left.now c.args.right.now c.args.pos k _ c.requires.fast c.requires.token
+    c.requires.args
+    ⨾ (rw (c.operate_in_place-in_place.ensures.left_alone c.in_default.is) at c.if-not-run_arg.ensures.runs) (LeftOperand _ _ _ ∷ k)
+    ⨾ next (rw (← c.position-at.ensures, ← (c.if-not-flatten_value.ensures.exact tt)) (c.if-not-run_arg-2.ensures.runs
+    (RightOperand _ _ _ ∷ k) ⨾ next here))
+
+pub run_operator-returns-then-not-flatten_value-2-clause-runs : goal.run_operator-returns-then-not-flatten_value-2-clause-runs
+unfolding after Steps
+run_operator-returns-then-not-flatten_value-2-clause-runs g t c k =
+    let rules = under g.H.Host.name_of c.args.self.now g.T.NativeTable.natives in
+    opens_binary rules c.args.call.now c.args.token c.args.left.now c.args.right.now c.args.pos k _ c.requires.fast c.requires.token
+    c.requires.args
+    ⨾ (rw (c.operate_in_place-in_place.ensures.left_alone c.in_default.is) at c.if-not-run_arg.ensures.runs) (LeftOperand _ _ _ ∷ k)
+    ⨾ next (rw (← c.position-at.ensures, ← (c.if-not-flatten_value.ensures.exact tt)) (c.if-not-run_arg-2.ensures.runs
+    (RightOperand _ _ _ ∷ k)
+    ⨾ flat_fails rules _ _ k _ _ (RightOperand _ _ _) refl (rw c.position-at-2.ensures at c.if-not-flatten_value-2.ensures.exact)))
+
+pub run_operator-returns-clause-runs : goal.run_operator-returns-clause-runs
+unfolding after Steps StartsAs
+run_operator-returns-clause-runs g t c k =
+    let rules = under g.H.Host.name_of c.args.self.now g.T.NativeTable.natives in
+    opens_binary rules c.args.call.now c.args.token c.args.left.now c.args.right.now c.args.pos k _ c.requires.fast c.requires.token
+    c.requires.args
+    ⨾ (rw (c.operate_in_place-in_place.ensures.left_alone c.in_default.is) at c.if-not-run_arg.ensures.runs) (LeftOperand _ _ _ ∷ k)
+    ⨾ next (rw (← c.position-at.ensures, ← (c.if-not-flatten_value.ensures.exact tt)) (c.if-not-run_arg-2.ensures.runs
+    (RightOperand _ _ _ ∷ k)
+    ⨾ next (rw (← c.position-at-2.ensures, ← (c.if-not-flatten_value-2.ensures.exact tt))
+    ((rw (c.take_value-first.ensures.taken, c.take_value-second.ensures.taken, c.as_str.ensures, c.get.ensures)
+    at (c.operate_two-called.ensures.runs (offer_of c.args.self.now) c.run_arg-2.new.run.scope
+    (holding c.run_arg-2.new.run.this) c.offered-offered.ensures)) k))))
+    ⨾ c.run_out.ensures.runs k
+
 pub run_arg-returns-in-Some-clause-runs : goal.run_arg-returns-in-Some-clause-runs
 run_arg-returns-in-Some-clause-runs g t c =
     c.in-Some.ensures.runs (offer_of c.args.self.now) c.args.run.now.scope (holding c.args.run.now.this)
@@ -94,73 +158,7 @@ pub run_arg-returns-in-None-clause-runs : goal.run_arg-returns-in-None-clause-ru
 unfolding Steps
 run_arg-returns-in-None-clause-runs g t c k =
     let rules = under g.H.Host.name_of c.args.self.now g.T.NativeTable.natives in
-    let none = still_none _ (sym c.literal_arg.ensures.found ∙ ap is_some c.in-None.is) in
-    let runs = rw (c.literal_arg.ensures.left_alone c.in-None.is) at c.run_expr.ensures.runs in
+    let none = still_none _ (sym c.literal_arg-in_place.ensures.found ∙ ap is_some c.in-None.is) in
+    let runs = rw (c.literal_arg-in_place.ensures.left_alone c.in-None.is) at c.run_expr.ensures.runs in
     step_by rules _ _ (Go (core (Eval c.args.arg.now) k (state_in (g.T.NativeTable.state c.args.table.now) c.args.run.now).local))
     (rw none refl) (runs k)
-
-pub run_operator-run_arg-requires : goal.run_operator-run_arg-requires
-run_operator-run_arg-requires g t c =
-    λ κs lives. (omega (arith, c.operate_in_place.ensures.counts), (lives.0, (lives.1, c.requires.resolves_left)))
-
-pub run_operator-run_arg-requires-in-None : goal.run_operator-run_arg-requires-in-None
-run_operator-run_arg-requires-in-None g t c =
-    λ κs lives. (
-      omega (arith, c.operate_in_place.ensures.counts, c.in_ok-first-in-None.ensures.charges),
-      (lives.0, (lives.1, rw c.in_ok-first-in-None.ensures.names c.requires.resolves_right)),
-    )
-
-pub run_operator-returns-in_err-first-in-None-clause-runs : goal.run_operator-returns-in_err-first-in-None-clause-runs
-unfolding after Steps
-run_operator-returns-in_err-first-in-None-clause-runs g t c =
-    let rules = under g.H.Host.name_of c.args.self.now g.T.NativeTable.natives in
-    exits rules _ _ _ _ _ c.from_residual.ensures (λ k.
-    opens_binary rules c.args.call.now c.args.token c.args.left.now c.args.right.now c.args.pos k _ c.requires.fast c.requires.token
-    c.requires.args
-    ⨾ (rw (c.operate_in_place.ensures.left_alone c.in-None.is) at c.in_err-first-in-None.ensures.runs) (LeftOperand _ _ _ ∷ k) ⨾ next here)
-
-pub run_operator-returns-in_err-first-in-None-2-clause-runs : goal.run_operator-returns-in_err-first-in-None-2-clause-runs
-unfolding after Steps
-run_operator-returns-in_err-first-in-None-2-clause-runs g t c =
-    let rules = under g.H.Host.name_of c.args.self.now g.T.NativeTable.natives in
-    exits rules _ _ _ _ _ c.from_residual-in_err-first-in-None-2.ensures (λ k.
-    opens_binary rules c.args.call.now c.args.token c.args.left.now c.args.right.now c.args.pos k _ c.requires.fast c.requires.token
-    c.requires.args
-    ⨾ (rw (c.operate_in_place.ensures.left_alone c.in-None.is) at c.in_ok-first-in-None.ensures.runs) (LeftOperand _ _ _ ∷ k)
-    ⨾ flat_fails rules _ _ k _ _ (LeftOperand _ _ _) refl (rw c.position.ensures at c.in_err-first-in-None-2.ensures.exact))
-
-pub run_operator-returns-in-Err-clause-runs : goal.run_operator-returns-in-Err-clause-runs
-unfolding after Steps
-run_operator-returns-in-Err-clause-runs g t c k =
-    let rules = under g.H.Host.name_of c.args.self.now g.T.NativeTable.natives in
-    opens_binary rules c.args.call.now c.args.token c.args.left.now c.args.right.now c.args.pos k _ c.requires.fast c.requires.token
-    c.requires.args
-    ⨾ (rw (c.operate_in_place.ensures.left_alone c.in-None.is) at c.in_ok-first-in-None.ensures.runs) (LeftOperand _ _ _ ∷ k)
-    ⨾ next (rw (← c.position.ensures, ← (c.in_ok-first-in-None-2.ensures.exact tt)) ((rw c.in-Err.is at c.run_arg-in-None.ensures.runs) (RightOperand
-    _ _ _ ∷ k) ⨾ next here))
-
-pub run_operator-returns-in-Err-flatten-clause-runs : goal.run_operator-returns-in-Err-flatten-clause-runs
-unfolding after Steps
-run_operator-returns-in-Err-flatten-clause-runs g t c k =
-    let rules = under g.H.Host.name_of c.args.self.now g.T.NativeTable.natives in
-    opens_binary rules c.args.call.now c.args.token c.args.left.now c.args.right.now c.args.pos k _ c.requires.fast c.requires.token
-    c.requires.args
-    ⨾ (rw (c.operate_in_place.ensures.left_alone c.in-None.is) at c.in_ok-first-in-None.ensures.runs) (LeftOperand _ _ _ ∷ k)
-    ⨾ next (rw (← c.position.ensures, ← (c.in_ok-first-in-None-2.ensures.exact tt)) ((rw c.in-Ok.is at c.run_arg-in-None.ensures.runs) (RightOperand
-    _ _ _ ∷ k)
-    ⨾ flat_fails rules _ _ k _ _ (RightOperand _ _ _) refl (rw (c.position-in-Ok.ensures, c.in-Err-flatten.is) at
-    c.flatten-in-Ok.ensures.exact)))
-
-pub run_operator-returns-in-Ok-flatten-clause-runs : goal.run_operator-returns-in-Ok-flatten-clause-runs
-unfolding after Steps StartsAs
-run_operator-returns-in-Ok-flatten-clause-runs g t c k =
-    let rules = under g.H.Host.name_of c.args.self.now g.T.NativeTable.natives in
-    opens_binary rules c.args.call.now c.args.token c.args.left.now c.args.right.now c.args.pos k _ c.requires.fast c.requires.token
-    c.requires.args
-    ⨾ (rw (c.operate_in_place.ensures.left_alone c.in-None.is) at c.in_ok-first-in-None.ensures.runs) (LeftOperand _ _ _ ∷ k)
-    ⨾ next (rw (← c.position.ensures, ← (c.in_ok-first-in-None-2.ensures.exact tt)) ((rw c.in-Ok.is at c.run_arg-in-None.ensures.runs) (RightOperand
-    _ _ _ ∷ k)
-    ⨾ next (rw (← c.position-in-Ok.ensures, ← ((rw c.in-Ok-flatten.is at c.flatten-in-Ok.ensures.exact) tt))
-    ((rw (c.as_str.ensures, c.get.ensures) at (c.operate_two-called.ensures.runs (offer_of c.args.self.now) c.run_arg-in-None.new.run.scope
-    (holding c.run_arg-in-None.new.run.this) c.offered-offered.ensures)) k))))
-    ⨾ c.run_out.ensures.runs k

@@ -1,5 +1,5 @@
-use Rattle.std.proofs.Common.{◌≡◌, [], ◌∷◌, false, true, length}
-use Rattle.std.proofs.Common.{Option, Some, None, Ok, Err, is_none, is_some, refl, sym, ap, subst, ◌∙◌, arith}
+use Rattle.std.proofs.Common.{◌≡◌, [], ◌∷◌, false, true, length, Option, Some, None, Ok, Err, is_none, is_some, refl, sym, ap, subst, ◌∙◌}
+use Rattle.std.proofs.Common.{arith}
 use Rattle.std.specs.Option.{option_copied, option_map}
 use Rattle.rhai_steps.specs.States.{holding}
 use Rattle.rhai_tree.specs.declared.expr.Expr.{out-Expr}
@@ -14,7 +14,7 @@ use Rattle.rhai_machine.specs.language.Arguments.{arguments_core}
 use Rattle.rhai_machine.specs.language.Chains.{this_root_core}
 use Rattle.rhai_machine.specs.language.Links.{asked_by, first_in}
 use Rattle.rhai_machine.specs.language.Runs.{Steps}
-use Rattle.rhai_steps.proofs.Pieces.{charged, exits, passed, refused}
+use Rattle.rhai_steps.proofs.Pieces.{charged, refused}
 use Rattle.rhai_operands.proofs.Names.{good_name, plain_name}
 use Rattle.rhai_chains.specs.Chains.{chain_at, link_seen, new_of}
 use Rattle.rhai_context.specs.declared.Context.{Context}
@@ -24,11 +24,11 @@ use Rattle.rhai_cycle.specs.States.{names, state_in, under}
 use Rattle.rhai_tree.proofs.Links.{few_links}
 use Rattle.rhai_cycle.proofs.Chain.{begins, flat_fails}
 use Rattle.rhai_cycle.proofs.CallSteps.{charged_on, refused_on}
-use Rattle.rhai_cycle.proofs.ChainLemmas.{has_link, left_chain, link_resolves, may_walk, no_name}
-use Rattle.rhai_cycle.proofs.ChainLemmas.{RestResolves, root_resolves, target_parts}
-use Rattle.rhai_cycle.proofs.ChainSteps.{arrives_last, arrives_on, asks_further, asks_last, asks_link, begins_chain}
-use Rattle.rhai_cycle.proofs.ChainSteps.{evaluates_root, given_asked, is_given, not_assigned, nothing_there, opens_asking, opens_given}
-use Rattle.rhai_cycle.proofs.ChainSteps.{if_ok, this_root, variable_root, walks_given}
+use Rattle.rhai_cycle.proofs.ChainLemmas.{has_link, left_chain, link_resolves, may_walk, no_name, RestResolves, root_resolves}
+use Rattle.rhai_cycle.proofs.ChainLemmas.{target_parts}
+use Rattle.rhai_cycle.proofs.ChainSteps.{arrives_last, arrives_on, asks_further, asks_last, asks_link, begins_chain, evaluates_root}
+use Rattle.rhai_cycle.proofs.ChainSteps.{given_asked, is_given, not_assigned, nothing_there, opens_asking, opens_given, this_root}
+use Rattle.rhai_cycle.proofs.ChainSteps.{variable_root, walks_given}
 use Rattle.rhai_cycle.proofs.evaluator.Evaluator.+eval.Goals as goal
 
 -- a chain, its arguments and its root
@@ -36,8 +36,8 @@ use Rattle.rhai_cycle.proofs.evaluator.Evaluator.+eval.Goals as goal
 pub run_chain-ready_args-requires : goal.run_chain-ready_args-requires
 run_chain-ready_args-requires g t c = is_given c.in-Some.ready _ (rw c.in-Some.is at c.needs_no_step.ensures)
 
-pub run_chain-run_root-result-requires : goal.run_chain-run_root-result-requires
-run_chain-run_root-result-requires g t c =
+pub run_chain-run_root-done-requires : goal.run_chain-run_root-done-requires
+run_chain-run_root-done-requires g t c =
     let asked = given_asked c.in-Some.ready (out-Expr c.args.chain.now) (Ok c.in-Ok.values) (rw c.in-Some.is at c.needs_no_step.ensures)
     c.in-Ok.ensures.given in
     λ κs lives. (
@@ -66,13 +66,13 @@ run_chain-returns-in-Ok-clause-runs g t c k =
     rw c.keep_list.ensures
     (opens_given rules chain (out-Expr c.args.chain.now) refl k (state_in (g.T.NativeTable.state c.args.table.now) c.args.run.now)
     c.in-Some.ready (Ok c.in-Ok.values) (rw c.in-Some.is at c.needs_no_step.ensures) c.in-Ok.ensures.given tt
-    ⨾ (rw (c.as_mut_slice-args.ensures.value, c.in-Ok.ensures.run) at c.run_root-result.ensures.runs false) k)
+    ⨾ (rw (c.as_mut_slice-args.ensures.value, c.in-Ok.ensures.run) at c.run_root-done.ensures.runs false) k)
 
 pub run_chain-returns-in-Ok-clause-asks : goal.run_chain-returns-in-Ok-clause-asks
 run_chain-returns-in-Ok-clause-asks g t c =
     let rules = under g.H.Host.name_of c.args.self.now g.T.NativeTable.natives in
     let chain = chain_on c.args.root.now (out-Expr c.args.chain.now) (new_of c.args.new) in
-    if_ok c.run_root-result.result (
+    λ done. (
       c.in-Ok.values,
       state_in (g.T.NativeTable.state c.args.table.now) c.args.run.now,
       opens_given rules chain (out-Expr c.args.chain.now) refl [] (state_in (g.T.NativeTable.state c.args.table.now) c.args.run.now)
@@ -84,36 +84,36 @@ unfolding Steps
 run_chain-returns-in-Err-clause-runs g t c k =
     let rules = under g.H.Host.name_of c.args.self.now g.T.NativeTable.natives in
     let chain = chain_on c.args.root.now (out-Expr c.args.chain.now) (new_of c.args.new) in
-    rw c.in-Err.ensures.run
+    rw (c.stop.ensures.stopped, c.stop.ensures.told, c.in-Err.ensures.run)
     (opens_given rules chain (out-Expr c.args.chain.now) refl k (state_in (g.T.NativeTable.state c.args.table.now) c.args.run.now)
     c.in-Some.ready (Err c.in-Err.error) (rw c.in-Some.is at c.needs_no_step.ensures) tt c.in-Err.ensures.refused)
 
 pub run_chain-run_link_args-requires : goal.run_chain-run_link_args-requires
 run_chain-run_link_args-requires g t c =
     λ κs lives. (
-      omega (arith, ap (λ (r : Context _). r.global.num_operations) c.lend_list-made.ensures.run),
-      (lives.0, (lives.1, rw c.lend_list-made.ensures.run c.requires.behind)),
+      omega (arith, ap (λ (r : Context _). r.global.num_operations) c.lend_list-values.ensures.run),
+      (lives.0, (lives.1, rw c.lend_list-values.ensures.run c.requires.behind)),
     )
 
-pub run_chain-run_root-result-requires-in-Ok-run_link_args : goal.run_chain-run_root-result-requires-in-Ok-run_link_args
-run_chain-run_root-result-requires-in-Ok-run_link_args g t c =
-    let asked = rw c.lend_list-made.ensures.list at c.in-Ok-run_link_args.ensures.asked in
-    let same = ap (λ (r : Context _). names r) c.lend_list-made.ensures.run in
+pub run_chain-run_root-done-requires-in-None : goal.run_chain-run_root-done-requires-in-None
+run_chain-run_root-done-requires-in-None g t c =
+    let asked = rw c.lend_list-values.ensures.list at c.if-not-run_link_args.ensures.asked in
+    let same = ap (λ (r : Context _). names r) c.lend_list-values.ensures.run in
     λ κs lives. (
       omega (
         arith,
-        c.in-Ok-run_link_args.ensures.counts,
-        ap (λ (r : Context _). r.global.num_operations) c.lend_list-made.ensures.run,
+        c.if-not-run_link_args.ensures.counts refl,
+        ap (λ (r : Context _). r.global.num_operations) c.lend_list-values.ensures.run,
       ),
       (
         lives.0,
         (
           lives.1,
           (
-            rw (c.in-Ok-run_link_args.ensures.names, same) c.requires.root,
+            rw (c.if-not-run_link_args.ensures.names refl, same) c.requires.root,
             (
-              rw c.as_mut_slice-args-in-Ok-run_link_args.ensures.value
-                  (walks_given _ (out-Expr c.args.chain.now) c.in-Ok-run_link_args.values c.requires.walks asked),
+              rw c.as_mut_slice-args-in-None.ensures.value
+                  (walks_given _ (out-Expr c.args.chain.now) c.run_link_args.new.values c.requires.walks asked),
               c.requires.starts,
             ),
           ),
@@ -121,38 +121,39 @@ run_chain-run_root-result-requires-in-Ok-run_link_args g t c =
       ),
     )
 
-pub run_chain-returns-in-Ok-run_link_args-clause-runs : goal.run_chain-returns-in-Ok-run_link_args-clause-runs
+pub run_chain-returns-else-not-run_link_args-clause-runs : goal.run_chain-returns-else-not-run_link_args-clause-runs
 unfolding Steps Gathers
-run_chain-returns-in-Ok-run_link_args-clause-runs g t c k =
+run_chain-returns-else-not-run_link_args-clause-runs g t c k =
     let rules = under g.H.Host.name_of c.args.self.now g.T.NativeTable.natives in
     let chain = chain_on c.args.root.now (out-Expr c.args.chain.now) (new_of c.args.new) in
     let there = has_link (out-Expr c.args.chain.now) (names c.args.run.now) c.requires.behind in
-    rw c.keep_list-in-Ok-run_link_args.ensures
+    rw c.keep_list-in-None.ensures
     (opens_asking rules chain (out-Expr c.args.chain.now) refl k _ there.0 there.1 (rw c.in-None.is at c.needs_no_step.ensures)
-    ⨾ (rw (c.lend_list-made.ensures.list, c.lend_list-made.ensures.run) at c.in-Ok-run_link_args.ensures.gathers) chain k
-    ⨾ (rw c.as_mut_slice-args-in-Ok-run_link_args.ensures.value at c.run_root-result-in-Ok-run_link_args.ensures.runs false) k)
+    ⨾ (rw (c.lend_list-values.ensures.list, c.lend_list-values.ensures.run) at c.if-not-run_link_args.ensures.gathers) chain k
+    ⨾ (rw c.as_mut_slice-args-in-None.ensures.value at c.run_root-done-in-None.ensures.runs false) k)
 
-pub run_chain-returns-in-Ok-run_link_args-clause-asks : goal.run_chain-returns-in-Ok-run_link_args-clause-asks
+pub run_chain-returns-else-not-run_link_args-clause-asks : goal.run_chain-returns-else-not-run_link_args-clause-asks
 unfolding Gathers
-run_chain-returns-in-Ok-run_link_args-clause-asks g t c =
+run_chain-returns-else-not-run_link_args-clause-asks g t c =
     let rules = under g.H.Host.name_of c.args.self.now g.T.NativeTable.natives in
     let chain = chain_on c.args.root.now (out-Expr c.args.chain.now) (new_of c.args.new) in
     let there = has_link (out-Expr c.args.chain.now) (names c.args.run.now) c.requires.behind in
-    if_ok c.run_root-result-in-Ok-run_link_args.result (
-      c.in-Ok-run_link_args.values,
+    λ done. (
+      c.run_link_args.new.values,
       state_in (g.T.NativeTable.state c.run_link_args.new.table) c.run_link_args.new.run,
       opens_asking rules chain (out-Expr c.args.chain.now) refl [] _ there.0 there.1 (rw c.in-None.is at c.needs_no_step.ensures)
-          ⨾ (rw (c.lend_list-made.ensures.list, c.lend_list-made.ensures.run) at c.in-Ok-run_link_args.ensures.gathers) chain [],
+          ⨾ (rw (c.lend_list-values.ensures.list, c.lend_list-values.ensures.run) at c.if-not-run_link_args.ensures.gathers) chain [],
     )
 
-pub run_chain-returns-in-Err-run_link_args-clause-runs : goal.run_chain-returns-in-Err-run_link_args-clause-runs
+pub run_chain-returns-then-not-run_link_args-clause-runs : goal.run_chain-returns-then-not-run_link_args-clause-runs
 unfolding Steps Gathers
-run_chain-returns-in-Err-run_link_args-clause-runs g t c k =
+run_chain-returns-then-not-run_link_args-clause-runs g t c k =
     let rules = under g.H.Host.name_of c.args.self.now g.T.NativeTable.natives in
     let chain = chain_on c.args.root.now (out-Expr c.args.chain.now) (new_of c.args.new) in
     let there = has_link (out-Expr c.args.chain.now) (names c.args.run.now) c.requires.behind in
-    opens_asking rules chain (out-Expr c.args.chain.now) refl k _ there.0 there.1 (rw c.in-None.is at c.needs_no_step.ensures)
-    ⨾ (rw (c.lend_list-made.ensures.list, c.lend_list-made.ensures.run) at c.in-Err-run_link_args.ensures.gathers) chain k
+    rw c.keep_list-then-not-run_link_args.ensures
+    (opens_asking rules chain (out-Expr c.args.chain.now) refl k _ there.0 there.1 (rw c.in-None.is at c.needs_no_step.ensures)
+    ⨾ (rw (c.lend_list-values.ensures.list, c.lend_list-values.ensures.run) at c.if-not-run_link_args.ensures.gathers) chain k)
 
 -- what the links ask for
 
@@ -166,7 +167,7 @@ run_link_args-run_more_args-requires g t c =
     let found = sym c.link_of.ensures ∙ ap (option_map link_seen) c.in-Some.is in
     let parts = link_resolves (out-Expr c.args.chain.now) (names c.args.run.now) (Some (link_seen c.in-Some.link)) found c.requires in
     λ κs lives. (
-      omega (arith, ap (λ (global : GlobalRuntimeState _). global.num_operations) c.in_default-track_operation.ensures.charged),
+      omega (arith, ap (λ (global : GlobalRuntimeState _). global.num_operations) (c.if-not-charge.ensures.charged refl)),
       (lives.0, (lives.1, rw c.asked.ensures parts.0)),
     )
 
@@ -179,39 +180,42 @@ run_link_args-run_link_args-requires g t c =
     λ κs lives. (
       omega (
         arith,
-        c.in_default-track_operation.ensures.room,
-        ap (λ (global : GlobalRuntimeState _). global.num_operations) c.in_default-track_operation.ensures.charged,
-        c.in_ok-values.ensures.counts,
+        c.if-not-charge.ensures.room refl,
+        ap (λ (global : GlobalRuntimeState _). global.num_operations) (c.if-not-charge.ensures.charged refl),
+        c.if-not-run_more_args.ensures.counts refl,
       ),
       (
         lives.0,
-        (lives.1, rw c.in_ok-values.ensures.names (subst (λ (o : Option ExprLayer). RestResolves o (names c.args.run.now)) on parts.1)),
+        (
+          lives.1,
+          rw (c.if-not-run_more_args.ensures.names refl)
+              (subst (λ (o : Option ExprLayer). RestResolves o (names c.args.run.now)) on parts.1),
+        ),
       ),
     )
 
-pub run_link_args-returns-in-Err-clause-gathers : goal.run_link_args-returns-in-Err-clause-gathers
+pub run_link_args-returns-then-not-charge-clause-gathers : goal.run_link_args-returns-then-not-charge-clause-gathers
 unfolding Gathers
-run_link_args-returns-in-Err-clause-gathers g t c chain k =
+run_link_args-returns-then-not-charge-clause-gathers g t c chain k =
     let rules = under g.H.Host.name_of c.args.self.now g.T.NativeTable.natives in
     let link = link_seen c.in-Some.link in
     let found = sym c.link_of.ensures ∙ ap (option_map link_seen) c.in-Some.is in
-    refused_on rules _ c.args.run.now.global c.track_operation.new.global _ _ _ _ k
-    (λ l. arguments_core rules.setting (ToChain chain link.behind) c.args.made (asked_by link.form) k l)
-    (asks_link rules chain (out-Expr c.args.chain.now) c.args.made link found k _) _
-    c.in-Err.ensures.full c.in-Err.ensures.refused c.in-Err.ensures.same
+    refused_on rules _ c.args.run.now.global c.charge.new.global _ _ _ _ k
+    (λ l. arguments_core rules.setting (ToChain chain link.behind) c.args.values.now (asked_by link.form) k l)
+    (asks_link rules chain (out-Expr c.args.chain.now) c.args.values.now link found k _) _
+    (c.if-not-charge.ensures.full refl) (c.if-not-charge.ensures.refused refl) (c.if-not-charge.ensures.same refl)
 
-pub run_link_args-returns-in_err-values-clause-gathers : goal.run_link_args-returns-in_err-values-clause-gathers
+pub run_link_args-returns-then-not-run_more_args-clause-gathers : goal.run_link_args-returns-then-not-run_more_args-clause-gathers
 unfolding Gathers Collects
-run_link_args-returns-in_err-values-clause-gathers g t c chain k =
+run_link_args-returns-then-not-run_more_args-clause-gathers g t c chain k =
     let rules = under g.H.Host.name_of c.args.self.now g.T.NativeTable.natives in
     let link = link_seen c.in-Some.link in
     let found = sym c.link_of.ensures ∙ ap (option_map link_seen) c.in-Some.is in
-    rw (passed _ c.from_residual.ensures)
-    (charged_on rules _ c.args.run.now.global c.track_operation.new.global _ _ _ _ k
-    (λ l. arguments_core rules.setting (ToChain chain link.behind) c.args.made (asked_by link.form) k l)
-    (asks_link rules chain (out-Expr c.args.chain.now) c.args.made link found k _)
-    c.in_default-track_operation.ensures.room c.in_default-track_operation.ensures.charged
-    ⨾ (rw c.asked.ensures at c.in_err-values.ensures.collects) (ToChain chain link.behind) refl k)
+    charged_on rules _ c.args.run.now.global c.charge.new.global _ _ _ _ k
+    (λ l. arguments_core rules.setting (ToChain chain link.behind) c.args.values.now (asked_by link.form) k l)
+    (asks_link rules chain (out-Expr c.args.chain.now) c.args.values.now link found k _)
+    (c.if-not-charge.ensures.room refl) (c.if-not-charge.ensures.charged refl)
+    ⨾ (rw c.asked.ensures at c.if-not-run_more_args.ensures.collects) (ToChain chain link.behind) refl k
 
 pub run_link_args-returns-in-Some-behind-clause-gathers : goal.run_link_args-returns-in-Some-behind-clause-gathers
 unfolding Gathers Collects
@@ -221,12 +225,12 @@ run_link_args-returns-in-Some-behind-clause-gathers g t c chain k =
     let found = sym c.link_of.ensures ∙ ap (option_map link_seen) c.in-Some.is in
     let on : link.behind ≡ Some (out-Expr c.in-Some-behind.rest.now) =
     ap (λ o. option_map out-Expr (option_copied o)) c.in-Some-behind.is in
-    charged_on rules _ c.args.run.now.global c.track_operation.new.global _ _ _ _ k
-    (λ l. arguments_core rules.setting (ToChain chain link.behind) c.args.made (asked_by link.form) k l)
-    (asks_link rules chain (out-Expr c.args.chain.now) c.args.made link found k _)
-    c.in_default-track_operation.ensures.room c.in_default-track_operation.ensures.charged
-    ⨾ (rw c.asked.ensures at c.in_ok-values.ensures.collects) (ToChain chain link.behind) refl k
-    ⨾ arrives_on rules chain c.in_ok-values.values link.behind k _ (out-Expr c.in-Some-behind.rest.now) on
+    charged_on rules _ c.args.run.now.global c.charge.new.global _ _ _ _ k
+    (λ l. arguments_core rules.setting (ToChain chain link.behind) c.args.values.now (asked_by link.form) k l)
+    (asks_link rules chain (out-Expr c.args.chain.now) c.args.values.now link found k _)
+    (c.if-not-charge.ensures.room refl) (c.if-not-charge.ensures.charged refl)
+    ⨾ (rw c.asked.ensures at c.if-not-run_more_args.ensures.collects) (ToChain chain link.behind) refl k
+    ⨾ arrives_on rules chain c.run_more_args.new.values link.behind k _ (out-Expr c.in-Some-behind.rest.now) on
     ⨾ c.run_link_args.ensures.gathers chain k
 
 pub run_link_args-returns-in-Some-behind-clause-asked : goal.run_link_args-returns-in-Some-behind-clause-asked
@@ -235,8 +239,9 @@ run_link_args-returns-in-Some-behind-clause-asked g t c =
     let found = sym c.link_of.ensures ∙ ap (option_map link_seen) c.in-Some.is in
     let on : link.behind ≡ Some (out-Expr c.in-Some-behind.rest.now) =
     ap (λ o. option_map out-Expr (option_copied o)) c.in-Some-behind.is in
-    asks_further c.run_link_args.result (length c.args.made) (length c.in_ok-values.values) (out-Expr c.args.chain.now)
-    (out-Expr c.in-Some-behind.rest.now) link found on (rw c.asked.ensures at c.in_ok-values.ensures.more) c.run_link_args.ensures.asked
+    asks_further _ (length c.args.values.now) (length c.run_more_args.new.values) (out-Expr c.args.chain.now)
+    (out-Expr c.in-Some-behind.rest.now) link found on (rw c.asked.ensures at c.if-not-run_more_args.ensures.more refl)
+    c.run_link_args.ensures.asked
 
 pub run_link_args-returns-in-None-clause-gathers : goal.run_link_args-returns-in-None-clause-gathers
 unfolding Gathers Collects
@@ -245,126 +250,126 @@ run_link_args-returns-in-None-clause-gathers g t c chain k =
     let link = link_seen c.in-Some.link in
     let found = sym c.link_of.ensures ∙ ap (option_map link_seen) c.in-Some.is in
     let alone : link.behind ≡ None = ap (λ o. option_map out-Expr (option_copied o)) c.in-None.is in
-    charged_on rules _ c.args.run.now.global c.track_operation.new.global _ _ _ _ k
-    (λ l. arguments_core rules.setting (ToChain chain link.behind) c.args.made (asked_by link.form) k l)
-    (asks_link rules chain (out-Expr c.args.chain.now) c.args.made link found k _)
-    c.in_default-track_operation.ensures.room c.in_default-track_operation.ensures.charged
-    ⨾ (rw c.asked.ensures at c.in_ok-values.ensures.collects) (ToChain chain link.behind) refl k
-    ⨾ arrives_last rules chain c.in_ok-values.values link.behind k _ alone
+    charged_on rules _ c.args.run.now.global c.charge.new.global _ _ _ _ k
+    (λ l. arguments_core rules.setting (ToChain chain link.behind) c.args.values.now (asked_by link.form) k l)
+    (asks_link rules chain (out-Expr c.args.chain.now) c.args.values.now link found k _)
+    (c.if-not-charge.ensures.room refl) (c.if-not-charge.ensures.charged refl)
+    ⨾ (rw c.asked.ensures at c.if-not-run_more_args.ensures.collects) (ToChain chain link.behind) refl k
+    ⨾ arrives_last rules chain c.run_more_args.new.values link.behind k _ alone
 
 pub run_link_args-returns-in-None-clause-asked : goal.run_link_args-returns-in-None-clause-asked
 run_link_args-returns-in-None-clause-asked g t c =
     let link = link_seen c.in-Some.link in
     let found = sym c.link_of.ensures ∙ ap (option_map link_seen) c.in-Some.is in
     let alone : link.behind ≡ None = ap (λ o. option_map out-Expr (option_copied o)) c.in-None.is in
-    asks_last c.in_ok-values.values (length c.args.made) (out-Expr c.args.chain.now) link found alone
-    (rw c.asked.ensures at c.in_ok-values.ensures.more)
+    asks_last c.run_more_args.new.values (length c.args.values.now) (out-Expr c.args.chain.now) link found alone
+    (rw c.asked.ensures at c.if-not-run_more_args.ensures.more refl)
 
 -- the root
 
-pub run_root-walk_value-requires : goal.run_root-walk_value-requires
-run_root-walk_value-requires g t c =
+pub run_root-walk_value-answer-requires : goal.run_root-walk_value-answer-requires
+run_root-walk_value-answer-requires g t c =
     let other = no_name c.args.root.now c.in_default.not-Variable c.in_default.not-ThisPtr in
     let none = not_assigned c.args.new (out-Expr c.args.root.now) other c.requires.starts in
-    λ κs lives. (omega (arith, c.in_ok-value-in_default.ensures.charges), (lives.0, (lives.1, rw none at c.requires.walks)))
+    λ κs lives. (omega (arith, c.if-not-run_expr.ensures.charges refl), (lives.0, (lives.1, rw none at c.requires.walks)))
 
-pub run_root-returns-in_err-value-in_default-clause-runs : goal.run_root-returns-in_err-value-in_default-clause-runs
+pub run_root-returns-then-not-run_expr-clause-runs : goal.run_root-returns-then-not-run_expr-clause-runs
 unfolding after Steps
-run_root-returns-in_err-value-in_default-clause-runs g t c in_place =
+run_root-returns-then-not-run_expr-clause-runs g t c in_place k =
     let rules = under g.H.Host.name_of c.args.self.now g.T.NativeTable.natives in
     let other = no_name c.args.root.now c.in_default.not-Variable c.in_default.not-ThisPtr in
     let none = not_assigned c.args.new (out-Expr c.args.root.now) other c.requires.starts in
     let chain = chain_at c.args.root.now (out-Expr c.args.chain.now) c.args.args.now c.args.new in_place in
-    exits rules _ _ _ _ _ c.from_residual.ensures (λ k.
     evaluates_root rules c.args.root.now (names c.args.run.now) other c.requires.root chain refl (ap (λ o. is_none (new_of o)) none) k _
-    ⨾ c.in_err-value-in_default.ensures.runs (RootValue chain ∷ k) ⨾ next here)
+    ⨾ c.if-not-run_expr.ensures.runs (RootValue chain ∷ k) ⨾ next here
 
-pub run_root-returns-in_ok-value-in_default-clause-runs : goal.run_root-returns-in_ok-value-in_default-clause-runs
+pub run_root-returns-else-not-run_expr-clause-runs : goal.run_root-returns-else-not-run_expr-clause-runs
 unfolding Steps RunsUnder
-run_root-returns-in_ok-value-in_default-clause-runs g t c in_place k =
+run_root-returns-else-not-run_expr-clause-runs g t c in_place k =
     let rules = under g.H.Host.name_of c.args.self.now g.T.NativeTable.natives in
     let other = no_name c.args.root.now c.in_default.not-Variable c.in_default.not-ThisPtr in
     let none = not_assigned c.args.new (out-Expr c.args.root.now) other c.requires.starts in
     let chain = chain_at c.args.root.now (out-Expr c.args.chain.now) c.args.args.now None in_place in
-    rw (none, c.walk_value.ensures.scope, c.walk_value.ensures.this)
+    rw (c.settle-in_default.ensures, none, c.walk_value-answer.ensures.scope, c.walk_value-answer.ensures.this)
     (evaluates_root rules c.args.root.now (names c.args.run.now) other c.requires.root chain refl refl k _
-    ⨾ c.in_ok-value-in_default.ensures.runs (RootValue chain ∷ k)
-    ⨾ c.walk_value.ensures.runs c.run_expr.new.run.scope (holding c.run_expr.new.run.this) in_place k)
+    ⨾ c.if-not-run_expr.ensures.runs (RootValue chain ∷ k)
+    ⨾ (rw c.take_value-value.ensures.taken at c.walk_value-answer.ensures.runs) c.run_expr.new.run.scope
+    (holding c.run_expr.new.run.this) in_place k)
 
-pub run_root-returns-in-Err-clause-runs : goal.run_root-returns-in-Err-clause-runs
+pub run_root-returns-then-not-charge-clause-runs : goal.run_root-returns-then-not-charge-clause-runs
 unfolding Steps
-run_root-returns-in-Err-clause-runs g t c in_place k =
+run_root-returns-then-not-charge-clause-runs g t c in_place k =
     let rules = under g.H.Host.name_of c.args.self.now g.T.NativeTable.natives in
     let chain = chain_at c.args.root.now (out-Expr c.args.chain.now) c.args.args.now c.args.new in_place in
     let form : out-Expr c.args.root.now ≡ layer.Variable c.in-Variable.offset c.in-Variable.name c.in-Variable.namespace
     c.in-Variable.pos = rw (c.in-Variable.is, exprs.outs-Variable) refl in
     let plain = plain_name c.args.root.now c.in-Variable.offset c.in-Variable.name c.in-Variable.namespace c.in-Variable.pos
     (names c.args.run.now) form c.requires.root in
-    refused rules _ c.args.run.now.global c.track_operation.new.global _ _ (ChainRoot chain)
+    refused rules _ c.args.run.now.global c.charge.new.global _ _ (ChainRoot chain)
     (ReadRoot c.in-Variable.name c.in-Variable.pos chain) c.in-Variable.pos
     (λ k. variable_root rules c.args.root.now c.in-Variable.offset c.in-Variable.name c.in-Variable.namespace c.in-Variable.pos form plain
-    chain refl k _) _ c.in-Err.ensures.full c.in-Err.ensures.refused c.in-Err.ensures.same k
+    chain refl k _) _ (c.if-not-charge.ensures.full refl) (c.if-not-charge.ensures.refused refl) (c.if-not-charge.ensures.same refl) k
 
-pub run_root-walk_variable-requires : goal.run_root-walk_variable-requires
-run_root-walk_variable-requires g t c =
+pub run_root-walk_variable-answer-requires : goal.run_root-walk_variable-answer-requires
+run_root-walk_variable-answer-requires g t c =
     let good = good_name c.args.root.now c.in-Variable.offset c.in-Variable.name c.in-Variable.namespace c.in-Variable.pos _
     (rw (c.in-Variable.is, exprs.outs-Variable) refl) c.requires.root in
     λ κs lives. (
       omega (
         arith,
-        ap (λ (global : GlobalRuntimeState _). global.num_operations) c.in_default-track_operation.ensures.charged,
+        ap (λ (global : GlobalRuntimeState _). global.num_operations) (c.if-not-charge.ensures.charged refl),
       ),
       (lives.0, (lives.1, (good, c.requires.walks))),
     )
 
-pub run_root-returns-in_default-track_operation-clause-runs : goal.run_root-returns-in_default-track_operation-clause-runs
+pub run_root-returns-else-not-charge-clause-runs : goal.run_root-returns-else-not-charge-clause-runs
 unfolding Steps
-run_root-returns-in_default-track_operation-clause-runs g t c in_place k =
+run_root-returns-else-not-charge-clause-runs g t c in_place k =
     let rules = under g.H.Host.name_of c.args.self.now g.T.NativeTable.natives in
     let chain = chain_at c.args.root.now (out-Expr c.args.chain.now) c.args.args.now c.args.new in_place in
     let form : out-Expr c.args.root.now ≡ layer.Variable c.in-Variable.offset c.in-Variable.name c.in-Variable.namespace
     c.in-Variable.pos = rw (c.in-Variable.is, exprs.outs-Variable) refl in
     let plain = plain_name c.args.root.now c.in-Variable.offset c.in-Variable.name c.in-Variable.namespace c.in-Variable.pos
     (names c.args.run.now) form c.requires.root in
-    rw c.walk_variable.ensures.this
-    (charged rules _ c.args.run.now.global c.track_operation.new.global _ _ (ChainRoot chain)
+    rw (c.settle.ensures, c.walk_variable-answer.ensures.this)
+    (charged rules _ c.args.run.now.global c.charge.new.global _ _ (ChainRoot chain)
     (ReadRoot c.in-Variable.name c.in-Variable.pos chain) c.in-Variable.pos
     (λ k. variable_root rules c.args.root.now c.in-Variable.offset c.in-Variable.name c.in-Variable.namespace c.in-Variable.pos form plain
-    chain refl k _) c.in_default-track_operation.ensures.room c.in_default-track_operation.ensures.charged k
-    ⨾ c.walk_variable.ensures.runs (holding c.args.run.now.this) in_place k)
+    chain refl k _) (c.if-not-charge.ensures.room refl) (c.if-not-charge.ensures.charged refl) k
+    ⨾ c.walk_variable-answer.ensures.runs (holding c.args.run.now.this) in_place k)
 
-pub run_root-returns-in-Err-track_operation-clause-runs : goal.run_root-returns-in-Err-track_operation-clause-runs
+pub run_root-returns-then-not-charge-2-clause-runs : goal.run_root-returns-then-not-charge-2-clause-runs
 unfolding Steps
-run_root-returns-in-Err-track_operation-clause-runs g t c in_place k =
+run_root-returns-then-not-charge-2-clause-runs g t c in_place k =
     let rules = under g.H.Host.name_of c.args.self.now g.T.NativeTable.natives in
     let chain = chain_at c.args.root.now (out-Expr c.args.chain.now) c.args.args.now c.args.new in_place in
     let form : out-Expr c.args.root.now ≡ layer.ThisPtr c.in-ThisPtr.pos = rw (c.in-ThisPtr.is, exprs.outs-ThisPtr) refl in
-    refused_on rules _ c.args.run.now.global c.track_operation-in-ThisPtr.new.global _ _ (ChainRoot chain) c.in-ThisPtr.pos k
+    refused_on rules _ c.args.run.now.global c.charge-in-ThisPtr.new.global _ _ (ChainRoot chain) c.in-ThisPtr.pos k
     (λ l. this_root_core c.in-ThisPtr.pos chain k l) (this_root rules c.args.root.now c.in-ThisPtr.pos form chain refl k _) _
-    c.in-Err-track_operation.ensures.full c.in-Err-track_operation.ensures.refused
-    c.in-Err-track_operation.ensures.same
+    (c.if-not-charge-2.ensures.full refl) (c.if-not-charge-2.ensures.refused refl)
+    (c.if-not-charge-2.ensures.same refl)
 
-pub run_root-walk_this-requires : goal.run_root-walk_this-requires
-run_root-walk_this-requires g t c =
+pub run_root-walk_this-answer-requires : goal.run_root-walk_this-answer-requires
+run_root-walk_this-answer-requires g t c =
     λ κs lives. (
       omega (
         arith,
-        ap (λ (global : GlobalRuntimeState _). global.num_operations) c.in_default-track_operation-2.ensures.charged,
+        ap (λ (global : GlobalRuntimeState _). global.num_operations) (c.if-not-charge-2.ensures.charged refl),
       ),
       (lives.0, (lives.1, c.requires.walks)),
     )
 
-pub run_root-returns-in_default-track_operation-2-clause-runs : goal.run_root-returns-in_default-track_operation-2-clause-runs
+pub run_root-returns-else-not-charge-2-clause-runs : goal.run_root-returns-else-not-charge-2-clause-runs
 unfolding Steps StartsAs
-run_root-returns-in_default-track_operation-2-clause-runs g t c in_place k =
+run_root-returns-else-not-charge-2-clause-runs g t c in_place k =
     let rules = under g.H.Host.name_of c.args.self.now g.T.NativeTable.natives in
     let chain = chain_at c.args.root.now (out-Expr c.args.chain.now) c.args.args.now c.args.new in_place in
     let form : out-Expr c.args.root.now ≡ layer.ThisPtr c.in-ThisPtr.pos = rw (c.in-ThisPtr.is, exprs.outs-ThisPtr) refl in
-    rw c.walk_this.ensures.scope
-    (charged_on rules _ c.args.run.now.global c.track_operation-in-ThisPtr.new.global _ _ (ChainRoot chain) c.in-ThisPtr.pos k
+    rw (c.settle-in-ThisPtr.ensures, c.walk_this-answer.ensures.scope)
+    (charged_on rules _ c.args.run.now.global c.charge-in-ThisPtr.new.global _ _ (ChainRoot chain) c.in-ThisPtr.pos k
     (λ l. this_root_core c.in-ThisPtr.pos chain k l) (this_root rules c.args.root.now c.in-ThisPtr.pos form chain refl k _)
-    c.in_default-track_operation-2.ensures.room c.in_default-track_operation-2.ensures.charged
-    ⨾ c.walk_this.ensures.runs c.args.run.now.scope None in_place k)
+    (c.if-not-charge-2.ensures.room refl) (c.if-not-charge-2.ensures.charged refl)
+    ⨾ c.walk_this-answer.ensures.runs c.args.run.now.scope None in_place k)
 
 -- an assignment
 
@@ -379,15 +384,15 @@ assign_chain-run_chain-requires g t c =
     let found = sym c.first_of.ensures ∙ ap option_copied c.in-Some.is in
     let parts = target_parts c.args.lhs.now c.in-Some.root.now (names c.args.run.now) found c.requires.resolves_target in
     λ κs lives. (
-      omega (arith, c.in_ok-value.ensures.charges),
+      omega (arith, c.if-not-run_expr.ensures.charges refl),
       (
         lives.0,
         (
           lives.1,
           (
-            rw c.in_ok-value.ensures.names parts.root_runs,
+            rw (c.if-not-run_expr.ensures.names refl) parts.root_runs,
             (
-              rw c.in_ok-value.ensures.names parts.behind_runs,
+              rw (c.if-not-run_expr.ensures.names refl) parts.behind_runs,
               (may_walk true (names c.args.run.now) (out-Expr c.args.lhs.now) parts.behind_runs parts.ends, parts.starts),
             ),
           ),
@@ -395,34 +400,32 @@ assign_chain-run_chain-requires g t c =
       ),
     )
 
-pub assign_chain-returns-in_err-value-clause-runs : goal.assign_chain-returns-in_err-value-clause-runs
+pub assign_chain-returns-then-not-run_expr-clause-runs : goal.assign_chain-returns-then-not-run_expr-clause-runs
 unfolding after Steps
-assign_chain-returns-in_err-value-clause-runs g t c =
+assign_chain-returns-then-not-run_expr-clause-runs g t c k =
     let rules = under g.H.Host.name_of c.args.self.now g.T.NativeTable.natives in
     let found = sym c.first_of.ensures ∙ ap option_copied c.in-Some.is in
-    exits rules _ _ _ _ _ c.from_residual.ensures (λ k.
     begins_chain rules c.args.op c.args.lhs.now c.args.rhs.now c.in-Some.root.now c.args.restoring found k _
-    ⨾ c.in_err-value.ensures.runs (AssignChain _ _ _ _ ∷ k) ⨾ next here)
+    ⨾ c.if-not-run_expr.ensures.runs (AssignChain _ _ _ _ ∷ k) ⨾ next here
 
-pub assign_chain-returns-in_err-value-2-clause-runs : goal.assign_chain-returns-in_err-value-2-clause-runs
+pub assign_chain-returns-then-not-flatten_value-clause-runs : goal.assign_chain-returns-then-not-flatten_value-clause-runs
 unfolding Steps
-assign_chain-returns-in_err-value-2-clause-runs g t c =
+assign_chain-returns-then-not-flatten_value-clause-runs g t c k =
     let rules = under g.H.Host.name_of c.args.self.now g.T.NativeTable.natives in
     let found = sym c.first_of.ensures ∙ ap option_copied c.in-Some.is in
-    exits rules _ _ _ _ _ c.from_residual-in_err-value-2.ensures (λ k.
     begins_chain rules c.args.op c.args.lhs.now c.args.rhs.now c.in-Some.root.now c.args.restoring found k _
-    ⨾ c.in_ok-value.ensures.runs (AssignChain _ _ _ _ ∷ k)
-    ⨾ flat_fails rules _ _ k _ _ (AssignChain _ _ _ _) refl (rw c.position.ensures at c.in_err-value-2.ensures.exact))
+    ⨾ c.if-not-run_expr.ensures.runs (AssignChain _ _ _ _ ∷ k)
+    ⨾ flat_fails rules _ _ k _ _ (AssignChain _ _ _ _) refl (rw c.position-at.ensures at c.if-not-flatten_value.ensures.exact)
 
-pub assign_chain-returns-in_err-left-clause-runs : goal.assign_chain-returns-in_err-left-clause-runs
+pub assign_chain-returns-then-not-run_chain-clause-runs : goal.assign_chain-returns-then-not-run_chain-clause-runs
 unfolding after Steps
-assign_chain-returns-in_err-left-clause-runs g t c =
+assign_chain-returns-then-not-run_chain-clause-runs g t c k =
     let rules = under g.H.Host.name_of c.args.self.now g.T.NativeTable.natives in
     let found = sym c.first_of.ensures ∙ ap option_copied c.in-Some.is in
-    exits rules _ _ _ _ _ c.from_residual-in_err-left.ensures (λ k.
     begins_chain rules c.args.op c.args.lhs.now c.args.rhs.now c.in-Some.root.now c.args.restoring found k _
-    ⨾ c.in_ok-value.ensures.runs (AssignChain _ _ _ _ ∷ k)
-    ⨾ next (rw (← c.position.ensures, ← (c.in_ok-value-2.ensures.exact tt)) (c.in_err-left.ensures.runs (AssignedChain ∷ k) ⨾ next here)))
+    ⨾ c.if-not-run_expr.ensures.runs (AssignChain _ _ _ _ ∷ k)
+    ⨾ next (rw (← c.position-at.ensures, ← (c.if-not-flatten_value.ensures.exact tt))
+    ((rw c.take_value-value.ensures.taken at c.if-not-run_chain.ensures.runs) (AssignedChain ∷ k) ⨾ next here))
 
 pub assign_chain-returns-clause-runs : goal.assign_chain-returns-clause-runs
 unfolding after Steps
@@ -430,9 +433,10 @@ assign_chain-returns-clause-runs g t c k =
     let rules = under g.H.Host.name_of c.args.self.now g.T.NativeTable.natives in
     let found = sym c.first_of.ensures ∙ ap option_copied c.in-Some.is in
     begins_chain rules c.args.op c.args.lhs.now c.args.rhs.now c.in-Some.root.now c.args.restoring found k _
-    ⨾ c.in_ok-value.ensures.runs (AssignChain _ _ _ _ ∷ k)
-    ⨾ next (rw (← c.position.ensures, ← (c.in_ok-value-2.ensures.exact tt)) (c.in_ok-left.ensures.runs (AssignedChain ∷ k)
-    ⨾ next (rw c.unit_value.ensures here)))
+    ⨾ c.if-not-run_expr.ensures.runs (AssignChain _ _ _ _ ∷ k)
+    ⨾ next (rw (← c.position-at.ensures, ← (c.if-not-flatten_value.ensures.exact tt))
+    ((rw c.take_value-value.ensures.taken at c.if-not-run_chain.ensures.runs) (AssignedChain ∷ k)
+    ⨾ next (rw c.put_unit.ensures here)))
 
 -- where a chain is read, and where it is assigned to
 
@@ -445,8 +449,8 @@ run_expr-run_chain-requires g t c =
       omega (
         arith,
         few,
-        c.in_ok-track_operation.ensures.room,
-        ap (λ (global : GlobalRuntimeState _). global.num_operations) c.in_ok-track_operation.ensures.charged,
+        (c.if-not-charge_expr.ensures.room refl),
+        ap (λ (global : GlobalRuntimeState _). global.num_operations) (c.if-not-charge_expr.ensures.charged refl),
       ),
       (
         lives.0,
@@ -469,8 +473,8 @@ run_expr-run_chain-requires-in-Index g t c =
       omega (
         arith,
         few,
-        c.in_ok-track_operation.ensures.room,
-        ap (λ (global : GlobalRuntimeState _). global.num_operations) c.in_ok-track_operation.ensures.charged,
+        (c.if-not-charge_expr.ensures.room refl),
+        ap (λ (global : GlobalRuntimeState _). global.num_operations) (c.if-not-charge_expr.ensures.charged refl),
       ),
       (
         lives.0,
@@ -488,8 +492,8 @@ pub run_expr-returns-in-Dot-clause-runs : goal.run_expr-returns-in-Dot-clause-ru
 unfolding after Steps
 run_expr-returns-in-Dot-clause-runs g t c k =
     let rules = under g.H.Host.name_of c.args.self.now g.T.NativeTable.natives in
-    begins rules _ c.args.run.now.global c.track_operation.new.global _ _ c.in_ok-track_operation.ensures.room
-    c.in_ok-track_operation.ensures.charged _ (layer.Dot c.in-Dot.root c.in-Dot.field-1 c.in-Dot.field-2 c.in-Dot.field-3)
+    begins rules _ c.args.run.now.global c.charge_expr.new.global _ _ (c.if-not-charge_expr.ensures.room refl)
+    (c.if-not-charge_expr.ensures.charged refl) _ (layer.Dot c.in-Dot.root c.in-Dot.field-1 c.in-Dot.field-2 c.in-Dot.field-3)
     (rw (c.in-Dot.is, exprs.outs-Dot) refl) k
     ⨾ next ((rw (c.get.ensures, c.in-Dot.is, exprs.outs-Dot) at c.run_chain.ensures.runs) k)
 
@@ -497,13 +501,13 @@ pub run_expr-returns-in-Index-clause-runs : goal.run_expr-returns-in-Index-claus
 unfolding after Steps
 run_expr-returns-in-Index-clause-runs g t c k =
     let rules = under g.H.Host.name_of c.args.self.now g.T.NativeTable.natives in
-    begins rules _ c.args.run.now.global c.track_operation.new.global _ _ c.in_ok-track_operation.ensures.room
-    c.in_ok-track_operation.ensures.charged _ (layer.Index c.in-Index.root c.in-Index.field-1 c.in-Index.field-2 c.in-Index.field-3)
+    begins rules _ c.args.run.now.global c.charge_expr.new.global _ _ (c.if-not-charge_expr.ensures.room refl)
+    (c.if-not-charge_expr.ensures.charged refl) _ (layer.Index c.in-Index.root c.in-Index.field-1 c.in-Index.field-2 c.in-Index.field-3)
     (rw (c.in-Index.is, exprs.outs-Index) refl) k
     ⨾ next ((rw (c.get-in-Index.ensures, c.in-Index.is, exprs.outs-Index) at c.run_chain-in-Index.ensures.runs) k)
 
-pub run_assignment-assign_chain-answer-requires : goal.run_assignment-assign_chain-answer-requires
-run_assignment-assign_chain-answer-requires g t c =
+pub run_assignment-assign_chain-requires : goal.run_assignment-assign_chain-requires
+run_assignment-assign_chain-requires g t c =
     let chain = left_chain c.args.lhs.now (names c.args.run.now)
     (no_name c.args.lhs.now c.in_default-lhs-2.not-Variable c.in_default-lhs.not-ThisPtr)
     c.requires.resolves_target in

@@ -9,7 +9,7 @@ use Rattle.rhai_machine.specs.language.Frames.{KeywordArgument, CallArgument, To
 use Rattle.rhai_machine.specs.language.Calls.{plainly}
 use Rattle.rhai_machine.specs.language.Arguments.{arguments_core, is_captured, keyword_of}
 use Rattle.rhai_machine.specs.language.Runs.{Steps}
-use Rattle.rhai_steps.proofs.Pieces.{passed, told, step_by}
+use Rattle.rhai_steps.proofs.Pieces.{told, step_by}
 use Rattle.rhai_operands.proofs.Names.{good_name}
 use Rattle.rhai_pointers.specs.Keywords.{word_of}
 use Rattle.rhai_pointers.specs.Leading.{all_args, seen}
@@ -21,10 +21,10 @@ use Rattle.rhai_cycle.specs.States.{names, under}
 use Rattle.rhai_cycle.proofs.NameLemmas.{first_resolves, part_resolves, this_resolves}
 use Rattle.rhai_cycle.proofs.Chain.{drop_item, drop_all}
 use Rattle.rhai_cycle.proofs.CallSteps.{calls_itself, calls_linked, by_name, by_number, charged_on, counted, named_alone}
-use Rattle.rhai_cycle.proofs.CallSteps.{kept_as_they_are, named_so, refused_on, taken_fails, taken_on, worded}
-use Rattle.rhai_cycle.proofs.CallSteps.{calls_fails, calls_goes, curries_fails, curries_goes, defined_fails, defined_goes, made_fails, made_goes}
-use Rattle.rhai_cycle.proofs.ChainSteps.{kept_more}
+use Rattle.rhai_cycle.proofs.CallSteps.{kept_as_they_are, named_so, refused_on, taken_fails, taken_on, worded, calls_fails, calls_goes}
+use Rattle.rhai_cycle.proofs.CallSteps.{curries_fails, curries_goes, defined_fails, defined_goes, made_fails, made_goes, kept_longer}
 use Rattle.rhai_cycle.proofs.evaluator.Evaluator.+eval.Goals as goal
+use Rattle.rhai_context.specs.Ends.{error_in}
 
 -- a call by name, or of a keyword
 
@@ -58,7 +58,8 @@ run_call-returns-in-Some-keyword_of-clause-runs g t c k =
       c.in-Some.is,
       worded rules operation c.args.captures k _
           (keyword_of c.args.token c.args.name.now (length (arg ∷ c.args.rest.now))) (word_of c.in-Some-keyword_of.word) arg c.args.rest.now
-          (counted c.args.token c.args.name.now c.args.rest.now ∙ sym c.keyword_of.ensures ∙ ap (option_map word_of) c.in-Some-keyword_of.is),
+          (counted c.args.token c.args.name.now c.args.rest.now ∙ sym c.keyword_of.ensures
+          ∙ ap (option_map word_of) c.in-Some-keyword_of.is),
     )
     (c.run_keyword.ensures.runs k)
 
@@ -72,7 +73,8 @@ run_call-returns-in-None-keyword_of-clause-runs g t c k =
       c.in-Some.is,
       named_so rules operation c.args.captures k _
           (keyword_of c.args.token c.args.name.now (length (arg ∷ c.args.rest.now))) (arg ∷ c.args.rest.now)
-          (counted c.args.token c.args.name.now c.args.rest.now ∙ sym c.keyword_of.ensures ∙ ap (option_map word_of) c.in-None-keyword_of.is),
+          (counted c.args.token c.args.name.now c.args.rest.now ∙ sym c.keyword_of.ensures
+          ∙ ap (option_map word_of) c.in-None-keyword_of.is),
     )
     ((rw (c.in-Some.is, c.new-curried-in-None-keyword_of.ensures) at c.run_named-in-None-keyword_of.ensures.runs) k)
 
@@ -81,117 +83,117 @@ run_call-returns-in-None-keyword_of-clause-runs g t c k =
 pub run_keyword-run_pointer-requires : goal.run_keyword-run_pointer-requires
 run_keyword-run_pointer-requires g t c =
     λ κs lives. (
-      omega (arith, c.in_ok-value.ensures.charges),
-      (lives.0, (lives.1, rw c.in_ok-value.ensures.names c.requires.resolves_rest)),
+      omega (arith, c.if-not-run_arg.ensures.charges refl),
+      (lives.0, (lives.1, rw (c.if-not-run_arg.ensures.names refl) c.requires.resolves_rest)),
     )
 
 pub run_keyword-run_pointer-requires-in-Ok-Some : goal.run_keyword-run_pointer-requires-in-Ok-Some
 run_keyword-run_pointer-requires-in-Ok-Some g t c =
     λ κs lives. (
-      omega (arith, c.in_ok-value.ensures.charges),
-      (lives.0, (lives.1, rw c.in_ok-value.ensures.names c.requires.resolves_rest)),
+      omega (arith, c.if-not-run_arg.ensures.charges refl),
+      (lives.0, (lives.1, rw (c.if-not-run_arg.ensures.names refl) c.requires.resolves_rest)),
     )
 
 pub run_keyword-run_pointer-requires-in-Some : goal.run_keyword-run_pointer-requires-in-Some
 run_keyword-run_pointer-requires-in-Some g t c =
     λ κs lives. (
-      omega (arith, c.in_ok-value.ensures.charges),
-      (lives.0, (lives.1, rw c.in_ok-value.ensures.names c.requires.resolves_rest)),
+      omega (arith, c.if-not-run_arg.ensures.charges refl),
+      (lives.0, (lives.1, rw (c.if-not-run_arg.ensures.names refl) c.requires.resolves_rest)),
     )
 
 pub run_keyword-run_named-requires : goal.run_keyword-run_named-requires
 run_keyword-run_named-requires g t c =
     λ κs lives. (
-      omega (arith, c.in_ok-value.ensures.charges),
-      (lives.0, (lives.1, rw (← c.parted.ensures, c.in_ok-value.ensures.names) c.requires.resolves_rest)),
+      omega (arith, c.if-not-run_arg.ensures.charges refl),
+      (lives.0, (lives.1, rw (← c.parted.ensures, c.if-not-run_arg.ensures.names refl) c.requires.resolves_rest)),
     )
 
-pub run_keyword-returns-in_err-value-clause-runs : goal.run_keyword-returns-in_err-value-clause-runs
+pub run_keyword-returns-then-not-run_arg-clause-runs : goal.run_keyword-returns-then-not-run_arg-clause-runs
 unfolding after Steps RunsUnder
-run_keyword-returns-in_err-value-clause-runs g t c k =
-    rw (passed _ c.from_residual.ensures) (c.in_err-value.ensures.runs (KeywordArgument _ _ _ _ _ ∷ k) ⨾ next here)
+run_keyword-returns-then-not-run_arg-clause-runs g t c k =
+    c.if-not-run_arg.ensures.runs (KeywordArgument _ _ _ _ _ ∷ k) ⨾ next here
 
 pub run_keyword-returns-in-IsShared-clause-runs : goal.run_keyword-returns-in-IsShared-clause-runs
 unfolding after Steps RunsUnder
 run_keyword-returns-in-IsShared-clause-runs g t c k =
-    rw (c.in-IsShared.is, c.is_shared.ensures) (c.in_ok-value.ensures.runs (KeywordArgument _ _ _ _ _ ∷ k) ⨾ next here)
+    rw (c.in-IsShared.is, c.put.ensures, c.is_shared.ensures, c.take_value-value.ensures.taken)
+    (c.if-not-run_arg.ensures.runs (KeywordArgument _ _ _ _ _ ∷ k) ⨾ next here)
 
-pub run_keyword-returns-in_err-text-in-IsDefinedVariable-clause-runs : goal.run_keyword-returns-in_err-text-in-IsDefinedVariable-clause-runs
+pub run_keyword-returns-in-Err-clause-runs : goal.run_keyword-returns-in-Err-clause-runs
 unfolding Steps RunsUnder
-run_keyword-returns-in_err-text-in-IsDefinedVariable-clause-runs g t c k =
+run_keyword-returns-in-Err-clause-runs g t c k =
     let rules = under g.H.Host.name_of c.args.self.now g.T.NativeTable.natives in
-    rw (passed _ c.from_residual-in_err-text-in-IsDefinedVariable.ensures, c.in-IsDefinedVariable.is)
-    (c.in_ok-value.ensures.runs (KeywordArgument _ _ _ _ _ ∷ k)
+    rw (c.in-IsDefinedVariable.is, c.stop.ensures.stopped, c.stop.ensures.told)
+    (c.if-not-run_arg.ensures.runs (KeywordArgument _ _ _ _ _ ∷ k)
     ⨾ defined_fails rules _ c.args.pos _ c.args.rest.now c.args.captures k _ _
-    (rw c.start_position-start.ensures at c.in_err-text-in-IsDefinedVariable.ensures))
+    (rw (c.take_value-value.ensures.taken, c.start_position-start.ensures) at c.in-Err.ensures))
 
-pub run_keyword-returns-in_ok-text-in-IsDefinedVariable-clause-runs : goal.run_keyword-returns-in_ok-text-in-IsDefinedVariable-clause-runs
+pub run_keyword-returns-in-Ok-clause-runs : goal.run_keyword-returns-in-Ok-clause-runs
 unfolding Steps RunsUnder
-run_keyword-returns-in_ok-text-in-IsDefinedVariable-clause-runs g t c k =
+run_keyword-returns-in-Ok-clause-runs g t c k =
     let rules = under g.H.Host.name_of c.args.self.now g.T.NativeTable.natives in
-    rw (c.in-IsDefinedVariable.is, c.is_defined.ensures)
-    (c.in_ok-value.ensures.runs (KeywordArgument _ _ _ _ _ ∷ k)
+    rw (c.in-IsDefinedVariable.is, c.put-in-Ok.ensures, c.is_defined.ensures)
+    (c.if-not-run_arg.ensures.runs (KeywordArgument _ _ _ _ _ ∷ k)
     ⨾ defined_goes rules _ c.args.pos _ c.args.rest.now c.args.captures k _ _
-    ((rw c.start_position-start.ensures at c.in_ok-text-in-IsDefinedVariable.ensures) tt) here)
+    ((rw (c.take_value-value.ensures.taken, c.start_position-start.ensures) at c.in-Ok.ensures) tt) here)
 
-pub run_keyword-returns-in_err-text-in-MakePointer-clause-runs : goal.run_keyword-returns-in_err-text-in-MakePointer-clause-runs
+pub run_keyword-returns-in-Err-text_of-clause-runs : goal.run_keyword-returns-in-Err-text_of-clause-runs
 unfolding Steps RunsUnder
-run_keyword-returns-in_err-text-in-MakePointer-clause-runs g t c k =
+run_keyword-returns-in-Err-text_of-clause-runs g t c k =
     let rules = under g.H.Host.name_of c.args.self.now g.T.NativeTable.natives in
-    rw (passed _ c.from_residual-in_err-text-in-MakePointer.ensures, c.in-MakePointer.is)
-    (c.in_ok-value.ensures.runs (KeywordArgument _ _ _ _ _ ∷ k)
+    rw (c.in-MakePointer.is, c.stop-in-Err-text_of.ensures.stopped, c.stop-in-Err-text_of.ensures.told)
+    (c.if-not-run_arg.ensures.runs (KeywordArgument _ _ _ _ _ ∷ k)
     ⨾ made_fails rules _ c.args.pos _ c.args.rest.now c.args.captures k _ _
-    (rw c.start_position-start.ensures at c.in_err-text-in-MakePointer.ensures))
+    (rw (c.take_value-value.ensures.taken, c.start_position-start.ensures) at c.in-Err-text_of.ensures))
 
-pub run_keyword-returns-in_ok-text-in-MakePointer-clause-runs : goal.run_keyword-returns-in_ok-text-in-MakePointer-clause-runs
+pub run_keyword-returns-in-Ok-text_of-clause-runs : goal.run_keyword-returns-in-Ok-text_of-clause-runs
 unfolding Steps RunsUnder
-run_keyword-returns-in_ok-text-in-MakePointer-clause-runs g t c k =
+run_keyword-returns-in-Ok-text_of-clause-runs g t c k =
     let rules = under g.H.Host.name_of c.args.self.now g.T.NativeTable.natives in
-    rw c.in-MakePointer.is
-    (c.in_ok-value.ensures.runs (KeywordArgument _ _ _ _ _ ∷ k)
+    rw (c.in-MakePointer.is, c.settle.ensures)
+    (c.if-not-run_arg.ensures.runs (KeywordArgument _ _ _ _ _ ∷ k)
     ⨾ made_goes rules _ c.args.pos _ c.args.rest.now c.args.captures k _ _
-    ((rw c.start_position-start.ensures at c.in_ok-text-in-MakePointer.ensures) tt)
-    (told rules _ _ (rw c.start_position-start.ensures at c.make_pointer.ensures) k _))
+    ((rw (c.take_value-value.ensures.taken, c.start_position-start.ensures) at c.in-Ok-text_of.ensures) tt)
+    (told rules _ _ (rw c.start_position-start.ensures at c.make_pointer-made.ensures) k _))
 
-pub run_keyword-returns-in_err-pointer-in-Curry-clause-runs : goal.run_keyword-returns-in_err-pointer-in-Curry-clause-runs
+pub run_keyword-returns-in-Err-pointer_of-clause-runs : goal.run_keyword-returns-in-Err-pointer_of-clause-runs
 unfolding Steps RunsUnder
-run_keyword-returns-in_err-pointer-in-Curry-clause-runs g t c k =
+run_keyword-returns-in-Err-pointer_of-clause-runs g t c k =
     let rules = under g.H.Host.name_of c.args.self.now g.T.NativeTable.natives in
-    rw (passed _ c.from_residual-in_err-pointer-in-Curry.ensures, c.in-Curry.is)
-    (c.in_ok-value.ensures.runs (KeywordArgument _ _ _ _ _ ∷ k)
+    rw (c.in-Curry.is, c.stop-in-Err-pointer_of.ensures.stopped, c.stop-in-Err-pointer_of.ensures.told)
+    (c.if-not-run_arg.ensures.runs (KeywordArgument _ _ _ _ _ ∷ k)
     ⨾ curries_fails rules _ c.args.pos _ c.args.rest.now c.args.captures k _ _
-    (rw c.start_position-start.ensures at c.in_err-pointer-in-Curry.ensures))
+    (rw (c.take_value-value.ensures.taken, c.start_position-start.ensures) at c.in-Err-pointer_of.ensures))
 
-pub run_keyword-returns-in_ok-pointer-in-Curry-clause-runs : goal.run_keyword-returns-in_ok-pointer-in-Curry-clause-runs
+pub run_keyword-returns-in-Ok-pointer_of-clause-runs : goal.run_keyword-returns-in-Ok-pointer_of-clause-runs
 unfolding Steps RunsUnder StartsAs
-run_keyword-returns-in_ok-pointer-in-Curry-clause-runs g t c k =
+run_keyword-returns-in-Ok-pointer_of-clause-runs g t c k =
     let rules = under g.H.Host.name_of c.args.self.now g.T.NativeTable.natives in
     rw c.in-Curry.is
-    (c.in_ok-value.ensures.runs (KeywordArgument _ _ _ _ _ ∷ k)
+    (c.if-not-run_arg.ensures.runs (KeywordArgument _ _ _ _ _ ∷ k)
     ⨾ curries_goes rules _ c.args.pos _ c.args.rest.now c.args.captures k _ _
-    ((rw c.start_position-start.ensures at c.in_ok-pointer-in-Curry.ensures) tt) (c.run_pointer.ensures.runs k))
+    ((rw (c.take_value-value.ensures.taken, c.start_position-start.ensures) at c.in-Ok-pointer_of.ensures) tt)
+    (c.run_pointer.ensures.runs k))
 
-pub run_keyword-returns-in_err-pointer-in-CallPointer-clause-runs : goal.run_keyword-returns-in_err-pointer-in-CallPointer-clause-runs
+pub run_keyword-returns-in-Err-pointer_of-2-clause-runs : goal.run_keyword-returns-in-Err-pointer_of-2-clause-runs
 unfolding Steps RunsUnder
-run_keyword-returns-in_err-pointer-in-CallPointer-clause-runs g t c k =
+run_keyword-returns-in-Err-pointer_of-2-clause-runs g t c k =
     let rules = under g.H.Host.name_of c.args.self.now g.T.NativeTable.natives in
-    rw (passed _ c.from_residual-in_err-pointer-in-CallPointer.ensures, c.in-CallPointer.is)
-    (c.in_ok-value.ensures.runs (KeywordArgument _ _ _ _ _ ∷ k)
+    rw (c.in-CallPointer.is, c.stop-in-Err-pointer_of-2.ensures.stopped, c.stop-in-Err-pointer_of-2.ensures.told)
+    (c.if-not-run_arg.ensures.runs (KeywordArgument _ _ _ _ _ ∷ k)
     ⨾ calls_fails rules _ c.args.pos _ c.args.rest.now c.args.captures k _ _
-    (rw c.start_position-start.ensures at c.in_err-pointer-in-CallPointer.ensures))
-
--- a pointer that is called
+    (rw (c.take_value-value.ensures.taken, c.start_position-start.ensures) at c.in-Err-pointer_of-2.ensures))
 
 pub run_keyword-returns-in-Ok-Some-clause-runs : goal.run_keyword-returns-in-Ok-Some-clause-runs
 unfolding Steps RunsUnder StartsAs
 run_keyword-returns-in-Ok-Some-clause-runs g t c k =
     let rules = under g.H.Host.name_of c.args.self.now g.T.NativeTable.natives in
-    let pointer = c.in_ok-pointer-in-CallPointer.pointer in
+    let pointer = c.in-Ok-pointer_of-2.pointer in
     let linked = sym (rw c.as_slice.ensures at c.in-Ok-Some.ensures) ∙ c.in-Ok-Some.field-0-is in
     rw c.in-CallPointer.is
-    (c.in_ok-value.ensures.runs (KeywordArgument _ _ _ _ _ ∷ k)
+    (c.if-not-run_arg.ensures.runs (KeywordArgument _ _ _ _ _ ∷ k)
     ⨾ calls_goes rules _ c.args.pos _ c.args.rest.now c.args.captures k _ pointer
-    ((rw c.start_position-start.ensures at c.in_ok-pointer-in-CallPointer.ensures) tt)
+    ((rw (c.take_value-value.ensures.taken, c.start_position-start.ensures) at c.in-Ok-pointer_of-2.ensures) tt)
     (calls_linked rules pointer c.args.pos c.args.rest.now c.args.captures k _ _ c.in-Ok-Some.function linked
     ((rw c.parts_of-name.ensures.curried at c.run_pointer-in-Ok-Some.ensures.runs) k)))
 
@@ -199,13 +201,13 @@ pub run_keyword-returns-in-Some-clause-runs : goal.run_keyword-returns-in-Some-c
 unfolding Steps RunsUnder StartsAs
 run_keyword-returns-in-Some-clause-runs g t c k =
     let rules = under g.H.Host.name_of c.args.self.now g.T.NativeTable.natives in
-    let pointer = c.in_ok-pointer-in-CallPointer.pointer in
+    let pointer = c.in-Ok-pointer_of-2.pointer in
     let unlinked = sym (rw c.as_slice.ensures at c.in-Ok-None.ensures) ∙ c.in-Ok-None.field-0-is in
     let numbered = sym c.parts_of-name-in-Ok-None.ensures.number ∙ c.in-Some.is in
     rw c.in-CallPointer.is
-    (c.in_ok-value.ensures.runs (KeywordArgument _ _ _ _ _ ∷ k)
+    (c.if-not-run_arg.ensures.runs (KeywordArgument _ _ _ _ _ ∷ k)
     ⨾ calls_goes rules _ c.args.pos _ c.args.rest.now c.args.captures k _ pointer
-    ((rw c.start_position-start.ensures at c.in_ok-pointer-in-CallPointer.ensures) tt)
+    ((rw (c.take_value-value.ensures.taken, c.start_position-start.ensures) at c.in-Ok-pointer_of-2.ensures) tt)
     (calls_itself rules pointer c.args.pos c.args.rest.now c.args.captures k _ _ unlinked
     (rw (by_number rules pointer c.args.pos c.args.rest.now c.args.captures k _ _ c.in-Some.id numbered)
     ((rw c.parts_of-name-in-Ok-None.ensures.curried at c.run_pointer-in-Some.ensures.runs) k))))
@@ -214,13 +216,13 @@ pub run_keyword-returns-in-None-clause-runs : goal.run_keyword-returns-in-None-c
 unfolding Steps RunsUnder StartsAs
 run_keyword-returns-in-None-clause-runs g t c k =
     let rules = under g.H.Host.name_of c.args.self.now g.T.NativeTable.natives in
-    let pointer = c.in_ok-pointer-in-CallPointer.pointer in
+    let pointer = c.in-Ok-pointer_of-2.pointer in
     let unlinked = sym (rw c.as_slice.ensures at c.in-Ok-None.ensures) ∙ c.in-Ok-None.field-0-is in
     let unnumbered = sym c.parts_of-name-in-Ok-None.ensures.number ∙ c.in-None.is in
     rw c.in-CallPointer.is
-    (c.in_ok-value.ensures.runs (KeywordArgument _ _ _ _ _ ∷ k)
+    (c.if-not-run_arg.ensures.runs (KeywordArgument _ _ _ _ _ ∷ k)
     ⨾ calls_goes rules _ c.args.pos _ c.args.rest.now c.args.captures k _ pointer
-    ((rw c.start_position-start.ensures at c.in_ok-pointer-in-CallPointer.ensures) tt)
+    ((rw (c.take_value-value.ensures.taken, c.start_position-start.ensures) at c.in-Ok-pointer_of-2.ensures) tt)
     (calls_itself rules pointer c.args.pos c.args.rest.now c.args.captures k _ _ unlinked
     (rw (by_name rules pointer c.args.pos c.args.rest.now c.args.captures k _ _ unnumbered)
     ((rw (
@@ -233,30 +235,34 @@ run_keyword-returns-in-None-clause-runs g t c k =
     ) at c.run_named.ensures.runs) k))))
 
 -- memory is wanted at the keyword's own frame
-pub run_keyword-returns-in-Err-clause-runs : goal.run_keyword-returns-in-Err-clause-runs
+pub run_keyword-returns-in-Err-function_linked-clause-runs : goal.run_keyword-returns-in-Err-function_linked-clause-runs
 unfolding after Steps RunsUnder
-run_keyword-returns-in-Err-clause-runs g t c k =
-    c.in_ok-value.ensures.runs (KeywordArgument _ _ _ _ _ ∷ k) ⨾ wanting {at = c.args.pos} (next here)
+run_keyword-returns-in-Err-function_linked-clause-runs g t c k =
+    rw (c.stop-in-Err-function_linked.ensures.stopped, c.stop-in-Err-function_linked.ensures.told)
+    (c.if-not-run_arg.ensures.runs (KeywordArgument _ _ _ _ _ ∷ k) ⨾ wanting {at = c.args.pos} (next here))
+
+-- a pointer that is called
 
 -- a pointer's arguments, and what they are for
 
 pub run_pointer-run_more_args-requires : goal.run_pointer-run_more_args-requires
 run_pointer-run_more_args-requires g t c =
     λ κs lives. (
-      omega (arith, ap (λ (r : Context _). r.global.num_operations) c.lend_list-made.ensures.run),
-      (lives.0, (lives.1, rw c.lend_list-made.ensures.run c.requires)),
+      omega (arith, ap (λ (r : Context _). r.global.num_operations) c.lend_list-values.ensures.run),
+      (lives.0, (lives.1, rw c.lend_list-values.ensures.run c.requires)),
     )
 
-pub run_pointer-returns-in-Err-clause-runs : goal.run_pointer-returns-in-Err-clause-runs
+pub run_pointer-returns-then-not-run_more_args-clause-runs : goal.run_pointer-returns-then-not-run_more_args-clause-runs
 unfolding StartsAs Collects
-run_pointer-returns-in-Err-clause-runs g t c k =
-    (rw (c.in-Err.is, c.lend_list-made.ensures.list, c.lend_list-made.ensures.run) at c.run_more_args.ensures.collects)
-    (purpose_of c.args.pointer c.args.pos) (kept_as_they_are c.args.pointer c.args.pos) k
+run_pointer-returns-then-not-run_more_args-clause-runs g t c k =
+    rw c.keep_list.ensures
+    ((rw (c.lend_list-values.ensures.list, c.lend_list-values.ensures.run) at c.if-not-run_more_args.ensures.collects)
+    (purpose_of c.args.pointer c.args.pos) (kept_as_they_are c.args.pointer c.args.pos) k)
 
-pub run_pointer-returns-in-Ok-clause-runs : goal.run_pointer-returns-in-Ok-clause-runs
+pub run_pointer-returns-clause-runs : goal.run_pointer-returns-clause-runs
 unfolding StartsAs Collects GoesOut
-run_pointer-returns-in-Ok-clause-runs g t c k =
-    (rw (c.in-Ok.is, c.lend_list-made.ensures.list, c.lend_list-made.ensures.run) at c.run_more_args.ensures.collects)
+run_pointer-returns-clause-runs g t c k =
+    (rw (c.lend_list-values.ensures.list, c.lend_list-values.ensures.run) at c.if-not-run_more_args.ensures.collects)
     (purpose_of c.args.pointer c.args.pos) (kept_as_they_are c.args.pointer c.args.pos) k
     ⨾ c.use_pointer-called.ensures.runs k ⨾ c.run_out.ensures.runs k
 
@@ -270,10 +276,10 @@ run_named-run_more_args-requires g t c =
     λ κs lives. (
       omega (
         arith,
-        ap (λ (global : GlobalRuntimeState _). global.num_operations) c.in_ok-track_operation.ensures.charged,
-        ap (λ (r : Context _). r.global.num_operations) c.lend_list-made.ensures.run,
+        ap (λ (global : GlobalRuntimeState _). global.num_operations) (c.if-not-charge.ensures.charged refl),
+        ap (λ (r : Context _). r.global.num_operations) c.lend_list-values.ensures.run,
       ),
-      (lives.0, (lives.1, rw c.lend_list-made.ensures.run resolved)),
+      (lives.0, (lives.1, rw c.lend_list-values.ensures.run resolved)),
     )
 
 pub run_named-run_more_args-requires-in-Some-first_variable : goal.run_named-run_more_args-requires-in-Some-first_variable
@@ -286,10 +292,10 @@ run_named-run_more_args-requires-in-Some-first_variable g t c =
     λ κs lives. (
       omega (
         arith,
-        ap (λ (global : GlobalRuntimeState _). global.num_operations) c.in_ok-track_operation-in-Some-first_variable.ensures.charged,
-        ap (λ (r : Context _). r.global.num_operations) c.lend_list-made-in-Some-first_variable.ensures.run,
+        ap (λ (global : GlobalRuntimeState _). global.num_operations) (c.if-not-charge-2.ensures.charged refl),
+        ap (λ (r : Context _). r.global.num_operations) c.lend_list-values-in-Some-first_variable.ensures.run,
       ),
-      (lives.0, (lives.1, rw c.lend_list-made-in-Some-first_variable.ensures.run resolved.1)),
+      (lives.0, (lives.1, rw c.lend_list-values-in-Some-first_variable.ensures.run resolved.1)),
     )
 
 pub run_named-call_with_variable-called-requires : goal.run_named-call_with_variable-called-requires
@@ -299,36 +305,36 @@ run_named-call_with_variable-called-requires g t c =
     let leading = seen c.in-Some-first_variable.variable in
     let first = lent_leads _ args leading found in
     let resolved = first_resolves args first.arg leading.rest _ first.comes_first c.requires.1.1.1.1 in
-    rw (c.in_ok-values-in-Some-first_variable.ensures.names, c.lend_list-made-in-Some-first_variable.ensures.run)
+    rw (c.if-not-run_more_args-2.ensures.names refl, c.lend_list-values-in-Some-first_variable.ensures.run)
     (good_name first.arg leading.offset leading.name first.namespace leading.at _ first.is_variable resolved.0)
 
-pub run_named-returns-in_err-track_operation-clause-runs : goal.run_named-returns-in_err-track_operation-clause-runs
+pub run_named-returns-then-not-charge-clause-runs : goal.run_named-returns-then-not-charge-clause-runs
 unfolding Steps
-run_named-returns-in_err-track_operation-clause-runs g t c k =
+run_named-returns-then-not-charge-clause-runs g t c k =
     let rules = under g.H.Host.name_of c.args.self.now g.T.NativeTable.natives in
     let operation : machine.Operation = record { name = c.args.name.now; token = c.args.token; at = c.args.pos } in
     let purpose : machine.Purpose g.row.H.Denot = ToCallOnThis operation c.in-Some.this_at (plainly c.args.natives_alone false) in
     let found = sym (rw c.as_slice.ensures at c.this_first.ensures) ∙ c.in-Some.is in
     let charges = this_goes rules.setting operation c.args.curried (option_copied c.args.first) c.args.rest.now c.args.captures
     c.args.natives_alone k _ c.in-Some.this_at found in
-    rw (passed _ c.from_residual.ensures) (refused_on rules _ c.args.run.now.global c.track_operation.new.global _ _ _ _ k
-    (λ l. arguments_core rules.setting purpose [] c.args.rest.now k l) charges _ c.in_err-track_operation.ensures.full
-    c.in_err-track_operation.ensures.refused c.in_err-track_operation.ensures.same)
+    refused_on rules _ c.args.run.now.global c.charge.new.global _ _ _ _ k
+    (λ l. arguments_core rules.setting purpose [] c.args.rest.now k l) charges _ (c.if-not-charge.ensures.full refl)
+    (c.if-not-charge.ensures.refused refl) (c.if-not-charge.ensures.same refl)
 
-pub run_named-returns-in_err-values-clause-runs : goal.run_named-returns-in_err-values-clause-runs
+pub run_named-returns-then-not-run_more_args-clause-runs : goal.run_named-returns-then-not-run_more_args-clause-runs
 unfolding Steps Collects
-run_named-returns-in_err-values-clause-runs g t c k =
+run_named-returns-then-not-run_more_args-clause-runs g t c k =
     let rules = under g.H.Host.name_of c.args.self.now g.T.NativeTable.natives in
     let operation : machine.Operation = record { name = c.args.name.now; token = c.args.token; at = c.args.pos } in
     let purpose : machine.Purpose g.row.H.Denot = ToCallOnThis operation c.in-Some.this_at (plainly c.args.natives_alone false) in
     let found = sym (rw c.as_slice.ensures at c.this_first.ensures) ∙ c.in-Some.is in
     let charges = this_goes rules.setting operation c.args.curried (option_copied c.args.first) c.args.rest.now c.args.captures
     c.args.natives_alone k _ c.in-Some.this_at found in
-    rw (passed _ c.from_residual-in_err-values.ensures)
-    (charged_on rules _ c.args.run.now.global c.track_operation.new.global _ _ _ _ k
-    (λ l. arguments_core rules.setting purpose [] c.args.rest.now k l) charges c.in_ok-track_operation.ensures.room
-    c.in_ok-track_operation.ensures.charged
-    ⨾ (rw (c.lend_list-made.ensures.list, c.lend_list-made.ensures.run) at c.in_err-values.ensures.collects) purpose refl k)
+    rw c.keep_list.ensures
+    (charged_on rules _ c.args.run.now.global c.charge.new.global _ _ _ _ k
+    (λ l. arguments_core rules.setting purpose [] c.args.rest.now k l) charges (c.if-not-charge.ensures.room refl)
+    (c.if-not-charge.ensures.charged refl)
+    ⨾ (rw (c.lend_list-values.ensures.list, c.lend_list-values.ensures.run) at c.if-not-run_more_args.ensures.collects) purpose refl k)
 
 pub run_named-returns-in-Some-clause-runs : goal.run_named-returns-in-Some-clause-runs
 unfolding Steps Collects GoesOut StartsAs
@@ -339,16 +345,16 @@ run_named-returns-in-Some-clause-runs g t c k =
     let found = sym (rw c.as_slice.ensures at c.this_first.ensures) ∙ c.in-Some.is in
     let charges = this_goes rules.setting operation c.args.curried (option_copied c.args.first) c.args.rest.now c.args.captures
     c.args.natives_alone k _ c.in-Some.this_at found in
-    charged_on rules _ c.args.run.now.global c.track_operation.new.global _ _ _ _ k
-    (λ l. arguments_core rules.setting purpose [] c.args.rest.now k l) charges c.in_ok-track_operation.ensures.room
-    c.in_ok-track_operation.ensures.charged
-    ⨾ (rw (c.lend_list-made.ensures.list, c.lend_list-made.ensures.run) at c.in_ok-values.ensures.collects) purpose refl k
+    charged_on rules _ c.args.run.now.global c.charge.new.global _ _ _ _ k
+    (λ l. arguments_core rules.setting purpose [] c.args.rest.now k l) charges (c.if-not-charge.ensures.room refl)
+    (c.if-not-charge.ensures.charged refl)
+    ⨾ (rw (c.lend_list-values.ensures.list, c.lend_list-values.ensures.run) at c.if-not-run_more_args.ensures.collects) purpose refl k
     ⨾ c.call_with_this-called.ensures.runs k
     ⨾ c.run_out.ensures.runs k
 
-pub run_named-returns-in_err-track_operation-in-Some-first_variable-clause-runs : goal.run_named-returns-in_err-track_operation-in-Some-first_variable-clause-runs
+pub run_named-returns-then-not-charge-2-clause-runs : goal.run_named-returns-then-not-charge-2-clause-runs
 unfolding Steps
-run_named-returns-in_err-track_operation-in-Some-first_variable-clause-runs g t c k =
+run_named-returns-then-not-charge-2-clause-runs g t c k =
     let rules = under g.H.Host.name_of c.args.self.now g.T.NativeTable.natives in
     let operation : machine.Operation = record { name = c.args.name.now; token = c.args.token; at = c.args.pos } in
     let variable = seen c.in-Some-first_variable.variable in
@@ -357,13 +363,13 @@ run_named-returns-in_err-track_operation-in-Some-first_variable-clause-runs g t 
     let found = sym (rw c.as_slice-2.ensures at c.first_variable.ensures) ∙ ap (option_map seen) c.in-Some-first_variable.is in
     let charges = variable_goes rules.setting operation c.args.curried (all_args (option_copied c.args.first) c.args.rest.now)
     c.args.captures c.args.natives_alone k _ variable found in
-    rw (passed _ c.from_residual-in_err-track_operation-in-Some-first_variable.ensures) (refused_on rules _ c.args.run.now.global c.track_operation-in-Some-first_variable.new.global _ _ _ _ k
-    (λ l. arguments_core rules.setting purpose [] variable.rest k l) charges _ c.in_err-track_operation-in-Some-first_variable.ensures.full
-    c.in_err-track_operation-in-Some-first_variable.ensures.refused c.in_err-track_operation-in-Some-first_variable.ensures.same)
+    refused_on rules _ c.args.run.now.global c.charge-in-Some-first_variable.new.global _ _ _ _ k
+    (λ l. arguments_core rules.setting purpose [] variable.rest k l) charges _ (c.if-not-charge-2.ensures.full refl)
+    (c.if-not-charge-2.ensures.refused refl) (c.if-not-charge-2.ensures.same refl)
 
-pub run_named-returns-in_err-values-in-Some-first_variable-clause-runs : goal.run_named-returns-in_err-values-in-Some-first_variable-clause-runs
+pub run_named-returns-then-not-run_more_args-2-clause-runs : goal.run_named-returns-then-not-run_more_args-2-clause-runs
 unfolding Steps Collects
-run_named-returns-in_err-values-in-Some-first_variable-clause-runs g t c k =
+run_named-returns-then-not-run_more_args-2-clause-runs g t c k =
     let rules = under g.H.Host.name_of c.args.self.now g.T.NativeTable.natives in
     let operation : machine.Operation = record { name = c.args.name.now; token = c.args.token; at = c.args.pos } in
     let variable = seen c.in-Some-first_variable.variable in
@@ -372,15 +378,16 @@ run_named-returns-in_err-values-in-Some-first_variable-clause-runs g t c k =
     let found = sym (rw c.as_slice-2.ensures at c.first_variable.ensures) ∙ ap (option_map seen) c.in-Some-first_variable.is in
     let charges = variable_goes rules.setting operation c.args.curried (all_args (option_copied c.args.first) c.args.rest.now)
     c.args.captures c.args.natives_alone k _ variable found in
-    rw (passed _ c.from_residual-in_err-values-in-Some-first_variable.ensures)
-    (charged_on rules _ c.args.run.now.global c.track_operation-in-Some-first_variable.new.global _ _ _ _ k
-    (λ l. arguments_core rules.setting purpose [] variable.rest k l) charges c.in_ok-track_operation-in-Some-first_variable.ensures.room
-    c.in_ok-track_operation-in-Some-first_variable.ensures.charged
-    ⨾ (rw (c.lend_list-made-in-Some-first_variable.ensures.list, c.lend_list-made-in-Some-first_variable.ensures.run) at c.in_err-values-in-Some-first_variable.ensures.collects) purpose refl k)
+    rw c.keep_list-then-not-run_more_args-2.ensures
+    (charged_on rules _ c.args.run.now.global c.charge-in-Some-first_variable.new.global _ _ _ _ k
+    (λ l. arguments_core rules.setting purpose [] variable.rest k l) charges (c.if-not-charge-2.ensures.room refl)
+    (c.if-not-charge-2.ensures.charged refl)
+    ⨾ (rw (c.lend_list-values-in-Some-first_variable.ensures.list, c.lend_list-values-in-Some-first_variable.ensures.run)
+    at c.if-not-run_more_args-2.ensures.collects) purpose refl k)
 
-pub run_named-returns-in_ok-values-in-Some-first_variable-clause-runs : goal.run_named-returns-in_ok-values-in-Some-first_variable-clause-runs
+pub run_named-returns-else-not-run_more_args-2-clause-runs : goal.run_named-returns-else-not-run_more_args-2-clause-runs
 unfolding Steps Collects GoesOut StartsAs
-run_named-returns-in_ok-values-in-Some-first_variable-clause-runs g t c k =
+run_named-returns-else-not-run_more_args-2-clause-runs g t c k =
     let rules = under g.H.Host.name_of c.args.self.now g.T.NativeTable.natives in
     let operation : machine.Operation = record { name = c.args.name.now; token = c.args.token; at = c.args.pos } in
     let variable = seen c.in-Some-first_variable.variable in
@@ -389,10 +396,11 @@ run_named-returns-in_ok-values-in-Some-first_variable-clause-runs g t c k =
     let found = sym (rw c.as_slice-2.ensures at c.first_variable.ensures) ∙ ap (option_map seen) c.in-Some-first_variable.is in
     let charges = variable_goes rules.setting operation c.args.curried (all_args (option_copied c.args.first) c.args.rest.now)
     c.args.captures c.args.natives_alone k _ variable found in
-    charged_on rules _ c.args.run.now.global c.track_operation-in-Some-first_variable.new.global _ _ _ _ k
-    (λ l. arguments_core rules.setting purpose [] variable.rest k l) charges c.in_ok-track_operation-in-Some-first_variable.ensures.room
-    c.in_ok-track_operation-in-Some-first_variable.ensures.charged
-    ⨾ (rw (c.lend_list-made-in-Some-first_variable.ensures.list, c.lend_list-made-in-Some-first_variable.ensures.run) at c.in_ok-values-in-Some-first_variable.ensures.collects) purpose refl k
+    charged_on rules _ c.args.run.now.global c.charge-in-Some-first_variable.new.global _ _ _ _ k
+    (λ l. arguments_core rules.setting purpose [] variable.rest k l) charges (c.if-not-charge-2.ensures.room refl)
+    (c.if-not-charge-2.ensures.charged refl)
+    ⨾ (rw (c.lend_list-values-in-Some-first_variable.ensures.list, c.lend_list-values-in-Some-first_variable.ensures.run)
+    at c.if-not-run_more_args-2.ensures.collects) purpose refl k
     ⨾ c.call_with_variable-called.ensures.runs k
     ⨾ c.run_out-in-Some-first_variable.ensures.runs k
 
@@ -408,81 +416,31 @@ run_named-returns-in-None-clause-runs g t c k =
 
 -- with all arguments by their values
 
-pub run_on_values-run_arg-requires : goal.run_on_values-run_arg-requires
-run_on_values-run_arg-requires g t c =
-    let resolved = first_resolves (all_args (option_copied c.args.first) c.args.rest.now) c.in-Some.arg.now c.args.rest.now
-    (names c.args.run.now) (ap (λ o. all_args (option_copied o) c.args.rest.now) c.in-Some.is) c.requires.1.1.1.1 in
+pub run_on_values-run_all_args-requires : goal.run_on_values-run_all_args-requires
+run_on_values-run_all_args-requires g t c =
     λ κs lives. (
-      omega (arith, ap (λ (r : Context _). r.global.num_operations) c.lend_list-made.ensures.run),
-      (lives.0, (lives.1, rw c.lend_list-made.ensures.run resolved.0)),
+      omega (arith, ap (λ (r : Context _). r.global.num_operations) c.lend_list-values.ensures.run),
+      (lives.0, (lives.1, rw c.lend_list-values.ensures.run c.requires.1.1.1.1)),
     )
 
-pub run_on_values-run_more_args-requires : goal.run_on_values-run_more_args-requires
-run_on_values-run_more_args-requires g t c =
-    let resolved = first_resolves (all_args (option_copied c.args.first) c.args.rest.now) c.in-Some.arg.now c.args.rest.now
-    (names c.args.run.now) (ap (λ o. all_args (option_copied o) c.args.rest.now) c.in-Some.is) c.requires.1.1.1.1 in
-    λ κs lives. (
-      omega (arith, ap (λ (r : Context _). r.global.num_operations) c.lend_list-made.ensures.run, c.in-Ok.ensures.charges),
-      (lives.0, (lives.1, rw (c.in-Ok.ensures.names, c.lend_list-made.ensures.run) resolved.1)),
-    )
-
-pub run_on_values-returns-in-None-clause-runs : goal.run_on_values-returns-in-None-clause-runs
-unfolding StartsAs GoesOut
-run_on_values-returns-in-None-clause-runs g t c k =
-    let on_scope = is_captured c.args.captures (entries_of c.args.run.now.scope) in
-    rw c.in-None.is ((rw (c.lend_list-made.ensures.list, c.lend_list-made.ensures.run) at c.call_with-called.ensures.runs) on_scope k
-    ⨾ (rw c.is_on_scope-on_scope.ensures at c.run_out.ensures.runs) k)
-
-pub run_on_values-returns-in-Err-clause-runs : goal.run_on_values-returns-in-Err-clause-runs
-unfolding after Steps StartsAs
-run_on_values-returns-in-Err-clause-runs g t c k =
-    let rules = under g.H.Host.name_of c.args.self.now g.T.NativeTable.natives in
+pub run_on_values-returns-then-not-run_all_args-clause-runs : goal.run_on_values-returns-then-not-run_all_args-clause-runs
+unfolding StartsAs Collects
+run_on_values-returns-then-not-run_all_args-clause-runs g t c k =
     let operation : machine.Operation = record { name = c.args.name.now; token = c.args.token; at = c.args.pos } in
     let on_scope = is_captured c.args.captures (entries_of c.args.run.now.scope) in
     let purpose : machine.Purpose g.row.H.Denot = ToCall operation c.args.curried (plainly c.args.natives_alone on_scope) in
-    rw c.in-Some.is
-    ((rw c.lend_list-made.ensures.run at c.in-Err.ensures.runs) (CallArgument purpose [] _ c.args.rest.now ∷ k)
-    ⨾ next here)
+    rw c.keep_list.ensures
+    ((rw (c.lend_list-values.ensures.list, c.lend_list-values.ensures.run) at c.if-not-run_all_args.ensures.collects) purpose refl k)
 
-pub run_on_values-returns-in-Err-take_argument-clause-runs : goal.run_on_values-returns-in-Err-take_argument-clause-runs
-unfolding Steps StartsAs
-run_on_values-returns-in-Err-take_argument-clause-runs g t c k =
-    let rules = under g.H.Host.name_of c.args.self.now g.T.NativeTable.natives in
+pub run_on_values-returns-clause-runs : goal.run_on_values-returns-clause-runs
+unfolding StartsAs Collects GoesOut
+run_on_values-returns-clause-runs g t c k =
     let operation : machine.Operation = record { name = c.args.name.now; token = c.args.token; at = c.args.pos } in
     let on_scope = is_captured c.args.captures (entries_of c.args.run.now.scope) in
     let purpose : machine.Purpose g.row.H.Denot = ToCall operation c.args.curried (plainly c.args.natives_alone on_scope) in
-    rw c.in-Some.is
-    ((rw c.lend_list-made.ensures.run at c.in-Ok.ensures.runs) (CallArgument purpose [] _ c.args.rest.now ∷ k)
-    ⨾ rw (← c.position.ensures) (taken_fails rules purpose [] c.in-Ok.value c.position.result c.args.rest.now k _ true _ refl
-    c.in-Err-take_argument.ensures.refused))
-
-pub run_on_values-returns-in-Err-run_more_args-clause-runs : goal.run_on_values-returns-in-Err-run_more_args-clause-runs
-unfolding Steps StartsAs Collects
-run_on_values-returns-in-Err-run_more_args-clause-runs g t c k =
-    let rules = under g.H.Host.name_of c.args.self.now g.T.NativeTable.natives in
-    let operation : machine.Operation = record { name = c.args.name.now; token = c.args.token; at = c.args.pos } in
-    let on_scope = is_captured c.args.captures (entries_of c.args.run.now.scope) in
-    let purpose : machine.Purpose g.row.H.Denot = ToCall operation c.args.curried (plainly c.args.natives_alone on_scope) in
-    rw c.in-Some.is
-    ((rw c.lend_list-made.ensures.run at c.in-Ok.ensures.runs) (CallArgument purpose [] _ c.args.rest.now ∷ k)
-    ⨾ rw (← c.position.ensures) (taken_on rules purpose [] c.in-Ok.value c.position.result c.args.rest.now k _ true c.take_argument.new.made refl
-    (rw c.lend_list-made.ensures.list at c.in-Ok-take_argument.ensures.kept))
-    ⨾ (rw c.in-Err-run_more_args.is at c.run_more_args.ensures.collects) purpose refl k)
-
-pub run_on_values-returns-in-Ok-run_more_args-clause-runs : goal.run_on_values-returns-in-Ok-run_more_args-clause-runs
-unfolding Steps StartsAs Collects GoesOut
-run_on_values-returns-in-Ok-run_more_args-clause-runs g t c k =
-    let rules = under g.H.Host.name_of c.args.self.now g.T.NativeTable.natives in
-    let operation : machine.Operation = record { name = c.args.name.now; token = c.args.token; at = c.args.pos } in
-    let on_scope = is_captured c.args.captures (entries_of c.args.run.now.scope) in
-    let purpose : machine.Purpose g.row.H.Denot = ToCall operation c.args.curried (plainly c.args.natives_alone on_scope) in
-    rw c.in-Some.is
-    ((rw c.lend_list-made.ensures.run at c.in-Ok.ensures.runs) (CallArgument purpose [] _ c.args.rest.now ∷ k)
-    ⨾ rw (← c.position.ensures) (taken_on rules purpose [] c.in-Ok.value c.position.result c.args.rest.now k _ true c.take_argument.new.made refl
-    (rw c.lend_list-made.ensures.list at c.in-Ok-take_argument.ensures.kept))
-    ⨾ (rw c.in-Ok-run_more_args.is at c.run_more_args.ensures.collects) purpose refl k
-    ⨾ c.call_with-called-in-Ok-run_more_args.ensures.runs on_scope k
-    ⨾ (rw c.is_on_scope-on_scope.ensures at c.run_out-in-Ok-run_more_args.ensures.runs) k)
+    (rw (c.lend_list-values.ensures.list, c.lend_list-values.ensures.run) at c.if-not-run_all_args.ensures.collects) purpose refl k
+    ⨾ c.call_with-called.ensures.runs on_scope k
+    ⨾ (rw c.is_on_scope-on_scope.ensures at c.run_out.ensures.runs) k
 
 -- arguments
 
@@ -508,34 +466,34 @@ unfolding Steps
 run_more_args-each_arg-preserved g t c =
     let rules = under g.H.Host.name_of c.args.self.now g.T.NativeTable.natives in
     record {
-      counts = omega (arith, c.each_arg.invariant.counts, c.in-Ok.ensures.charges);
-      names = c.in-Ok.ensures.names ∙ c.each_arg.invariant.names;
+      counts = omega (arith, c.each_arg.invariant.counts, c.if-not-run_arg.ensures.charges refl);
+      names = c.if-not-run_arg.ensures.names refl ∙ c.each_arg.invariant.names;
       more = omega (
         arith,
         c.each_arg.invariant.more,
-        rw c.in-Ok-take_argument.is at (kept_more c.take_argument.result _ c.each_arg.values c.take_argument.new.made c.take_argument.ensures.kept),
+        kept_longer _ c.each_arg.values c.push_argument.new.made (c.if-not-push_argument.ensures.kept refl),
         ap length (drop_item _ _ _ c.each_arg-test.true c.arg-item.is),
       );
       steps = λ purpose is k. c.each_arg.invariant.steps purpose is k ⨾ rw (drop_item _ _ _ c.each_arg-test.true c.arg-item.is)
-          (c.in-Ok.ensures.runs (CallArgument _ _ _ _ ∷ k)
-          ⨾ rw (← c.position.ensures) (taken_on rules purpose c.each_arg.values c.in-Ok.value c.position.result _ k _ c.args.flattened
-          c.take_argument.new.made is c.in-Ok-take_argument.ensures.kept));
+          (c.if-not-run_arg.ensures.runs (CallArgument _ _ _ _ ∷ k)
+          ⨾ rw (← c.position.ensures) (taken_on rules purpose c.each_arg.values c.run_arg.new.run.value c.position.result _ k _
+          c.args.flattened c.push_argument.new.made is (c.if-not-push_argument.ensures.kept refl)));
     }
 
-pub run_more_args-returns-in-Err-clause-collects : goal.run_more_args-returns-in-Err-clause-collects
+pub run_more_args-returns-then-not-run_arg-clause-collects : goal.run_more_args-returns-then-not-run_arg-clause-collects
 unfolding after Steps Collects
-run_more_args-returns-in-Err-clause-collects g t c purpose is k =
+run_more_args-returns-then-not-run_arg-clause-collects g t c purpose is k =
     c.each_arg.invariant.steps purpose is k ⨾ rw (drop_item _ _ _ c.each_arg-test.true c.arg-item.is)
-    (c.in-Err.ensures.runs (CallArgument _ _ _ _ ∷ k) ⨾ next here)
+    (c.if-not-run_arg.ensures.runs (CallArgument _ _ _ _ ∷ k) ⨾ next here)
 
-pub run_more_args-returns-in-Err-take_argument-clause-collects : goal.run_more_args-returns-in-Err-take_argument-clause-collects
+pub run_more_args-returns-then-not-push_argument-clause-collects : goal.run_more_args-returns-then-not-push_argument-clause-collects
 unfolding Steps Collects
-run_more_args-returns-in-Err-take_argument-clause-collects g t c purpose is k =
+run_more_args-returns-then-not-push_argument-clause-collects g t c purpose is k =
     let rules = under g.H.Host.name_of c.args.self.now g.T.NativeTable.natives in
     c.each_arg.invariant.steps purpose is k ⨾ rw (drop_item _ _ _ c.each_arg-test.true c.arg-item.is)
-    (c.in-Ok.ensures.runs (CallArgument _ _ _ _ ∷ k)
-    ⨾ rw (← c.position.ensures) (taken_fails rules purpose c.each_arg.values c.in-Ok.value c.position.result _ k _ c.args.flattened _ is
-    c.in-Err-take_argument.ensures.refused))
+    (c.if-not-run_arg.ensures.runs (CallArgument _ _ _ _ ∷ k)
+    ⨾ rw (← c.position.ensures) (taken_fails rules purpose c.each_arg.values c.run_arg.new.run.value c.position.result _ k _
+    c.args.flattened (error_in c.push_argument.new.place) is (c.if-not-push_argument.ensures.refused refl)))
 
 pub run_more_args-returns-clause-collects : goal.run_more_args-returns-clause-collects
 unfolding Collects
@@ -543,5 +501,55 @@ run_more_args-returns-clause-collects g t c purpose is k =
     c.each_arg.invariant.steps purpose is k ⨾ rw (drop_all _ _ c.each_arg-test.false) here
 
 pub run_more_args-returns-clause-more : goal.run_more_args-returns-clause-more
-run_more_args-returns-clause-more g t c =
+run_more_args-returns-clause-more g t c done =
     omega (arith, c.each_arg.invariant.more, ap length (drop_all c.args.args.now c.each_arg.arg-index c.each_arg-test.false))
+
+pub run_all_args-run_arg-requires : goal.run_all_args-run_arg-requires
+run_all_args-run_arg-requires g t c =
+    let resolved = first_resolves (all_args (option_copied c.args.first) c.args.rest.now) c.in-Some.arg.now c.args.rest.now
+    (names c.args.run.now) (ap (λ o. all_args (option_copied o) c.args.rest.now) c.in-Some.is) c.requires in
+    λ κs lives. (omega arith, (lives.0, (lives.1, resolved.0)))
+
+pub run_all_args-returns-then-not-run_arg-clause-collects : goal.run_all_args-returns-then-not-run_arg-clause-collects
+unfolding after Steps Collects
+run_all_args-returns-then-not-run_arg-clause-collects g t c purpose is k =
+    rw c.in-Some.is (c.if-not-run_arg.ensures.runs (CallArgument _ _ _ _ ∷ k) ⨾ next here)
+
+pub run_all_args-returns-then-not-push_argument-clause-collects : goal.run_all_args-returns-then-not-push_argument-clause-collects
+unfolding Steps Collects
+run_all_args-returns-then-not-push_argument-clause-collects g t c purpose is k =
+    let rules = under g.H.Host.name_of c.args.self.now g.T.NativeTable.natives in
+    rw c.in-Some.is
+    (c.if-not-run_arg.ensures.runs (CallArgument _ _ _ _ ∷ k)
+    ⨾ rw (← c.position.ensures) (taken_fails rules purpose c.args.values.now c.run_arg.new.run.value c.position.result c.args.rest.now k _
+    true (error_in c.push_argument.new.place) is (c.if-not-push_argument.ensures.refused refl)))
+
+pub run_all_args-run_more_args-requires : goal.run_all_args-run_more_args-requires
+run_all_args-run_more_args-requires g t c =
+    let resolved = first_resolves (all_args (option_copied c.args.first) c.args.rest.now) c.in-Some.arg.now c.args.rest.now
+    (names c.args.run.now) (ap (λ o. all_args (option_copied o) c.args.rest.now) c.in-Some.is) c.requires in
+    λ κs lives. (
+      omega (arith, c.if-not-run_arg.ensures.charges refl),
+      (lives.0, (lives.1, rw (c.if-not-run_arg.ensures.names refl) resolved.1)),
+    )
+
+pub run_all_args-returns-in_default-clause-collects : goal.run_all_args-returns-in_default-clause-collects
+unfolding Collects
+run_all_args-returns-in_default-clause-collects g t c purpose is k = rw c.in_default.is here
+
+pub run_all_args-returns-clause-counts : goal.run_all_args-returns-clause-counts
+run_all_args-returns-clause-counts g t c done =
+    omega (arith, c.if-not-run_arg.ensures.charges refl, c.run_more_args.ensures.counts done)
+
+pub run_all_args-returns-clause-names : goal.run_all_args-returns-clause-names
+run_all_args-returns-clause-names g t c done = c.run_more_args.ensures.names done ∙ c.if-not-run_arg.ensures.names refl
+
+pub run_all_args-returns-clause-collects : goal.run_all_args-returns-clause-collects
+unfolding Steps Collects
+run_all_args-returns-clause-collects g t c purpose is k =
+    let rules = under g.H.Host.name_of c.args.self.now g.T.NativeTable.natives in
+    rw c.in-Some.is
+    (c.if-not-run_arg.ensures.runs (CallArgument _ _ _ _ ∷ k)
+    ⨾ rw (← c.position.ensures) (taken_on rules purpose c.args.values.now c.run_arg.new.run.value c.position.result c.args.rest.now k _ true
+    c.push_argument.new.made is (c.if-not-push_argument.ensures.kept refl))
+    ⨾ c.run_more_args.ensures.collects purpose is k)

@@ -12,8 +12,8 @@ use Rattle.rhai_cycle.specs.States.{names, under}
 use Rattle.rhai_steps.specs.declared.loops.BodyEnd.TheVariants.{Continue, Break}
 use Rattle.rhai_operands.specs.Tests.{Tests}
 use Rattle.rhai_cycle.proofs.Conditions.{do_tested}
-use Rattle.rhai_cycle.proofs.LoopSteps.{while_ends, do_leads, while_asks, endless_enters, endless_charged}
-use Rattle.rhai_cycle.proofs.LoopSteps.{endless_refused, on_end, stays_full, turn_ended}
+use Rattle.rhai_cycle.proofs.LoopSteps.{while_ends, do_leads, while_asks, endless_enters, endless_charged, endless_refused, on_end}
+use Rattle.rhai_cycle.proofs.LoopSteps.{stays_full, turn_ended}
 use Rattle.rhai_cycle.proofs.Turns.{body_charges, left_charges}
 use Rattle.rhai_cycle.proofs.Chain.{on_ok}
 use Rattle.rhai_cycle.proofs.evaluator.Evaluator.+eval.Goals as goal
@@ -27,7 +27,8 @@ pub run_while-turns-smaller : goal.run_while-turns-smaller
 unfolding after Steps
 run_while-turns-smaller g t c =
     let full : limit_of c.args.self.now.limits.now.max_operations ≤ c.turns.run.global.num_operations →
-    c.while_turn.new.run.global.num_operations ≡ c.turns.run.global.num_operations = λ le. stays_full _ _ (c.while_turn.ensures.runs []) le in
+    c.while_turn.new.run.global.num_operations ≡ c.turns.run.global.num_operations = λ le. stays_full _ _ (c.while_turn.ensures.runs [])
+    le in
     grind (arith, full, rw c.in_default.is at c.while_turn.ensures.charges)
 
 pub run_while-turns-preserved : goal.run_while-turns-preserved
@@ -89,7 +90,8 @@ unfolding after Steps
 do_turn-returns-in-Stopped-clause-runs g t c k =
     let rules = under g.H.Host.name_of c.args.self.now g.T.NativeTable.natives in
     next ((rw c.as_slice-statements.ensures at c.run_stmt_block-done.ensures.runs) (DoBody _ _ _ ∷ k) ⨾ do_leads rules
-    (came c.run_stmt_block-done.result c.run_stmt_block-done.new.run.value c.run_stmt_block-done.new.run.error) c.args.test.now c.args.body.now c.args.options k _ _
+    (came c.run_stmt_block-done.result c.run_stmt_block-done.new.run.value c.run_stmt_block-done.new.run.error) c.args.test.now
+    c.args.body.now c.args.options k _ _
     (sym (rw c.in-Stopped.is at c.body_way.ensures)))
 
 pub do_turn-returns-in-Break-clause-runs : goal.do_turn-returns-in-Break-clause-runs
@@ -97,19 +99,22 @@ unfolding after Steps
 do_turn-returns-in-Break-clause-runs g t c k =
     let rules = under g.H.Host.name_of c.args.self.now g.T.NativeTable.natives in
     next ((rw c.as_slice-statements.ensures at c.run_stmt_block-done.ensures.runs) (DoBody _ _ _ ∷ k) ⨾ do_leads rules
-    (came c.run_stmt_block-done.result c.run_stmt_block-done.new.run.value c.run_stmt_block-done.new.run.error) c.args.test.now c.args.body.now c.args.options k _ _
+    (came c.run_stmt_block-done.result c.run_stmt_block-done.new.run.value c.run_stmt_block-done.new.run.error) c.args.test.now
+    c.args.body.now c.args.options k _ _
     (sym (rw c.in-Break.is at c.body_way.ensures)))
 
 pub do_turn-returns-in-Break-clause-charges : goal.do_turn-returns-in-Break-clause-charges
 do_turn-returns-in-Break-clause-charges g t c =
     let rules = under g.H.Host.name_of c.args.self.now g.T.NativeTable.natives in
-    left_charges rules c.args.body.now.statements _ _ (came c.run_stmt_block-done.result c.run_stmt_block-done.new.run.value c.run_stmt_block-done.new.run.error) (Break c.body_way.new.out)
+    left_charges rules c.args.body.now.statements _ _ (came c.run_stmt_block-done.result c.run_stmt_block-done.new.run.value
+    c.run_stmt_block-done.new.run.error) (Break c.body_way.new.out)
     (rw c.in-Break.is at c.body_way.ensures) refl (rw c.as_slice-statements.ensures at c.run_stmt_block-done.ensures.runs)
 
 pub do_turn-returns-in-Break-clause-names : goal.do_turn-returns-in-Break-clause-names
 do_turn-returns-in-Break-clause-names g t c =
     let rules = under g.H.Host.name_of c.args.self.now g.T.NativeTable.natives in
-    names_stay rules (Enter c.args.body.now.statements true) (ended (came c.run_stmt_block-done.result c.run_stmt_block-done.new.run.value c.run_stmt_block-done.new.run.error)) _ _ tt tt (rw
+    names_stay rules (Enter c.args.body.now.statements true) (ended (came c.run_stmt_block-done.result c.run_stmt_block-done.new.run.value
+    c.run_stmt_block-done.new.run.error)) _ _ tt tt (rw
     c.as_slice-statements.ensures at c.run_stmt_block-done.ensures.runs)
 
 pub do_turn-returns-in-Continue-clause-runs : goal.do_turn-returns-in-Continue-clause-runs
@@ -117,67 +122,72 @@ unfolding after Steps
 do_turn-returns-in-Continue-clause-runs g t c k =
     let rules = under g.H.Host.name_of c.args.self.now g.T.NativeTable.natives in
     next ((rw c.as_slice-statements.ensures at c.run_stmt_block-done.ensures.runs) (DoBody _ _ _ ∷ k) ⨾ do_leads rules
-    (came c.run_stmt_block-done.result c.run_stmt_block-done.new.run.value c.run_stmt_block-done.new.run.error) c.args.test.now c.args.body.now c.args.options k _ _
+    (came c.run_stmt_block-done.result c.run_stmt_block-done.new.run.value c.run_stmt_block-done.new.run.error) c.args.test.now
+    c.args.body.now c.args.options k _ _
     (sym (rw c.in-Continue.is at c.body_way.ensures)))
 
 pub do_turn-returns-in-Continue-clause-charges : goal.do_turn-returns-in-Continue-clause-charges
 do_turn-returns-in-Continue-clause-charges g t c =
     let rules = under g.H.Host.name_of c.args.self.now g.T.NativeTable.natives in
-    left_charges rules c.args.body.now.statements _ _ (came c.run_stmt_block-done.result c.run_stmt_block-done.new.run.value c.run_stmt_block-done.new.run.error) Continue
+    left_charges rules c.args.body.now.statements _ _ (came c.run_stmt_block-done.result c.run_stmt_block-done.new.run.value
+    c.run_stmt_block-done.new.run.error) Continue
     (rw c.in-Continue.is at c.body_way.ensures) refl (rw c.as_slice-statements.ensures at c.run_stmt_block-done.ensures.runs)
 
 pub do_turn-returns-in-Continue-clause-names : goal.do_turn-returns-in-Continue-clause-names
 do_turn-returns-in-Continue-clause-names g t c =
     let rules = under g.H.Host.name_of c.args.self.now g.T.NativeTable.natives in
-    names_stay rules (Enter c.args.body.now.statements true) (ended (came c.run_stmt_block-done.result c.run_stmt_block-done.new.run.value c.run_stmt_block-done.new.run.error)) _ _ tt tt (rw
+    names_stay rules (Enter c.args.body.now.statements true) (ended (came c.run_stmt_block-done.result c.run_stmt_block-done.new.run.value
+    c.run_stmt_block-done.new.run.error)) _ _ tt tt (rw
     c.as_slice-statements.ensures at c.run_stmt_block-done.ensures.runs)
 
 pub do_turn-run_condition-requires : goal.do_turn-run_condition-requires
 do_turn-run_condition-requires g t c =
     let rules = under g.H.Host.name_of c.args.self.now g.T.NativeTable.natives in
     let counts = counted rules _ _ _ _ c.run_stmt_block-done.ensures.runs in
-    let stays = names_stay rules (Enter c.args.body.now.statements true) (ended (came c.run_stmt_block-done.result c.run_stmt_block-done.new.run.value c.run_stmt_block-done.new.run.error)) _ _ tt tt
+    let stays = names_stay rules (Enter c.args.body.now.statements true) (ended (came c.run_stmt_block-done.result
+    c.run_stmt_block-done.new.run.value c.run_stmt_block-done.new.run.error)) _ _ tt tt
     (rw c.as_slice-statements.ensures at c.run_stmt_block-done.ensures.runs) in
     λ κs lives. (omega (arith, counts), (lives.0, (lives.1, rw stays c.requires.resolves_test)))
 
-pub do_turn-returns-in-Err-clause-runs : goal.do_turn-returns-in-Err-clause-runs
+pub do_turn-returns-in-None-clause-runs : goal.do_turn-returns-in-None-clause-runs
 unfolding after Steps Tests
-do_turn-returns-in-Err-clause-runs g t c k =
-    let rules = under g.H.Host.name_of c.args.self.now g.T.NativeTable.natives in
-    rw (c.stop.ensures.stopped, c.stop.ensures.told)
-    (next ((rw c.as_slice-statements.ensures at c.run_stmt_block-done.ensures.runs) (DoBody _ _ _ ∷ k) ⨾ do_leads rules
-    (came c.run_stmt_block-done.result c.run_stmt_block-done.new.run.value c.run_stmt_block-done.new.run.error) c.args.test.now c.args.body.now c.args.options k _ _
-    (sym (rw c.in-Done.is at c.body_way.ensures)) ⨾ c.in-Err.ensures.runs (DoCondition _ _ _) k refl))
-
-pub do_turn-returns-in-Ok-clause-runs : goal.do_turn-returns-in-Ok-clause-runs
-unfolding after Steps Tests
-do_turn-returns-in-Ok-clause-runs g t c k =
+do_turn-returns-in-None-clause-runs g t c k =
     let rules = under g.H.Host.name_of c.args.self.now g.T.NativeTable.natives in
     next ((rw c.as_slice-statements.ensures at c.run_stmt_block-done.ensures.runs) (DoBody _ _ _ ∷ k) ⨾ do_leads rules
-    (came c.run_stmt_block-done.result c.run_stmt_block-done.new.run.value c.run_stmt_block-done.new.run.error) c.args.test.now c.args.body.now c.args.options k _ _
-    (sym (rw c.in-Done.is at c.body_way.ensures)) ⨾ c.in-Ok.ensures.runs (DoCondition _ _ _) k refl
-    ⨾ rw c.settle_turn.ensures (do_tested rules _ (has_option 1 c.args.options) c.in-Ok.holds _ k _ c.do_next-turn.ensures))
+    (came c.run_stmt_block-done.result c.run_stmt_block-done.new.run.value c.run_stmt_block-done.new.run.error) c.args.test.now
+    c.args.body.now c.args.options k _ _
+    (sym (rw c.in-Done.is at c.body_way.ensures)) ⨾ c.in-None.ensures.runs (DoCondition _ _ _) k refl)
 
-pub do_turn-returns-in-Ok-clause-charges : goal.do_turn-returns-in-Ok-clause-charges
-do_turn-returns-in-Ok-clause-charges g t c =
+pub do_turn-returns-in-Some-clause-runs : goal.do_turn-returns-in-Some-clause-runs
+unfolding after Steps Tests
+do_turn-returns-in-Some-clause-runs g t c k =
+    let rules = under g.H.Host.name_of c.args.self.now g.T.NativeTable.natives in
+    next ((rw c.as_slice-statements.ensures at c.run_stmt_block-done.ensures.runs) (DoBody _ _ _ ∷ k) ⨾ do_leads rules
+    (came c.run_stmt_block-done.result c.run_stmt_block-done.new.run.value c.run_stmt_block-done.new.run.error) c.args.test.now
+    c.args.body.now c.args.options k _ _
+    (sym (rw c.in-Done.is at c.body_way.ensures)) ⨾ c.in-Some.ensures.runs (DoCondition _ _ _) k refl
+    ⨾ rw c.settle_turn.ensures (do_tested rules _ (has_option 1 c.args.options) c.in-Some.holds _ k _ c.do_next-turn.ensures))
+
+pub do_turn-returns-in-Some-clause-charges : goal.do_turn-returns-in-Some-clause-charges
+do_turn-returns-in-Some-clause-charges g t c =
     let rules = under g.H.Host.name_of c.args.self.now g.T.NativeTable.natives in
     let counts = counted rules _ _ _ _ c.run_stmt_block-done.ensures.runs in
     let charged : c.args.run.now.global.num_operations < c.run_condition.new.run.global.num_operations =
-    omega (arith, c.in-Ok.ensures.charges, counts) in
+    omega (arith, c.in-Some.ensures.charges, counts) in
     on_ok _ charged
 
-pub do_turn-returns-in-Ok-clause-names : goal.do_turn-returns-in-Ok-clause-names
-do_turn-returns-in-Ok-clause-names g t c =
+pub do_turn-returns-in-Some-clause-names : goal.do_turn-returns-in-Some-clause-names
+do_turn-returns-in-Some-clause-names g t c =
     let rules = under g.H.Host.name_of c.args.self.now g.T.NativeTable.natives in
-    on_ok _ (c.in-Ok.ensures.names ∙ names_stay rules (Enter c.args.body.now.statements true) (ended (came c.run_stmt_block-done.result c.run_stmt_block-done.new.run.value c.run_stmt_block-done.new.run.error)) _ _ tt tt
+    on_ok _ (c.in-Some.ensures.names ∙ names_stay rules (Enter c.args.body.now.statements true)
+    (ended (came c.run_stmt_block-done.result c.run_stmt_block-done.new.run.value c.run_stmt_block-done.new.run.error)) _ _ tt tt
     (rw c.as_slice-statements.ensures at c.run_stmt_block-done.ensures.runs))
 
-pub while_turn-returns-in-Err-clause-runs : goal.while_turn-returns-in-Err-clause-runs
+pub while_turn-returns-in-None-clause-runs : goal.while_turn-returns-in-None-clause-runs
 unfolding after Steps Tests
-while_turn-returns-in-Err-clause-runs g t c k =
+while_turn-returns-in-None-clause-runs g t c k =
     let rules = under g.H.Host.name_of c.args.self.now g.T.NativeTable.natives in
-    rw (c.stop.ensures.stopped, c.stop.ensures.told)
-    (while_asks rules _ _ k _ (sym c.is_endless.ensures ∙ c.if-is_endless.false) ⨾ c.in-Err.ensures.runs (WhileCondition _ _) k refl)
+    while_asks rules _ _ k _ (sym c.is_endless.ensures ∙ c.if-is_endless.false) ⨾ c.in-None.ensures.runs (WhileCondition _ _) k refl
 
 pub while_turn-returns-then-is_empty-clause-runs : goal.while_turn-returns-then-is_empty-clause-runs
 unfolding after Steps
@@ -206,14 +216,16 @@ while_turn-returns-then-is_endless-clause-runs g t c k =
 pub while_turn-returns-then-is_endless-clause-charges : goal.while_turn-returns-then-is_endless-clause-charges
 while_turn-returns-then-is_endless-clause-charges g t c =
     let rules = under g.H.Host.name_of c.args.self.now g.T.NativeTable.natives in
-    rw c.turn_end.ensures (body_charges rules c.args.body.now.statements _ _ (came c.run_stmt_block-done.result c.run_stmt_block-done.new.run.value c.run_stmt_block-done.new.run.error) (λ empty. absurd
+    rw c.turn_end.ensures (body_charges rules c.args.body.now.statements _ _ (came c.run_stmt_block-done.result
+    c.run_stmt_block-done.new.run.value c.run_stmt_block-done.new.run.error) (λ empty. absurd
     (true≢false (sym (c.is_empty.ensures.1 empty) ∙ c.if-is_empty.false)))
     (rw c.as_slice.ensures at c.run_stmt_block-done.ensures.runs))
 
 pub while_turn-returns-then-is_endless-clause-names : goal.while_turn-returns-then-is_endless-clause-names
 while_turn-returns-then-is_endless-clause-names g t c =
     let rules = under g.H.Host.name_of c.args.self.now g.T.NativeTable.natives in
-    on_ok _ (names_stay rules (Enter c.args.body.now.statements true) (ended (came c.run_stmt_block-done.result c.run_stmt_block-done.new.run.value c.run_stmt_block-done.new.run.error)) _ _ tt tt
+    on_ok _ (names_stay rules (Enter c.args.body.now.statements true) (ended (came c.run_stmt_block-done.result
+    c.run_stmt_block-done.new.run.value c.run_stmt_block-done.new.run.error)) _ _ tt tt
     (rw c.as_slice.ensures at c.run_stmt_block-done.ensures.runs))
 
 pub while_turn-returns-then-holds-clause-runs : goal.while_turn-returns-then-holds-clause-runs
@@ -221,27 +233,30 @@ unfolding after Steps Tests
 while_turn-returns-then-holds-clause-runs g t c k =
     let rules = under g.H.Host.name_of c.args.self.now g.T.NativeTable.natives in
     while_asks rules _ _ k _ (sym c.is_endless.ensures ∙ c.if-is_endless.false)
-    ⨾ (rw c.if-holds.true at c.in-Ok.ensures.runs) (WhileCondition _ _) k refl
-    ⨾ rw c.turn_end-then-holds.ensures ((rw c.as_slice-statements.ensures at c.run_stmt_block-done-then-holds.ensures.runs) (WhileBody _ _ ∷ k)
-    ⨾ while_ends rules (came c.run_stmt_block-done-then-holds.result c.run_stmt_block-done-then-holds.new.run.value c.run_stmt_block-done-then-holds.new.run.error) _ _ k _)
+    ⨾ (rw c.if-holds.true at c.in-Some.ensures.runs) (WhileCondition _ _) k refl
+    ⨾ rw c.turn_end-then-holds.ensures ((rw c.as_slice-statements.ensures at c.run_stmt_block-done-then-holds.ensures.runs)
+    (WhileBody _ _ ∷ k)
+    ⨾ while_ends rules (came c.run_stmt_block-done-then-holds.result c.run_stmt_block-done-then-holds.new.run.value
+    c.run_stmt_block-done-then-holds.new.run.error) _ _ k _)
 
 pub while_turn-returns-then-holds-clause-charges : goal.while_turn-returns-then-holds-clause-charges
 while_turn-returns-then-holds-clause-charges g t c =
     let rules = under g.H.Host.name_of c.args.self.now g.T.NativeTable.natives in
     let counts = counted rules _ _ _ _ c.run_stmt_block-done-then-holds.ensures.runs in
     let charged : c.args.run.now.global.num_operations < c.run_stmt_block-done-then-holds.new.run.global.num_operations =
-    omega (arith, c.in-Ok.ensures.charges, counts) in
+    omega (arith, c.in-Some.ensures.charges, counts) in
     on_ok _ charged
 
 pub while_turn-returns-then-holds-clause-names : goal.while_turn-returns-then-holds-clause-names
 while_turn-returns-then-holds-clause-names g t c =
     let rules = under g.H.Host.name_of c.args.self.now g.T.NativeTable.natives in
-    on_ok _ (names_stay rules (Enter c.args.body.now.statements true) (ended (came c.run_stmt_block-done-then-holds.result c.run_stmt_block-done-then-holds.new.run.value c.run_stmt_block-done-then-holds.new.run.error)) _ _ tt tt
-    (rw c.as_slice-statements.ensures at c.run_stmt_block-done-then-holds.ensures.runs) ∙ c.in-Ok.ensures.names)
+    on_ok _ (names_stay rules (Enter c.args.body.now.statements true) (ended (came c.run_stmt_block-done-then-holds.result
+    c.run_stmt_block-done-then-holds.new.run.value c.run_stmt_block-done-then-holds.new.run.error)) _ _ tt tt
+    (rw c.as_slice-statements.ensures at c.run_stmt_block-done-then-holds.ensures.runs) ∙ c.in-Some.ensures.names)
 
 pub while_turn-returns-else-holds-clause-runs : goal.while_turn-returns-else-holds-clause-runs
 unfolding after Steps Tests
 while_turn-returns-else-holds-clause-runs g t c k =
     let rules = under g.H.Host.name_of c.args.self.now g.T.NativeTable.natives in
     while_asks rules _ _ k _ (sym c.is_endless.ensures ∙ c.if-is_endless.false)
-    ⨾ (rw c.if-holds.false at c.in-Ok.ensures.runs) (WhileCondition _ _) k refl ⨾ rw c.put_unit.ensures here
+    ⨾ (rw c.if-holds.false at c.in-Some.ensures.runs) (WhileCondition _ _) k refl ⨾ rw c.put_unit.ensures here

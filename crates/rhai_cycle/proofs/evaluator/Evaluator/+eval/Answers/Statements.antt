@@ -1,6 +1,5 @@
-use Rattle.std.proofs.Common.{◌≡◌, ◌+◌, ◌∷◌, [], drop, map, not, None, Err, refl, sym, ap, ◌∙◌, arith, rules as common_rules}
+use Rattle.std.proofs.Common.{◌≡◌, ◌+◌, ◌∷◌, [], drop, map, not, None, Err, refl, sym, ap, ◌∙◌, arith, rules as common_rules, ◌++◌, take}
 use Rattle.rhai_steps.specs.States.{holding, local_of}
-use Rattle.std.proofs.Common.{◌++◌, take}
 use Rattle.std.proofs.Math.Seq.{take-append_seam}
 use Rattle.rhai_state.specs.Scope.{entries_of, new_entry}
 use Rattle.rhai_machine.specs.language.Statements.{enters}
@@ -14,10 +13,10 @@ use Rattle.rhai_tree.proofs.Statements.{for_resolves, share_resolves, switch_res
 use Rattle.rhai_state.specs.declared.state.GlobalRuntimeState.{GlobalRuntimeState}
 use Rattle.rhai_machine.specs.machine.Point.{after}
 use Rattle.rhai_machine.specs.machine.Memory.{here, next, ◌⨾◌}
-use Rattle.rhai_machine.specs.language.Frames.{StatementValue, DefineValue, IfCondition, RestOfList, RestoreList, AssignValue}
-use Rattle.rhai_machine.specs.language.Frames.{AssignThis, AssignThisValue, StoreThis, Eval, ended}
+use Rattle.rhai_machine.specs.language.Frames.{StatementValue, DefineValue, IfCondition, RestOfList, RestoreList, AssignValue, AssignThis}
+use Rattle.rhai_machine.specs.language.Frames.{AssignThisValue, StoreThis}
 use Rattle.rhai_machine.specs.language.Runs.{Steps}
-use Rattle.rhai_laws.proofs.KeptLaws.{names_begin, names_stay}
+use Rattle.rhai_laws.proofs.KeptLaws.{names_begin}
 use Rattle.rhai_steps.proofs.Pieces.{charged, refused, told}
 use Rattle.rhai_context.specs.Ends.{came, error_in}
 use Rattle.rhai_cycle.specs.Memory.{asks_stmt}
@@ -28,9 +27,8 @@ use Rattle.rhai_assign.proofs.Prepared.{begins_assignment}
 use Rattle.rhai_tree.proofs.Links.{few_in_target}
 use Rattle.rhai_cycle.proofs.Conditions.{chooses}
 use Rattle.rhai_cycle.proofs.NameLemmas.{plain_var, names_restored, rest_resolves, sides_resolve, any_item}
-use Rattle.rhai_cycle.proofs.Chain.{flat_fails, drop_item, drop_all, begins_stmt, opens_stmt}
-use Rattle.rhai_cycle.proofs.Chain.{refuses_stmt, restores, enters_empty, enters_plain, enters_restoring, is_empty_list, is_not_empty}
-use Rattle.rhai_cycle.proofs.Chain.{left_state, not_declared, begins_value}
+use Rattle.rhai_cycle.proofs.Chain.{flat_fails, drop_item, drop_all, begins_stmt, opens_stmt, refuses_stmt, restores, enters_empty}
+use Rattle.rhai_cycle.proofs.Chain.{enters_plain, enters_restoring, is_empty_list, is_not_empty, left_state, not_declared, begins_value}
 use Rattle.rhai_cycle.proofs.ThisSteps.{this_begins, this_gone, this_stored, this_unbound}
 use Rattle.rhai_cycle.proofs.VariableSteps.{defines, defines_not, entered_as_given, stands_there, value_there}
 use Rattle.rhai_cycle.proofs.evaluator.Evaluator.+eval.Goals as goal
@@ -52,22 +50,22 @@ run_stmt-returns-in-Noop-clause-runs g t c k =
     (c.if-not-charge_stmt.ensures.charged refl) _ _ (layer.Noop c.in-Noop.field-0) (rw (c.in-Noop.is, stmts.outs-Noop) refl) k
     ⨾ next (rw c.put_unit.ensures here)
 
-pub run_stmt-returns-then-not-settle-clause-runs : goal.run_stmt-returns-then-not-settle-clause-runs
+pub run_stmt-returns-then-not-run_expr-clause-runs : goal.run_stmt-returns-then-not-run_expr-clause-runs
 unfolding after Steps
-run_stmt-returns-then-not-settle-clause-runs g t c =
+run_stmt-returns-then-not-run_expr-clause-runs g t c =
     let rules = under g.H.Host.name_of c.args.self.now g.T.NativeTable.natives in
     opens_stmt rules _ c.args.run.now.global c.charge_stmt.new.global _ _ (c.if-not-charge_stmt.ensures.room refl)
-    (c.if-not-charge_stmt.ensures.charged refl) _ (Err (error_in c.settle.new.place)) _ _ (layer.Expr c.in-Expr.expr)
-    (λ k. next ((rw (← c.if-not-settle.ensures) at c.run_expr-answer.ensures.runs) (StatementValue _ ∷ k) ⨾ next here))
+    (c.if-not-charge_stmt.ensures.charged refl) _ (Err (error_in c.run_expr.new.run.error)) _ _ (layer.Expr c.in-Expr.expr)
+    (λ k. next (c.if-not-run_expr.ensures.runs (StatementValue _ ∷ k) ⨾ next here))
     (rw (c.in-Expr.is, stmts.outs-Expr) refl)
 
-pub run_stmt-returns-else-not-settle-clause-runs : goal.run_stmt-returns-else-not-settle-clause-runs
+pub run_stmt-returns-else-not-run_expr-clause-runs : goal.run_stmt-returns-else-not-run_expr-clause-runs
 unfolding after Steps
-run_stmt-returns-else-not-settle-clause-runs g t c =
+run_stmt-returns-else-not-run_expr-clause-runs g t c =
     let rules = under g.H.Host.name_of c.args.self.now g.T.NativeTable.natives in
     opens_stmt rules _ c.args.run.now.global c.charge_stmt.new.global _ _ (c.if-not-charge_stmt.ensures.room refl)
     (c.if-not-charge_stmt.ensures.charged refl) _ _ _ _ (layer.Expr c.in-Expr.expr)
-    (λ k. next ((rw (← c.if-not-settle.ensures) at c.run_expr-answer.ensures.runs) (StatementValue _ ∷ k)
+    (λ k. next (c.if-not-run_expr.ensures.runs (StatementValue _ ∷ k)
     ⨾ next (rw (← c.position-pos.ensures) (told rules _ _ c.flatten_value.ensures.exact k _)))) (rw (c.in-Expr.is, stmts.outs-Expr) refl)
 
 pub run_stmt-returns-in-FnCall-clause-runs : goal.run_stmt-returns-in-FnCall-clause-runs
@@ -77,7 +75,7 @@ run_stmt-returns-in-FnCall-clause-runs g t c k =
     begins_stmt rules _ c.args.run.now.global c.charge_stmt.new.global _ _ (c.if-not-charge_stmt.ensures.room refl)
     (c.if-not-charge_stmt.ensures.charged refl) _ _ (layer.Stmt::FnCall c.in-FnCall.call c.in-FnCall.pos)
     (rw (c.in-FnCall.is, stmts.outs-FnCall) refl) k
-    ⨾ next (rw c.settle-in-FnCall.ensures (c.run_fn_call_expr-answer.ensures.runs k))
+    ⨾ next (c.run_fn_call_expr.ensures.runs k)
 
 pub run_stmt-returns-in-Block-clause-runs : goal.run_stmt-returns-in-Block-clause-runs
 unfolding after Steps
@@ -87,24 +85,25 @@ run_stmt-returns-in-Block-clause-runs g t c k =
     (c.if-not-charge_stmt.ensures.charged refl) _ _ (layer.Block c.in-Block.block) (rw (c.in-Block.is, stmts.outs-Block) refl) k
     ⨾ next ((rw c.as_slice.ensures at c.run_stmt_block.ensures.runs) k)
 
-pub run_stmt-returns-in-Err-clause-runs : goal.run_stmt-returns-in-Err-clause-runs
+pub run_stmt-returns-in-None-clause-runs : goal.run_stmt-returns-in-None-clause-runs
 unfolding after Steps Tests
-run_stmt-returns-in-Err-clause-runs g t c =
+run_stmt-returns-in-None-clause-runs g t c =
     let rules = under g.H.Host.name_of c.args.self.now g.T.NativeTable.natives in
     opens_stmt rules _ c.args.run.now.global c.charge_stmt.new.global _ _ (c.if-not-charge_stmt.ensures.room refl)
-    (c.if-not-charge_stmt.ensures.charged refl) _ _ _ _ (layer.If c.in-If.test c.in-If.body c.in-If.branch c.in-If.field-3)
-    (λ k. rw (c.stop.ensures.stopped, c.stop.ensures.told) (next (c.in-Err.ensures.runs (IfCondition _ _ _) k refl)))
+    (c.if-not-charge_stmt.ensures.charged refl) _ (Err (error_in c.run_condition.new.run.error)) _ _
+    (layer.If c.in-If.test c.in-If.body c.in-If.branch c.in-If.field-3)
+    (λ k. next (c.in-None.ensures.runs (IfCondition _ _ _) k refl))
     (rw (c.in-If.is, stmts.outs-If) refl)
 
-pub run_stmt-returns-in-Ok-clause-runs : goal.run_stmt-returns-in-Ok-clause-runs
+pub run_stmt-returns-in-Some-clause-runs : goal.run_stmt-returns-in-Some-clause-runs
 unfolding after Steps Tests
-run_stmt-returns-in-Ok-clause-runs g t c =
+run_stmt-returns-in-Some-clause-runs g t c =
     let rules = under g.H.Host.name_of c.args.self.now g.T.NativeTable.natives in
     opens_stmt rules _ c.args.run.now.global c.charge_stmt.new.global _ _ (c.if-not-charge_stmt.ensures.room refl)
     (c.if-not-charge_stmt.ensures.charged refl) _ _ _ _ (layer.If c.in-If.test c.in-If.body c.in-If.branch c.in-If.field-3)
-    (λ k. next (c.in-Ok.ensures.runs (IfCondition _ _ _) k refl
-    ⨾ chooses rules c.in-Ok.holds c.in-If.body c.in-If.branch k _
-    ((rw c.chosen-statements.ensures at c.run_stmt_block-in-Ok.ensures.runs) k))) (rw (c.in-If.is, stmts.outs-If) refl)
+    (λ k. next (c.in-Some.ensures.runs (IfCondition _ _ _) k refl
+    ⨾ chooses rules c.in-Some.holds c.in-If.body c.in-If.branch k _
+    ((rw c.chosen-statements.ensures at c.run_stmt_block-in-Some.ensures.runs) k))) (rw (c.in-If.is, stmts.outs-If) refl)
 
 pub run_stmt-run_assignment-requires : goal.run_stmt-run_assignment-requires
 run_stmt-run_assignment-requires g t c =
@@ -153,22 +152,18 @@ run_stmt-returns-in-Do-clause-runs g t c k =
 pub run_stmt-returns-in-BreakLoop-clause-runs : goal.run_stmt-returns-in-BreakLoop-clause-runs
 run_stmt-returns-in-BreakLoop-clause-runs g t c =
     let rules = under g.H.Host.name_of c.args.self.now g.T.NativeTable.natives in
-    rw c.run_break.ensures.stops (opens_stmt rules _ c.args.run.now.global c.charge_stmt.new.global _ _ (c.if-not-charge_stmt.ensures.room refl)
-    (c.if-not-charge_stmt.ensures.charged refl)
-    (state_in (g.T.NativeTable.state c.run_break.new.table) c.run_break.new.run) (Err (error_in c.run_break.new.run.error)) _ _ _ (c.run_break.ensures.runs c.args.restoring) (rw (
-      c.in-BreakLoop.is,
-      stmts.outs-BreakLoop,
-    ) refl))
+    rw c.run_break.ensures.stops (opens_stmt rules _ c.args.run.now.global c.charge_stmt.new.global _ _
+    (c.if-not-charge_stmt.ensures.room refl) (c.if-not-charge_stmt.ensures.charged refl)
+    (state_in (g.T.NativeTable.state c.run_break.new.table) c.run_break.new.run) (Err (error_in c.run_break.new.run.error)) _ _ _
+    (c.run_break.ensures.runs c.args.restoring) (rw (c.in-BreakLoop.is, stmts.outs-BreakLoop) refl))
 
 pub run_stmt-returns-in-Return-clause-runs : goal.run_stmt-returns-in-Return-clause-runs
 run_stmt-returns-in-Return-clause-runs g t c =
     let rules = under g.H.Host.name_of c.args.self.now g.T.NativeTable.natives in
-    rw c.run_return.ensures.stops (opens_stmt rules _ c.args.run.now.global c.charge_stmt.new.global _ _ (c.if-not-charge_stmt.ensures.room refl)
-    (c.if-not-charge_stmt.ensures.charged refl)
-    (state_in (g.T.NativeTable.state c.run_return.new.table) c.run_return.new.run) (Err (error_in c.run_return.new.run.error)) _ _ _ (c.run_return.ensures.runs c.args.restoring) (rw (
-      c.in-Return.is,
-      stmts.outs-Return,
-    ) refl))
+    rw c.run_return.ensures.stops (opens_stmt rules _ c.args.run.now.global c.charge_stmt.new.global _ _
+    (c.if-not-charge_stmt.ensures.room refl) (c.if-not-charge_stmt.ensures.charged refl)
+    (state_in (g.T.NativeTable.state c.run_return.new.table) c.run_return.new.run) (Err (error_in c.run_return.new.run.error)) _ _ _
+    (c.run_return.ensures.runs c.args.restoring) (rw (c.in-Return.is, stmts.outs-Return) refl))
 
 pub run_stmt-run_switch-requires : goal.run_stmt-run_switch-requires
 run_stmt-run_switch-requires g t c =
@@ -188,7 +183,8 @@ pub run_stmt-returns-in-Switch-clause-runs : goal.run_stmt-returns-in-Switch-cla
 run_stmt-returns-in-Switch-clause-runs g t c =
     let rules = under g.H.Host.name_of c.args.self.now g.T.NativeTable.natives in
     opens_stmt rules _ c.args.run.now.global c.charge_stmt.new.global _ _ (c.if-not-charge_stmt.ensures.room refl)
-    (c.if-not-charge_stmt.ensures.charged refl) _ _ _ _ (layer.Switch c.in-Switch.expr c.in-Switch.expressions c.in-Switch.cases c.in-Switch.ranges c.in-Switch.def_case c.in-Switch.pos)
+    (c.if-not-charge_stmt.ensures.charged refl) _ _ _ _ (layer.Switch c.in-Switch.expr c.in-Switch.expressions
+    c.in-Switch.cases c.in-Switch.ranges c.in-Switch.def_case c.in-Switch.pos)
     (rw (c.as_slice-in-Switch.ensures, c.as_slice-in-Switch-2.ensures, c.as_slice-in-Switch-3.ensures)
     at c.run_switch.ensures.runs c.in-Switch.pos c.args.restoring)
     (rw (c.in-Switch.is, stmts.outs-Switch) refl)
@@ -233,7 +229,8 @@ pub run_stmt-returns-in-TryCatch-clause-runs : goal.run_stmt-returns-in-TryCatch
 run_stmt-returns-in-TryCatch-clause-runs g t c =
     let rules = under g.H.Host.name_of c.args.self.now g.T.NativeTable.natives in
     opens_stmt rules _ c.args.run.now.global c.charge_stmt.new.global _ _ (c.if-not-charge_stmt.ensures.room refl)
-    (c.if-not-charge_stmt.ensures.charged refl) _ _ _ _ (layer.TryCatch c.in-TryCatch.body c.in-TryCatch.variable c.in-TryCatch.branch c.in-TryCatch.field-3)
+    (c.if-not-charge_stmt.ensures.charged refl) _ _ _ _ (layer.TryCatch c.in-TryCatch.body c.in-TryCatch.variable
+    c.in-TryCatch.branch c.in-TryCatch.field-3)
     (c.run_try.ensures.runs c.in-TryCatch.field-3 c.args.restoring)
     (rw (c.in-TryCatch.is, stmts.outs-TryCatch) refl)
 
@@ -249,10 +246,11 @@ run_stmt-returns-in-Share-clause-runs g t c k =
     let rules = under g.H.Host.name_of c.args.self.now g.T.NativeTable.natives in
     begins_stmt rules _ c.args.run.now.global c.charge_stmt.new.global _ _ (c.if-not-charge_stmt.ensures.room refl)
     (c.if-not-charge_stmt.ensures.charged refl) _ _ (layer.Share c.in-Share.variables) (rw (c.in-Share.is, stmts.outs-Share) refl) k
-    ⨾ next (rw c.settle-in-Share.ensures ((rw c.as_slice-names.ensures at c.share_variables-answer.ensures.runs (offer_of c.args.self.now)
+    ⨾ next (rw c.settle.ensures ((rw c.as_slice-names.ensures at c.share_variables-answer.ensures.runs (offer_of c.args.self.now)
     (holding c.args.run.now.this)) k))
 
-pub run_stmt-returns-in-Var-default-default-None-default-default-clause-runs : goal.run_stmt-returns-in-Var-default-default-None-default-default-clause-runs
+pub run_stmt-returns-in-Var-default-default-None-default-default-clause-runs :
+    goal.run_stmt-returns-in-Var-default-default-None-default-default-clause-runs
 run_stmt-returns-in-Var-default-default-None-default-default-clause-runs g t c =
     let rules = under g.H.Host.name_of c.args.self.now g.T.NativeTable.natives in
     let none : c.in-Var-default-default-None-default-default.field-2 ≡ None = search (common_rules, the_lemmas) in
@@ -269,9 +267,9 @@ pub run_assignment-returns-in-Some-clause-runs : goal.run_assignment-returns-in-
 run_assignment-returns-in-Some-clause-runs g t c =
     c.in-Some.ensures.runs (offer_of c.args.self.now) (holding c.args.run.now.this) c.args.restoring refl
 
-pub run_assignment-returns-then-not-settle-clause-runs : goal.run_assignment-returns-then-not-settle-clause-runs
+pub run_assignment-returns-then-not-run_expr-clause-runs : goal.run_assignment-returns-then-not-run_expr-clause-runs
 unfolding after Steps
-run_assignment-returns-then-not-settle-clause-runs g t c k =
+run_assignment-returns-then-not-run_expr-clause-runs g t c k =
     let rules = under g.H.Host.name_of c.args.self.now g.T.NativeTable.natives in
     begins_assignment rules c.args.op c.args.lhs.now c.args.rhs.now c.in-Variable.offset c.in-Variable.name c.in-Variable.namespace
     c.in-Variable.pos
@@ -281,8 +279,7 @@ run_assignment-returns-then-not-settle-clause-runs g t c k =
     ⨾ (rw (
       c.assign_at_once-at_once.ensures.left_global c.in_default.is,
       c.assign_at_once-at_once.ensures.left_scope c.in_default.is,
-      ← c.if-not-settle.ensures,
-    ) at c.run_expr-given.ensures.runs) (AssignValue _ _ ∷ k) ⨾ next here
+    ) at c.if-not-run_expr.ensures.runs) (AssignValue _ _ ∷ k) ⨾ next here
 
 pub run_assignment-returns-then-not-flatten_value-clause-runs : goal.run_assignment-returns-then-not-flatten_value-clause-runs
 unfolding after Steps
@@ -296,15 +293,13 @@ run_assignment-returns-then-not-flatten_value-clause-runs g t c k =
     ⨾ (rw (
       c.assign_at_once-at_once.ensures.left_global c.in_default.is,
       c.assign_at_once-at_once.ensures.left_scope c.in_default.is,
-      ← c.if-not-settle.ensures,
-    ) at c.run_expr-given.ensures.runs) (AssignValue _ _ ∷ k)
+    ) at c.if-not-run_expr.ensures.runs) (AssignValue _ _ ∷ k)
     ⨾ flat_fails rules _ _ k _ _ (AssignValue _ _) refl (rw c.position-at.ensures at c.if-not-flatten_value.ensures.exact)
 
 pub run_assignment-assign_variable-answer-requires : goal.run_assignment-assign_variable-answer-requires
 run_assignment-assign_variable-answer-requires g t c =
     let rules = under g.H.Host.name_of c.args.self.now g.T.NativeTable.natives in
-    let stay = names_stay rules (Eval c.args.rhs.now) (ended c.run_expr-given.result) _ _ tt tt c.run_expr-given.ensures.runs in
-    rw (stay, c.assign_at_once-at_once.ensures.left_scope c.in_default.is)
+    rw (c.if-not-run_expr.ensures.names refl, c.assign_at_once-at_once.ensures.left_scope c.in_default.is)
     (good_target c.args.lhs.now c.in-Variable.offset c.in-Variable.name c.in-Variable.namespace c.in-Variable.pos _
     (rw (c.in-Variable.is, exprs.outs-Variable) refl) c.requires.resolves_target)
 
@@ -320,13 +315,10 @@ run_assignment-returns-clause-runs g t c k =
     ⨾ (rw (
       c.assign_at_once-at_once.ensures.left_global c.in_default.is,
       c.assign_at_once-at_once.ensures.left_scope c.in_default.is,
-      ← c.if-not-settle.ensures,
-    ) at c.run_expr-given.ensures.runs) (AssignValue _ _ ∷ k)
-    ⨾ next (rw (← c.position-at.ensures, ← (c.if-not-flatten_value.ensures.exact tt), c.settle-3.ensures)
+    ) at c.if-not-run_expr.ensures.runs) (AssignValue _ _ ∷ k)
+    ⨾ next (rw (← c.position-at.ensures, ← (c.if-not-flatten_value.ensures.exact tt), c.settle.ensures)
     ((rw c.take_value.ensures.taken at c.assign_variable-answer.ensures.runs (offer_of c.args.self.now)
-    (holding c.run_expr-given.new.run.this) refl) k))
-
--- an assignment to `this`
+    (holding c.run_expr.new.run.this) refl) k))
 
 pub run_assignment-assign_to_this-requires : goal.run_assignment-assign_to_this-requires
 run_assignment-assign_to_this-requires g t c =
@@ -336,6 +328,8 @@ run_assignment-assign_to_this-requires g t c =
       (lives.0, (lives.1, (rw (c.in-ThisPtr.is, exprs.outs-ThisPtr) refl, rw scope c.requires.resolves))),
     )
 
+-- an assignment to `this`
+
 pub assign_to_this-returns-then-is_none-clause-runs : goal.assign_to_this-returns-then-is_none-clause-runs
 unfolding Steps
 assign_to_this-returns-then-is_none-clause-runs g t c k =
@@ -344,13 +338,13 @@ assign_to_this-returns-then-is_none-clause-runs g t c k =
     (this_unbound rules c.args.op c.args.lhs.now c.args.rhs.now c.args.pos c.args.restoring c.requires.this k _
     (c.is_none.ensures ∙ ap not c.if-is_none.true))
 
-pub assign_to_this-returns-then-not-settle-clause-runs : goal.assign_to_this-returns-then-not-settle-clause-runs
+pub assign_to_this-returns-then-not-run_expr-clause-runs : goal.assign_to_this-returns-then-not-run_expr-clause-runs
 unfolding after Steps
-assign_to_this-returns-then-not-settle-clause-runs g t c k =
+assign_to_this-returns-then-not-run_expr-clause-runs g t c k =
     let rules = under g.H.Host.name_of c.args.self.now g.T.NativeTable.natives in
     this_begins rules c.args.op c.args.lhs.now c.args.rhs.now c.args.pos c.args.restoring c.requires.this k _
     (c.is_none.ensures ∙ ap not c.if-is_none.false)
-    ⨾ (rw (← c.if-not-settle.ensures) at c.run_expr-given.ensures.runs) (AssignThisValue _ _ _ ∷ k) ⨾ next here
+    ⨾ c.if-not-run_expr.ensures.runs (AssignThisValue _ _ _ ∷ k) ⨾ next here
 
 pub assign_to_this-returns-then-not-flatten_value-clause-runs : goal.assign_to_this-returns-then-not-flatten_value-clause-runs
 unfolding Steps
@@ -358,7 +352,7 @@ assign_to_this-returns-then-not-flatten_value-clause-runs g t c k =
     let rules = under g.H.Host.name_of c.args.self.now g.T.NativeTable.natives in
     this_begins rules c.args.op c.args.lhs.now c.args.rhs.now c.args.pos c.args.restoring c.requires.this k _
     (c.is_none.ensures ∙ ap not c.if-is_none.false)
-    ⨾ (rw (← c.if-not-settle.ensures) at c.run_expr-given.ensures.runs) (AssignThisValue _ _ _ ∷ k)
+    ⨾ c.if-not-run_expr.ensures.runs (AssignThisValue _ _ _ ∷ k)
     ⨾ flat_fails rules _ _ k _ _ (AssignThisValue _ _ _) refl (rw c.position-at.ensures at c.if-not-flatten_value.ensures.exact)
 
 pub assign_to_this-returns-then-not-charge-clause-runs : goal.assign_to_this-returns-then-not-charge-clause-runs
@@ -368,11 +362,11 @@ assign_to_this-returns-then-not-charge-clause-runs g t c k =
     let value = c.flatten_value.new.out in
     this_begins rules c.args.op c.args.lhs.now c.args.rhs.now c.args.pos c.args.restoring c.requires.this k _
     (c.is_none.ensures ∙ ap not c.if-is_none.false)
-    ⨾ (rw (← c.if-not-settle.ensures) at c.run_expr-given.ensures.runs) (AssignThisValue _ _ _ ∷ k)
+    ⨾ c.if-not-run_expr.ensures.runs (AssignThisValue _ _ _ ∷ k)
     ⨾ next (rw (← c.position-at.ensures, ← (c.if-not-flatten_value.ensures.exact tt))
-    (refused rules _ c.run_expr-given.new.run.global c.charge.new.global _ _ (AssignThis c.args.op c.args.pos value)
-    (StoreThis c.args.op c.args.pos value) c.args.pos (λ k. refl) _ (c.if-not-charge.ensures.full refl) (c.if-not-charge.ensures.refused refl)
-    (c.if-not-charge.ensures.same refl) k))
+    (refused rules _ c.run_expr.new.run.global c.charge.new.global _ _ (AssignThis c.args.op c.args.pos value)
+    (StoreThis c.args.op c.args.pos value) c.args.pos (λ k. refl) _ (c.if-not-charge.ensures.full refl)
+    (c.if-not-charge.ensures.refused refl) (c.if-not-charge.ensures.same refl) k))
 
 pub assign_to_this-returns-in-Some-clause-runs : goal.assign_to_this-returns-in-Some-clause-runs
 unfolding after Steps
@@ -381,12 +375,13 @@ assign_to_this-returns-in-Some-clause-runs g t c k =
     let value = c.flatten_value.new.out in
     this_begins rules c.args.op c.args.lhs.now c.args.rhs.now c.args.pos c.args.restoring c.requires.this k _
     (c.is_none.ensures ∙ ap not c.if-is_none.false)
-    ⨾ (rw (← c.if-not-settle.ensures) at c.run_expr-given.ensures.runs) (AssignThisValue _ _ _ ∷ k)
+    ⨾ c.if-not-run_expr.ensures.runs (AssignThisValue _ _ _ ∷ k)
     ⨾ next (rw (← c.position-at.ensures, ← (c.if-not-flatten_value.ensures.exact tt))
-    (charged rules _ c.run_expr-given.new.run.global c.charge.new.global _ _ (AssignThis c.args.op c.args.pos value)
-    (StoreThis c.args.op c.args.pos value) c.args.pos (λ k. refl) (c.if-not-charge.ensures.room refl) (c.if-not-charge.ensures.charged refl) k
-    ⨾ rw (c.in-Some.is, c.settle-in-Some.ensures) (this_stored rules c.args.op c.args.pos value k _ c.assign_this-answer.result _
-    ((rw c.take_value.ensures.taken at c.assign_this-answer.ensures.runs) (offer_of c.args.self.now) c.run_expr-given.new.run.scope None refl))))
+    (charged rules _ c.run_expr.new.run.global c.charge.new.global _ _ (AssignThis c.args.op c.args.pos value)
+    (StoreThis c.args.op c.args.pos value) c.args.pos (λ k. refl) (c.if-not-charge.ensures.room refl)
+    (c.if-not-charge.ensures.charged refl) k
+    ⨾ rw (c.in-Some.is, c.settle.ensures) (this_stored rules c.args.op c.args.pos value k _ c.assign_this-answer.result _
+    ((rw c.take_value.ensures.taken at c.assign_this-answer.ensures.runs) (offer_of c.args.self.now) c.run_expr.new.run.scope None refl))))
 
 pub assign_to_this-returns-in-None-clause-runs : goal.assign_to_this-returns-in-None-clause-runs
 unfolding after Steps
@@ -395,10 +390,16 @@ assign_to_this-returns-in-None-clause-runs g t c k =
     let value = c.flatten_value.new.out in
     this_begins rules c.args.op c.args.lhs.now c.args.rhs.now c.args.pos c.args.restoring c.requires.this k _
     (c.is_none.ensures ∙ ap not c.if-is_none.false)
-    ⨾ (rw (← c.if-not-settle.ensures) at c.run_expr-given.ensures.runs) (AssignThisValue _ _ _ ∷ k)
-    ⨾ next (rw (← c.position-at.ensures, ← (c.if-not-flatten_value.ensures.exact tt), c.stop-in-None.ensures.stopped, c.stop-in-None.ensures.told)
-    (charged rules _ c.run_expr-given.new.run.global c.charge.new.global _ _ (AssignThis c.args.op c.args.pos value)
-    (StoreThis c.args.op c.args.pos value) c.args.pos (λ k. refl) (c.if-not-charge.ensures.room refl) (c.if-not-charge.ensures.charged refl) k
+    ⨾ c.if-not-run_expr.ensures.runs (AssignThisValue _ _ _ ∷ k)
+    ⨾ next (rw (
+      ← c.position-at.ensures,
+      ← (c.if-not-flatten_value.ensures.exact tt),
+      c.stop-in-None.ensures.stopped,
+      c.stop-in-None.ensures.told,
+    )
+    (charged rules _ c.run_expr.new.run.global c.charge.new.global _ _ (AssignThis c.args.op c.args.pos value)
+    (StoreThis c.args.op c.args.pos value) c.args.pos (λ k. refl) (c.if-not-charge.ensures.room refl)
+    (c.if-not-charge.ensures.charged refl) k
     ⨾ this_gone rules c.args.op c.args.pos value k _ c.in-None.is))
 
 -- a new variable
@@ -410,25 +411,25 @@ run_var-returns-in-Err-clause-runs g t c kept k =
     rw (c.stop.ensures.stopped, c.stop.ensures.told)
     (not_declared rules c.args.ident.now c.args.value.now c.args.options c.args.pos c.args.restoring k _ _ c.in-Err.ensures kept)
 
-pub run_var-returns-then-not-settle-clause-runs : goal.run_var-returns-then-not-settle-clause-runs
+pub run_var-returns-then-not-run_expr-clause-runs : goal.run_var-returns-then-not-run_expr-clause-runs
 unfolding after Steps
-run_var-returns-then-not-settle-clause-runs g t c kept k =
+run_var-returns-then-not-run_expr-clause-runs g t c kept k =
     let rules = under g.H.Host.name_of c.args.self.now g.T.NativeTable.natives in
     begins_value rules c.args.ident.now c.args.value.now c.args.options c.args.pos c.args.restoring k _ (c.in_default.ensures tt) kept
-    ⨾ (rw (← c.if-not-settle.ensures) at c.run_expr-given.ensures.runs) (DefineValue _ _ _ _ ∷ k) ⨾ next here
+    ⨾ c.if-not-run_expr.ensures.runs (DefineValue _ _ _ _ ∷ k) ⨾ next here
 
 pub run_var-returns-then-not-flatten_value-clause-runs : goal.run_var-returns-then-not-flatten_value-clause-runs
 unfolding after Steps
 run_var-returns-then-not-flatten_value-clause-runs g t c kept k =
     let rules = under g.H.Host.name_of c.args.self.now g.T.NativeTable.natives in
     begins_value rules c.args.ident.now c.args.value.now c.args.options c.args.pos c.args.restoring k _ (c.in_default.ensures tt) kept
-    ⨾ (rw (← c.if-not-settle.ensures) at c.run_expr-given.ensures.runs) (DefineValue _ _ _ _ ∷ k)
+    ⨾ c.if-not-run_expr.ensures.runs (DefineValue _ _ _ _ ∷ k)
     ⨾ flat_fails rules _ _ k _ _ (DefineValue _ _ _ _) refl (rw c.position-at.ensures at c.if-not-flatten_value.ensures.exact)
 
 pub run_var-value_at-requires : goal.run_var-value_at-requires
 run_var-value_at-requires g t c =
     let v = c.take_value-flat.result in
-    stands_there c.mode_of-mode.result (entries_of c.run_expr-given.new.run.scope) (entries_of c.define_variable-defined.new.scope)
+    stands_there c.mode_of-mode.result (entries_of c.run_expr.new.run.scope) (entries_of c.define_variable-defined.new.scope)
     c.args.ident.now.name v v c.len-index.result c.in_default-defined.ensures.pushed c.len-index.ensures
 
 pub run_var-returns-in-Err-defined-clause-runs : goal.run_var-returns-in-Err-defined-clause-runs
@@ -436,9 +437,9 @@ unfolding Steps
 run_var-returns-in-Err-defined-clause-runs g t c kept k =
     let rules = under g.H.Host.name_of c.args.self.now g.T.NativeTable.natives in
     begins_value rules c.args.ident.now c.args.value.now c.args.options c.args.pos c.args.restoring k _ (c.in_default.ensures tt) kept
-    ⨾ (rw (← c.if-not-settle.ensures) at c.run_expr-given.ensures.runs) (DefineValue _ _ _ _ ∷ k)
+    ⨾ c.if-not-run_expr.ensures.runs (DefineValue _ _ _ _ ∷ k)
     ⨾ rw (c.stop-in-Err-defined.ensures.stopped, c.stop-in-Err-defined.ensures.told)
-    (defines_not rules _ c.run_expr-given.new.run.global c.run_expr-given.new.run.global c.run_expr-given.new.run.scope
+    (defines_not rules _ c.run_expr.new.run.global c.run_expr.new.run.global c.run_expr.new.run.scope
     c.define_variable-defined.new.scope _ c.args.ident.now c.args.options c.args.restoring _ c.take_value-flat.result _ k _
     c.in-Err-defined.ensures.refused c.in-Err-defined.ensures.same)
 
@@ -446,10 +447,10 @@ pub run_var-returns-in-Err-entered-clause-runs : goal.run_var-returns-in-Err-ent
 unfolding Steps
 run_var-returns-in-Err-entered-clause-runs g t c kept k =
     let rules = under g.H.Host.name_of c.args.self.now g.T.NativeTable.natives in
-    let old = c.run_expr-given.new.run in
+    let old = c.run_expr.new.run in
     let added = new_entry c.args.ident.now.name c.mode_of-mode.result c.take_value-flat.result ∷ [] in
     begins_value rules c.args.ident.now c.args.value.now c.args.options c.args.pos c.args.restoring k _ (c.in_default.ensures tt) kept
-    ⨾ (rw (← c.if-not-settle.ensures) at c.run_expr-given.ensures.runs) (DefineValue _ _ _ _ ∷ k)
+    ⨾ c.if-not-run_expr.ensures.runs (DefineValue _ _ _ _ ∷ k)
     ⨾ rw (c.stop-in-Err-entered.ensures.stopped, c.stop-in-Err-entered.ensures.told, c.in-Err-entered.ensures.same)
     (defines_not rules _ old.global old.global old.scope c.rewind.new.self (holding old.this) c.args.ident.now c.args.options
     c.args.restoring _ c.take_value-flat.result _ k c.in-Err-entered.error c.in-Err-entered.ensures.refused
@@ -460,7 +461,7 @@ pub run_var-returns-clause-runs : goal.run_var-returns-clause-runs
 unfolding Steps
 run_var-returns-clause-runs g t c kept k =
     let rules = under g.H.Host.name_of c.args.self.now g.T.NativeTable.natives in
-    let old = c.run_expr-given.new.run in
+    let old = c.run_expr.new.run in
     let v = c.take_value-flat.result in
     let mode = c.mode_of-mode.result in
     let pushed = c.in_default-defined.ensures.pushed in
@@ -471,7 +472,7 @@ run_var-returns-clause-runs g t c kept k =
     c.value_at.result.now c.len-index.result pushed c.len-index.ensures there
     (enters c.args.options c.args.restoring (local_of old.global old.scope held)) (local_of old.global old.scope held) in
     begins_value rules c.args.ident.now c.args.value.now c.args.options c.args.pos c.args.restoring k _ (c.in_default.ensures tt) kept
-    ⨾ (rw (← c.if-not-settle.ensures) at c.run_expr-given.ensures.runs) (DefineValue _ _ _ _ ∷ k)
+    ⨾ c.if-not-run_expr.ensures.runs (DefineValue _ _ _ _ ∷ k)
     ⨾ rw c.take_value-flat.ensures.left
     (defines rules _ old.global c.enter_constant-entered.new.global old.scope c.define_variable-defined.new.scope held c.args.ident.now
     c.args.options c.args.restoring _ v _ k

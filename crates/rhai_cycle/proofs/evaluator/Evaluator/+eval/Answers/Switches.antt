@@ -1,33 +1,41 @@
-use Rattle.std.proofs.Common.{◌≡◌, ◌≤◌, ◌∷◌, ◌∙◌, Bool, List, None, Option, Some, ap, arith, refl, sym}
+use Rattle.std.proofs.Common.{◌≡◌, ◌≤◌, ◌∷◌, ◌∙◌, List, None, Option, Some, ap, arith, refl, sym}
 use Rattle.rhai_machine.specs.machine.Point.{after}
 use Rattle.rhai_machine.specs.machine.Memory.{here, next, ◌⨾◌}
 use Rattle.rhai_choices.specs.Candidates.{numbers_left}
 use Rattle.rhai_machine.specs.language.Cases.{Cases, default_of, results_of}
 use Rattle.rhai_machine.specs.language.Choices.{met_core}
-use Rattle.rhai_machine.specs.language.Frames.{Choose, Eval, Frame, ended, SwitchValue}
+use Rattle.rhai_machine.specs.language.Frames.{Choose, Frame, SwitchValue}
 use Rattle.rhai_machine.specs.language.Runs.{Goes, Steps, at, with_core}
-use Rattle.rhai_laws.proofs.KeptLaws.{counted, names_stay}
-use Rattle.rhai_context.specs.Ends.{came}
 use Rattle.rhai_context.specs.declared.Context.{Context}
 use Rattle.rhai_cycle.specs.States.{names, state_in, under}
 use Rattle.rhai_cycle.proofs.CandidateLemmas.{candidate_runs, default_runs}
-use Rattle.rhai_cycle.proofs.SwitchSteps.{default_not, default_on, tested_not, tested_on, value_fails, value_on, written_on}
+use Rattle.rhai_cycle.proofs.SwitchSteps.{default_not, default_on, tested_not, tested_on, value_on, written_on}
 use Rattle.rhai_cycle.proofs.evaluator.Evaluator.+eval.Goals as goal
-use Rattle.rhai_cycle.proofs.evaluator.Evaluator.+eval.Goals.{run_switch-in-None+in-Ok, run_switch-in-Some-written_truth}
+use Rattle.rhai_cycle.proofs.evaluator.Evaluator.+eval.Goals.{run_switch-in-Some-written_truth}
+use Rattle.rhai_cycle.proofs.evaluator.Evaluator.+eval.Goals.{run_switch-in-None+in-Some-run_condition}
+use Rattle.rhai_cycle.proofs.Chain.{flat_fails}
 
 is_none : {A : Type 0} (o : Option A) → ((x : A) → o ≡ Some x → ⊥) → o ≡ None
 is_none None not = refl
 is_none (Some x) not = absurd (not x refl)
 
-pub run_switch-returns-then-not-settle-clause-runs : goal.run_switch-returns-then-not-settle-clause-runs
+pub run_switch-returns-then-not-run_expr-clause-runs : goal.run_switch-returns-then-not-run_expr-clause-runs
 unfolding after Steps
-run_switch-returns-then-not-settle-clause-runs g t c pos restoring k =
+run_switch-returns-then-not-run_expr-clause-runs g t c pos restoring k =
+    let parts = c.args.parts in
+    let choice : Cases =
+    record { results = parts.results.now; cases = parts.cases.now; ranges = parts.ranges.now; default = parts.default } in
+    next (c.if-not-run_expr.ensures.runs (SwitchValue _ choice ∷ k) ⨾ next here)
+
+pub run_switch-returns-then-not-flatten_value-clause-runs : goal.run_switch-returns-then-not-flatten_value-clause-runs
+unfolding after Steps
+run_switch-returns-then-not-flatten_value-clause-runs g t c pos restoring k =
     let rules = under g.H.Host.name_of c.args.self.now g.T.NativeTable.natives in
     let parts = c.args.parts in
-    let choice : Cases = record { results = parts.results.now; cases = parts.cases.now; ranges = parts.ranges.now; default = parts.default } in
-    next (c.run_expr-answer.ensures.runs (SwitchValue _ choice ∷ k)
-    ⨾ value_fails rules k choice _ c.run_expr-answer.result c.flat_answer-flat.result _ _ (rw c.position.ensures at c.flat_answer-flat.ensures)
-    (sym c.settle.ensures ∙ ap (λ (done : Bool). came done c.settle.new.out c.settle.new.place) c.if-not-settle.true))
+    let choice : Cases =
+    record { results = parts.results.now; cases = parts.cases.now; ranges = parts.ranges.now; default = parts.default } in
+    next (c.if-not-run_expr.ensures.runs (SwitchValue _ choice ∷ k)
+    ⨾ flat_fails rules _ _ k _ _ (SwitchValue _ choice) refl (rw c.position-at.ensures at c.if-not-flatten_value.ensures.exact))
 
 pub run_switch-run_condition-requires : goal.run_switch-run_condition-requires
 run_switch-run_condition-requires g t c =
@@ -43,15 +51,15 @@ unfolding after Steps
 run_switch-each_candidate-init g t c =
     let rules = under g.H.Host.name_of c.args.self.now g.T.NativeTable.natives in
     let parts = c.args.parts in
-    let choice : Cases = record { results = parts.results.now; cases = parts.cases.now; ranges = parts.ranges.now; default = parts.default } in
+    let choice : Cases =
+    record { results = parts.results.now; cases = parts.cases.now; ranges = parts.ranges.now; default = parts.default } in
     record {
-      counts = counted rules _ _ _ _ c.run_expr-answer.ensures.runs;
-      names = names_stay rules (Eval c.args.parts.value.now) (ended c.run_expr-answer.result) _ _ tt tt c.run_expr-answer.ensures.runs;
+      counts = omega (arith, c.if-not-run_expr.ensures.charges refl);
+      names = c.if-not-run_expr.ensures.names refl;
       steps = λ pos restoring k. rw (c.candidates_for-left.ensures parts.results.now parts.default)
-          (next (c.run_expr-answer.ensures.runs (SwitchValue _ choice ∷ k)
-          ⨾ value_on rules k choice _ c.run_expr-answer.result c.flat_answer-flat.result c.settle.new.out _
-          (rw c.position.ensures at c.flat_answer-flat.ensures)
-          (sym c.settle.ensures ∙ ap (λ (done : Bool). came done c.settle.new.out c.settle.new.place) c.if-not-settle.false)));
+          (next (c.if-not-run_expr.ensures.runs (SwitchValue _ choice ∷ k)
+          ⨾ value_on rules k choice _ _ c.flatten_value.new.out _
+          (rw c.position-at.ensures at (c.if-not-flatten_value.ensures.exact tt))));
     }
 
 pub run_switch-returns-in-None-default_result-clause-runs : goal.run_switch-returns-in-None-default_result-clause-runs
@@ -64,15 +72,15 @@ run_switch-returns-in-None-default_result-clause-runs g t c pos restoring k =
     )
     (default_not rules k _ _ (sym (c.in-None-default_result.ensures c.args.parts.cases.now c.args.parts.ranges.now)))
 
-pub run_switch-returns-in-Err-clause-runs : goal.run_switch-returns-in-Err-clause-runs
+pub run_switch-returns-in-None-run_condition-clause-runs : goal.run_switch-returns-in-None-run_condition-clause-runs
 unfolding after Steps
-run_switch-returns-in-Err-clause-runs g t c pos restoring k =
+run_switch-returns-in-None-run_condition-clause-runs g t c pos restoring k =
     let rules = under g.H.Host.name_of c.args.self.now g.T.NativeTable.natives in
-    c.each_candidate.invariant.steps pos restoring k ⨾ rw (c.in-Some.ensures.some, c.stop.ensures.stopped, c.stop.ensures.told)
-    (tested_not rules k c.in-Some.candidate.now _ _ _ _ _ (sym c.written_truth.ensures ∙ c.in-None.is) c.in-Err.ensures.runs)
+    c.each_candidate.invariant.steps pos restoring k ⨾ rw c.in-Some.ensures.some
+    (tested_not rules k c.in-Some.candidate.now _ _ _ _ _ (sym c.written_truth.ensures ∙ c.in-None.is) c.in-None-run_condition.ensures.runs)
 
-pub run_switch-run_expr-answer-requires-in-Some-default_result : goal.run_switch-run_expr-answer-requires-in-Some-default_result
-run_switch-run_expr-answer-requires-in-Some-default_result g t c =
+pub run_switch-run_expr-requires-in-Some-default_result : goal.run_switch-run_expr-requires-in-Some-default_result
+run_switch-run_expr-requires-in-Some-default_result g t c =
     let runs = default_runs (names c.args.run.now) c.args.parts.results.now c.requires.resolves_results c.args.parts.default _
     (sym (c.in-Some-default_result.ensures c.args.parts.cases.now c.args.parts.ranges.now)) in
     λ κs lives. (
@@ -84,22 +92,25 @@ pub run_switch-returns-in-Some-default_result-clause-runs : goal.run_switch-retu
 unfolding after Steps
 run_switch-returns-in-Some-default_result-clause-runs g t c pos restoring k =
     let rules = under g.H.Host.name_of c.args.self.now g.T.NativeTable.natives in
-    c.each_candidate.invariant.steps pos restoring k ⨾ rw (
-      c.next.ensures.none (is_none c.next.result c.in_default.not-Some),
-      c.settle-in-Some-default_result.ensures,
-    )
+    c.each_candidate.invariant.steps pos restoring k ⨾ rw (c.next.ensures.none (is_none c.next.result c.in_default.not-Some))
     (default_on rules k _ _ _ (sym (c.in-Some-default_result.ensures c.args.parts.cases.now c.args.parts.ranges.now))
-    ⨾ c.run_expr-answer-in-Some-default_result.ensures.runs k)
+    ⨾ c.run_expr-in-Some-default_result.ensures.runs k)
 
-pub run_switch-run_expr-answer-requires-then-holds : goal.run_switch-run_expr-answer-requires-then-holds
-run_switch-run_expr-answer-requires-then-holds g t c =
+pub run_switch-run_expr-requires-then-holds : goal.run_switch-run_expr-requires-then-holds
+run_switch-run_expr-requires-then-holds g t c =
     let stays : names c.match-written_truth.run ≡ names c.args.run.now = elim c.match-written_truth.branch [
       | run_switch-in-Some-written_truth w ↦ ap (λ (run : Context g.row.H.Denot). names run) w.run-is ∙ c.each_candidate.invariant.names
-      | run_switch-in-None+in-Ok w ↦ ap (λ (run : Context g.row.H.Denot). names run) w.run-is ∙ (w.in-Ok.ensures.names ∙ c.each_candidate.invariant.names)
+      | run_switch-in-None+in-Some-run_condition w ↦ ap (λ (run : Context g.row.H.Denot). names run) w.run-is
+          ∙ (w.in-Some-run_condition.ensures.names ∙ c.each_candidate.invariant.names)
     ] in
-    let counts : c.args.run.now.global.num_operations ≤ c.match-written_truth.run.global.num_operations = elim c.match-written_truth.branch [
+    let counts : c.args.run.now.global.num_operations ≤ c.match-written_truth.run.global.num_operations =
+    elim c.match-written_truth.branch [
       | run_switch-in-Some-written_truth w ↦ rw w.run-is c.each_candidate.invariant.counts
-      | run_switch-in-None+in-Ok w ↦ rw w.run-is (omega (arith, c.each_candidate.invariant.counts, w.in-Ok.ensures.charges))
+      | run_switch-in-None+in-Some-run_condition w ↦ rw w.run-is (omega (
+        arith,
+        c.each_candidate.invariant.counts,
+        w.in-Some-run_condition.ensures.charges,
+      ))
     ] in
     let runs = candidate_runs (names c.args.run.now) c.args.parts.results.now c.requires.resolves_results _ c.in-Some.candidate.now _
     c.in-Some.ensures.some in
@@ -123,11 +134,12 @@ run_switch-returns-then-holds-clause-runs g t c pos restoring k =
     (with_core (met_core c.match-written_truth.holds candidate rest default k new.local) new) = λ k. elim c.match-written_truth.branch [
       | run_switch-in-Some-written_truth w ↦ rw (w.holds-is, w.table-is, w.run-is) (written_on rules k candidate rest default
           w.in-Some-written_truth.holds old (sym c.written_truth.ensures ∙ w.in-Some-written_truth.is))
-      | run_switch-in-None+in-Ok w ↦ rw (w.holds-is, w.table-is, w.run-is) (tested_on rules k candidate rest default w.in-Ok.holds old _
-          (sym c.written_truth.ensures ∙ w.in-None.is) w.in-Ok.ensures.runs)
+      | run_switch-in-None+in-Some-run_condition w ↦ rw (w.holds-is, w.table-is, w.run-is)
+          (tested_on rules k candidate rest default w.in-Some-run_condition.holds old _
+          (sym c.written_truth.ensures ∙ w.in-None.is) w.in-Some-run_condition.ensures.runs)
     ] in
-    c.each_candidate.invariant.steps pos restoring k ⨾ rw (c.in-Some.ensures.some, c.settle-then-holds.ensures)
-    ((rw c.if-holds.true at told) k ⨾ c.run_expr-answer-then-holds.ensures.runs k)
+    c.each_candidate.invariant.steps pos restoring k ⨾ rw c.in-Some.ensures.some
+    ((rw c.if-holds.true at told) k ⨾ c.run_expr-then-holds.ensures.runs k)
 
 pub run_switch-each_candidate-preserved : goal.run_switch-each_candidate-preserved
 unfolding after Steps
@@ -147,16 +159,23 @@ run_switch-each_candidate-preserved g t c =
     (with_core (met_core c.match-written_truth.holds candidate rest default k new.local) new) = λ k. elim c.match-written_truth.branch [
       | run_switch-in-Some-written_truth w ↦ rw (w.holds-is, w.table-is, w.run-is) (written_on rules k candidate rest default
           w.in-Some-written_truth.holds old (sym c.written_truth.ensures ∙ w.in-Some-written_truth.is))
-      | run_switch-in-None+in-Ok w ↦ rw (w.holds-is, w.table-is, w.run-is) (tested_on rules k candidate rest default w.in-Ok.holds old _
-          (sym c.written_truth.ensures ∙ w.in-None.is) w.in-Ok.ensures.runs)
+      | run_switch-in-None+in-Some-run_condition w ↦ rw (w.holds-is, w.table-is, w.run-is)
+          (tested_on rules k candidate rest default w.in-Some-run_condition.holds old _
+          (sym c.written_truth.ensures ∙ w.in-None.is) w.in-Some-run_condition.ensures.runs)
     ] in
     let stays : names c.match-written_truth.run ≡ names c.args.run.now = elim c.match-written_truth.branch [
       | run_switch-in-Some-written_truth w ↦ ap (λ (run : Context g.row.H.Denot). names run) w.run-is ∙ c.each_candidate.invariant.names
-      | run_switch-in-None+in-Ok w ↦ ap (λ (run : Context g.row.H.Denot). names run) w.run-is ∙ (w.in-Ok.ensures.names ∙ c.each_candidate.invariant.names)
+      | run_switch-in-None+in-Some-run_condition w ↦ ap (λ (run : Context g.row.H.Denot). names run) w.run-is
+          ∙ (w.in-Some-run_condition.ensures.names ∙ c.each_candidate.invariant.names)
     ] in
-    let counts : c.args.run.now.global.num_operations ≤ c.match-written_truth.run.global.num_operations = elim c.match-written_truth.branch [
+    let counts : c.args.run.now.global.num_operations ≤ c.match-written_truth.run.global.num_operations =
+    elim c.match-written_truth.branch [
       | run_switch-in-Some-written_truth w ↦ rw w.run-is c.each_candidate.invariant.counts
-      | run_switch-in-None+in-Ok w ↦ rw w.run-is (omega (arith, c.each_candidate.invariant.counts, w.in-Ok.ensures.charges))
+      | run_switch-in-None+in-Some-run_condition w ↦ rw w.run-is (omega (
+        arith,
+        c.each_candidate.invariant.counts,
+        w.in-Some-run_condition.ensures.charges,
+      ))
     ] in
     record {
       counts = counts;

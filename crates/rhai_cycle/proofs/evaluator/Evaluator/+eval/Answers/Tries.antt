@@ -88,11 +88,13 @@ run_branch-returns-clause-runs g t c k =
     let new = c.run_stmt_block-done.new.run in
     let variable = catch_variable (out-Expr c.args.variable.now) in
     let block = rw c.as_slice-statements.ensures at c.run_stmt_block-done.ensures.runs in
-    let stay = names_stay rules (Enter c.args.branch.now.statements true) (ended (came c.run_stmt_block-done.result c.run_stmt_block-done.new.run.value c.run_stmt_block-done.new.run.error)) _ _ tt tt block in
+    let stay = names_stay rules (Enter c.args.branch.now.statements true) (ended (came c.run_stmt_block-done.result
+    c.run_stmt_block-done.new.run.value c.run_stmt_block-done.new.run.error)) _ _ tt tt block in
     branch_on rules k c.args.caught c.args.branch.now _ old.global old.scope c.bind_caught-bound.new.scope (holding old.this)
     c.len-base.result c.len-base.ensures variable (c.in_default.ensures.exact tt) c.in_default.ensures.bound
     ⨾ block (CatchBranch c.args.caught ∷ below rules k variable c.len-base.result)
-    ⨾ branch_left rules (below rules k variable c.len-base.result) c.args.caught (came c.run_stmt_block-done.result c.run_stmt_block-done.new.run.value c.run_stmt_block-done.new.run.error) _
+    ⨾ branch_left rules (below rules k variable c.len-base.result) c.args.caught (came c.run_stmt_block-done.result
+    c.run_stmt_block-done.new.run.value c.run_stmt_block-done.new.run.error) _
     ⨾ rw (c.settle.ensures, c.leave_branch-left.ensures, c.finish-outcome.ensures.came)
     (scope_back rules k variable _ c.len-base.result _ new.global new.scope c.rewind.new.self (holding new.this)
     (nothing_bound variable old.global.source c.args.caught (entries_of old.scope) _ _ c.in_default.ensures.bound stay
@@ -107,7 +109,8 @@ pub run_branch-returns-clause-names : goal.run_branch-returns-clause-names
 run_branch-returns-clause-names g t c done =
     let rules = under g.H.Host.name_of c.args.self.now g.T.NativeTable.natives in
     let old = c.args.run.now in
-    let stay = names_stay rules (Enter c.args.branch.now.statements true) (ended (came c.run_stmt_block-done.result c.run_stmt_block-done.new.run.value c.run_stmt_block-done.new.run.error)) _ _ tt tt
+    let stay = names_stay rules (Enter c.args.branch.now.statements true) (ended (came c.run_stmt_block-done.result
+    c.run_stmt_block-done.new.run.value c.run_stmt_block-done.new.run.error)) _ _ tt tt
     (rw c.as_slice-statements.ensures at c.run_stmt_block-done.ensures.runs) in
     names_restored old.scope.entries c.run_stmt_block-done.new.run.scope.entries c.rewind.new.self.entries c.len-base.result
     c.rewind.ensures c.len-base.ensures

@@ -6,8 +6,8 @@ use Rattle.rhai_state.specs.declared.state.GlobalRuntimeState.{GlobalRuntimeStat
 use Rattle.rhai_state.specs.Limits.{limit_of}
 use Rattle.rhai_state.specs.Scope.{entries_of, name_of}
 use Rattle.rhai_machine.specs.machine.Point.{after}
-use Rattle.rhai_machine.specs.machine.Memory.{next, ◌⨾◌}
-use Rattle.rhai_machine.specs.language.Frames.{Enter, Eval, ForBody, ForItems, RestoreScope, ended}
+use Rattle.rhai_machine.specs.machine.Memory.{next, ◌⨾◌, here}
+use Rattle.rhai_machine.specs.language.Frames.{Enter, ForBody, ForItems, RestoreScope, ended}
 use Rattle.rhai_machine.specs.language.Runs.{Steps}
 use Rattle.rhai_laws.proofs.KeptLaws.{counted, names_stay}
 use Rattle.rhai_steps.specs.States.{holding}
@@ -19,9 +19,10 @@ use Rattle.rhai_cycle.proofs.Turns.{body_charges}
 use Rattle.rhai_cycle.proofs.LoopSteps.{stays_full, turn_ended}
 use Rattle.rhai_cycle.proofs.NameLemmas.{names_restored}
 use Rattle.rhai_cycle.proofs.FormNames.{block_value, loop_names, turn_begins, turn_count}
-use Rattle.rhai_cycle.proofs.ForSteps.{body_ends, empty_charged, empty_refused, has_none, has_room, items_fail, leaves_scope, starts}
+use Rattle.rhai_cycle.proofs.ForSteps.{body_ends, empty_charged, empty_refused, has_none, has_room, leaves_scope, starts}
 use Rattle.rhai_cycle.proofs.ForSteps.{if_well, on_turn, starts_not, turns_end}
 use Rattle.rhai_cycle.proofs.evaluator.Evaluator.+eval.Goals as goal
+use Rattle.rhai_cycle.proofs.Chain.{flat_fails}
 
 pub run_for-returns-then-has_no_room-clause-runs : goal.run_for-returns-then-has_no_room-clause-runs
 unfolding after Steps
@@ -30,46 +31,54 @@ run_for-returns-then-has_no_room-clause-runs g t c pos restoring k =
     rw (c.stop.ensures.stopped, c.stop.ensures.told)
     (has_none rules (loop_in c.args.parts) k pos restoring _ (sym c.has_no_room.ensures ∙ c.if-has_no_room.true))
 
+pub run_for-returns-then-not-run_expr-clause-runs : goal.run_for-returns-then-not-run_expr-clause-runs
+unfolding after Steps
+run_for-returns-then-not-run_expr-clause-runs g t c pos restoring k =
+    let rules = under g.H.Host.name_of c.args.self.now g.T.NativeTable.natives in
+    let loop = loop_in c.args.parts in
+    has_room rules loop k pos restoring _ (sym c.has_no_room.ensures ∙ c.if-has_no_room.false)
+    ⨾ c.if-not-run_expr.ensures.runs (ForItems loop ∷ k) ⨾ next here
+
+pub run_for-returns-then-not-flatten_value-clause-runs : goal.run_for-returns-then-not-flatten_value-clause-runs
+unfolding after Steps
+run_for-returns-then-not-flatten_value-clause-runs g t c pos restoring k =
+    let rules = under g.H.Host.name_of c.args.self.now g.T.NativeTable.natives in
+    let loop = loop_in c.args.parts in
+    has_room rules loop k pos restoring _ (sym c.has_no_room.ensures ∙ c.if-has_no_room.false)
+    ⨾ c.if-not-run_expr.ensures.runs (ForItems loop ∷ k)
+    ⨾ flat_fails rules _ _ k _ _ (ForItems loop) refl (rw c.position-at.ensures at c.if-not-flatten_value.ensures.exact)
+
 pub run_for-returns-in-Err-clause-runs : goal.run_for-returns-in-Err-clause-runs
 unfolding after Steps
 run_for-returns-in-Err-clause-runs g t c pos restoring k =
     let rules = under g.H.Host.name_of c.args.self.now g.T.NativeTable.natives in
     let loop = loop_in c.args.parts in
     has_room rules loop k pos restoring _ (sym c.has_no_room.ensures ∙ c.if-has_no_room.false)
-    ⨾ c.run_expr-answer.ensures.runs (ForItems loop ∷ k)
-    ⨾ rw (c.stop-in-Err.ensures.stopped, c.stop-in-Err.ensures.told)
-    (items_fail rules loop k c.run_expr-answer.result c.in-Err.error _ (rw c.position.ensures at c.in-Err.ensures))
-
-pub run_for-returns-in-Err-start_turns-clause-runs : goal.run_for-returns-in-Err-start_turns-clause-runs
-unfolding after Steps
-run_for-returns-in-Err-start_turns-clause-runs g t c pos restoring k =
-    let rules = under g.H.Host.name_of c.args.self.now g.T.NativeTable.natives in
-    let loop = loop_in c.args.parts in
-    has_room rules loop k pos restoring _ (sym c.has_no_room.ensures ∙ c.if-has_no_room.false)
-    ⨾ c.run_expr-answer.ensures.runs (ForItems loop ∷ k)
-    ⨾ rw (c.stop-in-Err-start_turns.ensures.stopped, c.stop-in-Err-start_turns.ensures.told, c.in-Err-start_turns.ensures.same)
-    (starts_not rules loop k c.run_expr-answer.result c.in-Ok.value c.in-Err-start_turns.error _
-    (rw c.position.ensures at c.in-Ok.ensures tt) c.in-Err-start_turns.ensures.none c.in-Err-start_turns.ensures.told)
+    ⨾ c.if-not-run_expr.ensures.runs (ForItems loop ∷ k)
+    ⨾ rw (c.stop-in-Err.ensures.stopped, c.stop-in-Err.ensures.told, c.in-Err.ensures.same)
+    (starts_not rules loop k _ c.take_value-value.result c.in-Err.error _
+    (rw (c.position-at.ensures, ← c.take_value-value.ensures.taken) at (c.if-not-flatten_value.ensures.exact tt))
+    c.in-Err.ensures.none c.in-Err.ensures.told)
 
 pub run_for-turns-init : goal.run_for-turns-init
 unfolding after Steps
 run_for-turns-init g t c =
     let rules = under g.H.Host.name_of c.args.self.now g.T.NativeTable.natives in
     let loop = loop_in c.args.parts in
-    let old = c.run_expr-answer.new.run in
-    let counts = counted rules _ _ _ _ c.run_expr-answer.ensures.runs in
-    let stay = names_stay rules (Eval c.args.parts.items.now) (ended c.run_expr-answer.result) _ _ tt tt c.run_expr-answer.ensures.runs in
+    let old = c.run_expr.new.run in
+    let stay = c.if-not-run_expr.ensures.names refl in
     record {
-      counts = omega (arith, counts);
+      counts = omega (arith, c.if-not-run_expr.ensures.charges refl);
       base = c.len-base.ensures ∙ sym (length-map (entries_of old.scope) name_of) ∙ ap length stay;
-      names = loop_names loop (entries_of old.scope) _ c.in-Ok-start_turns.ensures.variables
+      names = loop_names loop (entries_of old.scope) _ c.in-Ok.ensures.variables
           ∙ ap (λ names. turn_names c.args.parts.variable.now c.args.parts.counter.now names) stay;
       steps = λ pos restoring k.
           has_room rules loop k pos restoring _ (sym c.has_no_room.ensures ∙ c.if-has_no_room.false)
-          ⨾ c.run_expr-answer.ensures.runs (ForItems loop ∷ k)
-          ⨾ starts rules loop k c.run_expr-answer.result c.in-Ok.value _ _ old.global old.scope c.start_turns.new.scope (holding old.this)
-          c.len-base.result (rw c.position.ensures at c.in-Ok.ensures tt) c.in-Ok-start_turns.ensures.turns
-          c.in-Ok-start_turns.ensures.variables c.len-base.ensures;
+          ⨾ c.if-not-run_expr.ensures.runs (ForItems loop ∷ k)
+          ⨾ starts rules loop k _ c.take_value-value.result _ _ old.global old.scope c.start_turns.new.scope (holding old.this)
+          c.len-base.result
+          (rw (c.position-at.ensures, ← c.take_value-value.ensures.taken) at (c.if-not-flatten_value.ensures.exact tt))
+          c.in-Ok.ensures.turns c.in-Ok.ensures.variables c.len-base.ensures;
     }
 
 pub run_for-run_for_turn-requires : goal.run_for-run_for_turn-requires
@@ -120,7 +129,8 @@ run_for-returns-in-Some-clause-counts g t c done = omega (arith, c.turns.invaria
 pub run_for-returns-in-Some-clause-names : goal.run_for-returns-in-Some-clause-names
 run_for-returns-in-Some-clause-names g t c done =
     let parts = c.args.parts in
-    names_restored c.args.run.now.scope.entries c.run_for_turn.new.run.scope.entries c.rewind.new.self.entries c.len-base.result c.rewind.ensures
+    names_restored c.args.run.now.scope.entries c.run_for_turn.new.run.scope.entries c.rewind.new.self.entries c.len-base.result
+    c.rewind.ensures
     (c.turns.invariant.base ∙ length-map (entries_of c.args.run.now.scope) name_of)
     (turn_begins parts.variable.now parts.counter.now (names c.args.run.now) _ (c.in-Some.ensures.names done ∙ c.turns.invariant.names))
 
@@ -134,14 +144,16 @@ pub run_for_turn-returns-then-charge-clause-runs : goal.run_for_turn-returns-the
 unfolding after Steps
 run_for_turn-returns-then-charge-clause-runs g t c k =
     let rules = under g.H.Host.name_of c.args.self.now g.T.NativeTable.natives in
-    empty_charged rules (loop_in c.args.parts) k c.args.turn c.args.base _ _ _ c.in-Some.ensures.some (c.is_empty.ensures.0 c.if-is_empty.true)
+    empty_charged rules (loop_in c.args.parts) k c.args.turn c.args.base _ _ _ c.in-Some.ensures.some
+    (c.is_empty.ensures.0 c.if-is_empty.true)
     _ c.args.run.now.global c.charge.new.global _ _ (c.if-charge.ensures.room refl) (c.if-charge.ensures.charged refl)
 
 pub run_for_turn-returns-then-is_empty-clause-runs : goal.run_for_turn-returns-then-is_empty-clause-runs
 unfolding after Steps
 run_for_turn-returns-then-is_empty-clause-runs g t c k =
     let rules = under g.H.Host.name_of c.args.self.now g.T.NativeTable.natives in
-    empty_refused rules (loop_in c.args.parts) k c.args.turn c.args.base _ _ _ c.in-Some.ensures.some (c.is_empty.ensures.0 c.if-is_empty.true)
+    empty_refused rules (loop_in c.args.parts) k c.args.turn c.args.base _ _ _ c.in-Some.ensures.some
+    (c.is_empty.ensures.0 c.if-is_empty.true)
     _ c.args.run.now.global c.charge.new.global _ _ _ (c.if-charge.ensures.full refl) (c.if-charge.ensures.refused refl)
     (c.if-charge.ensures.same refl)
 
@@ -180,14 +192,16 @@ run_for_turn-returns-clause-runs g t c k =
     (λ empty. absurd (true≢false (sym (c.is_empty.ensures.1 empty) ∙ c.if-is_empty.false)))
     ⨾ (rw c.as_slice-statements.ensures at c.run_stmt_block-done.ensures.runs) (ForBody loop rest c.args.turn c.args.base ∷ k)
     ⨾ rw c.turn_end.ensures
-    (body_ends rules loop k c.args.turn c.args.base (came c.run_stmt_block-done.result c.run_stmt_block-done.new.run.value c.run_stmt_block-done.new.run.error) rest _)
+    (body_ends rules loop k c.args.turn c.args.base (came c.run_stmt_block-done.result c.run_stmt_block-done.new.run.value
+    c.run_stmt_block-done.new.run.error) rest _)
 
 pub run_for_turn-returns-clause-charges : goal.run_for_turn-returns-clause-charges
 run_for_turn-returns-clause-charges g t c none =
     let rules = under g.H.Host.name_of c.args.self.now g.T.NativeTable.natives in
     let count = ap (λ (global : GlobalRuntimeState _). global.num_operations) c.enter_turn-entered.ensures.rest in
     let charged = on_turn rules (loop_in c.args.parts) [] _ _ _ _ _ c.turn_end.ensures none
-    (body_charges rules c.args.parts.body.now.statements _ _ (came c.run_stmt_block-done.result c.run_stmt_block-done.new.run.value c.run_stmt_block-done.new.run.error) (λ empty. absurd
+    (body_charges rules c.args.parts.body.now.statements _ _ (came c.run_stmt_block-done.result c.run_stmt_block-done.new.run.value
+    c.run_stmt_block-done.new.run.error) (λ empty. absurd
     (true≢false (sym (c.is_empty.ensures.1 empty) ∙ c.if-is_empty.false)))
     (rw c.as_slice-statements.ensures at c.run_stmt_block-done.ensures.runs)) in
     omega (arith, charged, count)
@@ -204,11 +218,13 @@ run_for_turn-returns-clause-counts g t c =
 pub run_for_turn-returns-clause-names_stay : goal.run_for_turn-returns-clause-names_stay
 run_for_turn-returns-clause-names_stay g t c none =
     let rules = under g.H.Host.name_of c.args.self.now g.T.NativeTable.natives in
-    names_stay rules (Enter c.args.parts.body.now.statements true) (ended (came c.run_stmt_block-done.result c.run_stmt_block-done.new.run.value c.run_stmt_block-done.new.run.error)) _ _ tt tt
+    names_stay rules (Enter c.args.parts.body.now.statements true) (ended (came c.run_stmt_block-done.result
+    c.run_stmt_block-done.new.run.value c.run_stmt_block-done.new.run.error)) _ _ tt tt
     (rw c.as_slice-statements.ensures at c.run_stmt_block-done.ensures.runs) ∙ c.enter_turn-entered.ensures.names
 
 pub run_for_turn-returns-clause-names : goal.run_for_turn-returns-clause-names
 run_for_turn-returns-clause-names g t c =
     let rules = under g.H.Host.name_of c.args.self.now g.T.NativeTable.natives in
-    if_well _ (names_stay rules (Enter c.args.parts.body.now.statements true) (ended (came c.run_stmt_block-done.result c.run_stmt_block-done.new.run.value c.run_stmt_block-done.new.run.error)) _ _ tt tt
+    if_well _ (names_stay rules (Enter c.args.parts.body.now.statements true) (ended
+    (came c.run_stmt_block-done.result c.run_stmt_block-done.new.run.value c.run_stmt_block-done.new.run.error)) _ _ tt tt
     (rw c.as_slice-statements.ensures at c.run_stmt_block-done.ensures.runs) ∙ c.enter_turn-entered.ensures.names)

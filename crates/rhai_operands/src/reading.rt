@@ -1,0 +1,83 @@
+//! Expressions that are read as they stand: literals, variables and `this`. Ports these forms of upstream's
+//! `eval/expr.rs`.
+
+ghost use Rattle.std.specs.Prelude.{◌≡◌, IfErr, IsTrue, false, true};
+ghost use Rattle.rhai_tree.specs.declared.expr.Expr.{out-Expr};
+ghost use Rattle.rhai_tree.specs.Frame.{resolves_expr};
+ghost use Rattle.rhai_state.specs.Errors.{is_out_of_memory};
+ghost use Rattle.rhai_state.specs.Scope.{names_in};
+ghost use Rattle.rhai_machine.specs.language.State.{Answers};
+ghost use Rattle.rhai_machine.specs.language.Values.{is_handle, is_truth};
+ghost use Rattle.rhai_steps.specs.States.{local_of};
+ghost use Rattle.rhai_context.specs.Ends.{came};
+ghost use Rattle.rhai_operands.specs.Reading.{asks_read, read_as};
+
+use rhai_context::ends::{put, put_truth, put_unit, settle, stop};
+use rhai_state::error::EvalAltResult;
+use rhai_state::scope::Scope;
+use rhai_state::state::GlobalRuntimeState;
+use rhai_steps::values::{char_value, constant_value, int_value, text_value};
+use rhai_steps::variables::{read_this, read_variable};
+use rhai_tree::expr::Expr;
+use rhai_values::base::value::{Dynamic, Host};
+use std::alloc::Global;
+
+/// Puts the value of a literal, of a variable or of `this` into its place, where the expression is charged
+/// already. Asked: the expression resolves to the variables of the scope. What is made of other expressions is the
+/// caller's: here it counts as one that finds no memory.
+///
+/// # Errors
+/// At a variable: `ErrorVariableNotFound`, and `ErrorDataRace` where it is the handle of a cell that is held. At
+/// `this`: `ErrorUnboundThis`.
+#[inline(always)]
+pub fn read_expr<H: Host>(
+    alloc: Global,
+    global: &GlobalRuntimeState<H>,
+    scope: &Scope<H>,
+    this: &Option<Dynamic<H>>,
+    out: &mut Dynamic<H>,
+    place: &mut Option<EvalAltResult<H>>,
+    expr: &Expr,
+) -> bool
+    requires { IsTrue (resolves_expr expr.now (names_in scope.now)) }
+    ensures exact { (focus : _) → Answers (came result out.new place.new)
+        (read_as (local_of global.now scope.now (record { this = this.now; focus = focus })) (out-Expr expr.now)) }
+    ensures memory { IfErr (came result out.new place.new) (λ error.
+        is_out_of_memory error ≡ true → IsTrue (asks_read (out-Expr expr.now)).0) }
+    ensures plain { IsTrue result → is_handle out.new.value ≡ true → IsTrue (asks_read (out-Expr expr.now)).0 }
+    ensures truth { IsTrue result → is_truth out.new.value ≡ false → IsTrue (asks_read (out-Expr expr.now)).1 }
+{
+    match expr {
+        Expr::IntegerConstant(value, _) => {
+            put(out, int_value(value));
+            true
+        }
+        Expr::Variable {
+            offset,
+            name,
+            pos,
+            ..
+        } => {
+            let answer = read_variable(alloc, global, scope, *offset, name, *pos);
+            settle(place, out, answer)
+        }
+        Expr::BoolConstant(value, _) => {
+            put_truth(out, *value);
+            true
+        }
+        Expr::CharConstant(letter, _) => {
+            put(out, char_value(*letter));
+            true
+        }
+        Expr::StringConstant(text, pos) => settle(place, out, text_value(text, *pos)),
+        Expr::DynamicConstant(literal, pos) => {
+            settle(place, out, constant_value(alloc, literal, *pos))
+        }
+        Expr::Unit(_) => {
+            put_unit(out);
+            true
+        }
+        Expr::ThisPtr(pos) => settle(place, out, read_this(alloc, this, *pos)),
+        _ => stop(place, EvalAltResult::ErrorOutOfMemory(expr.position())),
+    }
+}

@@ -1,0 +1,137 @@
+//! How a tree is made of its parts.
+
+mod choices;
+mod operations;
+mod statements;
+
+use crate::parts::Part;
+use rhai_build::functions::TreeParts;
+use rhai_build::no_namespace;
+use rhai_build::statements::no_block;
+use rhai_tree::expr::{Expr, Stmt, StmtBlock};
+use rhai_tree::function::ScriptFuncDef;
+use rhai_tree::literal::{Literal, LiteralFnPtr, LiteralFnPtrKind};
+use rhai_tree::position::Position;
+use rhai_tree::{Items, Shared, Text};
+use std::alloc::{AllocError, Global};
+use std::num::NonZeroUsize;
+
+/// What the parts so far have made, and no later part has taken.
+#[derive(Drop)]
+pub(crate) struct Making {
+    alloc: Global,
+    exprs: Items<Expr>,
+    statements: Items<Stmt>,
+    blocks: Items<StmtBlock>,
+    functions: Items<ScriptFuncDef>,
+}
+
+/// The place at a column, none for zero.
+fn place(column: u16) -> Position {
+    if column == 0 {
+        Position::NONE
+    } else {
+        Position::new(1, column)
+    }
+}
+
+/// A shared copy of a text.
+fn shared(alloc: Global, text: &str) -> Result<Shared<Text>, AllocError> {
+    Shared::new(alloc, Text::from_str(alloc, text)?)
+}
+
+/// Takes the last so many items, or all where there are fewer.
+fn take_last<T: Drop>(
+    alloc: Global,
+    items: &mut Items<T>,
+    count: usize,
+) -> Result<Items<T>, AllocError> {
+    let mut taken = Items::new(alloc);
+    for _ in 0..count {
+        let Some(item) = items.pop() else {
+            break;
+        };
+        taken.insert(0, item)?;
+    }
+    Ok(taken)
+}
+
+impl Making {
+    /// Nothing.
+    pub(crate) fn new(alloc: Global) -> Making {
+        Making {
+            alloc,
+            exprs: Items::new(alloc),
+            statements: Items::new(alloc),
+            blocks: Items::new(alloc),
+            functions: Items::new(alloc),
+        }
+    }
+
+    /// The statements that no part has taken, and the functions.
+    pub(crate) fn finish(self) -> TreeParts {
+        let Making {
+            alloc: _,
+            exprs,
+            statements,
+            blocks,
+            functions,
+        } = self;
+        drop(exprs);
+        drop(blocks);
+        TreeParts {
+            statements,
+            functions,
+        }
+    }
+
+    /// Adds a part.
+    pub(crate) fn add(&mut self, part: Part<'_>) -> Result<(), AllocError> {
+        let made = match part {
+            Part::Int(value, column) => Expr::IntegerConstant(value, place(column)),
+            Part::Truth(value, column) => Expr::BoolConstant(value, place(column)),
+            Part::Character(value, column) => Expr::CharConstant(value, place(column)),
+            Part::Unit(column) => Expr::Unit(place(column)),
+            Part::This(column) => Expr::ThisPtr(place(column)),
+            Part::Always => Expr::BoolConstant(true, Position::NONE),
+            Part::Text(text, column) => {
+                Expr::StringConstant(shared(self.alloc, text)?, place(column))
+            }
+            Part::Property(name, column) => {
+                Expr::Property(shared(self.alloc, name)?, place(column))
+            }
+            Part::Variable(name, offset, column) => Expr::Variable {
+                offset: NonZeroUsize::new(offset),
+                name: shared(self.alloc, name)?,
+                namespace: no_namespace(self.alloc),
+                pos: place(column),
+            },
+            Part::Pointer(name, count, column) => {
+                let pointer = LiteralFnPtr {
+                    name: shared(self.alloc, name)?,
+                    curry: Items::new(self.alloc),
+                    kind: LiteralFnPtrKind::Arity(count),
+                };
+                Expr::DynamicConstant(Literal::FnPtr(pointer), place(column))
+            }
+            _ => return self.add_operation(part),
+        };
+        self.exprs.push(made)
+    }
+
+    /// Takes the newest expression, `()` where there is none.
+    fn expr(&mut self) -> Expr {
+        match self.exprs.pop() {
+            Some(expr) => expr,
+            None => Expr::Unit(Position::NONE),
+        }
+    }
+
+    /// Takes the newest block, one without statements where there is none.
+    fn block(&mut self) -> StmtBlock {
+        match self.blocks.pop() {
+            Some(block) => block,
+            None => no_block(self.alloc),
+        }
+    }
+}

@@ -1,0 +1,111 @@
+//! `switch`, `for` and `try`, what closures share, and functions.
+
+use crate::making::statements::ident;
+use crate::making::{Making, place, shared};
+use crate::parts::{Case, Part};
+use rhai_build::functions::script_function;
+use rhai_tree::Items;
+use rhai_tree::expr::{ConditionalExpr, Expr, SharedVariable, Stmt, SwitchCase};
+use rhai_tree::function::FnAccess;
+use rhai_tree::literal::Literal;
+use rhai_tree::position::Position;
+use std::alloc::{AllocError, Global};
+use std::num::NonZeroUsize;
+
+/// The cases of a `switch`.
+fn cases_of(alloc: Global, cases: &[Case<'_>]) -> Result<Items<SwitchCase>, AllocError> {
+    let mut made = Items::new(alloc);
+    for case in cases {
+        let (value, numbers) = match *case {
+            Case::OfInt(value, numbers) => (Literal::Int(value), numbers),
+            Case::OfText(text, numbers) => (Literal::Str(shared(alloc, text)?), numbers),
+            Case::OfCharacter(value, numbers) => (Literal::Char(value), numbers),
+            Case::OfTruth(value, numbers) => (Literal::Bool(value), numbers),
+        };
+        let blocks = Items::from_slice(alloc, numbers)?;
+        made.push(SwitchCase { value, blocks })?;
+    }
+    Ok(made)
+}
+
+/// What closures share.
+fn variables(
+    alloc: Global,
+    names: &[(&str, usize, u16)],
+) -> Result<Items<SharedVariable>, AllocError> {
+    let mut made = Items::new(alloc);
+    for (name, offset, column) in names {
+        let ident = ident(alloc, name, *column)?;
+        let offset = NonZeroUsize::new(*offset);
+        made.push(SharedVariable { ident, offset })?;
+    }
+    Ok(made)
+}
+
+impl Making {
+    /// Adds a `switch`, a `for`, a `try`, what closures share, or a function.
+    pub(super) fn add_choice(&mut self, part: Part<'_>) -> Result<(), AllocError> {
+        let made = match part {
+            Part::Switch(count, cases, ranges, default, column) => Stmt::Switch {
+                expressions: self.results(count)?,
+                expr: self.expr(),
+                cases: cases_of(self.alloc, cases)?,
+                ranges: Items::from_slice(self.alloc, ranges)?,
+                def_case: default,
+                pos: place(column),
+            },
+            Part::For(name, at_name, column) => Stmt::For {
+                name: ident(self.alloc, name, at_name)?,
+                counter: None,
+                expr: self.expr(),
+                body: self.block(),
+                pos: place(column),
+            },
+            Part::ForCounted(name, at_name, counter, at_counter, column) => Stmt::For {
+                name: ident(self.alloc, name, at_name)?,
+                counter: Some(ident(self.alloc, counter, at_counter)?),
+                expr: self.expr(),
+                body: self.block(),
+                pos: place(column),
+            },
+            _ => return self.add_catch(part),
+        };
+        self.statements.push(made)
+    }
+
+    /// Takes the results of a `switch`, each behind its condition.
+    fn results(&mut self, count: usize) -> Result<Items<ConditionalExpr>, AllocError> {
+        let mut results = Items::new(self.alloc);
+        for _ in 0..count {
+            let expr = self.expr();
+            let condition = self.expr();
+            results.insert(0, ConditionalExpr { condition, expr })?;
+        }
+        Ok(results)
+    }
+
+    /// Adds a `try`, what closures share, or a function.
+    fn add_catch(&mut self, part: Part<'_>) -> Result<(), AllocError> {
+        let made = match part {
+            Part::Try(column) => {
+                let branch = self.block();
+                let caught = Expr::Unit(Position::NONE);
+                Stmt::TryCatch(self.block(), caught, branch, place(column))
+            }
+            Part::TryCatching(column) => {
+                let branch = self.block();
+                let caught = self.expr();
+                Stmt::TryCatch(self.block(), caught, branch, place(column))
+            }
+            Part::Share(names) => Stmt::Share(variables(self.alloc, names)?),
+            Part::Function(name, params) => {
+                let body = self.block();
+                let access = FnAccess::Public;
+                let function = script_function(self.alloc, access, None, name, params, body)?;
+                return self.functions.push(function);
+            }
+            _ => return Ok(()),
+        };
+        self.statements.push(made)
+    }
+}

@@ -1,0 +1,90 @@
+//! Statements without parts of their own, and blocks.
+
+use crate::making::{Making, place, shared, take_last};
+use crate::parts::Part;
+use bitflags::Flags;
+use rhai_build::statements::no_block;
+use rhai_tree::expr::{Expr, Ident, OpAssignment, Stmt, StmtBlock};
+use rhai_tree::flags::ASTFlags;
+use rhai_tree::position::Position;
+use rhai_tree::token::Token;
+use std::alloc::{AllocError, Global};
+
+/// A name at a column.
+pub(super) fn ident(alloc: Global, name: &str, column: u16) -> Result<Ident, AllocError> {
+    Ok(Ident {
+        name: shared(alloc, name)?,
+        pos: place(column),
+    })
+}
+
+impl Making {
+    /// Adds a block or a statement.
+    pub(super) fn add_stmt(&mut self, part: Part<'_>) -> Result<(), AllocError> {
+        let made = match part {
+            Part::Block(count, opening, closing) => {
+                let statements = take_last(self.alloc, &mut self.statements, count)?;
+                return self.blocks.push(StmtBlock {
+                    statements,
+                    position: place(opening),
+                    end_position: place(closing),
+                });
+            }
+            Part::Value => Stmt::Expr(self.expr()),
+            Part::BlockStatement => Stmt::Block(self.block()),
+            Part::Let(name, at_name, column) => {
+                let name = ident(self.alloc, name, at_name)?;
+                Stmt::Var(name, self.expr(), None, ASTFlags::empty(), place(column))
+            }
+            Part::Const(name, at_name, column) => {
+                let name = ident(self.alloc, name, at_name)?;
+                Stmt::Var(name, self.expr(), None, ASTFlags::CONSTANT, place(column))
+            }
+            Part::Assign(column) => self.assignment(None, column),
+            Part::AssignBy(token, column) => self.assignment(Some(token), column),
+            Part::Throw(column) => Stmt::Return(None, ASTFlags::BREAK, place(column)),
+            Part::ThrowValue(column) => {
+                Stmt::Return(Some(self.expr()), ASTFlags::BREAK, place(column))
+            }
+            _ => return self.add_branch(part),
+        };
+        self.statements.push(made)
+    }
+
+    fn assignment(&mut self, op: Option<Token>, column: u16) -> Stmt {
+        let right = self.expr();
+        let left = self.expr();
+        let position = place(column);
+        Stmt::Assignment(OpAssignment { op, position }, left, right)
+    }
+
+    /// Adds an `if`, a loop, or what leaves one.
+    fn add_branch(&mut self, part: Part<'_>) -> Result<(), AllocError> {
+        let made = match part {
+            Part::If(column) => {
+                let body = self.block();
+                Stmt::If(self.expr(), body, no_block(self.alloc), place(column))
+            }
+            Part::IfElse(column) => {
+                let branch = self.block();
+                let body = self.block();
+                Stmt::If(self.expr(), body, branch, place(column))
+            }
+            Part::While(column) => {
+                let body = self.block();
+                Stmt::While(self.expr(), body, place(column))
+            }
+            Part::Loop(column) => {
+                let condition = Expr::Unit(Position::NONE);
+                Stmt::While(condition, self.block(), place(column))
+            }
+            Part::Break(column) => Stmt::BreakLoop(None, ASTFlags::BREAK, place(column)),
+            Part::BreakWith(column) => {
+                Stmt::BreakLoop(Some(self.expr()), ASTFlags::BREAK, place(column))
+            }
+            Part::Continue(column) => Stmt::BreakLoop(None, ASTFlags::empty(), place(column)),
+            _ => return self.add_choice(part),
+        };
+        self.statements.push(made)
+    }
+}
