@@ -24,7 +24,7 @@ is_type _ _ = false
 -- a function has a key
 abbrev pub has_key : FunctionKey → ScriptFuncDef → Bool
 has_key key def =
-    bytes_eq def.name key.name && (nat_eq (length def.params) key.arity && is_type def.this_type key.this_type)
+    nat_eq (length def.params) key.arity && (bytes_eq def.name key.name && is_type def.this_type key.this_type)
 
 abbrev pub is_public : FnAccess → Bool
 is_public Public = true

@@ -29,10 +29,11 @@ fn is_type(own: &Option<Shared<Text>>, wanted: Option<&str>) -> bool
 }
 
 /// Whether a function has a key.
+#[inline(always)]
 pub fn has_key(def: &ScriptFuncDef, key: FnKey<'_>) -> bool
     ensures { result ≡ has_key_in (key_seen key.entry) def.now }
 {
-    def.name.get().as_str() == key.name
-        && def.params.len() == key.arity
+    def.params.len() == key.arity
+        && def.name.get().as_str() == key.name
         && is_type(&def.this_type, key.this_type)
 }

@@ -12,6 +12,7 @@ use rhai_tree::function::FnAccess;
 use rhai_values::base::value::{Import, Module, ModuleFn};
 
 /// The last of some functions that has a key.
+#[inline(always)]
 fn last_with_key<'m, H>(functions: &'m [ModuleFn<H>], key: FnKey<'_>) -> Option<&'m ModuleFn<H>>
     ensures { option_copied result ≡ last_of (key_seen key.entry) functions.now }
 {
@@ -28,6 +29,7 @@ fn last_with_key<'m, H>(functions: &'m [ModuleFn<H>], key: FnKey<'_>) -> Option<
 }
 
 /// A module's function of a key.
+#[inline(always)]
 pub fn find_in_module<'m, H>(within: &'m Module<H>, key: FnKey<'_>) -> Option<&'m ModuleFn<H>>
     ensures { option_copied result ≡ in_module (key_seen key.entry) within.now }
 {
@@ -58,6 +60,7 @@ fn shown<H>(found: Option<&ModuleFn<H>>) -> Option<&ModuleFn<H>>
 }
 
 /// The function of a key in the first of some modules that has one.
+#[inline(always)]
 pub fn find_in_modules<'m, H>(
     modules: &'m [Shared<Module<H>>],
     key: FnKey<'_>,

@@ -11,12 +11,17 @@ use std::alloc::{AllocError, Global};
 impl<H: Host> Dynamic<H> {
     /// A copy, read-write throughout. Texts, functions and environments are shared, and a copied
     /// handle names the same cell. Stands for upstream's `Dynamic::clone`.
+    #[inline(always)]
     #[cycle(copy)]
     pub fn try_clone(&self, alloc: Global) -> Result<Dynamic<H>, AllocError>
         ensures { IfOk result (λ c. c ≡ copy_of self.now) }
     {
+        let value = match &self.value {
+            Union::Int(number) => Union::Int(*number),
+            value => copy_union(alloc, value)?,
+        };
         Ok(Dynamic {
-            value: copy_union(alloc, &self.value)?,
+            value,
             mode: AccessMode::ReadWrite,
         })
     }

@@ -9,11 +9,15 @@ use std::mem::replace;
 impl<H: Drop> Dynamic<H> {
     /// Sets the mode of the value and of all items of nested arrays and maps; of a handle its own.
     /// Ports upstream's `Dynamic::set_access_mode`.
+    #[inline(always)]
     #[cycle(modes)]
     pub fn set_access_mode(&mut self, mode: AccessMode)
         ensures { self.new ≡ with_mode mode self.old }
     {
         self.mode = mode;
+        if let Union::Int(_) = self.value {
+            return;
+        }
         let value = replace(&mut self.value, Union::Unit);
         self.value = set_union_mode(value, mode);
     }
