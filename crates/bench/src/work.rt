@@ -1,12 +1,13 @@
 //! The works that are timed.
 
-use rhai_bench::rows::caught::thrown_in_turn;
-use rhai_bench::rows::chains::item_increased_in_turn;
-use rhai_bench::rows::choices::chosen_in_turn;
-use rhai_bench::rows::data::long_array;
-use rhai_bench::rows::functions::fibonacci_number;
-use rhai_bench::rows::loops::{called_in_turn, called_in_turn_with_two, counted_down};
-use rhai_bench::rows::walks::{array_walked, range_walked};
+use rhai_bench::sample::MadeStatements::{
+    ArraySummed, ChoicesInTurn, Decrements, Doublings, Increments, ManyItems, Pairings,
+    RangeSummed, ThrowsInTurn,
+};
+use rhai_bench::sample::MadeTree::Fibonacci;
+use rhai_bench::sample::Tree::{Statements, WithFunctions};
+use rhai_bench::sample::{MadeStatements, Sample, Tree};
+use rhai_bench::settings::Setting::Usual;
 use rhai_bench::timing::time_run;
 use std::io;
 
@@ -53,67 +54,43 @@ impl Work {
 
     /// Runs the scripts of the work, and prints how each went.
     pub fn run(self, rt: &HostRuntime, number: u32) -> io::Result<()> {
+        let turns = i64::from(number);
         match self {
-            Work::Loop => time_loop(rt, number),
+            Work::Loop => time_statements(rt, "the loop", Decrements(turns)),
             Work::Array => time_arrays(rt, number),
-            Work::Natives => time_natives(rt, number),
-            Work::Item => time_items(rt, number),
-            Work::Fib => time_fib(rt, number),
-            Work::Range => time_range(rt, number),
-            Work::Walk => time_walk(rt, number),
-            Work::Switch => time_switch(rt, number),
-            Work::Throw => time_throw(rt, number),
+            Work::Natives => time_natives(rt, turns),
+            Work::Item => time_items(rt, turns),
+            Work::Fib => time(rt, "the function", WithFunctions(Fibonacci(turns))),
+            Work::Range => time_statements(rt, "the range", RangeSummed(turns)),
+            Work::Walk => time_statements(rt, "the array", ArraySummed(number)),
+            Work::Switch => time_statements(rt, "the choices", ChoicesInTurn(turns)),
+            Work::Throw => time_statements(rt, "the throws", ThrowsInTurn(turns)),
         }
     }
 }
 
-fn time_loop(rt: &HostRuntime, turns: u32) -> io::Result<()> {
-    let script = counted_down(rt.alloc(), i64::from(turns))?;
-    time_run(rt, "the loop", script)
-}
-
 fn time_arrays(rt: &HostRuntime, length: u32) -> io::Result<()> {
-    let script = long_array(rt.alloc(), length)?;
-    time_run(rt, "the array", script)?;
-    let script = long_array(rt.alloc(), length.saturating_mul(2))?;
-    time_run(rt, "one of twice the length", script)
+    time_statements(rt, "the array", ManyItems(length))?;
+    let twice = ManyItems(length.saturating_mul(2));
+    time_statements(rt, "one of twice the length", twice)
 }
 
-fn time_natives(rt: &HostRuntime, calls: u32) -> io::Result<()> {
-    let script = called_in_turn(rt.alloc(), i64::from(calls))?;
-    time_run(rt, "one argument", script)?;
-    let script = called_in_turn_with_two(rt.alloc(), i64::from(calls))?;
-    time_run(rt, "two arguments", script)
+fn time_natives(rt: &HostRuntime, calls: i64) -> io::Result<()> {
+    time_statements(rt, "one argument", Doublings(calls))?;
+    time_statements(rt, "two arguments", Pairings(calls))
 }
 
-fn time_items(rt: &HostRuntime, turns: u32) -> io::Result<()> {
-    let script = item_increased_in_turn(rt.alloc(), 1_000, i64::from(turns))?;
-    time_run(rt, "a thousand items", script)?;
-    let script = item_increased_in_turn(rt.alloc(), 100_000, i64::from(turns))?;
-    time_run(rt, "a hundred thousand items", script)
+fn time_items(rt: &HostRuntime, turns: i64) -> io::Result<()> {
+    time_statements(rt, "a thousand items", Increments(1_000, turns))?;
+    let items = Increments(100_000, turns);
+    time_statements(rt, "a hundred thousand items", items)
 }
 
-fn time_fib(rt: &HostRuntime, number: u32) -> io::Result<()> {
-    let script = fibonacci_number(rt.alloc(), i64::from(number))?;
-    time_run(rt, "the function", script)
+fn time_statements(rt: &HostRuntime, what: &str, made: MadeStatements) -> io::Result<()> {
+    time(rt, what, Statements(made))
 }
 
-fn time_range(rt: &HostRuntime, turns: u32) -> io::Result<()> {
-    let script = range_walked(rt.alloc(), i64::from(turns))?;
-    time_run(rt, "the range", script)
-}
-
-fn time_walk(rt: &HostRuntime, length: u32) -> io::Result<()> {
-    let script = array_walked(rt.alloc(), length)?;
-    time_run(rt, "the array", script)
-}
-
-fn time_switch(rt: &HostRuntime, turns: u32) -> io::Result<()> {
-    let script = chosen_in_turn(rt.alloc(), i64::from(turns))?;
-    time_run(rt, "the choices", script)
-}
-
-fn time_throw(rt: &HostRuntime, turns: u32) -> io::Result<()> {
-    let script = thrown_in_turn(rt.alloc(), i64::from(turns))?;
-    time_run(rt, "the throws", script)
+/// Times the script of a tree.
+fn time(rt: &HostRuntime, what: &str, tree: Tree) -> io::Result<()> {
+    time_run(rt, what, Sample(tree, Usual).script(rt.alloc())?)
 }

@@ -2,6 +2,9 @@
 use Rattle.std.specs.Prelude.{ℕ, true, false}
 use Rattle.rhai_state.specs.declared.limits.Limits.{Limits}
 use Rattle.rhai_bench.specs.declared.settings.Settings.{Settings}
+use Rattle.rhai_bench.specs.declared.settings.Setting.{Setting}
+use Rattle.rhai_bench.specs.declared.settings.Setting.TheVariants.{Usual, MaxOperations, MaxVariables, MaxArraySize, MaxCallLevels}
+use Rattle.rhai_bench.specs.declared.settings.Setting.TheVariants.{WithoutFastOperators, WithoutShadowing, FailingOnMissingKeys}
 
 -- no limits of operations and of data, and fast operators
 abbrev pub usual_limits : Limits
@@ -36,3 +39,14 @@ under_array_size size = record usual { limits = record usual_limits { max_array_
 
 abbrev pub under_call_levels : (levels : ℕ) → Settings
 under_call_levels levels = record usual { limits = record usual_limits { max_call_levels = levels } }
+
+-- all that is set with it: beside it the usual
+abbrev pub settings_of : Setting → Settings
+settings_of Usual = usual
+settings_of (MaxOperations count) = under_operations count
+settings_of (MaxVariables count) = under_variables count
+settings_of (MaxArraySize size) = under_array_size size
+settings_of (MaxCallLevels levels) = under_call_levels levels
+settings_of WithoutFastOperators = record usual { fast_operators = false }
+settings_of WithoutShadowing = record usual { allow_shadowing = false }
+settings_of FailingOnMissingKeys = record usual { fail_on_invalid_map_property = true }

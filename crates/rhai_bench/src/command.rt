@@ -6,9 +6,9 @@ ghost use Rattle.rhai_bench.specs.Arguments.{IsCall};
 use crate::outcome::Ending;
 use crate::print::write_line;
 use crate::rows::{scope_for, scripts};
-use crate::script::Script;
+use crate::sample::Sample;
 use crate::settings::Way;
-use rhai_eval::base::{Dynamic, Items, Shared, Text, Union};
+use rhai_eval::base::{Dynamic, Shared, Text, Union};
 use rhai_samples::built::private_function;
 use rhai_tables::host::Pair;
 use std::alloc::{AllocError, Global};
@@ -59,7 +59,7 @@ fn run_row<W: Write>(alloc: Global, row: &str, out: &mut W) -> io::Result<u8>
     if row == "25" {
         return show_function(alloc, out);
     }
-    match scripts(alloc, row)? {
+    match scripts(row) {
         Some(scripts) => run_scripts(alloc, row, scripts, out),
         None => print_usage(out),
     }
@@ -88,23 +88,23 @@ fn function_text(alloc: Global) -> Result<Dynamic<Pair>, AllocError> {
 fn run_scripts<W: Write>(
     alloc: Global,
     row: &str,
-    scripts: Items<Script>,
+    scripts: &[Sample],
     out: &mut W,
 ) -> io::Result<u8>
     ensures { IfOk result (λ s. s ≤ 2) }
 {
     let mut status = 0;
-    for script in scripts.into_vec() {
-        status = run_script(alloc, row, script, out)?;
+    for script in scripts {
+        status = run_script(alloc, row, *script, out)?;
     }
     Ok(status)
 }
 
-fn run_script<W: Write>(alloc: Global, row: &str, script: Script, out: &mut W) -> io::Result<u8>
+fn run_script<W: Write>(alloc: Global, row: &str, script: Sample, out: &mut W) -> io::Result<u8>
     ensures { IfOk result (λ s. s ≤ 2) }
 {
     let scope = scope_for(alloc, row)?;
-    let outcome = script.run_above(alloc, Way::USUAL, scope)?;
+    let outcome = script.script(alloc)?.run_above(alloc, Way::USUAL, scope)?;
     let wrote = write_line(out, &outcome.ending);
     let status = outcome.ending.status();
     drop(outcome);

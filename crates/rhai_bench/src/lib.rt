@@ -6,6 +6,7 @@ pub mod command;
 pub mod outcome;
 pub mod print;
 pub mod rows;
+pub mod sample;
 pub mod script;
 pub mod searches;
 pub mod settings;

@@ -1,13 +1,11 @@
 //! Scripts with what is set for their runs.
 
-ghost use Rattle.std.specs.Prelude.{◌≡◌, ◌≢◌, ◌≤◌, [], false, true, IfOk, length};
+ghost use Rattle.std.specs.Prelude.{◌≡◌, ◌≢◌, ◌≤◌, [], IfOk, length};
 ghost use Rattle.rhai_tree.specs.WellFormed.{IsFormedTree};
 ghost use Rattle.rhai_tree.specs.declared.fault.CheckFault.TheVariants.{NoMemory};
 ghost use Rattle.rhai_state.specs.Scope.{entries_of, names_in};
 ghost use Rattle.rhai_state.specs.Limits.{limit_of};
 ghost use Rattle.rhai_bench.specs.Outcome.{IfRefused};
-ghost use Rattle.rhai_bench.specs.Settings.{under_array_size, under_call_levels, under_operations};
-ghost use Rattle.rhai_bench.specs.Settings.{under_variables, usual};
 
 use crate::outcome::{Ending, Outcome};
 use crate::settings::{Settings, Way};
@@ -48,97 +46,8 @@ pub fn add_library(
 }
 
 impl Script {
-    /// A script without functions, under the usual settings.
-    pub fn new(alloc: Global, statements: Items<Stmt>) -> Script
-        ensures statements { result.statements ≡ statements }
-        ensures functions { result.functions ≡ [] }
-        ensures settings { result.settings ≡ usual }
-    {
-        Script::with_settings(alloc, statements, Settings::USUAL)
-    }
-
-    /// A script without functions, under a limit of operations.
-    pub fn with_max_operations(alloc: Global, statements: Items<Stmt>, count: u64) -> Script
-        ensures statements { result.statements ≡ statements }
-        ensures functions { result.functions ≡ [] }
-        ensures settings { result.settings ≡ under_operations count }
-    {
-        Script::with_settings(alloc, statements, Settings::with_max_operations(count))
-    }
-
-    /// A script without functions, under a limit of variables.
-    pub fn with_max_variables(alloc: Global, statements: Items<Stmt>, count: usize) -> Script
-        ensures statements { result.statements ≡ statements }
-        ensures functions { result.functions ≡ [] }
-        ensures settings { result.settings ≡ under_variables count }
-    {
-        Script::with_settings(alloc, statements, Settings::with_max_variables(count))
-    }
-
-    /// A script without functions, under a limit of an array's items.
-    pub fn with_max_array_size(alloc: Global, statements: Items<Stmt>, size: usize) -> Script
-        ensures statements { result.statements ≡ statements }
-        ensures functions { result.functions ≡ [] }
-        ensures settings { result.settings ≡ under_array_size size }
-    {
-        Script::with_settings(alloc, statements, Settings::with_max_array_size(size))
-    }
-
-    /// A script without functions, and without fast operators.
-    pub fn without_fast_operators(alloc: Global, statements: Items<Stmt>) -> Script
-        ensures statements { result.statements ≡ statements }
-        ensures functions { result.functions ≡ [] }
-        ensures settings { result.settings ≡ record usual { fast_operators = false } }
-    {
-        Script::with_settings(alloc, statements, Settings::without_fast_operators())
-    }
-
-    /// A script without functions, whose variables may not hide others.
-    pub fn without_shadowing(alloc: Global, statements: Items<Stmt>) -> Script
-        ensures statements { result.statements ≡ statements }
-        ensures functions { result.functions ≡ [] }
-        ensures settings { result.settings ≡ record usual { allow_shadowing = false } }
-    {
-        Script::with_settings(alloc, statements, Settings::without_shadowing())
-    }
-
-    /// A script without functions, to which a key that a map does not have is an error.
-    pub fn failing_on_missing_keys(alloc: Global, statements: Items<Stmt>) -> Script
-        ensures statements { result.statements ≡ statements }
-        ensures functions { result.functions ≡ [] }
-        ensures settings { result.settings ≡ record usual { fail_on_invalid_map_property = true } }
-    {
-        Script::with_settings(alloc, statements, Settings::failing_on_missing_keys())
-    }
-
-    /// A script with functions, under the usual settings.
-    pub fn of_parts(parts: TreeParts) -> Script
-        ensures statements { result.statements ≡ parts.statements }
-        ensures functions { result.functions ≡ parts.functions }
-        ensures settings { result.settings ≡ usual }
-    {
-        Script::of_parts_with(parts, Settings::USUAL)
-    }
-
-    /// A script with functions, under a limit of how deep its calls are.
-    pub fn with_max_call_levels(parts: TreeParts, levels: usize) -> Script
-        ensures statements { result.statements ≡ parts.statements }
-        ensures functions { result.functions ≡ parts.functions }
-        ensures settings { result.settings ≡ under_call_levels levels }
-    {
-        Script::of_parts_with(parts, Settings::with_max_call_levels(levels))
-    }
-
-    /// A script with functions, under a limit of an array's items.
-    pub fn of_parts_with_max_array_size(parts: TreeParts, size: usize) -> Script
-        ensures statements { result.statements ≡ parts.statements }
-        ensures functions { result.functions ≡ parts.functions }
-        ensures settings { result.settings ≡ under_array_size size }
-    {
-        Script::of_parts_with(parts, Settings::with_max_array_size(size))
-    }
-
-    fn of_parts_with(parts: TreeParts, settings: Settings) -> Script
+    /// A script under settings.
+    pub fn new(parts: TreeParts, settings: Settings) -> Script
         ensures statements { result.statements ≡ parts.statements }
         ensures functions { result.functions ≡ parts.functions }
         ensures settings { result.settings ≡ settings }
@@ -150,18 +59,6 @@ impl Script {
         Script {
             statements,
             functions,
-            settings,
-        }
-    }
-
-    fn with_settings(alloc: Global, statements: Items<Stmt>, settings: Settings) -> Script
-        ensures statements { result.statements ≡ statements }
-        ensures functions { result.functions ≡ [] }
-        ensures settings { result.settings ≡ settings }
-    {
-        Script {
-            statements,
-            functions: Items::new(alloc),
             settings,
         }
     }

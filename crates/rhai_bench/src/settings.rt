@@ -1,10 +1,9 @@
 //! What is set for a run.
 
-ghost use Rattle.std.specs.Prelude.{◌≡◌, [], false, true};
+ghost use Rattle.std.specs.Prelude.{◌≡◌, []};
 ghost use Rattle.rhai_state.specs.Caches.{depth_of, is_on};
 ghost use Rattle.rhai_eval.specs.States.{limits_of};
-ghost use Rattle.rhai_bench.specs.Settings.{under_array_size, under_call_levels, under_operations};
-ghost use Rattle.rhai_bench.specs.Settings.{under_variables, usual};
+ghost use Rattle.rhai_bench.specs.Settings.{settings_of, usual};
 
 use rhai_eval::engine::Engine;
 use rhai_eval::state::{Caches, Limits};
@@ -39,67 +38,14 @@ impl Settings {
         map_exit_to_return_value: false,
     };
 
-    /// The usual settings, but for the limit of operations.
-    pub fn with_max_operations(count: u64) -> Settings
-        ensures { result ≡ under_operations count }
+    /// The usual settings, but for their limits.
+    fn under(limits: Limits) -> Settings
+        ensures { result ≡ record usual { limits = limits } }
     {
-        let mut settings = Settings::USUAL;
-        settings.limits.max_operations = count;
-        settings
-    }
-
-    /// The usual settings, but for the limit of variables.
-    pub fn with_max_variables(count: usize) -> Settings
-        ensures { result ≡ under_variables count }
-    {
-        let mut settings = Settings::USUAL;
-        settings.limits.max_variables = count;
-        settings
-    }
-
-    /// The usual settings, but for the limit of an array's items.
-    pub fn with_max_array_size(size: usize) -> Settings
-        ensures { result ≡ under_array_size size }
-    {
-        let mut settings = Settings::USUAL;
-        settings.limits.max_array_size = size;
-        settings
-    }
-
-    /// The usual settings, but for the limit of how deep calls are.
-    pub fn with_max_call_levels(levels: usize) -> Settings
-        ensures { result ≡ under_call_levels levels }
-    {
-        let mut settings = Settings::USUAL;
-        settings.limits.max_call_levels = levels;
-        settings
-    }
-
-    /// The usual settings, but without fast operators.
-    pub fn without_fast_operators() -> Settings
-        ensures { result ≡ record usual { fast_operators = false } }
-    {
-        let mut settings = Settings::USUAL;
-        settings.fast_operators = false;
-        settings
-    }
-
-    /// The usual settings, but variables may not hide others.
-    pub fn without_shadowing() -> Settings
-        ensures { result ≡ record usual { allow_shadowing = false } }
-    {
-        let mut settings = Settings::USUAL;
-        settings.allow_shadowing = false;
-        settings
-    }
-
-    /// The usual settings, but a key that a map does not have is an error.
-    pub fn failing_on_missing_keys() -> Settings
-        ensures { result ≡ record usual { fail_on_invalid_map_property = true } }
-    {
-        let mut settings = Settings::USUAL;
-        settings.fail_on_invalid_map_property = true;
-        settings
+        Settings {
+            limits,
+            ..Settings::USUAL
+        }
     }
 
     /// An engine with these limits and switches, without modules.
@@ -123,6 +69,64 @@ impl Settings {
         engine.allow_shadowing = self.allow_shadowing;
         engine.fail_on_invalid_map_property = self.fail_on_invalid_map_property;
         engine
+    }
+}
+
+/// What is set for the run of a script that is data.
+#[derive(Clone, Copy)]
+pub enum Setting {
+    Usual,
+    /// A limit of operations.
+    MaxOperations(u64),
+    /// A limit of variables.
+    MaxVariables(usize),
+    /// A limit of an array's items.
+    MaxArraySize(usize),
+    /// A limit of how deep calls are.
+    MaxCallLevels(usize),
+    WithoutFastOperators,
+    /// Variables may not hide others.
+    WithoutShadowing,
+    /// A key that a map does not have is an error.
+    FailingOnMissingKeys,
+}
+
+impl Setting {
+    /// All that is set with it: beside it the usual.
+    pub fn settings(self) -> Settings
+        ensures { result ≡ settings_of self }
+    {
+        match self {
+            Setting::Usual => Settings::USUAL,
+            Setting::MaxOperations(max_operations) => Settings::under(Limits {
+                max_operations,
+                ..Settings::USUAL.limits
+            }),
+            Setting::MaxVariables(max_variables) => Settings::under(Limits {
+                max_variables,
+                ..Settings::USUAL.limits
+            }),
+            Setting::MaxArraySize(max_array_size) => Settings::under(Limits {
+                max_array_size,
+                ..Settings::USUAL.limits
+            }),
+            Setting::MaxCallLevels(max_call_levels) => Settings::under(Limits {
+                max_call_levels,
+                ..Settings::USUAL.limits
+            }),
+            Setting::WithoutFastOperators => Settings {
+                fast_operators: false,
+                ..Settings::USUAL
+            },
+            Setting::WithoutShadowing => Settings {
+                allow_shadowing: false,
+                ..Settings::USUAL
+            },
+            Setting::FailingOnMissingKeys => Settings {
+                fail_on_invalid_map_property: true,
+                ..Settings::USUAL
+            },
+        }
     }
 }
 

@@ -39,7 +39,7 @@ pub fn answer(alloc: Global, call: &str) -> io::Result<Vec<u8>> {
 fn write_answer(alloc: Global, call: &str, out: &mut Vec<u8>) -> io::Result<()> {
     let (form, rest) = call.split_once(' ').unwrap_or((call, ""));
     match form {
-        "scripts" => write_number(alloc, rest, out),
+        "scripts" => write_number(rest, out),
         "run" => write_run(alloc, rest, out),
         "refuses" => write_refusals(alloc, rest, out),
         "prints" => write_sample(alloc, rest, out),

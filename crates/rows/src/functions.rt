@@ -6,18 +6,19 @@ ghost use Rattle.rhai_values.specs.Cells.{IsNoHandle};
 use crate::errors::write_error;
 use rhai_bench::outcome::Ending;
 use rhai_bench::print::{write_ending, write_value};
+use rhai_bench::sample::MadeTree::VariableOfTheCallerIncreased;
+use rhai_bench::sample::Tree::{Parts, WithFunctions};
+use rhai_bench::sample::{Sample, Tree};
 use rhai_bench::script::add_library;
-use rhai_build::functions::TreeParts;
+use rhai_bench::settings::Setting::Usual;
 use rhai_eval::base::{AccessMode, CellId, EvalAltResult, Items, Position, Scope, Shared, Union};
 use rhai_eval::check::{CheckedFn, CheckedTree, check_tree};
 use rhai_eval::engine::Engine;
 use rhai_eval::script::FnKey;
 use rhai_eval::target::{Part, Target};
-use rhai_samples::built::variable_of_the_caller_increased;
 use rhai_samples::functions::{
     EMPTY_FUNCTION, METHOD_THAT_CHANGES_AN_ITEM, PARAMETER_ASSIGNED, VARIABLE_DECLARED,
 };
-use rhai_samples::parts::tree_of;
 use rhai_state::caches::Caches;
 use rhai_state::state::GlobalRuntimeState;
 use rhai_tables::host::Pair;
@@ -27,6 +28,117 @@ use std::alloc::{AllocError, Global};
 use std::io;
 use std::io::Write;
 use std::mem::replace;
+
+/// A call by its name: the tree with its function, how many arguments the caller has, and its form.
+#[derive(Clone, Copy)]
+struct Call(&'static str, Tree, usize, Form);
+
+/// How a host calls.
+#[derive(Clone, Copy)]
+enum Form {
+    /// The function itself, at a level, and whether all of its variables go.
+    Function(usize, bool),
+    /// A name, as a method.
+    Method(&'static str),
+    /// A name, with the object lent as its first argument.
+    Reference(&'static str),
+    /// A name, with the object as its first argument.
+    Value(&'static str),
+    /// A name on the variables, and whether as a method.
+    OnVariables(&'static str, bool),
+    /// A name, as a method, where object and arguments are handles.
+    MethodOnHandles(&'static str),
+    /// The name of a native, where object and arguments are handles. What the error says is written.
+    NativeOnHandles(&'static str),
+    /// A method on a target.
+    OnTarget(&'static str),
+    /// Whether a function of a name without arguments is there.
+    Seeks(&'static str),
+}
+
+const CALLS: &[Call] = &[
+    Call(
+        "this",
+        Parts(METHOD_THAT_CHANGES_AN_ITEM),
+        0,
+        Form::Function(64, true),
+    ),
+    Call(
+        "all variables",
+        Parts(VARIABLE_DECLARED),
+        0,
+        Form::Function(64, true),
+    ),
+    Call(
+        "no statements",
+        Parts(EMPTY_FUNCTION),
+        0,
+        Form::Function(64, true),
+    ),
+    Call(
+        "its variables",
+        Parts(VARIABLE_DECLARED),
+        0,
+        Form::Function(0, false),
+    ),
+    Call(
+        "too deep",
+        Parts(VARIABLE_DECLARED),
+        0,
+        Form::Function(65, true),
+    ),
+    Call(
+        "a method",
+        Parts(METHOD_THAT_CHANGES_AN_ITEM),
+        1,
+        Form::Method("add"),
+    ),
+    Call(
+        "a reference",
+        Parts(PARAMETER_ASSIGNED),
+        0,
+        Form::Reference("chg"),
+    ),
+    Call("a value", Parts(PARAMETER_ASSIGNED), 0, Form::Value("chg")),
+    Call(
+        "the scope",
+        WithFunctions(VariableOfTheCallerIncreased),
+        0,
+        Form::OnVariables("bump", false),
+    ),
+    Call(
+        "a method on the scope",
+        WithFunctions(VariableOfTheCallerIncreased),
+        1,
+        Form::OnVariables("bump", true),
+    ),
+    Call(
+        "a racing method",
+        Parts(METHOD_THAT_CHANGES_AN_ITEM),
+        1,
+        Form::MethodOnHandles("add"),
+    ),
+    Call(
+        "a racing native",
+        Parts(EMPTY_FUNCTION),
+        1,
+        Form::MethodOnHandles("none"),
+    ),
+    Call(
+        "a missing native",
+        Parts(EMPTY_FUNCTION),
+        1,
+        Form::NativeOnHandles("none"),
+    ),
+    Call(
+        "on a target",
+        Parts(METHOD_THAT_CHANGES_AN_ITEM),
+        1,
+        Form::OnTarget("add"),
+    ),
+    Call("a name", Parts(EMPTY_FUNCTION), 0, Form::Seeks("e")),
+    Call("no name", Parts(EMPTY_FUNCTION), 0, Form::Seeks("f")),
+];
 
 /// What a host has for its calls.
 #[derive(Drop)]
@@ -231,54 +343,41 @@ impl Caller {
 
 /// Writes what a call of a name comes to, and what it leaves.
 pub fn write_call(alloc: Global, name: &str, out: &mut Vec<u8>) -> io::Result<()> {
-    let TreeParts {
-        statements,
-        functions,
-    } = parts_for(alloc, name)?;
-    match check_tree(alloc, statements, functions) {
+    for call in CALLS {
+        if call.0 == name {
+            return write_made(alloc, *call, out);
+        }
+    }
+    write!(out, "no call")
+}
+
+fn write_made(alloc: Global, call: Call, out: &mut Vec<u8>) -> io::Result<()> {
+    let Call(_, tree, count, form) = call;
+    let script = Sample(tree, Usual).script(alloc)?;
+    match check_tree(alloc, script.statements, script.functions) {
         Ok(tree) => match tree.functions() {
-            [function] => write_called(alloc, name, &tree, function, out),
+            [function] => write_called(alloc, count, form, &tree, function, out),
             _ => write!(out, "no function"),
         },
         Err(_) => write!(out, "no tree"),
     }
 }
 
-/// The tree with the function of a call.
-fn parts_for(alloc: Global, name: &str) -> Result<TreeParts, AllocError> {
-    let parts = match name {
-        "this" | "a method" | "a racing method" | "on a target" => METHOD_THAT_CHANGES_AN_ITEM,
-        "all variables" | "its variables" | "too deep" => VARIABLE_DECLARED,
-        "a reference" | "a value" => PARAMETER_ASSIGNED,
-        "the scope" | "a method on the scope" => return variable_of_the_caller_increased(alloc),
-        _ => EMPTY_FUNCTION,
-    };
-    tree_of(alloc, parts)
-}
-
 fn write_called(
     alloc: Global,
-    name: &str,
+    count: usize,
+    form: Form,
     tree: &CheckedTree,
     function: &Shared<CheckedFn>,
     out: &mut Vec<u8>,
 ) -> io::Result<()> {
-    let count = usize::from(matches!(
-        name,
-        "a method"
-            | "a method on the scope"
-            | "a racing method"
-            | "a racing native"
-            | "a missing native"
-            | "on a target"
-    ));
     let mut caller = Caller::new(alloc, count)?;
     add_library(alloc, &mut caller.global, tree)?;
-    let answer = answer_of(alloc, &mut caller, name, function.get())?;
-    if name == "a missing native" {
-        return write_text(alloc, answer, out);
+    let answer = answer_of(alloc, &mut caller, form, function.get())?;
+    match form {
+        Form::NativeOnHandles(_) => write_text(alloc, answer, out),
+        _ => caller.write_left(answer, out),
     }
-    caller.write_left(answer, out)
 }
 
 /// Writes what the error of a call says.
@@ -292,28 +391,24 @@ fn write_text(alloc: Global, answer: Answer, out: &mut Vec<u8>) -> io::Result<()
 fn answer_of(
     alloc: Global,
     caller: &mut Caller,
-    name: &str,
+    form: Form,
     def: &CheckedFn,
 ) -> Result<Answer, AllocError> {
-    match name {
-        "this" | "all variables" | "no statements" => caller.call(alloc, def, 64, true),
-        "its variables" => caller.call(alloc, def, 0, false),
-        "too deep" => caller.call(alloc, def, 65, true),
-        "a method" => Ok(caller.call_named(alloc, "add", false, true)),
-        "a reference" => Ok(caller.call_named(alloc, "chg", true, false)),
-        "a value" => Ok(caller.call_named(alloc, "chg", false, false)),
-        "the scope" => Ok(caller.call_captured(alloc, "bump", false)),
-        "a method on the scope" => Ok(caller.call_captured(alloc, "bump", true)),
-        "a racing method" | "a racing native" | "a missing native" => {
+    match form {
+        Form::Function(level, rewinds) => caller.call(alloc, def, level, rewinds),
+        Form::Method(name) => Ok(caller.call_named(alloc, name, false, true)),
+        Form::Reference(name) => Ok(caller.call_named(alloc, name, true, false)),
+        Form::Value(name) => Ok(caller.call_named(alloc, name, false, false)),
+        Form::OnVariables(name, is_method) => Ok(caller.call_captured(alloc, name, is_method)),
+        Form::MethodOnHandles(name) => {
             caller.share()?;
-            Ok(match name {
-                "a racing method" => caller.call_named(alloc, "add", false, true),
-                "a racing native" => caller.call_named(alloc, "none", false, true),
-                _ => caller.call_native(alloc, "none"),
-            })
+            Ok(caller.call_named(alloc, name, false, true))
         }
-        "on a target" => Ok(caller.call_method(alloc, "add")),
-        "a name" => Ok(caller.seeks(alloc, "e")),
-        _ => Ok(caller.seeks(alloc, "f")),
+        Form::NativeOnHandles(name) => {
+            caller.share()?;
+            Ok(caller.call_native(alloc, name))
+        }
+        Form::OnTarget(name) => Ok(caller.call_method(alloc, name)),
+        Form::Seeks(name) => Ok(caller.seeks(alloc, name)),
     }
 }

@@ -1,31 +1,214 @@
 //! Methods on handles of a cell, which is held until the chain is left.
 
+ghost use Rattle.std.specs.Prelude.{IfOk};
+ghost use Rattle.rhai_values.specs.Cells.{IsNoHandle};
+
 use crate::errors::write_error;
 use crate::values::shared;
 use rhai_bench::print::write_value;
 use rhai_bench::script::add_library;
 use rhai_bench::settings::{Settings, Way};
-use rhai_build::Builder;
-use rhai_build::expressions::int;
-use rhai_build::functions::TreeParts;
-use rhai_build::statements::assign;
 use rhai_eval::base::{
-    AccessMode, Boxed, CellId, Dynamic, Expr, FnPtr, FnPtrKind, Items, NativeId, Scope, Stmt,
-    Table, Union,
+    AccessMode, Boxed, CellId, Dynamic, FnPtr, FnPtrKind, Items, NativeId, Scope, Table, Union,
 };
 use rhai_eval::cells::CellStore;
 use rhai_eval::check::check_tree;
 use rhai_eval::engine::Engine;
 use rhai_eval::state::GlobalRuntimeState;
+use rhai_samples::parts::Part::{
+    Assign, Block, Dot, Function, Index, Int, Method, Value, Variable,
+};
+use rhai_samples::parts::{Part, tree_of};
 use rhai_tables::host::Pair;
 use rhai_tables::tables::counting::Counting;
 use std::alloc::{AllocError, Global};
 use std::io;
 use std::io::Write;
 
+/// A chain on handles.
+#[derive(Clone, Copy)]
+struct Chain {
+    name: &'static str,
+    /// The variable that it begins with.
+    root: &'static str,
+    tree: &'static [Part<'static>],
+    cell: Cell,
+    /// The variable `p`.
+    called: Pointer,
+}
+
+/// What the cell has.
+#[derive(Clone, Copy)]
+enum Cell {
+    One,
+    Pointer(Pointer),
+    /// A map with the handle under a name.
+    MapOfHandle(&'static str),
+    /// A map with a pointer under the pointer's name.
+    MapOfPointer(Pointer),
+}
+
+/// A pointer with its name, with a handle of the cell as its argument already, or with none.
+#[derive(Clone, Copy)]
+struct Pointer(&'static str, Kind, bool);
+
+/// What a pointer leads to.
+#[derive(Clone, Copy)]
+enum Kind {
+    Name,
+    Native(u64),
+    Arity(usize),
+}
+
+const POINTER_TO_G: Pointer = Pointer("g", Kind::Arity(1), true);
+
+const CHAINS: &[Chain] = &[
+    Chain {
+        name: "f.call()",
+        root: "f",
+        tree: POINTER_CALLED,
+        cell: Cell::Pointer(POINTER_TO_G),
+        called: POINTER_TO_G,
+    },
+    Chain {
+        name: "f.call(a)",
+        root: "f",
+        tree: POINTER_CALLED_WITH_AN_ARRAY,
+        cell: Cell::Pointer(Pointer("g", Kind::Arity(1), false)),
+        called: POINTER_TO_G,
+    },
+    Chain {
+        name: "m.f()",
+        root: "m",
+        tree: METHOD_OF_A_MAP,
+        cell: Cell::MapOfHandle("f"),
+        called: POINTER_TO_G,
+    },
+    Chain {
+        name: "m.get$f()",
+        root: "m",
+        tree: GETTER_OF_A_MAP,
+        cell: Cell::MapOfPointer(Pointer("get$f", Kind::Native(99), false)),
+        called: POINTER_TO_G,
+    },
+    Chain {
+        name: "x.type_of().call(p)",
+        root: "x",
+        tree: POINTER_CALLED_ON_A_TYPE,
+        cell: Cell::One,
+        called: POINTER_TO_G,
+    },
+    Chain {
+        name: "x.call(n)",
+        root: "x",
+        tree: POINTER_CALLED_ON_A_VARIABLE,
+        cell: Cell::One,
+        called: Pointer("double", Kind::Name, true),
+    },
+    Chain {
+        name: "x.call(p)",
+        root: "x",
+        tree: POINTER_CALLED_ON_A_VARIABLE,
+        cell: Cell::One,
+        called: Pointer("n", Kind::Native(2), true),
+    },
+];
+
+/// `fn g(a) { a[0] = 7; }` and `f.call()`
+const POINTER_CALLED: &[Part<'_>] = &[
+    Variable("a", 0, 11),
+    Int(0, 13),
+    Index(12),
+    Int(7, 18),
+    Assign(16),
+    Block(1, 9, 21),
+    Function("g", &["a"]),
+    Variable("f", 0, 1),
+    Method("call", 0, 3),
+    Dot(2),
+    Value,
+];
+
+/// `fn g(a) { a[0] = 7; }` and `f.call(a)`
+const POINTER_CALLED_WITH_AN_ARRAY: &[Part<'_>] = &[
+    Variable("a", 0, 11),
+    Int(0, 13),
+    Index(12),
+    Int(7, 18),
+    Assign(16),
+    Block(1, 9, 21),
+    Function("g", &["a"]),
+    Variable("f", 0, 1),
+    Variable("a", 0, 8),
+    Method("call", 1, 3),
+    Dot(2),
+    Value,
+];
+
+/// `fn g(x) { 5 }` and `m.f()`
+const METHOD_OF_A_MAP: &[Part<'_>] = &[
+    Int(5, 11),
+    Value,
+    Block(1, 9, 13),
+    Function("g", &["x"]),
+    Variable("m", 0, 1),
+    Method("f", 0, 3),
+    Dot(2),
+    Value,
+];
+
+/// `fn g(x) { 5 }` and `m.get$f()`
+const GETTER_OF_A_MAP: &[Part<'_>] = &[
+    Int(5, 11),
+    Value,
+    Block(1, 9, 13),
+    Function("g", &["x"]),
+    Variable("m", 0, 1),
+    Method("get$f", 0, 3),
+    Dot(2),
+    Value,
+];
+
+/// `fn g(x) { 5 }` and `x.type_of().call(p)`
+const POINTER_CALLED_ON_A_TYPE: &[Part<'_>] = &[
+    Int(5, 11),
+    Value,
+    Block(1, 9, 13),
+    Function("g", &["x"]),
+    Variable("x", 0, 1),
+    Method("type_of", 0, 3),
+    Variable("p", 0, 18),
+    Method("call", 1, 13),
+    Dot(12),
+    Dot(2),
+    Value,
+];
+
+/// `fn g(x) { 5 }` and `x.call(p)`
+const POINTER_CALLED_ON_A_VARIABLE: &[Part<'_>] = &[
+    Int(5, 11),
+    Value,
+    Block(1, 9, 13),
+    Function("g", &["x"]),
+    Variable("x", 0, 1),
+    Variable("p", 0, 8),
+    Method("call", 1, 3),
+    Dot(2),
+    Value,
+];
+
 /// Writes what a chain on handles comes to in every way of running, its charges, and what stands in the cell
 /// then. Where two ways differ both are written.
-pub fn write_handled(alloc: Global, chain: &str, out: &mut Vec<u8>) -> io::Result<()> {
+pub fn write_handled(alloc: Global, name: &str, out: &mut Vec<u8>) -> io::Result<()> {
+    for chain in CHAINS {
+        if chain.name == name {
+            return write_ways(alloc, *chain, out);
+        }
+    }
+    write!(out, "no chain")
+}
+
+fn write_ways(alloc: Global, chain: Chain, out: &mut Vec<u8>) -> io::Result<()> {
     write_way(alloc, chain, Way::USUAL, out)?;
     for way in Way::ALL {
         let mut other = Vec::new(alloc);
@@ -38,11 +221,11 @@ pub fn write_handled(alloc: Global, chain: &str, out: &mut Vec<u8>) -> io::Resul
     Ok(())
 }
 
-fn write_way(alloc: Global, chain: &str, way: Way, out: &mut Vec<u8>) -> io::Result<()> {
-    let parts = parts_of(alloc, chain)?;
+fn write_way(alloc: Global, chain: Chain, way: Way, out: &mut Vec<u8>) -> io::Result<()> {
+    let parts = tree_of(alloc, chain.tree)?;
     let mut global = GlobalRuntimeState::new(alloc)?;
     global.always_search_scope = way.always_search_scope;
-    add_cell(alloc, &mut global.cells, chain)?;
+    add_cell(alloc, &mut global.cells, chain.cell)?;
     let mut scope = scope_of(alloc, chain)?;
     match check_tree(alloc, parts.statements, parts.functions) {
         Err(fault) => write!(out, "{fault}")?,
@@ -70,95 +253,51 @@ fn write_way(alloc: Global, chain: &str, way: Way, out: &mut Vec<u8>) -> io::Res
     }
 }
 
-/// The tree of a chain: `f.call()`, `f.call(a)`, `m.f()`, `m.get$f()`, `x.type_of().call(p)`, or `x.call(p)`;
-/// beside the first and the last two `fn g(x) { 5 }`, and beside the second `fn g(a) { a[0] = 7; }`.
-fn parts_of(alloc: Global, chain: &str) -> Result<TreeParts, AllocError> {
-    let mut tree = Builder::new(alloc);
-    let (root, rest) = chain.split_once('.').unwrap_or((chain, ""));
-    let object = tree.variable(root, 0, 1);
-    let rest = rest_of(&mut tree, rest);
-    let chain = tree.dot(object, 2, rest);
-    if root == "f" {
-        let array = tree.variable("a", 0, 11);
-        let item = tree.index(array, 12, int(0, 13));
-        let body = tree.block([assign(None, 16, item, int(7, 18))], 9, 21);
-        tree.function("g", &["a"], body);
-    } else {
-        let body = tree.block([Stmt::Expr(int(5, 11))], 9, 13);
-        tree.function("g", &["x"], body);
-    }
-    tree.finish_with_functions([Stmt::Expr(chain)])
-}
-
-fn rest_of(tree: &mut Builder, rest: &str) -> Expr {
-    match rest {
-        "call(a)" => {
-            let argument = tree.variable("a", 0, 8);
-            tree.method("call", 3, [argument])
-        }
-        "call(p)" | "call(n)" => {
-            let argument = tree.variable("p", 0, 8);
-            tree.method("call", 3, [argument])
-        }
-        "type_of().call(p)" => {
-            let argument = tree.variable("p", 0, 18);
-            let call = tree.method("call", 13, [argument]);
-            let name = tree.method("type_of", 3, []);
-            tree.dot(name, 12, call)
-        }
-        "f()" => tree.method("f", 3, []),
-        "get$f()" => tree.method("get$f", 3, []),
-        _ => tree.method("call", 3, []),
-    }
-}
-
 fn handle() -> Dynamic<Pair> {
     Dynamic::new(Union::Cell(CellId { number: 0 }))
 }
 
-/// A pointer with a handle of the cell as its argument already, or with none.
-fn pointer(
-    alloc: Global,
-    name: &str,
-    kind: FnPtrKind<Pair>,
-    has_handle: bool,
-) -> Result<Boxed<FnPtr<Pair>>, AllocError> {
+fn pointer_of(alloc: Global, pointer: Pointer) -> Result<Dynamic<Pair>, AllocError>
+    ensures { IfOk result (λ value. IsNoHandle value.value) }
+{
+    let Pointer(name, kind, has_handle) = pointer;
     let mut curry = Items::new(alloc);
     if has_handle {
         curry.push(handle())?;
     }
+    let kind = match kind {
+        Kind::Name => FnPtrKind::Name,
+        Kind::Native(number) => FnPtrKind::Native(NativeId { number }),
+        Kind::Arity(count) => FnPtrKind::Arity(count),
+    };
     let name = shared(alloc, name)?;
-    Boxed::new(alloc, FnPtr { name, curry, kind })
+    Ok(Dynamic::new(Union::FnPtr(Boxed::new(alloc, FnPtr { name, curry, kind })?)))
 }
 
-/// Adds the cell. It has a pointer to `g`, a map with the handle under `f` or with a pointer to a native that
-/// is not there under `get$f`, or 1.
-fn add_cell(alloc: Global, cells: &mut CellStore<Pair>, chain: &str) -> Result<(), AllocError> {
-    let added = match chain {
-        "f.call()" => {
-            let own = pointer(alloc, "g", FnPtrKind::Arity(1), true)?;
-            cells.add(Dynamic::new(Union::FnPtr(own)))
-        }
-        "f.call(a)" => {
-            let own = pointer(alloc, "g", FnPtrKind::Arity(1), false)?;
-            cells.add(Dynamic::new(Union::FnPtr(own)))
-        }
-        "m.f()" => {
-            let mut map = Table::new(alloc);
-            map.insert(shared(alloc, "f")?, handle())?;
-            cells.add(Dynamic::new(Union::Map(Boxed::new(alloc, map)?)))
-        }
-        "m.get$f()" => {
-            let mut map = Table::new(alloc);
-            let missing = FnPtrKind::Native(NativeId { number: 99 });
-            let own = pointer(alloc, "get$f", missing, false)?;
-            let name = shared(alloc, "get$f")?;
-            map.insert(name, Dynamic::new(Union::FnPtr(own)))?;
-            cells.add(Dynamic::new(Union::Map(Boxed::new(alloc, map)?)))
-        }
-        _ => cells.add(Dynamic::new(Union::Int(1))),
-    };
-    match added {
+/// A map with a value under a name.
+fn map(alloc: Global, name: &str, value: Dynamic<Pair>) -> Result<Dynamic<Pair>, AllocError>
+    ensures { IfOk result (λ map. IsNoHandle map.value) }
+{
+    let mut map = Table::new(alloc);
+    map.insert(shared(alloc, name)?, value)?;
+    Ok(Dynamic::new(Union::Map(Boxed::new(alloc, map)?)))
+}
+
+/// What the cell has.
+fn content(alloc: Global, cell: Cell) -> Result<Dynamic<Pair>, AllocError>
+    ensures { IfOk result (λ value. IsNoHandle value.value) }
+{
+    match cell {
+        Cell::One => Ok(Dynamic::new(Union::Int(1))),
+        Cell::Pointer(own) => pointer_of(alloc, own),
+        Cell::MapOfHandle(name) => map(alloc, name, handle()),
+        Cell::MapOfPointer(own) => map(alloc, own.0, pointer_of(alloc, own)?),
+    }
+}
+
+/// Adds the cell.
+fn add_cell(alloc: Global, cells: &mut CellStore<Pair>, cell: Cell) -> Result<(), AllocError> {
+    match cells.add(content(alloc, cell)?) {
         Ok(_) => Ok(()),
         Err((value, error)) => {
             drop(value);
@@ -168,23 +307,14 @@ fn add_cell(alloc: Global, cells: &mut CellStore<Pair>, chain: &str) -> Result<(
 }
 
 /// The variables: the root, which is the handle, an array of it as `a`, and a pointer as `p`.
-fn scope_of(alloc: Global, chain: &str) -> Result<Scope<Pair>, AllocError> {
-    let (root, rest) = chain.split_once('.').unwrap_or((chain, ""));
+fn scope_of(alloc: Global, chain: Chain) -> Result<Scope<Pair>, AllocError> {
     let mut items = Items::new(alloc);
     items.push(handle())?;
     let array = Dynamic::new(Union::Array(Boxed::new(alloc, items)?));
-    let called = match rest {
-        "call(n)" => pointer(alloc, "double", FnPtrKind::Name, true)?,
-        "call(p)" => pointer(alloc, "n", FnPtrKind::Native(NativeId { number: 2 }), true)?,
-        _ => pointer(alloc, "g", FnPtrKind::Arity(1), true)?,
-    };
+    let called = pointer_of(alloc, chain.called)?;
     let mut scope = Scope::new(alloc);
-    scope.push_entry(
-        String::from_str(alloc, root)?,
-        AccessMode::ReadWrite,
-        handle(),
-    )?;
-    let called = Dynamic::new(Union::FnPtr(called));
+    let root = String::from_str(alloc, chain.root)?;
+    scope.push_entry(root, AccessMode::ReadWrite, handle())?;
     scope.push_entry(String::from_str(alloc, "a")?, AccessMode::ReadWrite, array)?;
     scope.push_entry(String::from_str(alloc, "p")?, AccessMode::ReadWrite, called)?;
     Ok(scope)

@@ -7,9 +7,9 @@ mod chain;
 mod part;
 mod refuser;
 
-use crate::lists::scripts_of;
 use crate::refused::part::{LISTS, Part, Report};
 use crate::refused::refuser::Refusal;
+use rhai_bench::rows::scripts_of;
 use rhai_bench::settings::Way;
 use std::alloc::Global;
 use std::io;
@@ -86,7 +86,7 @@ fn run_list<W: Write>(
     tally: &mut Tally,
     out: &mut W,
 ) -> io::Result<()> {
-    let count = match scripts_of(alloc, list)? {
+    let count = match scripts_of(list) {
         Some(scripts) => scripts.len(),
         None => 0,
     };

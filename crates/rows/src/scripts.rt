@@ -1,10 +1,10 @@
 //! What scripts come to.
 
 use crate::errors::write_lines;
-use crate::lists::{script_at, scripts_of};
+use crate::lists::script_at;
 use rhai_bench::outcome::{Ending, Outcome};
 use rhai_bench::print::{write_ending, write_value};
-use rhai_bench::rows::scope_for;
+use rhai_bench::rows::{scope_for, scripts_of};
 use rhai_bench::script::Script;
 use rhai_bench::settings::Way;
 use rhai_eval::base::{AccessMode, CellId, Dynamic, EvalAltResult, Scope, Union};
@@ -22,8 +22,8 @@ fn script_of(alloc: Global, name: &str) -> Result<Option<Script>, AllocError> {
 }
 
 /// Writes how many scripts a list has.
-pub fn write_number(alloc: Global, list: &str, out: &mut Vec<u8>) -> io::Result<()> {
-    match scripts_of(alloc, list)? {
+pub fn write_number(list: &str, out: &mut Vec<u8>) -> io::Result<()> {
+    match scripts_of(list) {
         Some(scripts) => write!(out, "{}", scripts.len()),
         None => write!(out, "no list"),
     }

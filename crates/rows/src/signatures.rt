@@ -1,12 +1,11 @@
 //! What is told of a function without its body, and what it finds around it.
 
-use rhai_build::functions::script_function;
-use rhai_build::statements::no_block;
 use rhai_eval::base::Shared;
-use rhai_eval::script::{FnAccess, ScriptFuncDef, environ_of, metadata_of};
+use rhai_eval::script::{environ_of, metadata_of};
 use rhai_eval::state::{GlobalRuntimeState, Module};
+use rhai_samples::built::private_function;
 use rhai_tables::host::Pair;
-use std::alloc::{AllocError, Global};
+use std::alloc::Global;
 use std::io;
 use std::io::Write;
 
@@ -16,27 +15,14 @@ pub fn write_told(alloc: Global, word: &str, out: &mut Vec<u8>) -> io::Result<()
         "metadata" => write_metadata(alloc, out),
         "surroundings" => write_surroundings(alloc, out),
         _ => {
-            let signature = function_f(alloc)?.clone_function_signatures(alloc)?;
+            let signature = private_function(alloc)?.clone_function_signatures(alloc)?;
             write!(out, "{signature}")
         }
     }
 }
 
-/// A private function `f(a, b)` without statements, for a `this` that is an integer.
-fn function_f(alloc: Global) -> Result<ScriptFuncDef, AllocError> {
-    let body = no_block(alloc);
-    script_function(
-        alloc,
-        FnAccess::Private,
-        Some("i64"),
-        "f",
-        &["a", "b"],
-        body,
-    )
-}
-
 fn write_metadata(alloc: Global, out: &mut Vec<u8>) -> io::Result<()> {
-    let def = function_f(alloc)?;
+    let def = private_function(alloc)?;
     let told = metadata_of(alloc, &def)?.try_clone()?;
     write!(out, "{told}")
 }

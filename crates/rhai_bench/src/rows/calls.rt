@@ -1,40 +1,46 @@
 //! Calls of natives by their names, keywords and pointers.
 
-use crate::rows::Row;
-use crate::script::Script;
-use rhai_eval::base::Items;
+use crate::rows::{Row, scripts_in};
+use crate::sample::Sample;
+use crate::sample::Tree::Parts;
+use crate::settings::Setting::{Usual, WithoutFastOperators};
 use rhai_samples::calls::{
     BREAK_AT_THE_TOP, CALL_OF_EVAL, CONSTANT_PASSED, COUNTED_TWICE, CURRIED_POINTER_CALLED,
     POINTER_CALLED, POINTER_OF_NO_NAME, TYPE_OF_INTEGER, UNKNOWN_FUNCTION, VARIABLE_PASSED,
 };
 use rhai_samples::operators::SUM;
-use std::alloc::{AllocError, Global};
+
+/// The scripts of this file, by the numbers of their rows, or by the names of lists that no row has.
+const LISTS: &[Row] = &[
+    Row("24", REFUSED_BY_THE_CHECKER),
+    Row("31", NATIVES),
+    Row("32", POINTERS_AND_NAMES),
+];
 
 /// Statements that the checker refuses.
-pub(crate) fn refused_by_the_checker(alloc: Global) -> Result<Items<Script>, AllocError> {
-    let mut row = Row::new(alloc);
-    row.add(BREAK_AT_THE_TOP);
-    row.add(CALL_OF_EVAL);
-    row.finish()
-}
+const REFUSED_BY_THE_CHECKER: &[Sample] = &[
+    Sample(Parts(BREAK_AT_THE_TOP), Usual),
+    Sample(Parts(CALL_OF_EVAL), Usual),
+];
 
 /// Natives that change their first argument, or the table.
-pub(crate) fn natives(alloc: Global) -> Result<Items<Script>, AllocError> {
-    let mut row = Row::new(alloc);
-    row.add(VARIABLE_PASSED);
-    row.add(CONSTANT_PASSED);
-    row.add(COUNTED_TWICE);
-    row.finish()
-}
+const NATIVES: &[Sample] = &[
+    Sample(Parts(VARIABLE_PASSED), Usual),
+    Sample(Parts(CONSTANT_PASSED), Usual),
+    Sample(Parts(COUNTED_TWICE), Usual),
+];
 
 /// Pointers that are made and called, what is no function's name, and a sum without fast operators.
-pub(crate) fn pointers_and_names(alloc: Global) -> Result<Items<Script>, AllocError> {
-    let mut row = Row::new(alloc);
-    row.add(POINTER_CALLED);
-    row.add(CURRIED_POINTER_CALLED);
-    row.add(TYPE_OF_INTEGER);
-    row.add(POINTER_OF_NO_NAME);
-    row.add(UNKNOWN_FUNCTION);
-    row.add_without_fast_operators(SUM);
-    row.finish()
+const POINTERS_AND_NAMES: &[Sample] = &[
+    Sample(Parts(POINTER_CALLED), Usual),
+    Sample(Parts(CURRIED_POINTER_CALLED), Usual),
+    Sample(Parts(TYPE_OF_INTEGER), Usual),
+    Sample(Parts(POINTER_OF_NO_NAME), Usual),
+    Sample(Parts(UNKNOWN_FUNCTION), Usual),
+    Sample(Parts(SUM), WithoutFastOperators),
+];
+
+/// The scripts of a list of this file.
+pub(super) fn scripts_of(list: &str) -> Option<&'static [Sample]> {
+    scripts_in(LISTS, list)
 }

@@ -1,91 +1,56 @@
 //! What is thrown, and what is caught.
 
-use crate::rows::Row;
-use crate::script::Script;
-use rhai_eval::base::Items;
-use rhai_samples::built::{method_that_throws, thrown_value_caught};
+use crate::rows::{Row, scripts_in};
+use crate::sample::MadeStatements::ThrownValueCaught;
+use crate::sample::MadeTree::MethodThatThrows;
+use crate::sample::Sample;
+use crate::sample::Tree::{Parts, Statements, WithFunctions};
+use crate::settings::Setting::{FailingOnMissingKeys, MaxOperations, Usual};
 use rhai_samples::caught::{
-    BREAK_IN_A_TRY, CAUGHT_IN_AN_EMPTY_BRANCH, ENDLESS_LOOP_TRIED, ENTRY_INCREASED_IN_A_TRY,
-    MESSAGE_OF_WHAT_WAS_CAUGHT, POSITION_OF_WHAT_WAS_CAUGHT, SECOND_ERROR_THROWN_AGAIN,
-    THROWN_AGAIN, THROWN_AT_THE_TOP, THROWN_IN_A_WALK, UNKNOWN_FUNCTION_TRIED_TWICE,
-    throws_in_turn,
+    BREAK_IN_A_TRY, ENDLESS_LOOP_TRIED, ENTRY_INCREASED_IN_A_TRY, MESSAGE_OF_WHAT_WAS_CAUGHT,
+    POSITION_OF_WHAT_WAS_CAUGHT, THROWN_AGAIN, UNKNOWN_FUNCTION_TRIED_TWICE,
 };
 use rhai_samples::loops::EMPTY_LOOP;
-use rhai_samples::thrown::{
-    CALLS_WITHOUT_END_TRIED, ERROR_OUT_OF_A_FUNCTION, LARGE_ARRAY_TRIED,
-    THROWN_AGAIN_BY_A_FUNCTION, THROWN_OUT_OF_A_FUNCTION, VALUE_OUT_OF_TWO_FUNCTIONS,
-};
-use std::alloc::{AllocError, Global};
+
+/// The scripts of this file, by the numbers of their rows, or by the names of lists that no row has.
+const LISTS: &[Row] = &[
+    Row("2", ENDLESS),
+    Row("8", KEY_INSERTED),
+    Row("9", OBJECT_CHANGED),
+    Row("10", THROWN_VALUES),
+    Row("15", FOUND_BY_A_POINTER),
+    Row("37", BREAKS_AND_CAUGHT_ERRORS),
+];
 
 /// A loop without an end, which the limit of operations ends, within a `try` too.
-pub(crate) fn endless(alloc: Global) -> Result<Items<Script>, AllocError> {
-    let mut row = Row::new(alloc);
-    row.add_limited(EMPTY_LOOP, 10);
-    row.add_limited(ENDLESS_LOOP_TRIED, 10);
-    row.finish()
-}
+const ENDLESS: &[Sample] = &[
+    Sample(Parts(EMPTY_LOOP), MaxOperations(10)),
+    Sample(Parts(ENDLESS_LOOP_TRIED), MaxOperations(10)),
+];
 
 /// A key that was inserted before an operator failed.
-pub(crate) fn key_inserted(alloc: Global) -> Result<Items<Script>, AllocError> {
-    let mut row = Row::new(alloc);
-    row.add_failing_on_missing_keys(ENTRY_INCREASED_IN_A_TRY);
-    row.finish()
-}
+const KEY_INSERTED: &[Sample] = &[Sample(Parts(ENTRY_INCREASED_IN_A_TRY), FailingOnMissingKeys)];
 
 /// An object that a method has changed before it throws.
-pub(crate) fn object_changed(alloc: Global) -> Result<Items<Script>, AllocError> {
-    let mut row = Row::new(alloc);
-    row.add_made(method_that_throws(alloc));
-    row.finish()
-}
+const OBJECT_CHANGED: &[Sample] = &[Sample(WithFunctions(MethodThatThrows), Usual)];
 
 /// A value that is caught, and one that is thrown again.
-pub(crate) fn thrown_values(alloc: Global) -> Result<Items<Script>, AllocError> {
-    let mut row = Row::new(alloc);
-    row.add_statements(thrown_value_caught(alloc));
-    row.add(THROWN_AGAIN);
-    row.finish()
-}
+const THROWN_VALUES: &[Sample] = &[
+    Sample(Statements(ThrownValueCaught), Usual),
+    Sample(Parts(THROWN_AGAIN), Usual),
+];
 
 /// A function that only a pointer's own library has, once it was not found.
-pub(crate) fn found_by_a_pointer(alloc: Global) -> Result<Items<Script>, AllocError> {
-    let mut row = Row::new(alloc);
-    row.add(UNKNOWN_FUNCTION_TRIED_TWICE);
-    row.finish()
-}
-
-/// What is thrown out of a function, at the top, and out of a `for`.
-pub(crate) fn thrown_out(alloc: Global) -> Result<Items<Script>, AllocError> {
-    let mut row = Row::new(alloc);
-    row.add(THROWN_OUT_OF_A_FUNCTION);
-    row.add(THROWN_AT_THE_TOP);
-    row.add(THROWN_IN_A_WALK);
-    row.finish()
-}
+const FOUND_BY_A_POINTER: &[Sample] = &[Sample(Parts(UNKNOWN_FUNCTION_TRIED_TWICE), Usual)];
 
 /// A `break` out of a `try`, and what is told of an error that was caught.
-pub(crate) fn breaks_and_caught_errors(alloc: Global) -> Result<Items<Script>, AllocError> {
-    let mut row = Row::new(alloc);
-    row.add(BREAK_IN_A_TRY);
-    row.add(POSITION_OF_WHAT_WAS_CAUGHT);
-    row.add(MESSAGE_OF_WHAT_WAS_CAUGHT);
-    row.finish()
-}
+const BREAKS_AND_CAUGHT_ERRORS: &[Sample] = &[
+    Sample(Parts(BREAK_IN_A_TRY), Usual),
+    Sample(Parts(POSITION_OF_WHAT_WAS_CAUGHT), Usual),
+    Sample(Parts(MESSAGE_OF_WHAT_WAS_CAUGHT), Usual),
+];
 
-/// Limits that are not caught, and which error it is that is thrown again or told of, which no row has.
-pub fn caught_or_not(alloc: Global) -> Result<Items<Script>, AllocError> {
-    let mut row = Row::new(alloc);
-    row.add_with_max_variables(CAUGHT_IN_AN_EMPTY_BRANCH, 0);
-    row.add_with_max_call_levels(CALLS_WITHOUT_END_TRIED, 3);
-    row.add_parts_with_max_array_size(LARGE_ARRAY_TRIED, 1);
-    row.add(THROWN_AGAIN_BY_A_FUNCTION);
-    row.add(SECOND_ERROR_THROWN_AGAIN);
-    row.add(VALUE_OUT_OF_TWO_FUNCTIONS);
-    row.add(ERROR_OUT_OF_A_FUNCTION);
-    row.finish()
-}
-
-/// A value that is thrown and caught in each of so many turns.
-pub fn thrown_in_turn(alloc: Global, turns: i64) -> Result<Script, AllocError> {
-    Ok(Script::new(alloc, throws_in_turn(alloc, turns)?))
+/// The scripts of a list of this file.
+pub(super) fn scripts_of(list: &str) -> Option<&'static [Sample]> {
+    scripts_in(LISTS, list)
 }

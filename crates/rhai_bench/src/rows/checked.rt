@@ -1,8 +1,9 @@
 //! What the checker looks at.
 
-use crate::rows::Row;
-use crate::script::Script;
-use rhai_eval::base::Items;
+use crate::rows::{Row, scripts_in};
+use crate::sample::Sample;
+use crate::sample::Tree::Parts;
+use crate::settings::Setting::{MaxCallLevels, MaxVariables, Usual};
 use rhai_samples::checked::{
     CASE_OF_NO_RESULT, CASE_WITHOUT_RESULTS, INTEGER_AS_A_CATCH_VARIABLE,
     OFFSET_OF_A_CATCH_VARIABLE, OFFSET_OF_A_HIDDEN_VARIABLE, OFFSET_OF_ANOTHER_VARIABLE,
@@ -10,27 +11,30 @@ use rhai_samples::checked::{
 };
 use rhai_samples::functions::CALLS_WITHOUT_END;
 use rhai_samples::walks::WALK_WITH_A_COUNTER;
-use std::alloc::{AllocError, Global};
+
+/// The scripts of this file, by the numbers of their rows, or by the names of lists that no row has.
+const LISTS: &[Row] = &[Row("16", OFFSETS_AND_LIMITS), Row("checked", CHECKED_ONLY)];
 
 /// Offsets that are not the variable's, calls that are too deep, and too many variables.
-pub(crate) fn offsets_and_limits(alloc: Global) -> Result<Items<Script>, AllocError> {
-    let mut row = Row::new(alloc);
-    row.add(OFFSET_OF_NO_VARIABLE);
-    row.add(OFFSET_OF_A_HIDDEN_VARIABLE);
-    row.add_with_max_call_levels(CALLS_WITHOUT_END, 3);
-    row.add_with_max_variables(WALK_WITH_A_COUNTER, 0);
-    row.finish()
-}
+const OFFSETS_AND_LIMITS: &[Sample] = &[
+    Sample(Parts(OFFSET_OF_NO_VARIABLE), Usual),
+    Sample(Parts(OFFSET_OF_A_HIDDEN_VARIABLE), Usual),
+    Sample(Parts(CALLS_WITHOUT_END), MaxCallLevels(3)),
+    Sample(Parts(WALK_WITH_A_COUNTER), MaxVariables(0)),
+];
 
 /// Results, offsets, cases and catch variables that no row has.
-pub fn checked_only(alloc: Global) -> Result<Items<Script>, AllocError> {
-    let mut row = Row::new(alloc);
-    row.add(PROPERTY_AS_A_RESULT);
-    row.add(OFFSET_OF_ANOTHER_VARIABLE);
-    row.add(OFFSET_OF_A_CATCH_VARIABLE);
-    row.add(CASE_OF_NO_RESULT);
-    row.add(CASE_WITHOUT_RESULTS);
-    row.add(TWO_EQUAL_CASES);
-    row.add(INTEGER_AS_A_CATCH_VARIABLE);
-    row.finish()
+const CHECKED_ONLY: &[Sample] = &[
+    Sample(Parts(PROPERTY_AS_A_RESULT), Usual),
+    Sample(Parts(OFFSET_OF_ANOTHER_VARIABLE), Usual),
+    Sample(Parts(OFFSET_OF_A_CATCH_VARIABLE), Usual),
+    Sample(Parts(CASE_OF_NO_RESULT), Usual),
+    Sample(Parts(CASE_WITHOUT_RESULTS), Usual),
+    Sample(Parts(TWO_EQUAL_CASES), Usual),
+    Sample(Parts(INTEGER_AS_A_CATCH_VARIABLE), Usual),
+];
+
+/// The scripts of a list of this file.
+pub(super) fn scripts_of(list: &str) -> Option<&'static [Sample]> {
+    scripts_in(LISTS, list)
 }

@@ -1,38 +1,40 @@
 //! `switch`.
 
-use crate::rows::Row;
-use crate::script::Script;
-use rhai_eval::base::Items;
-use rhai_samples::built::truth_chosen;
+use crate::rows::{Row, scripts_in};
+use crate::sample::MadeStatements::TruthChosen;
+use crate::sample::MadeTree::{IntegerChosen, TextChosen};
+use crate::sample::Sample;
+use crate::sample::Tree::{Parts, Statements, WithFunctions};
+use crate::settings::Setting::Usual;
 use rhai_samples::choices::{
     CASE_UNDER_A_TEST, CHARACTER_CHOSEN, DEFAULT_UNDER_FALSE, INTEGER_AS_A_CONDITION,
-    choices_in_turn, integer_chosen, text_chosen,
 };
-use std::alloc::{AllocError, Global};
+
+/// The scripts of this file, by the numbers of their rows, or by the names of lists that no row has.
+const LISTS: &[Row] = &[Row("12", CASES), Row("choices", CONDITIONS)];
 
 /// Cases and ranges of integers, and cases of other types.
-pub(crate) fn cases(alloc: Global) -> Result<Items<Script>, AllocError> {
-    let mut row = Row::new(alloc);
-    for value in [1, 5, 7, 8, 10, 11] {
-        row.add_made(integer_chosen(alloc, value));
-    }
-    row.add_made(text_chosen(alloc, "hello"));
-    row.add_made(text_chosen(alloc, "other"));
-    row.add(CHARACTER_CHOSEN);
-    row.add_statements(truth_chosen(alloc));
-    row.finish()
-}
+const CASES: &[Sample] = &[
+    Sample(WithFunctions(IntegerChosen(1)), Usual),
+    Sample(WithFunctions(IntegerChosen(5)), Usual),
+    Sample(WithFunctions(IntegerChosen(7)), Usual),
+    Sample(WithFunctions(IntegerChosen(8)), Usual),
+    Sample(WithFunctions(IntegerChosen(10)), Usual),
+    Sample(WithFunctions(IntegerChosen(11)), Usual),
+    Sample(WithFunctions(TextChosen("hello")), Usual),
+    Sample(WithFunctions(TextChosen("other")), Usual),
+    Sample(Parts(CHARACTER_CHOSEN), Usual),
+    Sample(Statements(TruthChosen), Usual),
+];
 
 /// Conditions of cases, and of a default, which no row has.
-pub fn conditions(alloc: Global) -> Result<Items<Script>, AllocError> {
-    let mut row = Row::new(alloc);
-    row.add(INTEGER_AS_A_CONDITION);
-    row.add(CASE_UNDER_A_TEST);
-    row.add(DEFAULT_UNDER_FALSE);
-    row.finish()
-}
+const CONDITIONS: &[Sample] = &[
+    Sample(Parts(INTEGER_AS_A_CONDITION), Usual),
+    Sample(Parts(CASE_UNDER_A_TEST), Usual),
+    Sample(Parts(DEFAULT_UNDER_FALSE), Usual),
+];
 
-/// A `switch` of ten cases in each of so many turns.
-pub fn chosen_in_turn(alloc: Global, turns: i64) -> Result<Script, AllocError> {
-    Ok(Script::new(alloc, choices_in_turn(alloc, turns)?))
+/// The scripts of a list of this file.
+pub(super) fn scripts_of(list: &str) -> Option<&'static [Sample]> {
+    scripts_in(LISTS, list)
 }

@@ -1,24 +1,28 @@
 //! Operators, and what they refuse.
 
-use crate::rows::Row;
-use crate::script::Script;
-use rhai_eval::base::Items;
+use crate::rows::{Row, scripts_in};
+use crate::sample::Sample;
+use crate::sample::Tree::Parts;
+use crate::settings::Setting::{MaxOperations, Usual};
 use rhai_samples::operators::{INTEGER_AS_CONDITION, SUM, SUM_OF_TWO_TYPES, SUM_WITH_UNKNOWN_NAME};
-use std::alloc::{AllocError, Global};
+
+/// The scripts of this file, by the numbers of their rows, or by the names of lists that no row has.
+const LISTS: &[Row] = &[Row("1", SUM_UNDER_LIMITS), Row("27", REFUSED_OPERANDS)];
 
 /// The sum of two integers: three operations are too few, four are enough.
-pub(crate) fn sum_under_limits(alloc: Global) -> Result<Items<Script>, AllocError> {
-    let mut row = Row::new(alloc);
-    row.add_limited(SUM, 3);
-    row.add_limited(SUM, 4);
-    row.finish()
-}
+const SUM_UNDER_LIMITS: &[Sample] = &[
+    Sample(Parts(SUM), MaxOperations(3)),
+    Sample(Parts(SUM), MaxOperations(4)),
+];
 
 /// Operands and a condition of a wrong type, and a name that means nothing.
-pub(crate) fn refused_operands(alloc: Global) -> Result<Items<Script>, AllocError> {
-    let mut row = Row::new(alloc);
-    row.add(SUM_OF_TWO_TYPES);
-    row.add(SUM_WITH_UNKNOWN_NAME);
-    row.add(INTEGER_AS_CONDITION);
-    row.finish()
+const REFUSED_OPERANDS: &[Sample] = &[
+    Sample(Parts(SUM_OF_TWO_TYPES), Usual),
+    Sample(Parts(SUM_WITH_UNKNOWN_NAME), Usual),
+    Sample(Parts(INTEGER_AS_CONDITION), Usual),
+];
+
+/// The scripts of a list of this file.
+pub(super) fn scripts_of(list: &str) -> Option<&'static [Sample]> {
+    scripts_in(LISTS, list)
 }

@@ -1,50 +1,46 @@
 //! `for`, over ranges, arrays and texts.
 
-use crate::rows::Row;
-use crate::script::Script;
-use rhai_eval::base::Items;
-use rhai_samples::built::{integer_walked, items_and_counter_summed, range_after_a_case};
+use crate::rows::{Row, scripts_in};
+use crate::sample::MadeStatements::{IntegerWalked, ItemsAndCounterSummed, RangeAfterACase};
+use crate::sample::Sample;
+use crate::sample::Tree::{Parts, Statements};
+use crate::settings::Setting::{MaxOperations, MaxVariables, Usual};
 use rhai_samples::walks::{
     ARRAY_EMPTIED_IN_ITS_WALK, EMPTY_RANGE_WALKED, GREATEST_INTEGERS_WALKED, ITEM_SKIPPED,
-    SUM_WALKED, TEXT_REVERSED, THREE_EMPTY_TURNS, UNKNOWN_CALL_WALKED, array_summed, range_summed,
+    SUM_WALKED, TEXT_REVERSED, THREE_EMPTY_TURNS, UNKNOWN_CALL_WALKED,
 };
-use std::alloc::{AllocError, Global};
+
+/// The scripts of this file, by the numbers of their rows, or by the names of lists that no row has.
+const LISTS: &[Row] = &[
+    Row("19", ITEMS),
+    Row("38", ENDS_OF_WALKS),
+    Row("walks", TURNS),
+];
 
 /// Items with their counter, and an array that is emptied while it is gone over.
-pub(crate) fn items(alloc: Global) -> Result<Items<Script>, AllocError> {
-    let mut row = Row::new(alloc);
-    row.add_statements(items_and_counter_summed(alloc));
-    row.add(ARRAY_EMPTIED_IN_ITS_WALK);
-    row.finish()
-}
+const ITEMS: &[Sample] = &[
+    Sample(Statements(ItemsAndCounterSummed), Usual),
+    Sample(Parts(ARRAY_EMPTIED_IN_ITS_WALK), Usual),
+];
 
 /// A text, a range without items, and what has none; and a range that is chosen after a case was not.
-pub(crate) fn ends_of_walks(alloc: Global) -> Result<Items<Script>, AllocError> {
-    let mut row = Row::new(alloc);
-    row.add(TEXT_REVERSED);
-    row.add(EMPTY_RANGE_WALKED);
-    row.add_statements(integer_walked(alloc));
-    row.add_statements(range_after_a_case(alloc));
-    row.finish()
-}
+const ENDS_OF_WALKS: &[Sample] = &[
+    Sample(Parts(TEXT_REVERSED), Usual),
+    Sample(Parts(EMPTY_RANGE_WALKED), Usual),
+    Sample(Statements(IntegerWalked), Usual),
+    Sample(Statements(RangeAfterACase), Usual),
+];
 
 /// The greatest integers, charges and errors of a `for`, and an item that is skipped, which no row has.
-pub fn turns(alloc: Global) -> Result<Items<Script>, AllocError> {
-    let mut row = Row::new(alloc);
-    row.add(GREATEST_INTEGERS_WALKED);
-    row.add_limited(THREE_EMPTY_TURNS, 5);
-    row.add(SUM_WALKED);
-    row.add_with_max_variables(UNKNOWN_CALL_WALKED, 0);
-    row.add(ITEM_SKIPPED);
-    row.finish()
-}
+const TURNS: &[Sample] = &[
+    Sample(Parts(GREATEST_INTEGERS_WALKED), Usual),
+    Sample(Parts(THREE_EMPTY_TURNS), MaxOperations(5)),
+    Sample(Parts(SUM_WALKED), Usual),
+    Sample(Parts(UNKNOWN_CALL_WALKED), MaxVariables(0)),
+    Sample(Parts(ITEM_SKIPPED), Usual),
+];
 
-/// The sum of a range's so many integers.
-pub fn range_walked(alloc: Global, turns: i64) -> Result<Script, AllocError> {
-    Ok(Script::new(alloc, range_summed(alloc, turns)?))
-}
-
-/// The sum of an array's so many items.
-pub fn array_walked(alloc: Global, length: u32) -> Result<Script, AllocError> {
-    Ok(Script::new(alloc, array_summed(alloc, length)?))
+/// The scripts of a list of this file.
+pub(super) fn scripts_of(list: &str) -> Option<&'static [Sample]> {
+    scripts_in(LISTS, list)
 }

@@ -1,25 +1,26 @@
 //! `a[0][1] = 5` over an array of two arrays: a chain copies nothing that it goes through, so it asks for no
 //! memory, and wherever its run is reached it is done.
 
-use rhai_build::Builder;
-use rhai_build::expressions::int;
-use rhai_build::statements::assign;
-use rhai_eval::base::{AccessMode, Boxed, Dynamic, Items, Scope, Stmt, Union};
+use rhai_eval::base::{AccessMode, Boxed, Dynamic, Items, Scope, Union};
 use rhai_eval::check::check_tree;
 use rhai_eval::engine::Engine;
 use rhai_eval::state::{Caches, GlobalRuntimeState};
+use rhai_samples::parts::Part::{Assign, Index, IndexOn, Int, Variable};
+use rhai_samples::parts::{Part, statements_of};
 use rhai_tables::host::Pair;
 use rhai_tables::tables::NoNatives;
 use std::alloc::{AllocError, Global};
 
 /// `a[0][1] = 5`
-fn script(alloc: Global) -> Result<Items<Stmt>, AllocError> {
-    let mut tree = Builder::new(alloc);
-    let array = tree.variable("a", 0, 1);
-    let rest = tree.index(int(0, 3), 5, int(1, 6));
-    let item = tree.index_on(array, 2, rest);
-    tree.finish([assign(None, 9, item, int(5, 11))])
-}
+const SCRIPT: &[Part<'_>] = &[
+    Variable("a", 0, 1),
+    Int(0, 3),
+    Int(1, 6),
+    Index(5),
+    IndexOn(2),
+    Int(5, 11),
+    Assign(9),
+];
 
 /// An array of two values.
 fn array_of(
@@ -51,7 +52,7 @@ fn variables(alloc: Global) -> Result<Scope<Pair>, AllocError> {
 
 /// Whether the script gives `()` and leaves `[[1, 5], [3, 4]]`. None where its run is not reached.
 pub fn is_assigned(alloc: Global) -> Option<bool> {
-    let statements = script(alloc).ok()?;
+    let statements = statements_of(alloc, SCRIPT).ok()?;
     let tree = check_tree(alloc, statements, Items::new(alloc)).ok()?;
     let mut global = GlobalRuntimeState::new(alloc).ok()?;
     let mut scope = variables(alloc).ok()?;

@@ -1,0 +1,156 @@
+//! Scripts as data, each made by one function: its tree, and what is set for its run.
+
+ghost use Rattle.std.specs.Prelude.{◌≡◌, IfOk};
+ghost use Rattle.rhai_bench.specs.Settings.{settings_of};
+
+use crate::script::Script;
+use crate::settings::Setting;
+use rhai_build::functions::TreeParts;
+use rhai_eval::base::{Items, Stmt};
+use rhai_samples::built::{
+    continued_until, decrements, functions_for_types, integer_and_true, integer_walked,
+    items_and_counter_summed, items_of_three_types, joined_parts, method_that_throws,
+    names_shared_in_order, property_of_unit, range_after_a_case, return_at_the_top,
+    shared_variable_at_a_break, thrown_value_caught, true_or_integer, truth_chosen,
+    unit_or_integer, variable_of_the_caller_increased,
+};
+use rhai_samples::caught::throws_in_turn;
+use rhai_samples::chains::increments;
+use rhai_samples::choices::{choices_in_turn, integer_chosen, text_chosen};
+use rhai_samples::data::many_items;
+use rhai_samples::functions::{calls_within_calls, fibonacci};
+use rhai_samples::loops::{doublings, pairings};
+use rhai_samples::parts::{Part, tree_of};
+use rhai_samples::walks::{array_summed, range_summed};
+use std::alloc::{AllocError, Global};
+
+/// A script: its tree, and what is set for its run.
+#[derive(Clone, Copy)]
+pub struct Sample(pub Tree, pub Setting);
+
+/// A tree: a list of its parts, or what a function makes.
+#[derive(Clone, Copy)]
+pub enum Tree {
+    Parts(&'static [Part<'static>]),
+    Statements(MadeStatements),
+    WithFunctions(MadeTree),
+}
+
+/// Statements that a function of `rhai_samples` makes, with its arguments.
+#[derive(Clone, Copy)]
+pub enum MadeStatements {
+    ThrownValueCaught,
+    NamesSharedInOrder,
+    PropertyOfUnit,
+    TruthChosen,
+    RangeAfterACase,
+    JoinedParts,
+    ItemsOfThreeTypes,
+    ContinuedUntil,
+    ReturnAtTheTop,
+    TrueOrInteger,
+    IntegerAndTrue,
+    UnitOrInteger,
+    ItemsAndCounterSummed,
+    IntegerWalked,
+    /// So many turns.
+    Decrements(i64),
+    /// So many turns.
+    Doublings(i64),
+    /// So many turns.
+    Pairings(i64),
+    /// A length, and so many turns.
+    Increments(u32, i64),
+    /// So many turns.
+    ChoicesInTurn(i64),
+    /// So many turns.
+    ThrowsInTurn(i64),
+    /// So many items.
+    ManyItems(u32),
+    /// So many integers.
+    RangeSummed(i64),
+    /// So many items.
+    ArraySummed(u32),
+}
+
+/// Statements with functions beside them that a function of `rhai_samples` makes, with its argument.
+#[derive(Clone, Copy)]
+pub enum MadeTree {
+    SharedVariableAtABreak,
+    VariableOfTheCallerIncreased,
+    FunctionsForTypes,
+    MethodThatThrows,
+    IntegerChosen(i64),
+    TextChosen(&'static str),
+    Fibonacci(i64),
+    CallsWithinCalls(i64),
+}
+
+impl Sample {
+    /// The script, or want of memory for it.
+    pub fn script(self, alloc: Global) -> Result<Script, AllocError>
+        ensures { IfOk result (λ s. s.settings ≡ settings_of self.1) }
+    {
+        let Sample(tree, setting) = self;
+        Ok(Script::new(tree.parts(alloc)?, setting.settings()))
+    }
+}
+
+impl Tree {
+    /// The tree's statements, and the functions beside them.
+    fn parts(self, alloc: Global) -> Result<TreeParts, AllocError> {
+        match self {
+            Tree::Parts(parts) => tree_of(alloc, parts),
+            Tree::Statements(made) => Ok(TreeParts {
+                statements: made.statements(alloc)?,
+                functions: Items::new(alloc),
+            }),
+            Tree::WithFunctions(made) => made.parts(alloc),
+        }
+    }
+}
+
+impl MadeStatements {
+    fn statements(self, alloc: Global) -> Result<Items<Stmt>, AllocError> {
+        match self {
+            MadeStatements::ThrownValueCaught => thrown_value_caught(alloc),
+            MadeStatements::NamesSharedInOrder => names_shared_in_order(alloc),
+            MadeStatements::PropertyOfUnit => property_of_unit(alloc),
+            MadeStatements::TruthChosen => truth_chosen(alloc),
+            MadeStatements::RangeAfterACase => range_after_a_case(alloc),
+            MadeStatements::JoinedParts => joined_parts(alloc),
+            MadeStatements::ItemsOfThreeTypes => items_of_three_types(alloc),
+            MadeStatements::ContinuedUntil => continued_until(alloc),
+            MadeStatements::ReturnAtTheTop => return_at_the_top(alloc),
+            MadeStatements::TrueOrInteger => true_or_integer(alloc),
+            MadeStatements::IntegerAndTrue => integer_and_true(alloc),
+            MadeStatements::UnitOrInteger => unit_or_integer(alloc),
+            MadeStatements::ItemsAndCounterSummed => items_and_counter_summed(alloc),
+            MadeStatements::IntegerWalked => integer_walked(alloc),
+            MadeStatements::Decrements(turns) => decrements(alloc, turns),
+            MadeStatements::Doublings(turns) => doublings(alloc, turns),
+            MadeStatements::Pairings(turns) => pairings(alloc, turns),
+            MadeStatements::Increments(length, turns) => increments(alloc, length, turns),
+            MadeStatements::ChoicesInTurn(turns) => choices_in_turn(alloc, turns),
+            MadeStatements::ThrowsInTurn(turns) => throws_in_turn(alloc, turns),
+            MadeStatements::ManyItems(count) => many_items(alloc, count),
+            MadeStatements::RangeSummed(count) => range_summed(alloc, count),
+            MadeStatements::ArraySummed(count) => array_summed(alloc, count),
+        }
+    }
+}
+
+impl MadeTree {
+    fn parts(self, alloc: Global) -> Result<TreeParts, AllocError> {
+        match self {
+            MadeTree::SharedVariableAtABreak => shared_variable_at_a_break(alloc),
+            MadeTree::VariableOfTheCallerIncreased => variable_of_the_caller_increased(alloc),
+            MadeTree::FunctionsForTypes => functions_for_types(alloc),
+            MadeTree::MethodThatThrows => method_that_throws(alloc),
+            MadeTree::IntegerChosen(value) => integer_chosen(alloc, value),
+            MadeTree::TextChosen(text) => text_chosen(alloc, text),
+            MadeTree::Fibonacci(number) => fibonacci(alloc, number),
+            MadeTree::CallsWithinCalls(number) => calls_within_calls(alloc, number),
+        }
+    }
+}
