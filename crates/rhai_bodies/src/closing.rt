@@ -1,7 +1,7 @@
 //! A body is left. The contracts cite `returned` of the machine's specs/language/Bodies.antt and the crate's
 //! own specs/Closing.antt.
 
-ghost use Rattle.std.specs.Prelude.{◌≡◌, false, true, IfErr, IfOk, IsTrue, not};
+ghost use Rattle.std.specs.Prelude.{◌≡◌, false, true, IfErr, IfOk, IsTrue};
 ghost use Rattle.std.specs.Option.{option_copied};
 ghost use Rattle.rhai_state.specs.declared.error.EvalAltResult.TheVariants as variant;
 ghost use Rattle.rhai_state.specs.Errors.{at_position, is_out_of_memory, is_system};
@@ -180,7 +180,11 @@ pub fn close_body<H: Host>(
     ensures outcome { (end : machine.CallExit H) →
         Ends def.now.name (option_copied environ.entry) global.old.source pos end →
         Answers (came result out.new place.new) (outcome_of end (came done out.old place.old)) }
-    ensures wanting { IsTrue (not result) → is_out_of_memory (error_in place.new) ≡ true →
+    ensures value { IsTrue done → came result out.new place.new ≡ came done out.old place.old }
+    ensures at_once { done ≡ false → (end : machine.CallExit H) → end.at ≡ pos →
+        is_wrapped (error_in place.old) ≡ false →
+        came result out.new place.new ≡ returned_by end (error_in place.old) }
+    ensures wanting { result ≡ false → is_out_of_memory (error_in place.new) ≡ true →
         error_in place.new ≡ variant.ErrorOutOfMemory pos }
 {
     if done {

@@ -2,18 +2,20 @@
 //! specs/Opening.antt and specs/Closing.antt.
 
 ghost use Rattle.std.specs.Prelude.{◌≡◌, ◌≢◌, [], ◌++◌, false, true, length, take};
-ghost use Rattle.std.specs.Prelude.{IfErr, IfOk, IfSome, OnErr, OnOk};
+ghost use Rattle.std.specs.Prelude.{Err, IfErr, IfOk, IfSome, IsTrue, None, OnErr, OnOk};
 ghost use Rattle.std.specs.Option.{option_copied};
 ghost use Rattle.rhai_state.specs.declared.error.EvalAltResult.TheVariants as error;
 ghost use Rattle.rhai_state.specs.Errors.{is_out_of_memory};
 ghost use Rattle.rhai_state.specs.Scope.{entries_of};
 ghost use Rattle.rhai_functions.specs.Entering.{left_of, parameters};
 ghost use Rattle.rhai_machine.specs.language.Bodies.{statements_of as statements_in};
+ghost use Rattle.rhai_context.specs.Ends.{error_in};
 ghost use Rattle.rhai_bodies.specs.Closing.{taken_back};
 ghost use Rattle.rhai_bodies.specs.Opening.{brought, entered_global, entry, exit_seen};
 ghost use Rattle.rhai_bodies.specs.Opening.{is_deep, is_full as full_with};
 ghost use Rattle.rhai_bodies.specs.Opening.{OnEntered, OnPassed, UnlessEntered};
 
+use rhai_context::ends::stop;
 use rhai_functions::entering::push_parameters;
 use rhai_state::error::EvalAltResult;
 use rhai_state::limits::Limits;
@@ -163,6 +165,7 @@ fn surround<H: Host>(
 }
 
 /// Everything that a call has brought goes again.
+#[inline(always)]
 pub(crate) fn take_back<H: Host>(global: &mut GlobalRuntimeState<H>, exit: CallExit)
     ensures { global.new ≡ taken_back exit global.old }
 {
@@ -227,4 +230,50 @@ pub fn open_function<H: Host>(
             Err(EvalAltResult::ErrorOutOfMemory(pos))
         }
     }
+}
+
+/// Whether a function may be entered at a level, its call charged, whose parameters are its only variables. An error
+/// stands in the run's place.
+///
+/// # Errors
+/// Both at the call: `ErrorStackOverflow`, then `ErrorTooManyVariables`.
+#[inline(always)]
+pub fn may_run<H: Host>(
+    limits: &Limits,
+    level: usize,
+    place: &mut Option<EvalAltResult<H>>,
+    def: &ScriptFuncDef,
+    pos: Position,
+) -> bool
+    ensures not_deep { IsTrue result → is_deep limits.now level ≡ false }
+    ensures not_full { IsTrue result → full_with limits.now 0 (length def.now.params) ≡ false }
+    ensures refused { result ≡ false →
+        entry limits.now level 0 (length def.now.params) pos ≡ Err (error_in place.new) }
+    ensures memory { result ≡ false → is_out_of_memory (error_in place.new) ≡ false }
+{
+    if level > limits.max_call_levels {
+        return stop(place, EvalAltResult::ErrorStackOverflow(pos));
+    }
+    if is_full(limits, 0, def.params.len()) {
+        return stop(place, EvalAltResult::ErrorTooManyVariables(pos));
+    }
+    true
+}
+
+/// A function without an environment is entered at a level: its parameters are its only variables, and stand in
+/// their scope already. It tells what the end of the call takes back.
+#[inline(always)]
+pub fn enter_level<H: Host>(global: &mut GlobalRuntimeState<H>, level: usize) -> CallExit
+    ensures exit { (scope : _) → result ≡ record (exit_seen global.old scope) { scope_length = 0 } }
+    ensures state { global.new ≡ entered_global None level global.old }
+{
+    let exit = CallExit {
+        scope_length: 0,
+        lib_length: global.lib.len(),
+        imports_length: global.imports.len(),
+        constants: global.constants,
+        level: global.level,
+    };
+    global.level = level;
+    exit
 }

@@ -144,3 +144,39 @@ pub fn take_up<H: Host>(run: &mut Context<H>, aside: Aside<H>) -> Option<Dynamic
     drop(replace(&mut run.scope, scope));
     replace(&mut run.this, this)
 }
+
+/// A scope without variables: one that a call left, with its room, or else a new one.
+pub fn lend_scope<H: Host>(alloc: Global, run: &mut Context<H>) -> Scope<H>
+    ensures scope { entries_of result ≡ [] }
+    ensures run { run.new ≡ run.old }
+{
+    run.spare.lend_scope(alloc)
+}
+
+/// Keeps a scope for another call, without its variables.
+pub fn keep_scope<H: Host>(run: &mut Context<H>, scope: Scope<H>)
+    ensures { run.new ≡ run.old }
+{
+    run.spare.keep_scope(scope);
+}
+
+/// Puts the variables and `this` of a run aside: it has these variables then, and no `this`.
+pub fn enter_scope<H: Host>(run: &mut Context<H>, scope: Scope<H>) -> Aside<H>
+    ensures aside { result ≡ record { scope = run.old.scope; this = run.old.this } }
+    ensures run { run.new ≡ record run.old { scope = scope; this = None } }
+{
+    Aside {
+        scope: replace(&mut run.scope, scope),
+        this: replace(&mut run.this, None),
+    }
+}
+
+/// Gives a run its caller's variables and `this` back. The room of its own variables is kept for another call.
+pub fn leave_scope<H: Host>(run: &mut Context<H>, aside: Aside<H>)
+    ensures { run.new ≡ record run.old { scope = aside.scope; this = aside.this } }
+{
+    let Aside { scope, this } = aside;
+    drop(replace(&mut run.this, this));
+    let own = replace(&mut run.scope, scope);
+    run.spare.keep_scope(own);
+}

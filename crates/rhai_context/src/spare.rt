@@ -1,24 +1,28 @@
 //! Lists for the arguments of calls.
 
 ghost use Rattle.std.specs.Prelude.{◌≡◌, []};
+ghost use Rattle.rhai_state.specs.Scope.{entries_of};
 
+use rhai_state::scope::Scope;
 use rhai_tree::Items;
 use rhai_values::base::value::Dynamic;
 use std::alloc::Global;
 use std::marker::Model;
 use std::mem::replace;
 
-/// How many lists are kept at most besides the first: as many as there are call levels by default.
+/// How many lists are kept at most besides the first, and how many scopes: as many as there are call levels by
+/// default.
 const MOST_KEPT: usize = 64;
 
-/// Lists that calls collect their arguments in, with the room that they have, so that most calls take no
-/// memory for one: a call that others are nested in keeps its own meanwhile. They hold nothing between calls,
-/// so contracts see nothing of them.
+/// Lists that calls collect their arguments in, and scopes of functions, with the room that they have, so that most
+/// calls take no memory for one: a call that others are nested in keeps its own meanwhile. They hold nothing between
+/// calls, so contracts see nothing of them.
 #[derive(Drop)]
 pub struct Spare<H> {
     /// The one that a run has without asking for memory.
     first: Option<Items<Dynamic<H>>>,
     more: Vec<Items<Dynamic<H>>>,
+    scopes: Vec<Scope<H>>,
 }
 
 impl<H> Model for Spare<H> {
@@ -27,12 +31,22 @@ impl<H> Model for Spare<H> {
     ghost view = { λ spare. tt };
 }
 
+/// A scope without its variables.
+fn emptied<H: Drop>(scope: Scope<H>) -> Scope<H>
+    ensures { entries_of result ≡ [] }
+{
+    let mut scope = scope;
+    scope.rewind(0);
+    scope
+}
+
 impl<H: Drop> Spare<H> {
     /// One list. It takes no memory.
     pub fn new(alloc: Global, first: Items<Dynamic<H>>) -> Spare<H> {
         Spare {
             first: Some(first),
             more: Vec::new(alloc),
+            scopes: Vec::new(alloc),
         }
     }
 
@@ -70,10 +84,39 @@ impl<H: Drop> Spare<H> {
         }
     }
 
+    /// A scope without variables: the one that was kept last, or a new one without room.
+    #[inline(always)]
+    pub fn lend_scope(&mut self, alloc: Global) -> Scope<H>
+        ensures scope { entries_of result ≡ [] }
+        ensures same { self.new ≡ self.old }
+    {
+        match self.scopes.pop() {
+            Some(scope) => emptied(scope),
+            None => Scope::new(alloc),
+        }
+    }
+
+    /// Keeps a scope with the room that it has, without its variables. It is let go of where enough are kept or there
+    /// is no memory to keep it.
+    #[inline(always)]
+    pub fn keep_scope(&mut self, scope: Scope<H>)
+        ensures { self.new ≡ self.old }
+    {
+        let scope = emptied(scope);
+        if self.scopes.len() < MOST_KEPT {
+            drop(self.scopes.push(scope));
+        }
+    }
+
     /// One of the lists, if it has any.
     pub fn into_first(self) -> Option<Items<Dynamic<H>>> {
-        let Spare { first, more } = self;
+        let Spare {
+            first,
+            more,
+            scopes,
+        } = self;
         drop(more);
+        drop(scopes);
         first
     }
 }

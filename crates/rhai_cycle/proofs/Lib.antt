@@ -14,6 +14,7 @@ mod ForSteps
 mod FormNames
 mod LoopSteps
 mod NameLemmas
+mod PlainLemmas
 mod RootLemmas
 mod SwitchSteps
 mod ThisSteps

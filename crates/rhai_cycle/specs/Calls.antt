@@ -1,10 +1,13 @@
 -- How the parts of a call are told.
-use Rattle.std.specs.Prelude.{◌≡◌, ◌+◌, Bool, List, ◌∷◌, Result, Ok, Err, codes, length}
+use Rattle.std.specs.Prelude.{◌≡◌, ◌+◌, ℕ, Bool, true, List, [], ◌∷◌, Option, Result, Ok, Err, IsTrue, codes, length}
 use Rattle.rhai_tree.specs.declared.expr.Expr.{Expr}
 use Rattle.rhai_tree.specs.declared.position.Position.{Position}
 use Rattle.rhai_values.specs.declared.base.value.Dynamic.{Dynamic}
 use Rattle.rhai_values.specs.declared.base.value.FnPtr.{FnPtr, out-FnPtr}
 use Rattle.rhai_state.specs.declared.error.EvalAltResult.{EvalAltResult}
+use Rattle.rhai_state.specs.declared.scope.ScopeEntry.{ScopeEntry}
+use Rattle.rhai_functions.specs.Entering.{parameters}
+use Rattle.rhai_context.specs.Ends.{came}
 use Rattle.rhai_machine.specs.machine.Point.{Point}
 use Rattle.rhai_machine.specs.language.Setting.{Rules}
 use Rattle.rhai_machine.specs.language.State.{Local, State}
@@ -42,6 +45,16 @@ module _ {S H : Type 0} (rules : Rules S H) where
       Result (List (Dynamic H)) (EvalAltResult H) → State S H → Type 0
   Collects flattened made args old result new = (purpose : Purpose H) → flattens purpose ≡ flattened → (k : List (Frame H)) →
       Goes rules (with_core (arguments_core rules.setting purpose made args k old.local) old) (collected purpose result k new)
+
+  -- from the arguments of a call by name to where all of them are the variables of its function, and the libraries are what they were; or to
+  -- an error
+  unfoldable pub Fills : (params : List (List ℕ)) → List Expr → (well : Bool) → List (ScopeEntry H) → State S H →
+      Option (EvalAltResult H) → State S H → Type 0
+  Fills params args well entries old error new = (values : List (Dynamic H))
+      × (Collects true [] args old (came well values error) new)
+      × (IsTrue well → entries ≡ parameters params values)
+      × (IsTrue well → length values ≡ length args)
+      × (IsTrue well → new.local.around.lib ≡ old.local.around.lib)
 
 module _ {H : Type 0} where
   -- what is no operator on its operands is a keyword, or a call by name

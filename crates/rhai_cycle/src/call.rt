@@ -27,7 +27,8 @@ use rhai_dispatch::pointer::parts_of;
 use rhai_dispatch::{call_function, call_number};
 use rhai_functions::function::Function;
 use rhai_operands::arguments::literal_arg;
-use rhai_operands::operators::operate_in_place;
+use rhai_operands::operators::{operate_in_place, operate_known};
+use rhai_plain::callee::plain_callee;
 use rhai_pointers::arguments::parted;
 use rhai_pointers::forms::{CallForm, form_of};
 use rhai_pointers::keywords::{Keyword, keyword_of};
@@ -101,9 +102,29 @@ impl<'e, H: Host> Evaluator<'e, H> {
                 self.run_out(alloc, run, table, called, true, pos)
             }
             CallForm::Binary(token, left, right) => {
+                let in_place = operate_in_place(
+                    self.limits,
+                    alloc,
+                    &mut run.global,
+                    &*table,
+                    &run.scope,
+                    &mut run.value,
+                    &mut run.error,
+                    call,
+                    token,
+                    left,
+                    right,
+                    pos,
+                );
+                if let Some(done) = in_place {
+                    return done;
+                }
                 self.run_operator(alloc, run, table, call, token, left, right, pos)
             }
             CallForm::Function => {
+                if let Some(function) = plain_callee(run.global.lib.as_slice(), call) {
+                    return self.run_plain_call(alloc, run, table, call, function, pos);
+                }
                 let (first, rest) = parted(call.args.as_slice());
                 let name = call.name.get().as_str();
                 let captures = call.capture_parent_scope;
@@ -323,8 +344,8 @@ impl<'e, H: Host> Evaluator<'e, H> {
         self.run_out(alloc, run, table, called, true, pos)
     }
 
-    /// A binary operator. On operands that stand a built-in is done in place; any others are evaluated, the
-    /// left one first. How it ended stands in the run.
+    /// A binary operator whose operands are evaluated, the left one first. How it ended stands in the run.
+    #[inline(never)]
     #[cycle(eval)]
     fn run_operator<T: NativeTable<H>>(
         &self,
@@ -348,23 +369,6 @@ impl<'e, H: Host> Evaluator<'e, H> {
             (state_in (T.state table.old) run.old)
             (came result run.new.value run.new.error) (state_in (T.state table.new) run.new) }
     {
-        let in_place = operate_in_place(
-            self.limits,
-            alloc,
-            &mut run.global,
-            &*table,
-            &run.scope,
-            &mut run.value,
-            &mut run.error,
-            call,
-            token,
-            left,
-            right,
-            pos,
-        );
-        if let Some(done) = in_place {
-            return done;
-        }
         if !self.run_arg(alloc, run, table, left) {
             return false;
         }
@@ -381,6 +385,10 @@ impl<'e, H: Host> Evaluator<'e, H> {
         if !flatten_value(alloc, &run.global.cells, &mut run.value, &mut run.error, at) {
             let_go(first);
             return false;
+        }
+        if let Some(value) = operate_known(token, &first, &run.value) {
+            put(&mut run.value, value);
+            return true;
         }
         let second = take_value(&mut run.value);
         let offered = self.offered();

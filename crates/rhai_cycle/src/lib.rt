@@ -12,6 +12,7 @@ mod data;
 pub mod evaluator;
 pub mod expr;
 mod loops;
+mod plain;
 mod roots;
 pub mod stmt;
 mod switch;

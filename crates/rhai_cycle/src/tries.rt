@@ -73,8 +73,8 @@ impl<'e, H: Host> Evaluator<'e, H> {
         ensures runs { let rules = under H.name_of self.now T.natives in
             let old = state_in (T.state table.old) run.old in
             (k : _) → Goes rules (with_core (branch_core rules.setting
-            (catch_variable (out-Expr variable.now)) caught branch.now k old.local) old) (at (ended (came result run.new.value run.new.error)) k
-            (state_in (T.state table.new) run.new)) }
+            (catch_variable (out-Expr variable.now)) caught branch.now k old.local) old)
+            (at (ended (came result run.new.value run.new.error)) k (state_in (T.state table.new) run.new)) }
     {
         let base = run.scope.len();
         let bound = bind_caught(

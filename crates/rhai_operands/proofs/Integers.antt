@@ -79,6 +79,16 @@ module _ {H : Type 0} (token : Token) where
   found_known (Some x) None v is = one_known token (integer_in x.value) v is
   found_known (Some x) (Some y) v is = ap is_some (operated_at x.value y.value v is).2
 
+  -- nothing is given where an operand does not stand
+  pub left_missing : (left right : Option (Dynamic H)) → left ≡ None → false ≡ is_some (operated token left right)
+  left_missing None right is = refl
+  left_missing (Some x) right is = cc
+
+  pub right_missing : (left right : Option (Dynamic H)) → right ≡ None → false ≡ is_some (operated token left right)
+  right_missing None right is = refl
+  right_missing (Some x) None is = refl
+  right_missing (Some x) (Some y) is = cc
+
 module _ {S H : Type 0} (rules : Rules S H) (t : S) (scope : Scope H) (held : Held H) (call : FnCallExpr) (token : Token)
     (left right : Expr) (pos : Position) (x y : Dynamic H) (k : List (Frame H)) (fast : rules.setting.offer.fast_operators ≡ true)
     (is_token : call.op_token ≡ Some token) (args : call.args ≡ left ∷ right ∷ [])

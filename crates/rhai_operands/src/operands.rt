@@ -64,6 +64,7 @@ pub fn operand_in_place<'a, H: Host>(
 }
 
 /// The integer that a value is, None where it is of another type.
+#[inline(always)]
 pub fn integer_at<H>(value: &Dynamic<H>) -> Option<i64>
     ensures { result ≡ integer_in value.now.value }
 {

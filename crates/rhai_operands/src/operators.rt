@@ -13,12 +13,13 @@ ghost use Rattle.rhai_machine.specs.language.Frames.{OpenExpr};
 ghost use Rattle.rhai_machine.specs.language.Runs.{Runs};
 ghost use Rattle.rhai_machine.specs.language.Setting.{rules_of};
 ghost use Rattle.rhai_steps.specs.States.{state_of};
+ghost use Rattle.rhai_operators.specs.Direct.{integer_in};
 ghost use Rattle.rhai_operands.specs.Standing.{assigned_known, compared, compared_known, integer_of};
 ghost use Rattle.rhai_operands.specs.Standing.{operated, said, standing, truth_answered};
 ghost use Rattle.rhai_operands.specs.Tests.{Tests};
 ghost use Rattle.rhai_context.specs.Ends.{came, came_test, error_in};
 
-use crate::operands::{integer_in_place, operand_in_place, two_operands};
+use crate::operands::{integer_at, integer_in_place, operand_in_place, two_operands};
 use rhai_context::ends::{put, settle};
 use rhai_context::outcomes::charge;
 use rhai_operators::builtin_binary;
@@ -88,6 +89,60 @@ fn operate_values<H: Host, T: NativeTable<H>>(
         return Some(Err(error));
     }
     Some(applied(alloc, limits, outcome, pos))
+}
+
+/// The same, where how it ended goes into the run's places.
+#[inline(never)]
+fn operate_others<H: Host, T: NativeTable<H>>(
+    limits: &Limits,
+    alloc: Global,
+    global: &mut GlobalRuntimeState<H>,
+    _table: &T,
+    scope: &Scope<H>,
+    out: &mut Dynamic<H>,
+    place: &mut Option<EvalAltResult<H>>,
+    call: &FnCallExpr,
+    token: Token,
+    left: &Expr,
+    right: &Expr,
+    pos: Position,
+) -> Option<bool>
+    requires token { call.now.op_token ≡ Some token }
+    requires args { call.now.args ≡ left.now ∷ right.now ∷ [] }
+    requires resolves_left { IsTrue (resolves_expr left.now (names_in scope.now)) }
+    requires resolves_right { IsTrue (resolves_expr right.now (names_in scope.now)) }
+    ensures found { is_some result ≡ is_some (operated token
+        (standing (out-Expr left.now) (entries_of scope.now))
+        (standing (out-Expr right.now) (entries_of scope.now))) }
+    ensures left_alone { result ≡ None → global.new ≡ global.old }
+    ensures counts { global.old.num_operations ≤ global.new.num_operations }
+    ensures runs { (offer : _) (held : _) → offer.fast_operators ≡ true →
+        IfSome result (λ done. Runs (rules_of limits.now H.name_of offer T.natives)
+        (OpenExpr (layer.Expr::FnCall call.now pos))
+        (state_of (T.state _table.now) global.old scope.now held)
+        (came done out.new place.new) (state_of (T.state _table.now) global.new scope.now held)) }
+{
+    let answered = operate_values(
+        limits, alloc, global, _table, scope, call, token, left, right, pos,
+    );
+    match answered {
+        Some(answer) => Some(settle(place, out, answer)),
+        None => None,
+    }
+}
+
+/// Whether an expression may be an operand as it stands: a literal that takes no memory, or a variable.
+fn may_stand<H>(expr: &Expr) -> bool
+    ensures { (entries : _) → result ≡ false → standing {H = H} (out-Expr expr.now) entries ≡ None }
+{
+    matches!(
+        expr,
+        Expr::BoolConstant(..)
+            | Expr::IntegerConstant(..)
+            | Expr::CharConstant(..)
+            | Expr::Unit(_)
+            | Expr::Variable { .. }
+    )
 }
 
 /// Puts what an operator gives for two operands that are integers as they stand, which are charged at once, into
@@ -165,13 +220,26 @@ pub fn operate_in_place<H: Host, T: NativeTable<H>>(
     if operate_integers(limits, global, scope, out, token, left, right) {
         return Some(true);
     }
-    let answered = operate_values(
-        limits, alloc, global, _table, scope, call, token, left, right, pos,
-    );
-    match answered {
-        Some(answer) => Some(settle(place, out, answer)),
-        None => None,
+    let may_stand = may_stand::<H>(left) && may_stand::<H>(right);
+    if !may_stand {
+        return None;
     }
+    operate_others(
+        limits, alloc, global, _table, scope, out, place, call, token, left, right, pos,
+    )
+}
+
+/// The value that an operator gives for two values, where both are integers. None where one of them is none, or the
+/// operator gives no integer, or may not stand before an `=`.
+#[inline(always)]
+pub fn operate_known<H: Host>(
+    token: Token,
+    left: &Dynamic<H>,
+    right: &Dynamic<H>,
+) -> Option<Dynamic<H>>
+    ensures { result ≡ assigned_known token (integer_in left.now.value) (integer_in right.now.value) }
+{
+    assign_known(token, integer_at(left), integer_at(right))
 }
 
 /// The truth value that an operator gave, None where it gave something else.

@@ -12,6 +12,7 @@ ghost use Rattle.rhai_steps.specs.States.{local_of};
 ghost use Rattle.rhai_context.specs.Ends.{came};
 ghost use Rattle.rhai_operands.specs.Reading.{asks_read, read_as};
 
+use crate::operands::integer_in_place;
 use rhai_context::ends::{put, put_truth, put_unit, settle, stop};
 use rhai_state::error::EvalAltResult;
 use rhai_state::scope::Scope;
@@ -22,15 +23,12 @@ use rhai_tree::expr::Expr;
 use rhai_values::base::value::{Dynamic, Host};
 use std::alloc::Global;
 
-/// Puts the value of a literal, of a variable or of `this` into its place, where the expression is charged
-/// already. Asked: the expression resolves to the variables of the scope. What is made of other expressions is the
-/// caller's: here it counts as one that finds no memory.
+/// The same for any of these forms, as `read_expr` does it.
 ///
 /// # Errors
-/// At a variable: `ErrorVariableNotFound`, and `ErrorDataRace` where it is the handle of a cell that is held. At
-/// `this`: `ErrorUnboundThis`.
-#[inline(always)]
-pub fn read_expr<H: Host>(
+/// Those of `read_expr`.
+#[inline(never)]
+fn read_any<H: Host>(
     alloc: Global,
     global: &GlobalRuntimeState<H>,
     scope: &Scope<H>,
@@ -41,11 +39,14 @@ pub fn read_expr<H: Host>(
 ) -> bool
     requires { IsTrue (resolves_expr expr.now (names_in scope.now)) }
     ensures exact { (focus : _) → Answers (came result out.new place.new)
-        (read_as (local_of global.now scope.now (record { this = this.now; focus = focus })) (out-Expr expr.now)) }
+        (read_as (local_of global.now scope.now (record { this = this.now; focus = focus }))
+        (out-Expr expr.now)) }
     ensures memory { IfErr (came result out.new place.new) (λ error.
         is_out_of_memory error ≡ true → IsTrue (asks_read (out-Expr expr.now)).0) }
-    ensures plain { IsTrue result → is_handle out.new.value ≡ true → IsTrue (asks_read (out-Expr expr.now)).0 }
-    ensures truth { IsTrue result → is_truth out.new.value ≡ false → IsTrue (asks_read (out-Expr expr.now)).1 }
+    ensures plain { IsTrue result → is_handle out.new.value ≡ true →
+        IsTrue (asks_read (out-Expr expr.now)).0 }
+    ensures truth { IsTrue result → is_truth out.new.value ≡ false →
+        IsTrue (asks_read (out-Expr expr.now)).1 }
 {
     match expr {
         Expr::IntegerConstant(value, _) => {
@@ -79,5 +80,53 @@ pub fn read_expr<H: Host>(
         }
         Expr::ThisPtr(pos) => settle(place, out, read_this(alloc, this, *pos)),
         _ => stop(place, EvalAltResult::ErrorOutOfMemory(expr.position())),
+    }
+}
+
+/// Puts the value of a literal, of a variable or of `this` into its place, where the expression is charged
+/// already. Asked: the expression resolves to the variables of the scope. What is made of other expressions is the
+/// caller's: here it counts as one that finds no memory.
+///
+/// # Errors
+/// At a variable: `ErrorVariableNotFound`, and `ErrorDataRace` where it is the handle of a cell that is held. At
+/// `this`: `ErrorUnboundThis`.
+#[inline(always)]
+pub fn read_expr<H: Host>(
+    alloc: Global,
+    global: &GlobalRuntimeState<H>,
+    scope: &Scope<H>,
+    this: &Option<Dynamic<H>>,
+    out: &mut Dynamic<H>,
+    place: &mut Option<EvalAltResult<H>>,
+    expr: &Expr,
+) -> bool
+    requires { IsTrue (resolves_expr expr.now (names_in scope.now)) }
+    ensures exact { (focus : _) → Answers (came result out.new place.new)
+        (read_as (local_of global.now scope.now (record { this = this.now; focus = focus }))
+        (out-Expr expr.now)) }
+    ensures memory { IfErr (came result out.new place.new) (λ error.
+        is_out_of_memory error ≡ true → IsTrue (asks_read (out-Expr expr.now)).0) }
+    ensures plain { IsTrue result → is_handle out.new.value ≡ true →
+        IsTrue (asks_read (out-Expr expr.now)).0 }
+    ensures truth { IsTrue result → is_truth out.new.value ≡ false →
+        IsTrue (asks_read (out-Expr expr.now)).1 }
+{
+    match expr {
+        Expr::IntegerConstant(value, _) => {
+            put(out, int_value(value));
+            true
+        }
+        Expr::Variable { .. } => match integer_in_place(global, scope, expr) {
+            Some(number) => {
+                put(out, int_value(&number));
+                true
+            }
+            None => read_any(alloc, global, scope, this, out, place, expr),
+        },
+        Expr::BoolConstant(value, _) => {
+            put_truth(out, *value);
+            true
+        }
+        _ => read_any(alloc, global, scope, this, out, place, expr),
     }
 }

@@ -1,2 +1,3 @@
 mod ItemLemmas
+mod Plain
 mod TurnLemmas

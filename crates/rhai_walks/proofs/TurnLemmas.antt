@@ -49,6 +49,15 @@ module _ {H : Type 0} (v : Dynamic H) (l : Local H) (entries : List (ScopeEntry 
   item_not r loop item rest turn base index k flattened there wrote =
       rw (← flattened) (wrote_not r _ (rw there at wrote) _ k)
 
+  -- an item whose variable was written
+  pub item_written : (r : Result (Unit {0}) (EvalAltResult H)) (loop : ForLoop) (item : Dynamic H) (rest : Turns H)
+      (turn base index : ℕ) (k : List (Frame H)) → Ok v ≡ flat l.around.cells item (position_of loop.items) →
+      index ≡ base + counters loop.counter → Wrote r (place_of_entry loop.variable.name loop.variable.pos index l) v l entries cells →
+      OnOk r (item_core loop item rest turn base k l
+      ≡ core (Enter loop.body.statements true) (ForBody loop rest turn base ∷ k) (seen_as entries cells l))
+  item_written r loop item rest turn base index k flattened there wrote = rw (← flattened) (wrote_on r _ (rw there at wrote)
+      (λ m. core (Enter loop.body.statements true) (ForBody loop rest turn base ∷ k) m) k)
+
   pub same_seen : (r : Result (Unit {0}) (EvalAltResult H)) → OnErr r (entries ≡ l.scope) → OnErr r (cells ≡ l.around.cells) →
       OnErr r (seen_as entries cells l ≡ l)
   same_seen (Ok done) scope store = tt

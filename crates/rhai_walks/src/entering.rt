@@ -24,7 +24,7 @@ use rhai_state::scope::Scope;
 use rhai_state::state::GlobalRuntimeState;
 use rhai_state::table::NativeTable;
 use rhai_steps::errors::shared_text;
-use rhai_steps::values::{flatten, let_go};
+use rhai_steps::values::{flatten, is_bare_handle, let_go};
 use rhai_tree::position::Position;
 use rhai_values::base::value::{Dynamic, Host, Union};
 use std::alloc::Global;
@@ -93,11 +93,12 @@ fn count_turn<H: Host>(
     write_variable(scope, &mut global.cells, base, number, &counter.name, pos)
 }
 
-/// Writes the item of a turn into the variable, which is the newest, flattened and with its mode.
+/// Writes an item that may be a handle into the variable, as `enter_item` does it.
 ///
 /// # Errors
-/// `ErrorDataRace` where the item leads to a cell that is held, and those of `write_variable`.
-fn enter_item<H: Host>(
+/// Those of `enter_item`.
+#[inline(never)]
+fn enter_handle<H: Host>(
     alloc: Global,
     global: &mut GlobalRuntimeState<H>,
     scope: &mut Scope<H>,
@@ -128,6 +129,48 @@ fn enter_item<H: Host>(
         &mut global.cells,
         index,
         value,
+        &variable.name,
+        variable.pos,
+    )
+}
+
+/// Writes the item of a turn into the variable, which is the newest, flattened and with its mode.
+///
+/// # Errors
+/// `ErrorDataRace` where the item leads to a cell that is held, and those of `write_variable`.
+fn enter_item<H: Host>(
+    alloc: Global,
+    global: &mut GlobalRuntimeState<H>,
+    scope: &mut Scope<H>,
+    parts: ForParts<'_>,
+    item: Dynamic<H>,
+    base: usize,
+) -> Result<(), EvalAltResult<H>>
+    requires { base + counters parts.counter.now + 1 ≡ length (entries_of scope.old) }
+    ensures rest { global.new ≡ record global.old { cells = global.new.cells } }
+    ensures names { names_in scope.new ≡ names_in scope.old }
+    ensures entered { (rest : _) (turn : _) (k : _) (l : _) →
+        seen_as (entries_of scope.old) (cells_of global.old.cells) l ≡ l →
+        OnOk result (item_core (loop_in parts.entry) item rest turn base k l
+        ≡ core (Enter parts.entry.body.now.statements true) (ForBody (loop_in parts.entry) rest turn base ∷ k)
+        (seen_as (entries_of scope.new) (cells_of global.new.cells) l)) }
+    ensures refused { (rest : _) (turn : _) (k : _) (l : _) →
+        seen_as (entries_of scope.old) (cells_of global.old.cells) l ≡ l →
+        IfErr result (λ e. is_out_of_memory e ≡ false →
+        item_core (loop_in parts.entry) item rest turn base k l ≡ core (Fail e) k l) }
+    ensures same_scope { OnErr result (entries_of scope.new ≡ entries_of scope.old) }
+    ensures same_cells { OnErr result (cells_of global.new.cells ≡ cells_of global.old.cells) }
+{
+    if is_bare_handle(&item) {
+        return enter_handle(alloc, global, scope, parts, item, base);
+    }
+    let index = scope.len() - 1;
+    let variable = parts.variable;
+    write_variable(
+        scope,
+        &mut global.cells,
+        index,
+        item,
         &variable.name,
         variable.pos,
     )

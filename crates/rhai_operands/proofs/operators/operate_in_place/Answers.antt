@@ -5,8 +5,9 @@ use Rattle.rhai_state.specs.declared.state.GlobalRuntimeState.{GlobalRuntimeStat
 use Rattle.rhai_machine.specs.language.Setting.{rules_of}
 use Rattle.rhai_machine.specs.language.Runs.{Steps}
 use Rattle.rhai_operands.specs.Standing.{standing}
-use Rattle.rhai_operands.proofs.Integers.{found_known, operated_stands, operates_at_once}
+use Rattle.rhai_operands.proofs.Integers.{found_known, left_missing, operated_stands, operates_at_once, right_missing}
 use Rattle.rhai_operands.proofs.operators.operate_in_place.Goals as goal
+use Rattle.rhai_operands.proofs.operators.operate_in_place.Goals.{then-may_stand, else-may_stand}
 
 pub returns-then-operate_integers-clause-found : goal.returns-then-operate_integers-clause-found
 returns-then-operate_integers-clause-found g c =
@@ -30,20 +31,32 @@ returns-then-operate_integers-clause-runs g c offer held fast k =
     c.requires.resolves_right stand.2 stand.3 c.args.global.now c.operate_integers.new.global (c.if-operate_integers.ensures.room refl)
     (c.if-operate_integers.ensures.charged refl) c.operate_integers.new.out stand.4 stand.5 stand.6
 
-pub returns-in-None-clause-left_alone : goal.returns-in-None-clause-left_alone
-returns-in-None-clause-left_alone g c none =
-    c.operate_values-answered.ensures.left_alone c.in-None.is ∙ c.if-operate_integers.ensures.left_alone refl
+pub returns-then-not-may_stand-clause-found : goal.returns-then-not-may_stand-clause-found
+returns-then-not-may_stand-clause-found g c =
+    let left = standing (out-Expr c.args.left.now) (entries_of c.args.scope.now) in
+    let right = standing (out-Expr c.args.right.now) (entries_of c.args.scope.now) in
+    elim c.if-may_stand.branch [
+      | then-may_stand w ↦ right_missing c.args.token left right
+          (w.may_stand-may_stand.ensures (entries_of c.args.scope.now) (sym w.may_stand-is ∙ c.if-not-may_stand.true))
+      | else-may_stand w ↦ left_missing c.args.token left right (c.may_stand.ensures (entries_of c.args.scope.now) w.if-may_stand.false)
+    ]
 
-pub returns-in-Some-clause-counts : goal.returns-in-Some-clause-counts
-returns-in-Some-clause-counts g c =
+pub returns-then-not-may_stand-clause-left_alone : goal.returns-then-not-may_stand-clause-left_alone
+returns-then-not-may_stand-clause-left_alone g c none = c.if-operate_integers.ensures.left_alone refl
+
+pub returns-then-not-may_stand-clause-counts : goal.returns-then-not-may_stand-clause-counts
+returns-then-not-may_stand-clause-counts g c =
+    omega (arith, ap (λ (global : GlobalRuntimeState _). global.num_operations) (c.if-operate_integers.ensures.left_alone refl))
+
+pub returns-clause-left_alone : goal.returns-clause-left_alone
+returns-clause-left_alone g c none =
+    c.operate_others.ensures.left_alone none ∙ c.if-operate_integers.ensures.left_alone refl
+
+pub returns-clause-counts : goal.returns-clause-counts
+returns-clause-counts g c =
     let same = ap (λ (global : GlobalRuntimeState _). global.num_operations) (c.if-operate_integers.ensures.left_alone refl) in
-    omega (arith, c.operate_values-answered.ensures.counts, same)
+    omega (arith, c.operate_others.ensures.counts, same)
 
-pub returns-in-None-clause-counts : goal.returns-in-None-clause-counts
-returns-in-None-clause-counts g c =
-    let same = ap (λ (global : GlobalRuntimeState _). global.num_operations) (c.if-operate_integers.ensures.left_alone refl) in
-    omega (arith, c.operate_values-answered.ensures.counts, same)
-
-pub returns-in-Some-clause-runs : goal.returns-in-Some-clause-runs
-returns-in-Some-clause-runs g c offer held fast =
-    rw c.settle.ensures ((rw (c.if-operate_integers.ensures.left_alone refl) at c.in-Some.ensures.runs) offer held fast)
+pub returns-clause-runs : goal.returns-clause-runs
+returns-clause-runs g c offer held fast =
+    (rw (c.if-operate_integers.ensures.left_alone refl) at c.operate_others.ensures.runs) offer held fast

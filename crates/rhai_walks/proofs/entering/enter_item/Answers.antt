@@ -1,9 +1,9 @@
-use Rattle.std.proofs.Common.{◌≡◌, ◌+◌, ◌-◌, None, ap, arith, refl}
-use Rattle.rhai_machine.specs.language.State.{Local}
+use Rattle.std.proofs.Common.{◌≡◌, ◌+◌, ◌-◌, ◌∙◌, None, arith, refl, sym}
 use Rattle.rhai_machine.specs.language.Walks.{counters}
 use Rattle.rhai_steps.specs.States.{holding, local_of}
 use Rattle.rhai_walks.specs.Loops.{loop_in}
-use Rattle.rhai_walks.proofs.TurnLemmas.{item_not, names_kept}
+use Rattle.rhai_walks.proofs.Plain.{stays}
+use Rattle.rhai_walks.proofs.TurnLemmas.{item_not, item_written, names_kept}
 use Rattle.rhai_walks.proofs.entering.enter_item.Goals as goal
 
 pub returns-clause-names : goal.returns-clause-names
@@ -11,10 +11,18 @@ returns-clause-names g c =
     let l = local_of c.args.global.now c.args.scope.now (holding None) in
     names_kept _ l _ _ c.write_variable.result _ (c.write_variable.ensures.wrote l refl) c.write_variable.ensures.scope
 
+pub returns-clause-entered : goal.returns-clause-entered
+returns-clause-entered g c rest turn k l same =
+    let there : c.len-index.result - 1 ≡ c.args.base + counters c.args.parts.counter.now =
+    omega (arith, c.len-index.ensures, c.requires) in
+    item_written c.args.item l _ _ c.write_variable.result (loop_in c.args.parts) c.args.item rest turn c.args.base _ k
+    (stays l.around.cells c.args.item _ (sym c.is_bare_handle.ensures ∙ c.if-is_bare_handle.false)) there
+    (c.write_variable.ensures.wrote l same)
+
 pub returns-clause-refused : goal.returns-clause-refused
 returns-clause-refused g c rest turn k l same =
     let there : c.len-index.result - 1 ≡ c.args.base + counters c.args.parts.counter.now =
     omega (arith, c.len-index.ensures, c.requires) in
-    item_not _ l _ _ c.write_variable.result (loop_in c.args.parts) c.args.item rest turn c.args.base _ k
-    (rw (c.position.ensures, ap (λ (m : Local _). m.around.cells) same) at (c.in_ok-value.ensures.exact tt)) there
+    item_not c.args.item l _ _ c.write_variable.result (loop_in c.args.parts) c.args.item rest turn c.args.base _ k
+    (stays l.around.cells c.args.item _ (sym c.is_bare_handle.ensures ∙ c.if-is_bare_handle.false)) there
     (c.write_variable.ensures.wrote l same)

@@ -10,6 +10,7 @@ mod Located
 mod Loops
 mod Members
 mod Methods
+mod Plain
 mod Roots
 mod Spots
 mod Statements
@@ -30,6 +31,7 @@ use Rattle.rhai_cycle.proofs.evaluator.Evaluator.+eval.Answers.Located as locate
 use Rattle.rhai_cycle.proofs.evaluator.Evaluator.+eval.Answers.Loops as loops
 use Rattle.rhai_cycle.proofs.evaluator.Evaluator.+eval.Answers.Members as members
 use Rattle.rhai_cycle.proofs.evaluator.Evaluator.+eval.Answers.Methods as methods
+use Rattle.rhai_cycle.proofs.evaluator.Evaluator.+eval.Answers.Plain as plain
 use Rattle.rhai_cycle.proofs.evaluator.Evaluator.+eval.Answers.Roots as roots
 use Rattle.rhai_cycle.proofs.evaluator.Evaluator.+eval.Answers.Spots as spots
 use Rattle.rhai_cycle.proofs.evaluator.Evaluator.+eval.Answers.Statements as statements
@@ -131,14 +133,23 @@ run_fn_call_expr-returns-then-not-flatten_value-clause-runs = calls.run_fn_call_
 pub run_fn_call_expr-returns-else-not-flatten_value-clause-runs : goal.run_fn_call_expr-returns-else-not-flatten_value-clause-runs
 run_fn_call_expr-returns-else-not-flatten_value-clause-runs = calls.run_fn_call_expr-returns-else-not-flatten_value-clause-runs
 
+pub run_fn_call_expr-returns-in-Some-clause-runs : goal.run_fn_call_expr-returns-in-Some-clause-runs
+run_fn_call_expr-returns-in-Some-clause-runs = calls.run_fn_call_expr-returns-in-Some-clause-runs
+
+pub run_fn_call_expr-returns-in_default-clause-runs : goal.run_fn_call_expr-returns-in_default-clause-runs
+run_fn_call_expr-returns-in_default-clause-runs = calls.run_fn_call_expr-returns-in_default-clause-runs
+
+pub run_fn_call_expr-run_plain_call-requires : goal.run_fn_call_expr-run_plain_call-requires
+run_fn_call_expr-run_plain_call-requires = calls.run_fn_call_expr-run_plain_call-requires
+
+pub run_fn_call_expr-returns-in-Some-plain_callee-clause-runs : goal.run_fn_call_expr-returns-in-Some-plain_callee-clause-runs
+run_fn_call_expr-returns-in-Some-plain_callee-clause-runs = calls.run_fn_call_expr-returns-in-Some-plain_callee-clause-runs
+
 pub run_fn_call_expr-run_call-requires : goal.run_fn_call_expr-run_call-requires
 run_fn_call_expr-run_call-requires = calls.run_fn_call_expr-run_call-requires
 
-pub run_fn_call_expr-returns-in-Function-clause-runs : goal.run_fn_call_expr-returns-in-Function-clause-runs
-run_fn_call_expr-returns-in-Function-clause-runs = calls.run_fn_call_expr-returns-in-Function-clause-runs
-
-pub run_operator-returns-in-Some-clause-runs : goal.run_operator-returns-in-Some-clause-runs
-run_operator-returns-in-Some-clause-runs = calls.run_operator-returns-in-Some-clause-runs
+pub run_fn_call_expr-returns-in_default-plain_callee-clause-runs : goal.run_fn_call_expr-returns-in_default-plain_callee-clause-runs
+run_fn_call_expr-returns-in_default-plain_callee-clause-runs = calls.run_fn_call_expr-returns-in_default-plain_callee-clause-runs
 
 pub run_operator-run_arg-requires : goal.run_operator-run_arg-requires
 run_operator-run_arg-requires = calls.run_operator-run_arg-requires
@@ -157,6 +168,9 @@ run_operator-returns-then-not-run_arg-2-clause-runs = calls.run_operator-returns
 
 pub run_operator-returns-then-not-flatten_value-2-clause-runs : goal.run_operator-returns-then-not-flatten_value-2-clause-runs
 run_operator-returns-then-not-flatten_value-2-clause-runs = calls.run_operator-returns-then-not-flatten_value-2-clause-runs
+
+pub run_operator-returns-in-Some-clause-runs : goal.run_operator-returns-in-Some-clause-runs
+run_operator-returns-in-Some-clause-runs = calls.run_operator-returns-in-Some-clause-runs
 
 pub run_operator-returns-clause-runs : goal.run_operator-returns-clause-runs
 run_operator-returns-clause-runs = calls.run_operator-returns-clause-runs
@@ -781,6 +795,57 @@ walk_behind-returns-in-Ok-clause-runs = methods.walk_behind-returns-in-Ok-clause
 
 pub walk_behind-returns-in-Err-clause-runs : goal.walk_behind-returns-in-Err-clause-runs
 walk_behind-returns-in-Err-clause-runs = methods.walk_behind-returns-in-Err-clause-runs
+
+pub run_plain_call-run_parameters-requires : goal.run_plain_call-run_parameters-requires
+run_plain_call-run_parameters-requires = plain.run_plain_call-run_parameters-requires
+
+pub run_plain_call-returns-then-not-run_parameters-clause-runs : goal.run_plain_call-returns-then-not-run_parameters-clause-runs
+run_plain_call-returns-then-not-run_parameters-clause-runs = plain.run_plain_call-returns-then-not-run_parameters-clause-runs
+
+pub run_plain_call-returns-then-variables_race-clause-runs : goal.run_plain_call-returns-then-variables_race-clause-runs
+run_plain_call-returns-then-variables_race-clause-runs = plain.run_plain_call-returns-then-variables_race-clause-runs
+
+pub run_plain_call-returns-then-not-charge-clause-runs : goal.run_plain_call-returns-then-not-charge-clause-runs
+run_plain_call-returns-then-not-charge-clause-runs = plain.run_plain_call-returns-then-not-charge-clause-runs
+
+pub run_plain_call-returns-then-not-may_run-clause-runs : goal.run_plain_call-returns-then-not-may_run-clause-runs
+run_plain_call-returns-then-not-may_run-clause-runs = plain.run_plain_call-returns-then-not-may_run-clause-runs
+
+pub run_plain_call-returns-then-is_empty-clause-runs : goal.run_plain_call-returns-then-is_empty-clause-runs
+run_plain_call-returns-then-is_empty-clause-runs = plain.run_plain_call-returns-then-is_empty-clause-runs
+
+pub run_plain_call-run_stmt_block-done-requires : goal.run_plain_call-run_stmt_block-done-requires
+run_plain_call-run_stmt_block-done-requires = plain.run_plain_call-run_stmt_block-done-requires
+
+pub run_plain_call-returns-clause-counts : goal.run_plain_call-returns-clause-counts
+run_plain_call-returns-clause-counts = plain.run_plain_call-returns-clause-counts
+
+pub run_plain_call-returns-clause-names : goal.run_plain_call-returns-clause-names
+run_plain_call-returns-clause-names = plain.run_plain_call-returns-clause-names
+
+pub run_plain_call-returns-clause-runs : goal.run_plain_call-returns-clause-runs
+run_plain_call-returns-clause-runs = plain.run_plain_call-returns-clause-runs
+
+pub run_parameters-run_arg-requires : goal.run_parameters-run_arg-requires
+run_parameters-run_arg-requires = plain.run_parameters-run_arg-requires
+
+pub run_parameters-each_arg-init : goal.run_parameters-each_arg-init
+run_parameters-each_arg-init = plain.run_parameters-each_arg-init
+
+pub run_parameters-push_parameter-requires : goal.run_parameters-push_parameter-requires
+run_parameters-push_parameter-requires = plain.run_parameters-push_parameter-requires
+
+pub run_parameters-each_arg-preserved : goal.run_parameters-each_arg-preserved
+run_parameters-each_arg-preserved = plain.run_parameters-each_arg-preserved
+
+pub run_parameters-returns-then-not-run_arg-clause-fills : goal.run_parameters-returns-then-not-run_arg-clause-fills
+run_parameters-returns-then-not-run_arg-clause-fills = plain.run_parameters-returns-then-not-run_arg-clause-fills
+
+pub run_parameters-returns-then-not-push_parameter-clause-fills : goal.run_parameters-returns-then-not-push_parameter-clause-fills
+run_parameters-returns-then-not-push_parameter-clause-fills = plain.run_parameters-returns-then-not-push_parameter-clause-fills
+
+pub run_parameters-returns-clause-fills : goal.run_parameters-returns-clause-fills
+run_parameters-returns-clause-fills = plain.run_parameters-returns-clause-fills
 
 pub walk_variable-returns-in-Ok-clause-runs : goal.walk_variable-returns-in-Ok-clause-runs
 walk_variable-returns-in-Ok-clause-runs = roots.walk_variable-returns-in-Ok-clause-runs

@@ -8,6 +8,7 @@ use Rattle.rhai_chains.specs.declared.links.Link.{Link}
 use Rattle.rhai_tree.specs.Layers.{ExprLayer}
 use Rattle.rhai_tree.specs.declared.expr.Expr.{out-Expr}
 use Rattle.rhai_state.specs.Limits.{limit_of}
+use Rattle.rhai_state.specs.Scope.{entries_of}
 use Rattle.rhai_machine.specs.language.Values.{unit_value}
 use Rattle.rhai_machine.specs.language.Cases.{default_of, results_of}
 use Rattle.rhai_machine.specs.language.Frames.{Choose, DoTurn, ForTurn, Frame, OpenStmt, Purpose, RestoreScope, Run, WhileTurn}
@@ -26,6 +27,7 @@ use Rattle.rhai_context.specs.declared.Context.{Context}
 use Rattle.rhai_cycle.specs.declared.evaluator.Evaluator.{Evaluator}
 use Rattle.rhai_cycle.specs.States.{names, state_in, under}
 use Rattle.rhai_cycle.proofs.ChoiceSteps.{until_core}
+use Rattle.rhai_cycle.proofs.PlainLemmas.{Filling}
 use Rattle.rhai_cycle.proofs.evaluator.Evaluator.+eval.Given as goal
 
 -- what stands behind a link
@@ -81,6 +83,12 @@ decreases-run_more_args g l = measured l.self.now l.run.now 0 3
 
 abbrev pub decreases-run_all_args : goal.decreases-run_all_args
 decreases-run_all_args g l = measured l.self.now l.run.now 0 4
+
+abbrev pub decreases-run_plain_call : goal.decreases-run_plain_call
+decreases-run_plain_call g l = measured l.self.now l.run.now 0 5
+
+abbrev pub decreases-run_parameters : goal.decreases-run_parameters
+decreases-run_parameters g l = measured l.self.now l.run.now 0 3
 
 abbrev pub decreases-run_condition : goal.decreases-run_condition
 decreases-run_condition g l = measured l.self.now l.run.now 0 2
@@ -244,6 +252,14 @@ invariant-run_more_args-each_arg g l = record {
       (with_core (arguments_core (under g.H.Host.name_of l.self g.T.NativeTable.natives).setting purpose l.values (drop l.arg-index l.args) k
       (state_in (g.T.NativeTable.state l.table) l.run).local)
       (state_in (g.T.NativeTable.state l.table) l.run));
+}
+
+abbrev pub invariant-run_parameters-each_arg : goal.invariant-run_parameters-each_arg
+invariant-run_parameters-each_arg g l = record {
+  counts : l.fn.run.global.num_operations ≤ l.run.global.num_operations;
+  names : names l.run ≡ names l.fn.run;
+  fills : Filling (under g.H.Host.name_of l.self g.T.NativeTable.natives) l.def.params l.args (drop l.arg-index l.args)
+      (entries_of l.scope) (state_in (g.T.NativeTable.state l.fn.table) l.fn.run) (state_in (g.T.NativeTable.state l.table) l.run);
 }
 
 abbrev pub invariant-run_array-each_item : goal.invariant-run_array-each_item

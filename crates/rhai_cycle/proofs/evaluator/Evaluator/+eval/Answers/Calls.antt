@@ -13,6 +13,7 @@ use Rattle.rhai_operands.proofs.InPlace.{opens_binary}
 use Rattle.rhai_cycle.proofs.NameLemmas.{first_resolves}
 use Rattle.rhai_cycle.proofs.CallSteps.{begins_call}
 use Rattle.rhai_cycle.proofs.Chain.{flat_fails, opens_unary, still_none}
+use Rattle.rhai_cycle.proofs.PlainLemmas.{known_goes, plain_begins}
 use Rattle.rhai_cycle.proofs.evaluator.Evaluator.+eval.Goals as goal
 
 pub run_fn_call_expr-run_arg-requires : goal.run_fn_call_expr-run_arg-requires
@@ -27,7 +28,10 @@ run_fn_call_expr-run_operator-requires g t c =
     let form = rw c.in-Binary.is at c.form_of.ensures in
     let resolved = operands_resolve c.args.call.now c.args.pos c.in-Binary.left.now c.in-Binary.right.now (names c.args.run.now) form.2
     c.requires.resolves in
-    λ κs lives. (omega arith, (lives.0, (lives.1, (form.1, (form.2, (resolved.0, (resolved.1, form.0)))))))
+    λ κs lives. (
+      omega (arith, c.operate_in_place-in_place.ensures.counts),
+      (lives.0, (lives.1, (form.1, (form.2, (resolved.0, (resolved.1, form.0)))))),
+    )
 
 pub run_fn_call_expr-returns-then-not-run_arg-clause-runs : goal.run_fn_call_expr-returns-then-not-run_arg-clause-runs
 unfolding after Steps
@@ -59,6 +63,30 @@ run_fn_call_expr-returns-else-not-flatten_value-clause-runs g t c k =
     (holding c.run_arg.new.run.this) c.offered-offered.ensures)) k))
     ⨾ c.run_out.ensures.runs k
 
+pub run_fn_call_expr-returns-in-Some-clause-runs : goal.run_fn_call_expr-returns-in-Some-clause-runs
+run_fn_call_expr-returns-in-Some-clause-runs g t c =
+    let form = rw c.in-Binary.is at c.form_of.ensures in
+    c.in-Some.ensures.runs (offer_of c.args.self.now) (holding c.args.run.now.this) form.0
+
+pub run_fn_call_expr-returns-in_default-clause-runs : goal.run_fn_call_expr-returns-in_default-clause-runs
+run_fn_call_expr-returns-in_default-clause-runs g t c =
+    rw (c.operate_in_place-in_place.ensures.left_alone c.in_default.is) at c.run_operator.ensures.runs
+
+pub run_fn_call_expr-run_plain_call-requires : goal.run_fn_call_expr-run_plain_call-requires
+run_fn_call_expr-run_plain_call-requires g t c =
+    let resolved = operands_of_call c.args.call.now c.args.pos (names c.args.run.now) c.requires.resolves in
+    λ κs lives. (omega arith, (lives.0, (lives.1, (resolved, rw c.as_slice.ensures at c.in-Some-plain_callee.ensures))))
+
+pub run_fn_call_expr-returns-in-Some-plain_callee-clause-runs : goal.run_fn_call_expr-returns-in-Some-plain_callee-clause-runs
+unfolding Steps StartsAs
+run_fn_call_expr-returns-in-Some-plain_callee-clause-runs g t c k =
+    let rules = under g.H.Host.name_of c.args.self.now g.T.NativeTable.natives in
+    let form = rw c.in-Function.is at c.form_of.ensures in
+    plain_begins rules c.args.call.now c.args.run.now.global.lib c.in-Some-plain_callee.function
+    (rw c.as_slice.ensures at c.in-Some-plain_callee.ensures) c.args.pos k _
+    (call_is_plain c.args.call.now c.args.pos _ c.requires.resolves) form
+    ⨾ c.run_plain_call.ensures.runs k
+
 pub run_fn_call_expr-run_call-requires : goal.run_fn_call_expr-run_call-requires
 run_fn_call_expr-run_call-requires g t c =
     λ κs lives. (
@@ -67,32 +95,29 @@ run_fn_call_expr-run_call-requires g t c =
         lives.0,
         (
           lives.1,
-          rw (← c.parted.ensures, c.as_slice.ensures)
+          rw (← c.parted.ensures, c.as_slice-in-Function.ensures)
               (operands_of_call c.args.call.now c.args.pos (names c.args.run.now) c.requires.resolves),
         ),
       ),
     )
 
-pub run_fn_call_expr-returns-in-Function-clause-runs : goal.run_fn_call_expr-returns-in-Function-clause-runs
+pub run_fn_call_expr-returns-in_default-plain_callee-clause-runs : goal.run_fn_call_expr-returns-in_default-plain_callee-clause-runs
 unfolding Steps StartsAs
-run_fn_call_expr-returns-in-Function-clause-runs g t c k =
+run_fn_call_expr-returns-in_default-plain_callee-clause-runs g t c k =
     let rules = under g.H.Host.name_of c.args.self.now g.T.NativeTable.natives in
     let form = rw c.in-Function.is at c.form_of.ensures in
     begins_call rules c.args.call.now c.args.pos k _ (call_is_plain c.args.call.now c.args.pos _ c.requires.resolves) form
-    ⨾ (rw (← c.parted.ensures, c.as_slice.ensures, c.as_str-name.ensures, c.get-in-Function.ensures) at c.run_call.ensures.runs) k
-
-pub run_operator-returns-in-Some-clause-runs : goal.run_operator-returns-in-Some-clause-runs
-run_operator-returns-in-Some-clause-runs g t c =
-    c.in-Some.ensures.runs (offer_of c.args.self.now) (holding c.args.run.now.this) c.requires.fast
+    ⨾ (rw (← c.parted.ensures, c.as_slice-in-Function.ensures, c.as_str-name.ensures, c.get-in-Function.ensures)
+    at c.run_call.ensures.runs) k
 
 pub run_operator-run_arg-requires : goal.run_operator-run_arg-requires
 run_operator-run_arg-requires g t c =
-    λ κs lives. (omega (arith, c.operate_in_place-in_place.ensures.counts), (lives.0, (lives.1, c.requires.resolves_left)))
+    λ κs lives. (omega arith, (lives.0, (lives.1, c.requires.resolves_left)))
 
 pub run_operator-run_arg-requires-2 : goal.run_operator-run_arg-requires-2
 run_operator-run_arg-requires-2 g t c =
     λ κs lives. (
-      omega (arith, c.operate_in_place-in_place.ensures.counts, c.if-not-run_arg.ensures.charges refl),
+      omega (arith, c.if-not-run_arg.ensures.charges refl),
       (lives.0, (lives.1, rw (c.if-not-run_arg.ensures.names refl) c.requires.resolves_right)),
     )
 
@@ -102,7 +127,7 @@ run_operator-returns-then-not-run_arg-clause-runs g t c k =
     let rules = under g.H.Host.name_of c.args.self.now g.T.NativeTable.natives in
     opens_binary rules c.args.call.now c.args.token c.args.left.now c.args.right.now c.args.pos k _ c.requires.fast c.requires.token
     c.requires.args
-    ⨾ (rw (c.operate_in_place-in_place.ensures.left_alone c.in_default.is) at c.if-not-run_arg.ensures.runs) (LeftOperand _ _ _ ∷ k)
+    ⨾ c.if-not-run_arg.ensures.runs (LeftOperand _ _ _ ∷ k)
     ⨾ next here
 
 pub run_operator-returns-then-not-flatten_value-clause-runs : goal.run_operator-returns-then-not-flatten_value-clause-runs
@@ -111,7 +136,7 @@ run_operator-returns-then-not-flatten_value-clause-runs g t c k =
     let rules = under g.H.Host.name_of c.args.self.now g.T.NativeTable.natives in
     opens_binary rules c.args.call.now c.args.token c.args.left.now c.args.right.now c.args.pos k _ c.requires.fast c.requires.token
     c.requires.args
-    ⨾ (rw (c.operate_in_place-in_place.ensures.left_alone c.in_default.is) at c.if-not-run_arg.ensures.runs) (LeftOperand _ _ _ ∷ k)
+    ⨾ c.if-not-run_arg.ensures.runs (LeftOperand _ _ _ ∷ k)
     ⨾ flat_fails rules _ _ k _ _ (LeftOperand _ _ _) refl (rw c.position-at.ensures at c.if-not-flatten_value.ensures.exact)
 
 pub run_operator-returns-then-not-run_arg-2-clause-runs : goal.run_operator-returns-then-not-run_arg-2-clause-runs
@@ -120,7 +145,7 @@ run_operator-returns-then-not-run_arg-2-clause-runs g t c k =
     let rules = under g.H.Host.name_of c.args.self.now g.T.NativeTable.natives in
     opens_binary rules c.args.call.now c.args.token c.args.left.now c.args.right.now c.args.pos k _ c.requires.fast c.requires.token
     c.requires.args
-    ⨾ (rw (c.operate_in_place-in_place.ensures.left_alone c.in_default.is) at c.if-not-run_arg.ensures.runs) (LeftOperand _ _ _ ∷ k)
+    ⨾ c.if-not-run_arg.ensures.runs (LeftOperand _ _ _ ∷ k)
     ⨾ next (rw (← c.position-at.ensures, ← (c.if-not-flatten_value.ensures.exact tt)) (c.if-not-run_arg-2.ensures.runs
     (RightOperand _ _ _ ∷ k) ⨾ next here))
 
@@ -130,10 +155,25 @@ run_operator-returns-then-not-flatten_value-2-clause-runs g t c k =
     let rules = under g.H.Host.name_of c.args.self.now g.T.NativeTable.natives in
     opens_binary rules c.args.call.now c.args.token c.args.left.now c.args.right.now c.args.pos k _ c.requires.fast c.requires.token
     c.requires.args
-    ⨾ (rw (c.operate_in_place-in_place.ensures.left_alone c.in_default.is) at c.if-not-run_arg.ensures.runs) (LeftOperand _ _ _ ∷ k)
+    ⨾ c.if-not-run_arg.ensures.runs (LeftOperand _ _ _ ∷ k)
     ⨾ next (rw (← c.position-at.ensures, ← (c.if-not-flatten_value.ensures.exact tt)) (c.if-not-run_arg-2.ensures.runs
     (RightOperand _ _ _ ∷ k)
     ⨾ flat_fails rules _ _ k _ _ (RightOperand _ _ _) refl (rw c.position-at-2.ensures at c.if-not-flatten_value-2.ensures.exact)))
+
+pub run_operator-returns-in-Some-clause-runs : goal.run_operator-returns-in-Some-clause-runs
+unfolding after Steps
+run_operator-returns-in-Some-clause-runs g t c k =
+    let rules = under g.H.Host.name_of c.args.self.now g.T.NativeTable.natives in
+    let known = rw (c.in-Some.is, c.take_value-first.ensures.taken) at c.operate_known.ensures in
+    rw c.put.ensures
+    (opens_binary rules c.args.call.now c.args.token c.args.left.now c.args.right.now c.args.pos k _ c.requires.fast c.requires.token
+    c.requires.args
+    ⨾ c.if-not-run_arg.ensures.runs (LeftOperand _ _ _ ∷ k)
+    ⨾ next (rw (← c.position-at.ensures, ← (c.if-not-flatten_value.ensures.exact tt)) (c.if-not-run_arg-2.ensures.runs
+    (RightOperand _ _ _ ∷ k)
+    ⨾ next (rw (← c.position-at-2.ensures, ← (c.if-not-flatten_value-2.ensures.exact tt))
+    (known_goes rules c.args.call.now.name c.args.token c.args.pos c.flatten_value.new.out c.flatten_value-2.new.out
+    c.in-Some.value k _ known)))))
 
 pub run_operator-returns-clause-runs : goal.run_operator-returns-clause-runs
 unfolding after Steps StartsAs
@@ -141,7 +181,7 @@ run_operator-returns-clause-runs g t c k =
     let rules = under g.H.Host.name_of c.args.self.now g.T.NativeTable.natives in
     opens_binary rules c.args.call.now c.args.token c.args.left.now c.args.right.now c.args.pos k _ c.requires.fast c.requires.token
     c.requires.args
-    ⨾ (rw (c.operate_in_place-in_place.ensures.left_alone c.in_default.is) at c.if-not-run_arg.ensures.runs) (LeftOperand _ _ _ ∷ k)
+    ⨾ c.if-not-run_arg.ensures.runs (LeftOperand _ _ _ ∷ k)
     ⨾ next (rw (← c.position-at.ensures, ← (c.if-not-flatten_value.ensures.exact tt)) (c.if-not-run_arg-2.ensures.runs
     (RightOperand _ _ _ ∷ k)
     ⨾ next (rw (← c.position-at-2.ensures, ← (c.if-not-flatten_value-2.ensures.exact tt))

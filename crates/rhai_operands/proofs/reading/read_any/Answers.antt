@@ -1,7 +1,7 @@
 use Rattle.std.proofs.Common.{refl}
 use Rattle.rhai_tree.specs.declared.expr.Expr.TheVariants as exprs
 use Rattle.rhai_operands.proofs.Names.{good_name}
-use Rattle.rhai_operands.proofs.reading.read_expr.Goals as goal
+use Rattle.rhai_operands.proofs.reading.read_any.Goals as goal
 
 pub read_variable-answer-requires : goal.read_variable-answer-requires
 read_variable-answer-requires g c =

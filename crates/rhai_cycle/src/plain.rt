@@ -1,0 +1,136 @@
+//! Plain calls of functions of scripts, whose arguments become their variables at once. Ports the part of upstream's
+//! `func/call.rs` and `call_script_fn` that such a call takes; the contracts speak of the machine's runs.
+
+ghost use Rattle.std.specs.Prelude.{◌≡◌, ◌≤◌, [], None, IsTrue, false, length, map};
+ghost use Rattle.std.specs.Option.{option_copied};
+ghost use Rattle.rhai_tree.specs.Frame.{all_resolve_exprs, tests_of};
+ghost use Rattle.rhai_state.specs.Scope.{entries_of};
+ghost use Rattle.rhai_machine.specs.language.Arguments.{arguments_core};
+ghost use Rattle.rhai_machine.specs.language.Calls.{plainly};
+ghost use Rattle.rhai_machine.specs.language.Frames.{ToCall};
+ghost use Rattle.rhai_context.specs.Ends.{came};
+ghost use Rattle.rhai_plain.specs.Callees.{IsPlain};
+ghost use Rattle.rhai_cycle.specs.Calls.{Fills, StartsAs};
+ghost use Rattle.rhai_cycle.specs.States.{names, state_in, under};
+
+use crate::bodies::level_below;
+use crate::evaluator::Evaluator;
+use rhai_bodies::closing::close_body;
+use rhai_bodies::opening::{enter_level, may_run, statements_of};
+use rhai_context::ends::put_unit;
+use rhai_context::outcomes::charge;
+use rhai_context::{Context, enter_scope, keep_scope, leave_scope, lend_scope};
+use rhai_plain::parameters::{push_parameter, stop_race, variables_race};
+use rhai_state::scope::Scope;
+use rhai_state::table::NativeTable;
+use rhai_tree::Shared;
+use rhai_tree::checked::CheckedFn;
+use rhai_tree::expr::{Expr, FnCallExpr};
+use rhai_tree::function::ScriptFuncDef;
+use rhai_tree::position::Position;
+use rhai_values::base::value::{EncapsulatedEnviron, Host};
+use std::alloc::Global;
+
+/// The environment of a function that has none.
+#[inline(always)]
+fn no_environ<H: Host>(_def: &ScriptFuncDef) -> Option<&EncapsulatedEnviron<H>>
+    ensures { option_copied result ≡ None }
+{
+    None
+}
+
+impl<'e, H: Host> Evaluator<'e, H> {
+    /// A call whose function is known before its arguments are evaluated. Its scope keeps its room for another call.
+    /// How it ended stands in the run.
+    #[inline(never)]
+    #[cycle(eval)]
+    pub(crate) fn run_plain_call<T: NativeTable<H>>(
+        &self,
+        alloc: Global,
+        run: &mut Context<H>,
+        table: &mut T,
+        call: &FnCallExpr,
+        function: Shared<CheckedFn>,
+        pos: Position,
+    ) -> bool
+        requires resolves { IsTrue (all_resolve_exprs (map tests_of call.now.args) (names run.old)) }
+        requires plain { IsPlain call.now run.old.global.lib function }
+        ensures counts { IsTrue result → run.old.global.num_operations ≤ run.new.global.num_operations }
+        ensures names { IsTrue result → names run.new ≡ names run.old }
+        ensures runs { let rules = under H.name_of self.now T.natives in
+            StartsAs rules (arguments_core rules.setting
+            (ToCall (record { name = call.now.name; token = None; at = pos }) [] (plainly false false)) [] call.now.args)
+            (state_in (T.state table.old) run.old)
+            (came result run.new.value run.new.error) (state_in (T.state table.new) run.new) }
+    {
+        let def = function.get();
+        let mut scope = lend_scope(alloc, run);
+        let args = call.args.as_slice();
+        if !self.run_parameters(alloc, run, table, &mut scope, def.def(), args) {
+            keep_scope(run, scope);
+            return false;
+        }
+        if variables_race(&run.global.cells, &scope) {
+            keep_scope(run, scope);
+            return stop_race(alloc, &mut run.error, call, pos);
+        }
+        if !charge(self.limits, &mut run.global, &mut run.error, pos) {
+            keep_scope(run, scope);
+            return false;
+        }
+        let level = level_below(run.global.level);
+        let def = def.def();
+        if !may_run(self.limits, level, &mut run.error, def, pos) {
+            keep_scope(run, scope);
+            return false;
+        }
+        let statements = statements_of(def);
+        if statements.is_empty() {
+            keep_scope(run, scope);
+            put_unit(&mut run.value);
+            return true;
+        }
+        let exit = enter_level(&mut run.global, level);
+        let aside = enter_scope(run, scope);
+        let done = self.run_stmt_block(alloc, run, table, statements, true);
+        let (global, out, place) = (&mut run.global, &mut run.value, &mut run.error);
+        let environ = no_environ(def);
+        let done = close_body(alloc, global, out, place, def, environ, exit, done, pos);
+        leave_scope(run, aside);
+        done
+    }
+
+    /// The values of arguments become a function's variables, from left to right and flattened. Whether it went well;
+    /// an error stands in the run. Asked: the scope is empty, and there are as many arguments as parameters.
+    #[cycle(eval)]
+    fn run_parameters<T: NativeTable<H>>(
+        &self,
+        alloc: Global,
+        run: &mut Context<H>,
+        table: &mut T,
+        scope: &mut Scope<H>,
+        def: &ScriptFuncDef,
+        args: &[Expr],
+    ) -> bool
+        requires resolves { IsTrue (all_resolve_exprs (map tests_of args.now) (names run.old)) }
+        requires empty { entries_of scope.old ≡ [] }
+        requires takes { length def.now.params ≡ length args.now }
+        ensures counts { IsTrue result → run.old.global.num_operations ≤ run.new.global.num_operations }
+        ensures names { IsTrue result → names run.new ≡ names run.old }
+        ensures fills { Fills (under H.name_of self.now T.natives) def.now.params args.now result
+            (entries_of scope.new) (state_in (T.state table.old) run.old) run.new.error
+            (state_in (T.state table.new) run.new) }
+    {
+        'each_arg: for arg in args {
+            if !self.run_arg(alloc, run, table, arg) {
+                return false;
+            }
+            let cells = &run.global.cells;
+            let (out, place) = (&mut run.value, &mut run.error);
+            if !push_parameter(alloc, cells, out, place, scope, def, arg.position()) {
+                return false;
+            }
+        }
+        true
+    }
+}

@@ -1,0 +1,70 @@
+//! Which function a plain call means.
+
+ghost use Rattle.std.specs.Prelude.{◌≡◌, IfSome};
+ghost use Rattle.rhai_plain.specs.Callees.{IsPlain, has_own_meaning as own_meaning, starts_by_value as by_value};
+
+use rhai_functions::key::FnKey;
+use rhai_functions::lookup::find_in_modules;
+use rhai_tree::Shared;
+use rhai_tree::checked::CheckedFn;
+use rhai_tree::expr::{Expr, FnCallExpr};
+use rhai_values::base::value::{Host, Module, ModuleFn};
+
+/// Whether a name means something besides functions.
+fn has_own_meaning(name: &str) -> bool
+    ensures { result ≡ own_meaning name.now }
+{
+    name == "call"
+        || name == "Fn"
+        || name == "curry"
+        || name == "is_shared"
+        || name == "is_def_var"
+        || name == "type_of"
+        || name == "eval"
+        || name == "is_def_fn"
+}
+
+/// Whether the first argument, if there is one, is passed by its value whatever it is: it is no variable and not
+/// `this`.
+fn starts_by_value(args: &[Expr]) -> bool
+    ensures { result ≡ by_value args.now }
+{
+    let Some(first) = args.first() else {
+        return true;
+    };
+    !matches!(first, Expr::Variable { .. } | Expr::ThisPtr(..))
+}
+
+/// The function of the libraries that a call means whatever its arguments come to, with an owner of its own. None
+/// where that is not known before they are evaluated: of an operator, a call that captures its caller's variables,
+/// one whose first argument is a variable or `this`, a name that means something besides functions, and a function
+/// with an environment. It takes no memory.
+pub fn plain_callee<H: Host>(
+    lib: &[Shared<Module<H>>],
+    call: &FnCallExpr,
+) -> Option<Shared<CheckedFn>>
+    ensures { IfSome result (λ def. IsPlain call.now lib.now def) }
+{
+    if call.op_token.is_some() || call.capture_parent_scope {
+        return None;
+    }
+    let args = call.args.as_slice();
+    if !starts_by_value(args) {
+        return None;
+    }
+    let name = call.name.get().as_str();
+    let key = FnKey {
+        name,
+        arity: args.len(),
+        this_type: None,
+    };
+    let function = find_in_modules(lib, key)?;
+    if function.environ.is_some() || has_own_meaning(name) {
+        return None;
+    }
+    let def = &function.def;
+    if def.get().def().params.len() != args.len() {
+        return None;
+    }
+    def.share().ok()
+}
