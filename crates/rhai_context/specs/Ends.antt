@@ -31,3 +31,18 @@ module _ {H : Type 0} where
   came_turn None v e = Ok None
   came_turn (Some true) v e = Ok (Some v)
   came_turn (Some false) v e = Err (error_in e)
+
+  -- of what may have changed what it worked on: its value with the mark, or its error
+  abbrev pub came_marked : (mark : Option Bool) → Dynamic H → Option (EvalAltResult H) → Result (Dynamic H × Bool) (EvalAltResult H)
+  came_marked (Some changed) v e = Ok (v, changed)
+  came_marked None v e = Err (error_in e)
+
+  -- of what hands something out: that, or its error
+  abbrev pub came_some : {V : Type 0} → Option V → Option (EvalAltResult H) → Result V (EvalAltResult H)
+  came_some (Some x) e = Ok x
+  came_some None e = Err (error_in e)
+
+-- the mark of what changes nothing that a mark would tell of
+abbrev pub unchanged : (well : Bool) → Option Bool
+unchanged true = Some false
+unchanged false = None

@@ -1,10 +1,11 @@
 //! What a part of a run came to, which stands in the run. A function of the evaluator answers whether it went
-//! well: its value stands in `run.value` then, and else its error in `run.error`.
+//! well: its value stands in `run.value` then, and else its error in `run.error`. A part of a chain's walk answers
+//! in Some whether it may have changed what it worked on, and None where it failed.
 
-ghost use Rattle.std.specs.Prelude.{◌≡◌, OnOk, false, true};
+ghost use Rattle.std.specs.Prelude.{◌≡◌, OnOk, None, false, true};
 ghost use Rattle.rhai_state.specs.Errors.{is_catchable};
 ghost use Rattle.rhai_machine.specs.language.Values.{bool_value as truth_of};
-ghost use Rattle.rhai_context.specs.Ends.{came, came_turn, error_in, unit};
+ghost use Rattle.rhai_context.specs.Ends.{came, came_marked, came_turn, error_in, unchanged as unchanged_by, unit};
 
 use rhai_state::error::EvalAltResult;
 use rhai_tree::position::Position;
@@ -108,6 +109,53 @@ pub fn settle<H: Host>(
         }
         Err(error) => stop(place, error),
     }
+}
+
+/// A part that answers with a mark stops by an error.
+pub fn fail<H: Host>(place: &mut Option<EvalAltResult<H>>, error: EvalAltResult<H>) -> Option<bool>
+    ensures failed { result ≡ None }
+    ensures told { error_in place.new ≡ error }
+{
+    drop(replace(place, Some(error)));
+    None
+}
+
+/// How a part ended that answers a `Result` with a mark goes where it belongs.
+pub fn settle_marked<H: Host>(
+    place: &mut Option<EvalAltResult<H>>,
+    out: &mut Dynamic<H>,
+    answer: Result<(Dynamic<H>, bool), EvalAltResult<H>>,
+) -> Option<bool>
+    ensures { came_marked result out.new place.new ≡ answer }
+{
+    match answer {
+        Ok((value, changed)) => {
+            put(out, value);
+            Some(changed)
+        }
+        Err(error) => fail(place, error),
+    }
+}
+
+/// How a part ended that answers with a mark, for a caller that answers a `Result`.
+pub fn finish_marked<H: Host>(
+    mark: Option<bool>,
+    out: &mut Dynamic<H>,
+    place: &mut Option<EvalAltResult<H>>,
+) -> Result<(Dynamic<H>, bool), EvalAltResult<H>>
+    ensures { result ≡ came_marked mark out.old place.old }
+{
+    match mark {
+        Some(changed) => Ok((take_value(out), changed)),
+        None => Err(stopped(place)),
+    }
+}
+
+/// The mark of a part that changes nothing that a mark would tell of, from whether it went well.
+pub fn unchanged(done: bool) -> Option<bool>
+    ensures { result ≡ unchanged_by done }
+{
+    if done { Some(false) } else { None }
 }
 
 /// Whether a script may catch the error that a run stopped with.

@@ -121,6 +121,21 @@ pub fn flatten_value<H: Host>(
     }
 }
 
+/// The same of what an expression gave.
+#[inline(always)]
+pub fn flatten_at<H: Host>(
+    alloc: Global,
+    cells: &CellStore<H>,
+    out: &mut Dynamic<H>,
+    place: &mut Option<EvalAltResult<H>>,
+    expr: &Expr,
+) -> bool
+    ensures exact { Answers (came result out.new place.new)
+        (flat (cells_of cells.now) out.old (position_of expr.now)) }
+{
+    flatten_value(alloc, cells, out, place, expr.position())
+}
+
 /// The value of a run that is a handle becomes a copy of the cell's value.
 #[inline(never)]
 fn flatten_handle<H: Host>(

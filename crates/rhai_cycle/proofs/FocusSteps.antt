@@ -24,16 +24,24 @@ use Rattle.rhai_machine.specs.language.Frames.{Frame, Core, core, ended, marked,
 use Rattle.rhai_machine.specs.language.Runs.{at, with_core, Goes, Runs, Steps}
 use Rattle.rhai_steps.proofs.Pieces.{faulted, step_by}
 use Rattle.rhai_bodies.proofs.Ends.{denied}
-use Rattle.rhai_calls.specs.Marks.{with_mark}
+use Rattle.rhai_calls.specs.Marks.{without_mark}
+use Rattle.rhai_context.specs.Ends.{came, came_marked, unchanged}
 use Rattle.rhai_walk.specs.Walking.{Enters, IsFree, Leaves}
 use Rattle.rhai_walk.proofs.Entering.{not_entered, seen_itself, standing}
 use Rattle.rhai_cycle.specs.Calls.{StartsAs}
 
 module _ {H : Type 0} where
-  -- a result with the mark of no change ends as it does without
-  pub unmarked_ends : (r : Result (Dynamic H) (EvalAltResult H)) → marked (with_mark false r) ≡ ended r
-  unmarked_ends (Ok v) = refl
-  unmarked_ends (Err e) = refl
+  -- what has the mark of no change ends as it does without
+  pub unmarked_ends : (well : Bool) (v : Dynamic H) (e : Option (EvalAltResult H)) →
+      marked (came_marked (unchanged well) v e) ≡ ended (came well v e)
+  unmarked_ends true v e = refl
+  unmarked_ends false v e = refl
+
+  -- and what has any mark comes to the same without it
+  pub without_came : (mark : Option Bool) (well : Bool) (v : Dynamic H) (e : Option (EvalAltResult H)) → well ≡ is_some mark →
+      came well v e ≡ without_mark (came_marked mark v e)
+  without_came (Some changed) well v e is = rw is refl
+  without_came None well v e is = rw is refl
 
   -- what is no handle of a held cell may be entered
   pub may_be_entered : (cells : Cells H) (u : Union H) → is_held cells u ≡ false → IsFree cells u

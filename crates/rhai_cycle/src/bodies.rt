@@ -14,26 +14,25 @@ ghost use Rattle.rhai_machine.specs.language.State.{HasMemory, deeper};
 ghost use Rattle.rhai_steps.specs.States.{local_of, state_of};
 ghost use Rattle.rhai_calls.specs.Called.{came_out};
 ghost use Rattle.rhai_calls.specs.Dispatch.{Offers};
-ghost use Rattle.rhai_calls.specs.Marks.{with_mark};
-ghost use Rattle.rhai_context.specs.Ends.{came};
+ghost use Rattle.rhai_context.specs.Ends.{came, came_marked};
 ghost use Rattle.rhai_steps.specs.Marked.{lending, RunsFrom};
 ghost use Rattle.rhai_cycle.specs.Bodies.{args_left, behind_call, entered, is_entered};
 ghost use Rattle.rhai_cycle.specs.Calls.{StartsAs};
 ghost use Rattle.rhai_cycle.specs.States.{names, offer_of, state_in, under};
 
 use crate::evaluator::Evaluator;
+use crate::roots::refuses_held;
 use rhai_bodies::closing::close_body;
 use rhai_bodies::opening::{open_function, statements_of};
-use rhai_calls::dispatch::{Called, is_held, races};
-use rhai_context::ends::{finish, put_unit, settle, stop};
+use rhai_calls::dispatch::{Called, races};
+use rhai_context::ends::{put_unit, settle, settle_marked, stop, unchanged};
 use rhai_context::outcomes::charge;
 use rhai_context::{Context, keep_list, put_aside, take_up};
 use rhai_functions::function::{Function, Offered};
 use rhai_methods::calls::MethodCall;
 use rhai_methods::methods::call_method;
-use rhai_state::error::EvalAltResult;
 use rhai_state::table::NativeTable;
-use rhai_steps::errors::{data_race, data_race_by};
+use rhai_steps::errors::data_race_by;
 use rhai_steps::values::{let_go, unit_value};
 use rhai_tree::Items;
 use rhai_tree::checked::CheckedFn;
@@ -67,20 +66,6 @@ pub fn put_this<H: Host>(place: &mut Dynamic<H>, left: Option<Dynamic<H>>)
     match left {
         Some(value) => let_go(replace(place, value)),
         None => {}
-    }
-}
-
-/// How a function ended, for a caller that answers a `Result`: it changes nothing that a mark would tell of.
-fn finish_unmarked<H: Host>(
-    done: bool,
-    out: &mut Dynamic<H>,
-    place: &mut Option<EvalAltResult<H>>,
-) -> Result<(Dynamic<H>, bool), EvalAltResult<H>>
-    ensures { result ≡ with_mark false (came done out.old place.old) }
-{
-    match finish(done, out, place) {
-        Ok(value) => Ok((value, false)),
-        Err(error) => Err(error),
     }
 }
 
@@ -268,11 +253,10 @@ impl<'e, H: Host> Evaluator<'e, H> {
             (came result run.new.value run.new.error)
             (state_of (T.state table.new) run.new.global scope (lending held focus.new)) }
     {
-        let is_anothers = is_held(&run.global.cells, focus);
-        if is_anothers {
+        if refuses_held(alloc, &run.global.cells, focus, &mut run.error, pos) {
             keep_list(run, args);
             drop(function);
-            return stop(&mut run.error, data_race(alloc, pos));
+            return false;
         }
         let above = step_in(&mut run.global.cells, focus);
         let is_racing = races(&run.global.cells, args.as_slice());
@@ -298,7 +282,7 @@ impl<'e, H: Host> Evaluator<'e, H> {
     }
 
     /// A method that is called on a value, its arguments there, with the function that it enters. Whether the value
-    /// was a handle before it was entered is what `is_shared` answers.
+    /// was a handle before it was entered is what `is_shared` answers. What it came to stands in the run.
     #[cycle(eval)]
     pub fn run_method<T: NativeTable<H>>(
         &self,
@@ -311,7 +295,7 @@ impl<'e, H: Host> Evaluator<'e, H> {
         first_arg_pos: Option<Position>,
         pos: Position,
         was_handle: bool,
-    ) -> Result<(Dynamic<H>, bool), EvalAltResult<H>>
+    ) -> Option<bool>
         ensures counts { run.old.global.num_operations ≤ run.new.global.num_operations }
         ensures scope { run.new.scope ≡ run.old.scope }
         ensures this { run.new.this ≡ run.old.this }
@@ -319,7 +303,8 @@ impl<'e, H: Host> Evaluator<'e, H> {
             RunsFrom rules (method_core rules.setting
             (record { name = name.now; at = pos; first_at = first_arg_pos; was_handle = was_handle })
             args.old focus.old)
-            (state_of (T.state table.old) run.old.global scope (lending held focus.old)) result
+            (state_of (T.state table.old) run.old.global scope (lending held focus.old))
+            (came_marked result run.new.value run.new.error)
             (state_of (T.state table.new) run.new.global scope (lending held focus.new)) }
     {
         let (limits, global) = (self.limits, &mut run.global);
@@ -337,14 +322,14 @@ impl<'e, H: Host> Evaluator<'e, H> {
             pos,
             was_handle,
         ) {
-            MethodCall::Ended(result) => result,
+            MethodCall::Ended(result) => settle_marked(&mut run.error, &mut run.value, result),
             MethodCall::OnTarget(function, args) => {
                 let done = self.enter_on_focus(alloc, run, table, function, focus, args, pos);
-                finish_unmarked(done, &mut run.value, &mut run.error)
+                unchanged(done)
             }
             MethodCall::Alone(function, args) => {
                 let done = self.enter_fresh(alloc, run, table, function, args, pos);
-                finish_unmarked(done, &mut run.value, &mut run.error)
+                unchanged(done)
             }
         }
     }

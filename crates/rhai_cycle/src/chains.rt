@@ -21,8 +21,8 @@ use crate::evaluator::Evaluator;
 use rhai_chains::arguments::{Ready, asked, needs_no_step, ready_value};
 use rhai_chains::chain::NewValue;
 use rhai_chains::links::{first_of, link_of};
-use rhai_context::ends::{put_unit, settle, stop, take_value};
-use rhai_context::outcomes::{charge, flatten_value};
+use rhai_context::ends::{put_unit, stop, take_value};
+use rhai_context::outcomes::{charge, flatten_at};
 use rhai_context::{Context, keep_list, lend_list};
 use rhai_pointers::arguments::keep_argument;
 use rhai_state::error::EvalAltResult;
@@ -180,27 +180,23 @@ impl<'e, H: Host> Evaluator<'e, H> {
                     drop(new);
                     return false;
                 }
-                let answer = self.walk_variable(
+                self.walk_variable(
                     alloc, run, table, *offset, name, *pos, root, chain, args, new,
-                );
-                settle(&mut run.error, &mut run.value, answer)
+                )
             }
             Expr::ThisPtr(pos) => {
                 if !charge(self.limits, &mut run.global, &mut run.error, *pos) {
                     drop(new);
                     return false;
                 }
-                let answer = self.walk_this(alloc, run, table, *pos, root, chain, args, new);
-                settle(&mut run.error, &mut run.value, answer)
+                self.walk_this(alloc, run, table, *pos, root, chain, args, new)
             }
             _ => {
                 drop(new);
                 if !self.run_expr(alloc, run, table, root) {
                     return false;
                 }
-                let value = take_value(&mut run.value);
-                let answer = self.walk_value(alloc, run, table, value, root, chain, args);
-                settle(&mut run.error, &mut run.value, answer)
+                self.walk_value(alloc, run, table, root, chain, args)
             }
         }
     }
@@ -233,8 +229,13 @@ impl<'e, H: Host> Evaluator<'e, H> {
         if !self.run_expr(alloc, run, table, rhs) {
             return false;
         }
-        let at = rhs.position();
-        if !flatten_value(alloc, &run.global.cells, &mut run.value, &mut run.error, at) {
+        if !flatten_at(
+            alloc,
+            &run.global.cells,
+            &mut run.value,
+            &mut run.error,
+            rhs,
+        ) {
             return false;
         }
         let value = take_value(&mut run.value);

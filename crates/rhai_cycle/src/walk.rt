@@ -7,6 +7,7 @@ ghost use Rattle.rhai_tree.specs.declared.expr.Expr.{out-Expr};
 ghost use Rattle.rhai_steps.specs.States.{state_of};
 ghost use Rattle.rhai_steps.specs.Marked.{lending};
 ghost use Rattle.rhai_chains.specs.Chains.{chain_at, HasSwitches, Walks, WalkRuns};
+ghost use Rattle.rhai_context.specs.Ends.{came_marked};
 ghost use Rattle.rhai_cycle.specs.States.{offer_of, under};
 
 mod located;
@@ -18,7 +19,7 @@ use crate::evaluator::Evaluator;
 use rhai_chains::chain::{NewValue, Switches};
 use rhai_chains::links::link_of;
 use rhai_context::Context;
-use rhai_state::error::EvalAltResult;
+use rhai_context::ends::settle_marked;
 use rhai_state::table::NativeTable;
 use rhai_tree::expr::Expr;
 use rhai_values::base::value::{Dynamic, Host};
@@ -53,7 +54,7 @@ impl<'e, H: Host> Evaluator<'e, H> {
 }
 
 impl<'e, H: Host> Evaluator<'e, H> {
-    /// The walk of what is left of a chain.
+    /// The walk of what is left of a chain. What it came to stands in the run.
     #[cycle(eval)]
     pub(crate) fn walk_chain<T: NativeTable<H>>(
         &self,
@@ -66,7 +67,7 @@ impl<'e, H: Host> Evaluator<'e, H> {
         args: &mut [Dynamic<H>],
         new: Option<NewValue<H>>,
         in_place: bool,
-    ) -> Result<(Dynamic<H>, bool), EvalAltResult<H>>
+    ) -> Option<bool>
         requires walks { Walks (is_some new) (out-Expr rest.now) (length args.old) }
         ensures counts { run.old.global.num_operations ≤ run.new.global.num_operations }
         ensures scope { run.new.scope ≡ run.old.scope }
@@ -75,7 +76,8 @@ impl<'e, H: Host> Evaluator<'e, H> {
             WalkRuns (under H.name_of self.now T.natives)
             (chain_at root.now (out-Expr rest.now) args.old new in_place)
             (state_of (T.state table.old) run.old.global scope (lending held focus.old))
-            result (state_of (T.state table.new) run.new.global scope (lending held focus.new)) }
+            (came_marked result run.new.value run.new.error)
+            (state_of (T.state table.new) run.new.global scope (lending held focus.new)) }
     {
         let Some(link) = link_of(rest) else {
             unreachable!()
@@ -83,7 +85,7 @@ impl<'e, H: Host> Evaluator<'e, H> {
         match begin_link(self.limits, alloc, &mut run.global, &*table, focus, link) {
             Begun::Ended(result) => {
                 drop(new);
-                result
+                settle_marked(&mut run.error, &mut run.value, result)
             }
             Begun::Enters => self.walk_entered(
                 alloc, run, table, root, focus, link, args, new, in_place,

@@ -1,17 +1,20 @@
 //! What stands around the call of a method in a walk: where its first argument stands, and how the part that it
 //! was called on goes back.
 
-ghost use Rattle.std.specs.Prelude.{◌≡◌};
+ghost use Rattle.std.specs.Prelude.{◌≡◌, None, IfSome, true};
 ghost use Rattle.rhai_values.specs.Layers.{layer_of};
-ghost use Rattle.rhai_places.specs.Parts.{IsPart};
+ghost use Rattle.rhai_places.specs.Parts.{IsPart, part_of};
+ghost use Rattle.rhai_state.specs.Errors.{is_out_of_memory};
 ghost use Rattle.rhai_machine.specs.language.Links.{first_position as first_position_in};
 ghost use Rattle.rhai_methods.specs.Targets.{ComesBack};
+ghost use Rattle.rhai_context.specs.Ends.{came_marked, error_in};
 ghost use Rattle.rhai_places.specs.declared.target.Part.TheVariants as part;
 
+use rhai_context::ends::fail;
+use rhai_places::part::read_part;
 use rhai_places::put::put_part;
 use rhai_places::spot::Spot;
 use rhai_state::error::EvalAltResult;
-use rhai_steps::values::let_go;
 use rhai_tree::expr::Expr;
 use rhai_tree::position::Position;
 use rhai_values::base::value::{Dynamic, Host};
@@ -27,27 +30,49 @@ pub fn first_position(args: &[Expr]) -> Option<Position>
     }
 }
 
-/// The answer of a method on a part, which goes back into its place where the answer is marked.
+/// The answer of a method on a part, which goes back into its place where the answer is marked. Its value stays where
+/// it is.
 pub fn put_back<H: Host>(
     alloc: Global,
+    out: &Dynamic<H>,
+    place: &mut Option<EvalAltResult<H>>,
     source: &mut Dynamic<H>,
     at: Spot,
     left: &Dynamic<H>,
-    answer: Result<(Dynamic<H>, bool), EvalAltResult<H>>,
+    mark: Option<bool>,
     pos: Position,
-) -> Result<(Dynamic<H>, bool), EvalAltResult<H>>
+) -> Option<bool>
     requires { IsPart (layer_of source.old) at }
-    ensures { ComesBack H.name_of (part.Of at left.now) source.old pos answer result source.new }
+    ensures { ComesBack H.name_of (part.Of at left.now) source.old pos (came_marked mark out.now place.old)
+        (came_marked result out.now place.new) source.new }
 {
-    match answer {
-        Ok((value, true)) => match put_part(alloc, source, at, left, pos) {
-            Ok(()) => Ok((value, true)),
-            Err(error) => {
-                let_go(value);
-                Err(error)
-            }
+    match mark {
+        Some(true) => match put_part(alloc, source, at, left, pos) {
+            Ok(()) => mark,
+            Err(error) => fail(place, error),
         },
-        Ok((value, false)) => Ok((value, false)),
-        Err(error) => Err(error),
+        Some(false) => mark,
+        None => mark,
+    }
+}
+
+/// A part of a value, for a link behind it.
+pub fn part_for<H: Host>(
+    alloc: Global,
+    place: &mut Option<EvalAltResult<H>>,
+    source: &Dynamic<H>,
+    at: Spot,
+    rest: &Expr,
+) -> Option<Dynamic<H>>
+    requires { IsPart (layer_of source.now) at }
+    ensures value { IfSome result (λ part. part ≡ part_of source.now at) }
+    ensures memory { result ≡ None → is_out_of_memory (error_in place.new) ≡ true }
+{
+    match read_part(alloc, source, at) {
+        Ok(part) => Some(part),
+        Err(_) => {
+            fail(place, EvalAltResult::ErrorOutOfMemory(rest.position()));
+            None
+        }
     }
 }

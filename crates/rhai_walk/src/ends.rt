@@ -8,6 +8,7 @@ ghost use Rattle.rhai_steps.specs.Marked.{lending, RunsFrom};
 ghost use Rattle.rhai_chains.specs.Chains.{chain_at, FollowsFrom, HasSwitches, link_seen};
 ghost use Rattle.rhai_chains.specs.Chains.{new_of};
 ghost use Rattle.rhai_chains.specs.Members.{access_of};
+ghost use Rattle.rhai_context.specs.Ends.{came_marked};
 
 use crate::Walker;
 use crate::ways::take_below;
@@ -15,21 +16,25 @@ use rhai_chains::assign::{assign_at, assign_member};
 use rhai_chains::chain::NewValue;
 use rhai_chains::links::Link;
 use rhai_chains::members::{MemberAccess, get_member};
+use rhai_context::ends::{fail, put, settle_marked};
 use rhai_state::error::EvalAltResult;
 use rhai_state::state::GlobalRuntimeState;
 use rhai_state::table::NativeTable;
 use rhai_values::base::value::{Dynamic, Host};
 
-/// The chain ends in what an index or a key leads to, which is taken or assigned to.
+/// The chain ends in what an index or a key leads to, which is taken or assigned to. How it ended goes where it
+/// belongs.
 pub fn end_at<H: Host, T: NativeTable<H>>(
     walker: &Walker<'_>,
     global: &mut GlobalRuntimeState<H>,
+    out: &mut Dynamic<H>,
+    place: &mut Option<EvalAltResult<H>>,
     table: &mut T,
     source: &mut Dynamic<H>,
     index: &Dynamic<H>,
     link: Link<'_>,
     new: Option<NewValue<H>>,
-) -> Result<(Dynamic<H>, bool), EvalAltResult<H>>
+) -> Option<bool>
     ensures counts { global.old.num_operations ≤ global.new.num_operations }
     ensures runs { (offer : _) (scope : _) (held : _) (rest : _) (all : _) (in_place : _) →
         HasSwitches offer walker.now.switches →
@@ -37,21 +42,24 @@ pub fn end_at<H: Host, T: NativeTable<H>>(
         FollowsFrom rules (spot_core rules.setting None (new_of new) (link_seen link.entry) index.now
         (chain_at walker.now.root.now rest all new in_place) source.old)
         (state_of (T.state table.old) global.old scope (lending held source.old))
-        result (state_of (T.state table.new) global.new scope (lending held source.new)) }
+        (came_marked result out.new place.new) (state_of (T.state table.new) global.new scope (lending held source.new)) }
 {
     match new {
-        Some(new) => assign_at(
-            walker.limits,
-            walker.switches,
-            walker.alloc,
-            global,
-            table,
-            source,
-            index,
-            link,
-            walker.root,
-            new,
-        ),
+        Some(new) => {
+            let assigned = assign_at(
+                walker.limits,
+                walker.switches,
+                walker.alloc,
+                global,
+                table,
+                source,
+                index,
+                link,
+                walker.root,
+                new,
+            );
+            settle_marked(place, out, assigned)
+        }
         None => match take_below(
             walker.switches,
             walker.alloc,
@@ -60,21 +68,26 @@ pub fn end_at<H: Host, T: NativeTable<H>>(
             index,
             link,
         ) {
-            Ok(value) => Ok((value, false)),
-            Err(error) => Err(error),
+            Ok(value) => {
+                put(out, value);
+                Some(false)
+            }
+            Err(error) => fail(place, error),
         },
     }
 }
 
-/// The chain ends in a member, which is got or assigned to.
+/// The chain ends in a member, which is got or assigned to. How it ended goes where it belongs.
 pub fn end_member<H: Host, T: NativeTable<H>>(
     walker: &Walker<'_>,
     global: &mut GlobalRuntimeState<H>,
+    out: &mut Dynamic<H>,
+    place: &mut Option<EvalAltResult<H>>,
     table: &mut T,
     focus: &mut Dynamic<H>,
     access: MemberAccess<'_, H>,
     new: Option<NewValue<H>>,
-) -> Result<(Dynamic<H>, bool), EvalAltResult<H>>
+) -> Option<bool>
     ensures counts { global.old.num_operations ≤ global.new.num_operations }
     ensures runs { (offer : _) (scope : _) (held : _) (link : _) (rest : _) (all : _) (in_place : _) →
         HasSwitches offer walker.now.switches →
@@ -82,12 +95,12 @@ pub fn end_member<H: Host, T: NativeTable<H>>(
         RunsFrom rules (member_core rules.setting None (new_of new) link (access_of access.entry)
         (chain_at walker.now.root.now rest all new in_place))
         (state_of (T.state table.old) global.old scope (lending held focus.old))
-        result (state_of (T.state table.new) global.new scope (lending held focus.new)) }
+        (came_marked result out.new place.new) (state_of (T.state table.new) global.new scope (lending held focus.new)) }
 {
     let mut access = access;
     match new {
         Some(new) => {
-            let result = assign_member(
+            let assigned = assign_member(
                 walker.limits,
                 walker.switches,
                 walker.alloc,
@@ -99,10 +112,10 @@ pub fn end_member<H: Host, T: NativeTable<H>>(
                 new,
             );
             drop(access);
-            result
+            settle_marked(place, out, assigned)
         }
         None => {
-            let result = get_member(
+            let got = get_member(
                 walker.limits,
                 walker.alloc,
                 global,
@@ -111,7 +124,7 @@ pub fn end_member<H: Host, T: NativeTable<H>>(
                 &mut access,
             );
             drop(access);
-            result
+            settle_marked(place, out, got)
         }
     }
 }

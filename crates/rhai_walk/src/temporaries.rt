@@ -1,6 +1,6 @@
 //! Temporaries that a walk works on: how they go back to where they came from.
 
-ghost use Rattle.std.specs.Prelude.{◌≡◌, ◌≤◌, ◌∷◌, Some, true, IfErr, IfOk};
+ghost use Rattle.std.specs.Prelude.{◌≡◌, ◌≤◌, ◌∷◌, None, Some, true, IfErr, IfOk, IfSome};
 ghost use Rattle.std.specs.Option.{option_map};
 ghost use Rattle.rhai_state.specs.Errors.{is_out_of_memory};
 ghost use Rattle.rhai_machine.specs.language.Chains.{is_property as is_property_in, kept_access, way_back};
@@ -11,11 +11,13 @@ ghost use Rattle.rhai_steps.specs.States.{state_of};
 ghost use Rattle.rhai_steps.specs.Marked.{lending, RunsFrom};
 ghost use Rattle.rhai_chains.specs.Chains.{form_seen, link_seen};
 ghost use Rattle.rhai_chains.specs.Members.{access_of};
+ghost use Rattle.rhai_context.specs.Ends.{came_marked, came_some, error_in};
 ghost use Rattle.rhai_walk.specs.Walking.{GetsKept};
 
 use crate::Walker;
 use rhai_chains::links::{Link, LinkForm};
 use rhai_chains::members::{Member, MemberAccess, get_member, set_member};
+use rhai_context::ends::{fail, stop};
 use rhai_state::error::EvalAltResult;
 use rhai_state::state::GlobalRuntimeState;
 use rhai_state::table::NativeTable;
@@ -24,25 +26,32 @@ use rhai_values::base::value::{Dynamic, Host};
 use std::alloc::Global;
 
 /// How a temporary goes back that stands for a missing item: of an index by the indexer, of a property not at
-/// all.
+/// all. An error goes into its place.
 pub fn back_of<'e, H: Host>(
     alloc: Global,
+    place: &mut Option<EvalAltResult<H>>,
     link: Link<'e>,
     index: &Dynamic<H>,
     in_place: bool,
-) -> Result<Option<MemberAccess<'e, H>>, EvalAltResult<H>>
-    ensures ok { (chain : _) → chain.in_place ≡ in_place → IfOk result (λ back. option_map access_of back
+) -> Option<Option<MemberAccess<'e, H>>>
+    ensures some { (chain : _) → chain.in_place ≡ in_place → IfSome result (λ back. option_map access_of back
         ≡ way_back (form_seen link.entry.form) (link_seen link.entry) index.now chain) }
-    ensures err { IfErr result (λ e. is_out_of_memory e ≡ true) }
+    ensures none { result ≡ None → is_out_of_memory (error_in place.new) ≡ true }
 {
     match link.form {
-        LinkForm::Index(_) => Ok(Some(MemberAccess {
-            member: Member::Item(copy(alloc, index, link.at)?),
-            at: link.at,
-            guarded: in_place,
-        })),
-        LinkForm::Property(_, _) => Ok(None),
-        LinkForm::Method(_, _) => Ok(None),
+        LinkForm::Index(_) => match copy(alloc, index, link.at) {
+            Ok(item) => Some(Some(MemberAccess {
+                member: Member::Item(item),
+                at: link.at,
+                guarded: in_place,
+            })),
+            Err(error) => {
+                stop(place, error);
+                None
+            }
+        },
+        LinkForm::Property(_, _) => Some(None),
+        LinkForm::Method(_, _) => Some(None),
     }
 }
 
@@ -68,25 +77,28 @@ fn keep_access<'e, H: Host>(
     }
 }
 
-/// A member of the focus, and how it is set again.
+/// A member of the focus, and how it is set again. An error goes into its place.
 pub fn get_kept<'e, H: Host, T: NativeTable<H>>(
     walker: &Walker<'_>,
     global: &mut GlobalRuntimeState<H>,
+    place: &mut Option<EvalAltResult<H>>,
     table: &mut T,
     focus: &mut Dynamic<H>,
     access: MemberAccess<'e, H>,
-) -> Result<(Dynamic<H>, MemberAccess<'e, H>), EvalAltResult<H>>
+) -> Option<(Dynamic<H>, MemberAccess<'e, H>)>
     ensures counts { global.old.num_operations ≤ global.new.num_operations }
     ensures runs { (offer : _) (scope : _) (held : _) →
         GetsKept (rules_of walker.now.limits.now H.name_of offer T.natives) (access_of access.entry)
         (state_of (T.state table.old) global.old scope (lending held focus.old))
-        result (state_of (T.state table.new) global.new scope (lending held focus.new)) }
+        (came_some result place.new)
+        (state_of (T.state table.new) global.new scope (lending held focus.new)) }
 {
     let kept = match keep_access(walker.alloc, &access) {
         Ok(kept) => kept,
         Err(error) => {
             drop(access);
-            return Err(error);
+            stop(place, error);
+            return None;
         }
     };
     let mut access = access;
@@ -100,47 +112,52 @@ pub fn get_kept<'e, H: Host, T: NativeTable<H>>(
     );
     drop(access);
     match got {
-        Ok((value, _)) => Ok((value, kept)),
+        Ok((value, _)) => Some((value, kept)),
         Err(error) => {
             drop(kept);
-            Err(error)
+            stop(place, error);
+            None
         }
     }
 }
 
-/// A temporary that may have been changed is set in the value that it came from, where it has a way back. The
-/// answer is the walk's.
+/// A temporary that may have been changed is set in the value that it came from, where it has a way back. What the
+/// walk came to stays where it is, unless that is refused.
 pub fn come_back<H: Host, T: NativeTable<H>>(
     walker: &Walker<'_>,
     global: &mut GlobalRuntimeState<H>,
+    out: &Dynamic<H>,
+    place: &mut Option<EvalAltResult<H>>,
     table: &mut T,
     source: &mut Dynamic<H>,
     back: Option<MemberAccess<'_, H>>,
     temporary: Dynamic<H>,
-    answer: Result<(Dynamic<H>, bool), EvalAltResult<H>>,
-) -> Result<(Dynamic<H>, bool), EvalAltResult<H>>
+    mark: Option<bool>,
+) -> Option<bool>
     ensures counts { global.old.num_operations ≤ global.new.num_operations }
     ensures runs { (offer : _) (scope : _) (held : _) →
-        RunsFrom (rules_of walker.now.limits.now H.name_of offer T.natives) (λ k l. core (marked answer)
+        RunsFrom (rules_of walker.now.limits.now H.name_of offer T.natives)
+        (λ k l. core (marked (came_marked mark out.now place.old))
         (Temporary (Some source.old) (option_map access_of back.entry) ∷ k) (focused_on (Some temporary) l))
         (state_of (T.state table.old) global.old scope (lending held source.old))
-        result (state_of (T.state table.new) global.new scope (lending held source.new)) }
+        (came_marked result out.now place.new)
+        (state_of (T.state table.new) global.new scope (lending held source.new)) }
 {
     let Some(access) = back else {
         drop(temporary);
-        return answer;
+        return mark;
     };
-    match answer {
-        Ok((value, true)) => set_back(walker, global, table, source, access, temporary, value),
-        Ok((value, false)) => {
+    match mark {
+        Some(true) => set_back(walker, global, out, place, table, source, access, temporary),
+        Some(false) => {
             drop(access);
             drop(temporary);
-            Ok((value, false))
+            mark
         }
-        Err(failed) => {
+        None => {
             drop(access);
             drop(temporary);
-            Err(failed)
+            mark
         }
     }
 }
@@ -149,18 +166,20 @@ pub fn come_back<H: Host, T: NativeTable<H>>(
 fn set_back<H: Host, T: NativeTable<H>>(
     walker: &Walker<'_>,
     global: &mut GlobalRuntimeState<H>,
+    out: &Dynamic<H>,
+    place: &mut Option<EvalAltResult<H>>,
     table: &mut T,
     source: &mut Dynamic<H>,
     access: MemberAccess<'_, H>,
     temporary: Dynamic<H>,
-    value: Dynamic<H>,
-) -> Result<(Dynamic<H>, bool), EvalAltResult<H>>
+) -> Option<bool>
     ensures counts { global.old.num_operations ≤ global.new.num_operations }
     ensures runs { (offer : _) (scope : _) (held : _) →
         RunsFrom (rules_of walker.now.limits.now H.name_of offer T.natives)
-        (λ k. set_core true (access_of access.entry) temporary (MemberSet value ∷ k))
+        (λ k. set_core true (access_of access.entry) temporary (MemberSet out.now ∷ k))
         (state_of (T.state table.old) global.old scope (lending held source.old))
-        result (state_of (T.state table.new) global.new scope (lending held source.new)) }
+        (came_marked result out.now place.new)
+        (state_of (T.state table.new) global.new scope (lending held source.new)) }
 {
     let mut access = access;
     let set = set_member(
@@ -177,12 +196,9 @@ fn set_back<H: Host, T: NativeTable<H>>(
     match set {
         Ok((answer, _)) => {
             drop(answer);
-            Ok((value, true))
+            Some(true)
         }
-        Err(error) => {
-            drop(value);
-            Err(error)
-        }
+        Err(error) => fail(place, error),
     }
 }
 

@@ -1,19 +1,23 @@
 //! What the walk does at a link, by the form of the link and by what it finds.
 
-ghost use Rattle.std.specs.Prelude.{◌≡◌, ◌≤◌, ◌&&◌, [], Some, is_some};
+ghost use Rattle.std.specs.Prelude.{◌≡◌, ◌≤◌, ◌&&◌, [], Ok, Some, is_some};
 ghost use Rattle.std.specs.Option.{option_copied};
 ghost use Rattle.rhai_tree.specs.declared.expr.Expr.{out-Expr};
 ghost use Rattle.rhai_values.specs.Cells.{cells_of, with_value};
+ghost use Rattle.rhai_values.specs.Copy.{plain};
 ghost use Rattle.rhai_values.specs.Layers.{layer_of};
+ghost use Rattle.rhai_values.specs.declared.base.value.Union.TheVariants as kind;
 ghost use Rattle.rhai_places.specs.Found.{found};
 ghost use Rattle.rhai_machine.specs.language.Links.{link_of as link_in};
 ghost use Rattle.rhai_machine.specs.language.Located.{is_map as is_map_in, is_indexed as is_indexed_in};
 ghost use Rattle.rhai_machine.specs.language.Located.{is_unit as is_unit_in};
 ghost use Rattle.rhai_machine.specs.language.Setting.{rules_of};
+ghost use Rattle.rhai_machine.specs.language.State.{Answers};
 ghost use Rattle.rhai_machine.specs.language.Values.{through, used};
 ghost use Rattle.rhai_steps.specs.States.{state_of};
 ghost use Rattle.rhai_steps.specs.Marked.{lending};
 ghost use Rattle.rhai_chains.specs.Chains.{form_seen, link_seen};
+ghost use Rattle.rhai_context.specs.Ends.{came_some};
 ghost use Rattle.rhai_walk.specs.Walking.{Begins, Enters, FindsDown, FitsLink, IsDescent};
 ghost use Rattle.rhai_walk.specs.Walking.{IsFree, IsMethodIn, IsSpotBelow, IsWay, Leaves};
 ghost use Rattle.rhai_walk.specs.Walking.{TakesBelow, WayBy, way_below};
@@ -21,6 +25,7 @@ ghost use Rattle.rhai_walk.specs.Walking.{TakesBelow, WayBy, way_below};
 use rhai_chains::chain::Switches;
 use rhai_chains::links::{Link, LinkForm, link_of};
 use rhai_chains::spots::{find_spot, take_spot, way_by};
+use rhai_context::ends::stop;
 use rhai_places::spot::Spot;
 use rhai_state::error::EvalAltResult;
 use rhai_state::limits::Limits;
@@ -28,9 +33,10 @@ use rhai_state::state::GlobalRuntimeState;
 use rhai_state::table::NativeTable;
 use rhai_steps::charges::track_operation;
 use rhai_steps::errors::data_race;
-use rhai_steps::values::unit_value;
+use rhai_steps::values::{text_value, unit_value};
 use rhai_tree::expr::{Expr, FnCallExpr};
 use rhai_tree::position::Position;
+use rhai_tree::{Shared, Text};
 use rhai_values::base::value::{CellId, Dynamic, Host, Union};
 use rhai_values::cells::{CellStore, put_back};
 use std::alloc::Global;
@@ -268,22 +274,43 @@ pub fn spot_below<H: Host>(
     find_spot(alloc, cells, source, index, how)
 }
 
-/// Where the walk goes on below a value, by an index or a key.
+/// Where the walk goes on below a value, by an index or a key. An error goes into its place.
 pub fn find_down<H: Host>(
     switches: Switches,
     alloc: Global,
     cells: &CellStore<H>,
+    place: &mut Option<EvalAltResult<H>>,
     source: &mut Dynamic<H>,
     index: &Dynamic<H>,
     link: Link<'_>,
-) -> Result<Descent, EvalAltResult<H>>
+) -> Option<Descent>
     ensures same { source.new ≡ source.old }
-    ensures finds { FindsDown result (found (way_below link.entry switches) H.name_of (cells_of cells.now)
-        source.old index.now) source.old }
+    ensures finds { FindsDown (came_some result place.new) (found (way_below link.entry switches)
+        H.name_of (cells_of cells.now) source.old index.now) source.old }
 {
     match spot_below(switches, alloc, cells, source, index, link) {
-        Ok(spot) => Ok(descent_to(spot)),
-        Err(error) => Err(error),
+        Ok(spot) => Some(descent_to(spot)),
+        Err(error) => {
+            stop(place, error);
+            None
+        }
+    }
+}
+
+/// The key that a property's name is in a map. An error goes into its place.
+pub fn key_for<H: Host>(
+    place: &mut Option<EvalAltResult<H>>,
+    name: &Shared<Text>,
+    pos: Position,
+) -> Option<Dynamic<H>>
+    ensures { Answers (came_some result place.new) (Ok (plain (kind.Str name.now))) }
+{
+    match text_value(name, pos) {
+        Ok(key) => Some(key),
+        Err(error) => {
+            stop(place, error);
+            None
+        }
     }
 }
 

@@ -3,6 +3,7 @@
 ghost use Rattle.std.specs.Prelude.{◌≡◌, ◌≤◌, length, is_some};
 ghost use Rattle.rhai_values.specs.Cells.{cells_of};
 ghost use Rattle.rhai_machine.specs.language.Frames.{Item};
+ghost use Rattle.rhai_context.specs.Ends.{came_marked};
 ghost use Rattle.rhai_cycle.specs.States.{under};
 ghost use Rattle.rhai_steps.specs.States.{state_of};
 ghost use Rattle.rhai_steps.specs.Marked.{lending};
@@ -18,13 +19,12 @@ use rhai_chains::chain::NewValue;
 use rhai_chains::links::{Link, LinkForm};
 use rhai_chains::members::{Member, MemberAccess};
 use rhai_context::Context;
-use rhai_state::error::EvalAltResult;
 use rhai_state::table::NativeTable;
-use rhai_steps::values::{text_value, unit_value};
+use rhai_steps::values::unit_value;
 use rhai_tree::expr::Expr;
 use rhai_tree::position::Position;
 use rhai_values::base::value::{Dynamic, Host};
-use rhai_walk::ways::{is_indexed, is_map, step_in, step_out, was_handle};
+use rhai_walk::ways::{is_indexed, is_map, key_for, step_in, step_out, was_handle};
 use std::alloc::Global;
 use std::mem::replace;
 
@@ -59,7 +59,7 @@ impl<'e, H: Host> Evaluator<'e, H> {
         args: &mut [Dynamic<H>],
         new: Option<NewValue<H>>,
         in_place: bool,
-    ) -> Result<(Dynamic<H>, bool), EvalAltResult<H>>
+    ) -> Option<bool>
         requires free { IsFree (cells_of run.old.global.cells) focus.old.value }
         requires walks { LinkWalks (is_some new) (link_seen link) (length args.old) }
         ensures counts { run.old.global.num_operations ≤ run.new.global.num_operations }
@@ -70,7 +70,8 @@ impl<'e, H: Host> Evaluator<'e, H> {
             FollowsFrom rules (entered_core rules.setting (link_seen link.entry)
             (chain_at root.now rest args.old new in_place))
             (state_of (T.state table.old) run.old.global scope (lending held focus.old))
-            result (state_of (T.state table.new) run.new.global scope (lending held focus.new)) }
+            (came_marked result run.new.value run.new.error)
+            (state_of (T.state table.new) run.new.global scope (lending held focus.new)) }
     {
         let above = step_in(&mut run.global.cells, focus);
         match link.form {
@@ -95,13 +96,10 @@ impl<'e, H: Host> Evaluator<'e, H> {
             }
             LinkForm::Property(name, pos) => {
                 if is_map(focus) {
-                    let key = match text_value(name, pos) {
-                        Ok(key) => key,
-                        Err(error) => {
-                            drop(new);
-                            step_out(&mut run.global.cells, focus, above);
-                            return Err(error);
-                        }
+                    let Some(key) = key_for(&mut run.error, name, pos) else {
+                        drop(new);
+                        step_out(&mut run.global.cells, focus, above);
+                        return None;
                     };
                     let result = self.walk_spot(
                         alloc, run, table, root, focus, &key, link, args, new, in_place,
@@ -124,12 +122,12 @@ impl<'e, H: Host> Evaluator<'e, H> {
             }
             LinkForm::Method(call, pos) => {
                 let on_handle = was_handle(&above);
-                let (given, behind) = args.split_at_mut(call.args.len());
-                let (name, first) = asked_by(call);
-                let answer = self.run_method(
+                let (name, first, count) = asked_by(call);
+                let (given, behind) = args.split_at_mut(count);
+                let mark = self.run_method(
                     alloc, run, table, name, focus, given, first, pos, on_handle,
                 );
-                let result = self.walk_behind(alloc, run, table, root, answer, link, behind, new);
+                let result = self.walk_behind(alloc, run, table, root, mark, link, behind, new);
                 step_out(&mut run.global.cells, focus, above);
                 result
             }

@@ -5,6 +5,7 @@ ghost use Rattle.std.specs.Option.{option_copied, option_map};
 ghost use Rattle.rhai_tree.specs.declared.expr.Expr.{out-Expr};
 ghost use Rattle.rhai_machine.specs.language.Chains.{member_core};
 ghost use Rattle.rhai_machine.specs.language.Located.{args_behind};
+ghost use Rattle.rhai_context.specs.Ends.{came_marked};
 ghost use Rattle.rhai_cycle.specs.States.{under};
 ghost use Rattle.rhai_steps.specs.States.{state_of};
 ghost use Rattle.rhai_steps.specs.Marked.{lending};
@@ -17,7 +18,6 @@ use rhai_chains::chain::NewValue;
 use rhai_chains::links::Link;
 use rhai_chains::members::MemberAccess;
 use rhai_context::Context;
-use rhai_state::error::EvalAltResult;
 use rhai_state::table::NativeTable;
 use rhai_tree::expr::Expr;
 use rhai_values::base::value::{Dynamic, Host};
@@ -40,7 +40,7 @@ impl<'e, H: Host> Evaluator<'e, H> {
         link: Link<'_>,
         args: &mut [Dynamic<H>],
         new: Option<NewValue<H>>,
-    ) -> Result<(Dynamic<H>, bool), EvalAltResult<H>>
+    ) -> Option<bool>
         requires walks { BehindWalks (is_some new) (form_seen link.form)
             (option_map out-Expr (option_copied link.behind)) (length args.old) }
         ensures counts { run.old.global.num_operations ≤ run.new.global.num_operations }
@@ -54,32 +54,31 @@ impl<'e, H: Host> Evaluator<'e, H> {
             (link_seen link.entry) (access_of access.entry)
             (chain_at root.now rest all new in_place))
             (state_of (T.state table.old) run.old.global scope (lending held source.old))
-            result (state_of (T.state table.new) run.new.global scope (lending held source.new)) }
+            (came_marked result run.new.value run.new.error)
+            (state_of (T.state table.new) run.new.global scope (lending held source.new)) }
     {
         let walker = (&*self).walker(alloc, &*root);
         let Some(rest) = link.behind else {
-            return end_member(&walker, &mut run.global, table, source, access, new);
+            let (global, out, place) = (&mut run.global, &mut run.value, &mut run.error);
+            return end_member(&walker, global, out, place, table, source, access, new);
         };
         let in_place = is_property(&access);
-        match get_kept(&walker, &mut run.global, table, source, access) {
-            Ok((value, back)) => {
+        let (global, place) = (&mut run.global, &mut run.error);
+        match get_kept(&walker, global, place, table, source, access) {
+            Some((value, back)) => {
                 let mut value = value;
-                let result = self.walk_chain(
+                let mark = self.walk_chain(
                     alloc, run, table, root, &mut value, rest, args, new, in_place,
                 );
+                let (global, out, place) = (&mut run.global, &run.value, &mut run.error);
+                let back = Some(back);
                 come_back(
-                    &walker,
-                    &mut run.global,
-                    table,
-                    source,
-                    Some(back),
-                    value,
-                    result,
+                    &walker, global, out, place, table, source, back, value, mark,
                 )
             }
-            Err(error) => {
+            None => {
                 drop(new);
-                Err(error)
+                None
             }
         }
     }

@@ -5,6 +5,7 @@ ghost use Rattle.std.specs.Option.{option_copied, option_map};
 ghost use Rattle.rhai_tree.specs.declared.expr.Expr.{out-Expr};
 ghost use Rattle.rhai_machine.specs.language.Frames.{core, marked};
 ghost use Rattle.rhai_machine.specs.language.Links.{first_position as first_position_in};
+ghost use Rattle.rhai_context.specs.Ends.{came_marked};
 ghost use Rattle.rhai_cycle.specs.States.{under};
 ghost use Rattle.rhai_steps.specs.States.{state_of};
 ghost use Rattle.rhai_steps.specs.Marked.{RunsFrom};
@@ -15,7 +16,7 @@ use crate::evaluator::Evaluator;
 use rhai_chains::chain::NewValue;
 use rhai_chains::links::Link;
 use rhai_context::Context;
-use rhai_state::error::EvalAltResult;
+use rhai_context::ends::take_value;
 use rhai_state::table::NativeTable;
 use rhai_tree::expr::{Expr, FnCallExpr};
 use rhai_tree::position::Position;
@@ -23,14 +24,16 @@ use rhai_values::base::value::{Dynamic, Host};
 use rhai_walk::calls::first_position;
 use std::alloc::Global;
 
-/// The name that a method is called by, and where its first argument stands.
-pub(crate) fn asked_by(call: &FnCallExpr) -> (&str, Option<Position>)
+/// The name that a method is called by, where its first argument stands, and how many it asks for.
+pub(crate) fn asked_by(call: &FnCallExpr) -> (&str, Option<Position>, usize)
     ensures name { result.0.now ≡ call.now.name }
     ensures first { result.1 ≡ first_position_in call.now.args }
+    ensures count { result.2 ≡ length call.now.args }
 {
     (
         call.name.get().as_str(),
         first_position(call.args.as_slice()),
+        call.args.len(),
     )
 }
 
@@ -44,39 +47,41 @@ impl<'e, H: Host> Evaluator<'e, H> {
         run: &mut Context<H>,
         table: &mut T,
         root: &Expr,
-        answer: Result<(Dynamic<H>, bool), EvalAltResult<H>>,
+        mark: Option<bool>,
         link: Link<'_>,
         args: &mut [Dynamic<H>],
         new: Option<NewValue<H>>,
-    ) -> Result<(Dynamic<H>, bool), EvalAltResult<H>>
+    ) -> Option<bool>
         requires walks { BehindWalks (is_some new) (form_seen link.form)
             (option_map out-Expr (option_copied link.behind)) (length args.old) }
         ensures counts { run.old.global.num_operations ≤ run.new.global.num_operations }
         ensures scope { run.new.scope ≡ run.old.scope }
         ensures this { run.new.this ≡ run.old.this }
         ensures runs { (scope : _) (held : _) (rest : _) →
-            RunsFrom (under H.name_of self.now T.natives) (λ k l. core (marked answer)
+            RunsFrom (under H.name_of self.now T.natives) (λ k l. core
+            (marked (came_marked mark run.old.value run.old.error))
             (behind_value (option_map out-Expr (option_copied link.entry.behind))
             (chain_at root.now rest args.old new false) k) l)
             (state_of (T.state table.old) run.old.global scope held)
-            result (state_of (T.state table.new) run.new.global scope held) }
+            (came_marked result run.new.value run.new.error)
+            (state_of (T.state table.new) run.new.global scope held) }
     {
         let Some(rest) = link.behind else {
             drop(new);
-            return answer;
+            return mark;
         };
-        match answer {
-            Ok((value, _)) => {
-                let mut focus = value;
+        match mark {
+            Some(_) => {
+                let mut focus = take_value(&mut run.value);
                 let result = self.walk_chain(
                     alloc, run, table, root, &mut focus, rest, args, new, false,
                 );
                 drop(focus);
                 result
             }
-            Err(error) => {
+            None => {
                 drop(new);
-                Err(error)
+                mark
             }
         }
     }

@@ -8,6 +8,7 @@ ghost use Rattle.rhai_places.specs.Parts.{IsPart};
 ghost use Rattle.rhai_machine.specs.language.Chains.{part_core, spot_core};
 ghost use Rattle.rhai_machine.specs.language.Links.{link_of as link_in};
 ghost use Rattle.rhai_machine.specs.language.Located.{args_behind};
+ghost use Rattle.rhai_context.specs.Ends.{came_marked};
 ghost use Rattle.rhai_cycle.specs.States.{under};
 ghost use Rattle.rhai_steps.specs.States.{state_of};
 ghost use Rattle.rhai_steps.specs.Marked.{lending};
@@ -19,15 +20,13 @@ use crate::walk::methods::asked_by;
 use rhai_chains::chain::NewValue;
 use rhai_chains::links::Link;
 use rhai_context::Context;
-use rhai_places::part::read_part;
 use rhai_places::place::place_mut;
 use rhai_places::spot::Spot;
-use rhai_state::error::EvalAltResult;
 use rhai_state::table::NativeTable;
 use rhai_steps::values::unit_value;
 use rhai_tree::expr::Expr;
 use rhai_values::base::value::{Dynamic, Host};
-use rhai_walk::calls::put_back;
+use rhai_walk::calls::{part_for, put_back};
 use rhai_walk::ends::end_at;
 use rhai_walk::temporaries::{back_of, come_back};
 use rhai_walk::ways::{Descent, find_down, method_in};
@@ -50,7 +49,7 @@ impl<'e, H: Host> Evaluator<'e, H> {
         args: &mut [Dynamic<H>],
         new: Option<NewValue<H>>,
         in_place: bool,
-    ) -> Result<(Dynamic<H>, bool), EvalAltResult<H>>
+    ) -> Option<bool>
         requires walks { BehindWalks (is_some new) (form_seen link.form)
             (option_map out-Expr (option_copied link.behind)) (length args.old) }
         ensures counts { run.old.global.num_operations ≤ run.new.global.num_operations }
@@ -63,34 +62,27 @@ impl<'e, H: Host> Evaluator<'e, H> {
             (new_of new) (link_seen link.entry) index.now (chain_at root.now rest all new in_place)
             source.old)
             (state_of (T.state table.old) run.old.global scope (lending held source.old))
-            result (state_of (T.state table.new) run.new.global scope (lending held source.new)) }
+            (came_marked result run.new.value run.new.error)
+            (state_of (T.state table.new) run.new.global scope (lending held source.new)) }
     {
         let walker = (&*self).walker(alloc, &*root);
         let Some(rest) = link.behind else {
-            return end_at(&walker, &mut run.global, table, source, index, link, new);
+            let (global, out, place) = (&mut run.global, &mut run.value, &mut run.error);
+            return end_at(&walker, global, out, place, table, source, index, link, new);
         };
-        match find_down(
-            walker.switches,
-            alloc,
-            &run.global.cells,
-            source,
-            index,
-            link,
-        ) {
-            Ok(Descent::Place(at)) => {
+        let (cells, place) = (&run.global.cells, &mut run.error);
+        match find_down(walker.switches, alloc, cells, place, source, index, link) {
+            Some(Descent::Place(at)) => {
                 let place = place_mut(&mut source.value, at);
                 self.walk_chain(alloc, run, table, root, place, rest, args, new, true)
             }
-            Ok(Descent::Missing) => {
-                let back = match back_of(alloc, link, index, in_place) {
-                    Ok(back) => back,
-                    Err(error) => {
-                        drop(new);
-                        return Err(error);
-                    }
+            Some(Descent::Missing) => {
+                let Some(back) = back_of(alloc, &mut run.error, link, index, in_place) else {
+                    drop(new);
+                    return None;
                 };
                 let mut temporary = unit_value();
-                let result = self.walk_chain(
+                let mark = self.walk_chain(
                     alloc,
                     run,
                     table,
@@ -101,22 +93,17 @@ impl<'e, H: Host> Evaluator<'e, H> {
                     new,
                     false,
                 );
+                let (global, out, place) = (&mut run.global, &run.value, &mut run.error);
                 come_back(
-                    &walker,
-                    &mut run.global,
-                    table,
-                    source,
-                    back,
-                    temporary,
-                    result,
+                    &walker, global, out, place, table, source, back, temporary, mark,
                 )
             }
-            Ok(Descent::Part(at)) => self.walk_part(
+            Some(Descent::Part(at)) => self.walk_part(
                 alloc, run, table, root, source, at, rest, args, new,
             ),
-            Err(error) => {
+            None => {
                 drop(new);
-                Err(error)
+                None
             }
         }
     }
@@ -135,7 +122,7 @@ impl<'e, H: Host> Evaluator<'e, H> {
         rest: &Expr,
         args: &mut [Dynamic<H>],
         new: Option<NewValue<H>>,
-    ) -> Result<(Dynamic<H>, bool), EvalAltResult<H>>
+    ) -> Option<bool>
         requires part { IsPart (layer_of source.old) at }
         requires walks { Walks (is_some new) (out-Expr rest.now) (length args.old) }
         ensures counts { run.old.global.num_operations ≤ run.new.global.num_operations }
@@ -146,23 +133,25 @@ impl<'e, H: Host> Evaluator<'e, H> {
             FollowsFrom rules (part_core rules.setting (link_in (out-Expr rest.now)) at
             (chain_at root.now (out-Expr rest.now) args.old new false) source.old)
             (state_of (T.state table.old) run.old.global scope (lending held source.old))
-            result (state_of (T.state table.new) run.new.global scope (lending held source.new)) }
+            (came_marked result run.new.value run.new.error)
+            (state_of (T.state table.new) run.new.global scope (lending held source.new)) }
     {
-        let Ok(part) = read_part(alloc, source, at) else {
+        let Some(part) = part_for(alloc, &mut run.error, source, at, rest) else {
             drop(new);
-            return Err(EvalAltResult::ErrorOutOfMemory(rest.position()));
+            return None;
         };
         let mut part = part;
         match method_in(rest) {
             Some(method) => {
-                let (given, behind) = args.split_at_mut(method.call.args.len());
-                let (name, first) = asked_by(method.call);
+                let (name, first, count) = asked_by(method.call);
+                let (given, behind) = args.split_at_mut(count);
                 let answer = self.run_method(
                     alloc, run, table, name, &mut part, given, first, method.at, false,
                 );
-                let result = put_back(alloc, source, at, &part, answer, method.at);
+                let (out, place) = (&run.value, &mut run.error);
+                let mark = put_back(alloc, out, place, source, at, &part, answer, method.at);
                 drop(part);
-                self.walk_behind(alloc, run, table, root, result, method.link, behind, new)
+                self.walk_behind(alloc, run, table, root, mark, method.link, behind, new)
             }
             None => {
                 let result = self.walk_chain(

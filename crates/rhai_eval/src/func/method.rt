@@ -19,6 +19,7 @@ ghost use Rattle.rhai_eval.specs.States.{under};
 
 use crate::engine::Engine;
 use crate::func::arguments::empty;
+use rhai_context::ends::finish_marked;
 use rhai_context::{Context, give_back, take};
 use rhai_cycle::evaluator::Evaluator;
 use rhai_methods::target::put_back;
@@ -79,15 +80,22 @@ fn method_on<H: Host, T: NativeTable<H>>(
     match &mut target.part {
         Part::Whole => {
             let place = &mut *target.at;
-            evaluator.run_method(alloc, run, table, name, place, args, first, pos, is_handle)
+            let mark = evaluator.run_method(
+                alloc, run, table, name, place, args, first, pos, is_handle,
+            );
+            finish_marked(mark, &mut run.value, &mut run.error)
         }
-        Part::Temporary(value) => evaluator.run_method(
-            alloc, run, table, name, value, args, first, pos, is_handle,
-        ),
-        Part::Of(_, value) => {
-            let answer = evaluator.run_method(
+        Part::Temporary(value) => {
+            let mark = evaluator.run_method(
                 alloc, run, table, name, value, args, first, pos, is_handle,
             );
+            finish_marked(mark, &mut run.value, &mut run.error)
+        }
+        Part::Of(_, value) => {
+            let mark = evaluator.run_method(
+                alloc, run, table, name, value, args, first, pos, is_handle,
+            );
+            let answer = finish_marked(mark, &mut run.value, &mut run.error);
             put_back(alloc, target, answer, pos)
         }
     }

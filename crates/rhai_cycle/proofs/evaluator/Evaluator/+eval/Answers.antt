@@ -94,8 +94,8 @@ run_out-returns-then-is_fresh-clause-runs = bodies.run_out-returns-then-is_fresh
 pub run_out-returns-else-is_fresh-clause-runs : goal.run_out-returns-else-is_fresh-clause-runs
 run_out-returns-else-is_fresh-clause-runs = bodies.run_out-returns-else-is_fresh-clause-runs
 
-pub enter_on_focus-returns-then-is_anothers-clause-runs : goal.enter_on_focus-returns-then-is_anothers-clause-runs
-enter_on_focus-returns-then-is_anothers-clause-runs = bodies.enter_on_focus-returns-then-is_anothers-clause-runs
+pub enter_on_focus-returns-then-refuses_held-clause-runs : goal.enter_on_focus-returns-then-refuses_held-clause-runs
+enter_on_focus-returns-then-refuses_held-clause-runs = bodies.enter_on_focus-returns-then-refuses_held-clause-runs
 
 pub enter_on_focus-step_in-above-requires : goal.enter_on_focus-step_in-above-requires
 enter_on_focus-step_in-above-requires = bodies.enter_on_focus-step_in-above-requires
@@ -238,8 +238,8 @@ run_link_args-returns-in-None-clause-gathers = chains.run_link_args-returns-in-N
 pub run_link_args-returns-in-None-clause-asked : goal.run_link_args-returns-in-None-clause-asked
 run_link_args-returns-in-None-clause-asked = chains.run_link_args-returns-in-None-clause-asked
 
-pub run_root-walk_value-answer-requires : goal.run_root-walk_value-answer-requires
-run_root-walk_value-answer-requires = chains.run_root-walk_value-answer-requires
+pub run_root-walk_value-requires : goal.run_root-walk_value-requires
+run_root-walk_value-requires = chains.run_root-walk_value-requires
 
 pub run_root-returns-then-not-run_expr-clause-runs : goal.run_root-returns-then-not-run_expr-clause-runs
 run_root-returns-then-not-run_expr-clause-runs = chains.run_root-returns-then-not-run_expr-clause-runs
@@ -250,8 +250,8 @@ run_root-returns-else-not-run_expr-clause-runs = chains.run_root-returns-else-no
 pub run_root-returns-then-not-charge-clause-runs : goal.run_root-returns-then-not-charge-clause-runs
 run_root-returns-then-not-charge-clause-runs = chains.run_root-returns-then-not-charge-clause-runs
 
-pub run_root-walk_variable-answer-requires : goal.run_root-walk_variable-answer-requires
-run_root-walk_variable-answer-requires = chains.run_root-walk_variable-answer-requires
+pub run_root-walk_variable-requires : goal.run_root-walk_variable-requires
+run_root-walk_variable-requires = chains.run_root-walk_variable-requires
 
 pub run_root-returns-else-not-charge-clause-runs : goal.run_root-returns-else-not-charge-clause-runs
 run_root-returns-else-not-charge-clause-runs = chains.run_root-returns-else-not-charge-clause-runs
@@ -259,8 +259,8 @@ run_root-returns-else-not-charge-clause-runs = chains.run_root-returns-else-not-
 pub run_root-returns-then-not-charge-2-clause-runs : goal.run_root-returns-then-not-charge-2-clause-runs
 run_root-returns-then-not-charge-2-clause-runs = chains.run_root-returns-then-not-charge-2-clause-runs
 
-pub run_root-walk_this-answer-requires : goal.run_root-walk_this-answer-requires
-run_root-walk_this-answer-requires = chains.run_root-walk_this-answer-requires
+pub run_root-walk_this-requires : goal.run_root-walk_this-requires
+run_root-walk_this-requires = chains.run_root-walk_this-requires
 
 pub run_root-returns-else-not-charge-2-clause-runs : goal.run_root-returns-else-not-charge-2-clause-runs
 run_root-returns-else-not-charge-2-clause-runs = chains.run_root-returns-else-not-charge-2-clause-runs
@@ -274,8 +274,8 @@ assign_chain-run_chain-requires = chains.assign_chain-run_chain-requires
 pub assign_chain-returns-then-not-run_expr-clause-runs : goal.assign_chain-returns-then-not-run_expr-clause-runs
 assign_chain-returns-then-not-run_expr-clause-runs = chains.assign_chain-returns-then-not-run_expr-clause-runs
 
-pub assign_chain-returns-then-not-flatten_value-clause-runs : goal.assign_chain-returns-then-not-flatten_value-clause-runs
-assign_chain-returns-then-not-flatten_value-clause-runs = chains.assign_chain-returns-then-not-flatten_value-clause-runs
+pub assign_chain-returns-then-not-flatten_at-clause-runs : goal.assign_chain-returns-then-not-flatten_at-clause-runs
+assign_chain-returns-then-not-flatten_at-clause-runs = chains.assign_chain-returns-then-not-flatten_at-clause-runs
 
 pub assign_chain-returns-then-not-run_chain-clause-runs : goal.assign_chain-returns-then-not-run_chain-clause-runs
 assign_chain-returns-then-not-run_chain-clause-runs = chains.assign_chain-returns-then-not-run_chain-clause-runs
@@ -658,11 +658,11 @@ walk_entered-returns-then-is_indexed-clause-runs = located.walk_entered-returns-
 pub walk_entered-returns-else-is_indexed-clause-runs : goal.walk_entered-returns-else-is_indexed-clause-runs
 walk_entered-returns-else-is_indexed-clause-runs = located.walk_entered-returns-else-is_indexed-clause-runs
 
-pub walk_entered-returns-in-Err-clause-runs : goal.walk_entered-returns-in-Err-clause-runs
-walk_entered-returns-in-Err-clause-runs = located.walk_entered-returns-in-Err-clause-runs
+pub walk_entered-returns-in_default-key_for-clause-runs : goal.walk_entered-returns-in_default-key_for-clause-runs
+walk_entered-returns-in_default-key_for-clause-runs = located.walk_entered-returns-in_default-key_for-clause-runs
 
-pub walk_entered-returns-in-Ok-clause-runs : goal.walk_entered-returns-in-Ok-clause-runs
-walk_entered-returns-in-Ok-clause-runs = located.walk_entered-returns-in-Ok-clause-runs
+pub walk_entered-returns-in-Some-clause-runs : goal.walk_entered-returns-in-Some-clause-runs
+walk_entered-returns-in-Some-clause-runs = located.walk_entered-returns-in-Some-clause-runs
 
 pub walk_entered-returns-else-is_map-clause-runs : goal.walk_entered-returns-else-is_map-clause-runs
 walk_entered-returns-else-is_map-clause-runs = located.walk_entered-returns-else-is_map-clause-runs
@@ -775,14 +775,14 @@ while_turn-returns-else-holds-clause-runs = loops.while_turn-returns-else-holds-
 pub walk_member-returns-in_default-clause-runs : goal.walk_member-returns-in_default-clause-runs
 walk_member-returns-in_default-clause-runs = members.walk_member-returns-in_default-clause-runs
 
-pub walk_member-walk_chain-result-requires : goal.walk_member-walk_chain-result-requires
-walk_member-walk_chain-result-requires = members.walk_member-walk_chain-result-requires
+pub walk_member-walk_chain-mark-requires : goal.walk_member-walk_chain-mark-requires
+walk_member-walk_chain-mark-requires = members.walk_member-walk_chain-mark-requires
 
-pub walk_member-returns-in-Ok-clause-runs : goal.walk_member-returns-in-Ok-clause-runs
-walk_member-returns-in-Ok-clause-runs = members.walk_member-returns-in-Ok-clause-runs
+pub walk_member-returns-in-Some-get_kept-clause-runs : goal.walk_member-returns-in-Some-get_kept-clause-runs
+walk_member-returns-in-Some-get_kept-clause-runs = members.walk_member-returns-in-Some-get_kept-clause-runs
 
-pub walk_member-returns-in-Err-clause-runs : goal.walk_member-returns-in-Err-clause-runs
-walk_member-returns-in-Err-clause-runs = members.walk_member-returns-in-Err-clause-runs
+pub walk_member-returns-in-None-clause-runs : goal.walk_member-returns-in-None-clause-runs
+walk_member-returns-in-None-clause-runs = members.walk_member-returns-in-None-clause-runs
 
 pub walk_behind-walk_chain-result-requires : goal.walk_behind-walk_chain-result-requires
 walk_behind-walk_chain-result-requires = methods.walk_behind-walk_chain-result-requires
@@ -790,11 +790,11 @@ walk_behind-walk_chain-result-requires = methods.walk_behind-walk_chain-result-r
 pub walk_behind-returns-in_default-clause-runs : goal.walk_behind-returns-in_default-clause-runs
 walk_behind-returns-in_default-clause-runs = methods.walk_behind-returns-in_default-clause-runs
 
-pub walk_behind-returns-in-Ok-clause-runs : goal.walk_behind-returns-in-Ok-clause-runs
-walk_behind-returns-in-Ok-clause-runs = methods.walk_behind-returns-in-Ok-clause-runs
+pub walk_behind-returns-in-Some-mark-clause-runs : goal.walk_behind-returns-in-Some-mark-clause-runs
+walk_behind-returns-in-Some-mark-clause-runs = methods.walk_behind-returns-in-Some-mark-clause-runs
 
-pub walk_behind-returns-in-Err-clause-runs : goal.walk_behind-returns-in-Err-clause-runs
-walk_behind-returns-in-Err-clause-runs = methods.walk_behind-returns-in-Err-clause-runs
+pub walk_behind-returns-in-None-clause-runs : goal.walk_behind-returns-in-None-clause-runs
+walk_behind-returns-in-None-clause-runs = methods.walk_behind-returns-in-None-clause-runs
 
 pub run_plain_call-run_parameters-requires : goal.run_plain_call-run_parameters-requires
 run_plain_call-run_parameters-requires = plain.run_plain_call-run_parameters-requires
@@ -847,32 +847,32 @@ run_parameters-returns-then-not-push_parameter-clause-fills = plain.run_paramete
 pub run_parameters-returns-clause-fills : goal.run_parameters-returns-clause-fills
 run_parameters-returns-clause-fills = plain.run_parameters-returns-clause-fills
 
-pub walk_variable-returns-in-Ok-clause-runs : goal.walk_variable-returns-in-Ok-clause-runs
-walk_variable-returns-in-Ok-clause-runs = roots.walk_variable-returns-in-Ok-clause-runs
+pub walk_variable-returns-in-Some-function_meant-clause-runs : goal.walk_variable-returns-in-Some-function_meant-clause-runs
+walk_variable-returns-in-Some-function_meant-clause-runs = roots.walk_variable-returns-in-Some-function_meant-clause-runs
 
-pub walk_variable-returns-in-Err-clause-runs : goal.walk_variable-returns-in-Err-clause-runs
-walk_variable-returns-in-Err-clause-runs = roots.walk_variable-returns-in-Err-clause-runs
+pub walk_variable-returns-in-None-function_meant-clause-runs : goal.walk_variable-returns-in-None-function_meant-clause-runs
+walk_variable-returns-in-None-function_meant-clause-runs = roots.walk_variable-returns-in-None-function_meant-clause-runs
 
-pub walk_variable-returns-then-is_anothers-clause-runs : goal.walk_variable-returns-then-is_anothers-clause-runs
-walk_variable-returns-then-is_anothers-clause-runs = roots.walk_variable-returns-then-is_anothers-clause-runs
+pub walk_variable-returns-then-lends_not-clause-runs : goal.walk_variable-returns-then-lends_not-clause-runs
+walk_variable-returns-then-lends_not-clause-runs = roots.walk_variable-returns-then-lends_not-clause-runs
 
-pub walk_variable-returns-else-is_anothers-clause-names : goal.walk_variable-returns-else-is_anothers-clause-names
-walk_variable-returns-else-is_anothers-clause-names = roots.walk_variable-returns-else-is_anothers-clause-names
+pub walk_variable-returns-else-lends_not-clause-names : goal.walk_variable-returns-else-lends_not-clause-names
+walk_variable-returns-else-lends_not-clause-names = roots.walk_variable-returns-else-lends_not-clause-names
 
-pub walk_variable-returns-else-is_anothers-clause-runs : goal.walk_variable-returns-else-is_anothers-clause-runs
-walk_variable-returns-else-is_anothers-clause-runs = roots.walk_variable-returns-else-is_anothers-clause-runs
+pub walk_variable-returns-else-lends_not-clause-runs : goal.walk_variable-returns-else-lends_not-clause-runs
+walk_variable-returns-else-lends_not-clause-runs = roots.walk_variable-returns-else-lends_not-clause-runs
 
 pub walk_this-returns-in-None-clause-runs : goal.walk_this-returns-in-None-clause-runs
 walk_this-returns-in-None-clause-runs = roots.walk_this-returns-in-None-clause-runs
 
-pub walk_this-returns-then-is_anothers-clause-runs : goal.walk_this-returns-then-is_anothers-clause-runs
-walk_this-returns-then-is_anothers-clause-runs = roots.walk_this-returns-then-is_anothers-clause-runs
+pub walk_this-returns-then-refuses_held-clause-runs : goal.walk_this-returns-then-refuses_held-clause-runs
+walk_this-returns-then-refuses_held-clause-runs = roots.walk_this-returns-then-refuses_held-clause-runs
 
-pub walk_this-returns-else-is_anothers-clause-runs : goal.walk_this-returns-else-is_anothers-clause-runs
-walk_this-returns-else-is_anothers-clause-runs = roots.walk_this-returns-else-is_anothers-clause-runs
+pub walk_this-returns-else-refuses_held-clause-runs : goal.walk_this-returns-else-refuses_held-clause-runs
+walk_this-returns-else-refuses_held-clause-runs = roots.walk_this-returns-else-refuses_held-clause-runs
 
-pub walk_value-returns-in_err-focus-clause-runs : goal.walk_value-returns-in_err-focus-clause-runs
-walk_value-returns-in_err-focus-clause-runs = roots.walk_value-returns-in_err-focus-clause-runs
+pub walk_value-returns-then-not-flatten_at-clause-runs : goal.walk_value-returns-then-not-flatten_at-clause-runs
+walk_value-returns-then-not-flatten_at-clause-runs = roots.walk_value-returns-then-not-flatten_at-clause-runs
 
 pub walk_value-returns-clause-runs : goal.walk_value-returns-clause-runs
 walk_value-returns-clause-runs = roots.walk_value-returns-clause-runs
@@ -886,26 +886,26 @@ walk_spot-place_mut-place-requires = spots.walk_spot-place_mut-place-requires
 pub walk_spot-walk_chain-requires : goal.walk_spot-walk_chain-requires
 walk_spot-walk_chain-requires = spots.walk_spot-walk_chain-requires
 
-pub walk_spot-walk_chain-result-requires : goal.walk_spot-walk_chain-result-requires
-walk_spot-walk_chain-result-requires = spots.walk_spot-walk_chain-result-requires
+pub walk_spot-walk_chain-mark-requires : goal.walk_spot-walk_chain-mark-requires
+walk_spot-walk_chain-mark-requires = spots.walk_spot-walk_chain-mark-requires
 
 pub walk_spot-walk_part-requires : goal.walk_spot-walk_part-requires
 walk_spot-walk_part-requires = spots.walk_spot-walk_part-requires
 
-pub walk_spot-returns-in-Ok-Place-clause-runs : goal.walk_spot-returns-in-Ok-Place-clause-runs
-walk_spot-returns-in-Ok-Place-clause-runs = spots.walk_spot-returns-in-Ok-Place-clause-runs
+pub walk_spot-returns-in-Some-Place-clause-runs : goal.walk_spot-returns-in-Some-Place-clause-runs
+walk_spot-returns-in-Some-Place-clause-runs = spots.walk_spot-returns-in-Some-Place-clause-runs
 
-pub walk_spot-returns-in-Err-back_of-clause-runs : goal.walk_spot-returns-in-Err-back_of-clause-runs
-walk_spot-returns-in-Err-back_of-clause-runs = spots.walk_spot-returns-in-Err-back_of-clause-runs
+pub walk_spot-returns-in_default-back_of-clause-runs : goal.walk_spot-returns-in_default-back_of-clause-runs
+walk_spot-returns-in_default-back_of-clause-runs = spots.walk_spot-returns-in_default-back_of-clause-runs
 
-pub walk_spot-returns-in-Ok-clause-runs : goal.walk_spot-returns-in-Ok-clause-runs
-walk_spot-returns-in-Ok-clause-runs = spots.walk_spot-returns-in-Ok-clause-runs
+pub walk_spot-returns-in-Some-back_of-clause-runs : goal.walk_spot-returns-in-Some-back_of-clause-runs
+walk_spot-returns-in-Some-back_of-clause-runs = spots.walk_spot-returns-in-Some-back_of-clause-runs
 
-pub walk_spot-returns-in-Ok-Part-clause-runs : goal.walk_spot-returns-in-Ok-Part-clause-runs
-walk_spot-returns-in-Ok-Part-clause-runs = spots.walk_spot-returns-in-Ok-Part-clause-runs
+pub walk_spot-returns-in-Some-Part-clause-runs : goal.walk_spot-returns-in-Some-Part-clause-runs
+walk_spot-returns-in-Some-Part-clause-runs = spots.walk_spot-returns-in-Some-Part-clause-runs
 
-pub walk_spot-returns-in-Err-clause-runs : goal.walk_spot-returns-in-Err-clause-runs
-walk_spot-returns-in-Err-clause-runs = spots.walk_spot-returns-in-Err-clause-runs
+pub walk_spot-returns-in-None-clause-runs : goal.walk_spot-returns-in-None-clause-runs
+walk_spot-returns-in-None-clause-runs = spots.walk_spot-returns-in-None-clause-runs
 
 pub walk_part-split_at_mut-given-requires : goal.walk_part-split_at_mut-given-requires
 walk_part-split_at_mut-given-requires = spots.walk_part-split_at_mut-given-requires
@@ -916,8 +916,8 @@ walk_part-walk_behind-requires = spots.walk_part-walk_behind-requires
 pub walk_part-returns-in_default-clause-runs : goal.walk_part-returns-in_default-clause-runs
 walk_part-returns-in_default-clause-runs = spots.walk_part-returns-in_default-clause-runs
 
-pub walk_part-returns-in-Some-clause-runs : goal.walk_part-returns-in-Some-clause-runs
-walk_part-returns-in-Some-clause-runs = spots.walk_part-returns-in-Some-clause-runs
+pub walk_part-returns-in-Some-method_in-clause-runs : goal.walk_part-returns-in-Some-method_in-clause-runs
+walk_part-returns-in-Some-method_in-clause-runs = spots.walk_part-returns-in-Some-method_in-clause-runs
 
 pub walk_part-returns-in-None-clause-runs : goal.walk_part-returns-in-None-clause-runs
 walk_part-returns-in-None-clause-runs = spots.walk_part-returns-in-None-clause-runs

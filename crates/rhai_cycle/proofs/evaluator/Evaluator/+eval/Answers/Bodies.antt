@@ -23,7 +23,7 @@ use Rattle.rhai_cycle.proofs.BodyLemmas.{refused_ends, whole_ends}
 use Rattle.rhai_cycle.proofs.ArgsLeft.{entered_never, entered_not, entered_nothing, entered_so}
 use Rattle.rhai_cycle.proofs.FocusSteps.{enters_focus, focus_held, inside_races, inside_runs, may_be_entered, unmarked_ends}
 use Rattle.rhai_cycle.proofs.evaluator.Evaluator.+eval.Goals as goal
-use Rattle.rhai_context.specs.Ends.{came}
+use Rattle.rhai_context.specs.Ends.{came, error_in}
 
 pub run_body-returns-then-not-charge-clause-runs : goal.run_body-returns-then-not-charge-clause-runs
 run_body-returns-then-not-charge-clause-runs g t c scope held object is_fresh scope_is this_is =
@@ -211,25 +211,26 @@ run_out-returns-else-is_fresh-clause-runs g t c k =
     rw (c.in-Enters.is, c.if-is_fresh.false, c.enter_captured.ensures.this)
     (c.enter_captured.ensures.runs (holding c.args.run.now.this) k)
 
-pub enter_on_focus-returns-then-is_anothers-clause-runs : goal.enter_on_focus-returns-then-is_anothers-clause-runs
-enter_on_focus-returns-then-is_anothers-clause-runs g t c scope held =
+pub enter_on_focus-returns-then-refuses_held-clause-runs : goal.enter_on_focus-returns-then-refuses_held-clause-runs
+enter_on_focus-returns-then-refuses_held-clause-runs g t c scope held =
     let rules = under g.H.Host.name_of c.args.self.now g.T.NativeTable.natives in
-    rw (c.stop.ensures.stopped, c.stop.ensures.told, c.keep_list.ensures)
-    (focus_held rules c.args.function true c.args.args c.args.pos c.data_race.result c.args.focus.now
+    rw c.keep_list.ensures
+    (focus_held rules c.args.function true c.args.args c.args.pos (error_in c.refuses_held.new.place)
+    c.args.focus.now
     (state_of (g.T.NativeTable.state c.args.table.now) c.args.run.now.global scope (lending held c.args.focus.now)) refl
-    (sym c.is_held-is_anothers.ensures ∙ c.if-is_anothers.true) c.data_race.ensures)
+    (sym c.refuses_held.ensures.seen ∙ c.if-refuses_held.true) (c.refuses_held.ensures.told c.if-refuses_held.true))
 
 pub enter_on_focus-step_in-above-requires : goal.enter_on_focus-step_in-above-requires
 enter_on_focus-step_in-above-requires g t c =
     may_be_entered (cells_of c.args.run.now.global.cells) c.args.focus.now.value
-    (sym c.is_held-is_anothers.ensures ∙ c.if-is_anothers.false)
+    (sym c.refuses_held.ensures.seen ∙ c.if-refuses_held.false)
 
 pub enter_on_focus-returns-then-is_racing-clause-runs : goal.enter_on_focus-returns-then-is_racing-clause-runs
 enter_on_focus-returns-then-is_racing-clause-runs g t c scope held =
     let rules = under g.H.Host.name_of c.args.self.now g.T.NativeTable.natives in
     let lent = state_of (g.T.NativeTable.state c.args.table.now) (record c.args.run.now.global { cells = c.step_in-above.new.cells }) scope
     (lending held c.step_in-above.new.focus) in
-    rw (c.stop-then-is_racing.ensures.stopped, c.stop-then-is_racing.ensures.told, c.keep_list-then-is_racing.ensures)
+    rw (c.stop.ensures.stopped, c.stop.ensures.told, c.keep_list-then-is_racing.ensures)
     (enters_focus rules c.args.function true c.args.args c.args.pos
     (state_of (g.T.NativeTable.state c.args.table.now) c.args.run.now.global scope (lending held c.args.focus.now)) lent
     (Err c.data_race_by-error.result) c.step_in-above.result c.args.focus.now c.step_in-above.new.focus c.step_in-above.new.focus
@@ -290,20 +291,26 @@ enter_on_focus-returns-clause-counts g t c =
 pub run_method-returns-in-Ended-clause-runs : goal.run_method-returns-in-Ended-clause-runs
 unfolding CallsFrom RunsFrom
 run_method-returns-in-Ended-clause-runs g t c scope held k =
-    (rw c.in-Ended.is at (c.call_method.ensures.runs (offer_of c.args.self.now) scope held c.offered-offered.ensures)) k
+    rw c.settle_marked.ensures ((rw c.in-Ended.is at (c.call_method.ensures.runs (offer_of c.args.self.now) scope held c.offered-offered.ensures)) k)
 
 pub run_method-returns-in-OnTarget-clause-runs : goal.run_method-returns-in-OnTarget-clause-runs
 unfolding CallsFrom RunsFrom Steps
 run_method-returns-in-OnTarget-clause-runs g t c scope held k =
-    let result = came c.enter_on_focus-done.result c.enter_on_focus-done.new.run.value c.enter_on_focus-done.new.run.error in
-    rw (c.finish_unmarked.ensures, unmarked_ends result)
+    rw (
+      c.unchanged.ensures,
+      unmarked_ends c.enter_on_focus-done.result c.enter_on_focus-done.new.run.value
+          c.enter_on_focus-done.new.run.error,
+    )
     ((rw c.in-OnTarget.is at (c.call_method.ensures.runs (offer_of c.args.self.now) scope held c.offered-offered.ensures)) k
     ⨾ c.enter_on_focus-done.ensures.runs scope held k)
 
 pub run_method-returns-in-Alone-clause-runs : goal.run_method-returns-in-Alone-clause-runs
 unfolding CallsFrom RunsFrom Steps
 run_method-returns-in-Alone-clause-runs g t c scope held k =
-    let result = came c.enter_fresh-done.result c.enter_fresh-done.new.run.value c.enter_fresh-done.new.run.error in
-    rw (c.finish_unmarked-in-Alone.ensures, unmarked_ends result)
+    rw (
+      c.unchanged-in-Alone.ensures,
+      unmarked_ends c.enter_fresh-done.result c.enter_fresh-done.new.run.value
+          c.enter_fresh-done.new.run.error,
+    )
     ((rw c.in-Alone.is at (c.call_method.ensures.runs (offer_of c.args.self.now) scope held c.offered-offered.ensures)) k
     ⨾ c.enter_fresh-done.ensures.runs scope (lending held c.call_method.new.target) k)

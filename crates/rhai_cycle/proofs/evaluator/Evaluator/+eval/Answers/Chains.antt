@@ -267,8 +267,8 @@ run_link_args-returns-in-None-clause-asked g t c =
 
 -- the root
 
-pub run_root-walk_value-answer-requires : goal.run_root-walk_value-answer-requires
-run_root-walk_value-answer-requires g t c =
+pub run_root-walk_value-requires : goal.run_root-walk_value-requires
+run_root-walk_value-requires g t c =
     let other = no_name c.args.root.now c.in_default.not-Variable c.in_default.not-ThisPtr in
     let none = not_assigned c.args.new (out-Expr c.args.root.now) other c.requires.starts in
     λ κs lives. (omega (arith, c.if-not-run_expr.ensures.charges refl), (lives.0, (lives.1, rw none at c.requires.walks)))
@@ -290,10 +290,10 @@ run_root-returns-else-not-run_expr-clause-runs g t c in_place k =
     let other = no_name c.args.root.now c.in_default.not-Variable c.in_default.not-ThisPtr in
     let none = not_assigned c.args.new (out-Expr c.args.root.now) other c.requires.starts in
     let chain = chain_at c.args.root.now (out-Expr c.args.chain.now) c.args.args.now None in_place in
-    rw (c.settle-in_default.ensures, none, c.walk_value-answer.ensures.scope, c.walk_value-answer.ensures.this)
+    rw (none, c.walk_value.ensures.scope, c.walk_value.ensures.this)
     (evaluates_root rules c.args.root.now (names c.args.run.now) other c.requires.root chain refl refl k _
     ⨾ c.if-not-run_expr.ensures.runs (RootValue chain ∷ k)
-    ⨾ (rw c.take_value-value.ensures.taken at c.walk_value-answer.ensures.runs) c.run_expr.new.run.scope
+    ⨾ c.walk_value.ensures.runs c.run_expr.new.run.scope
     (holding c.run_expr.new.run.this) in_place k)
 
 pub run_root-returns-then-not-charge-clause-runs : goal.run_root-returns-then-not-charge-clause-runs
@@ -310,8 +310,8 @@ run_root-returns-then-not-charge-clause-runs g t c in_place k =
     (λ k. variable_root rules c.args.root.now c.in-Variable.offset c.in-Variable.name c.in-Variable.namespace c.in-Variable.pos form plain
     chain refl k _) _ (c.if-not-charge.ensures.full refl) (c.if-not-charge.ensures.refused refl) (c.if-not-charge.ensures.same refl) k
 
-pub run_root-walk_variable-answer-requires : goal.run_root-walk_variable-answer-requires
-run_root-walk_variable-answer-requires g t c =
+pub run_root-walk_variable-requires : goal.run_root-walk_variable-requires
+run_root-walk_variable-requires g t c =
     let good = good_name c.args.root.now c.in-Variable.offset c.in-Variable.name c.in-Variable.namespace c.in-Variable.pos _
     (rw (c.in-Variable.is, exprs.outs-Variable) refl) c.requires.root in
     λ κs lives. (
@@ -331,12 +331,12 @@ run_root-returns-else-not-charge-clause-runs g t c in_place k =
     c.in-Variable.pos = rw (c.in-Variable.is, exprs.outs-Variable) refl in
     let plain = plain_name c.args.root.now c.in-Variable.offset c.in-Variable.name c.in-Variable.namespace c.in-Variable.pos
     (names c.args.run.now) form c.requires.root in
-    rw (c.settle.ensures, c.walk_variable-answer.ensures.this)
+    rw c.walk_variable.ensures.this
     (charged rules _ c.args.run.now.global c.charge.new.global _ _ (ChainRoot chain)
     (ReadRoot c.in-Variable.name c.in-Variable.pos chain) c.in-Variable.pos
     (λ k. variable_root rules c.args.root.now c.in-Variable.offset c.in-Variable.name c.in-Variable.namespace c.in-Variable.pos form plain
     chain refl k _) (c.if-not-charge.ensures.room refl) (c.if-not-charge.ensures.charged refl) k
-    ⨾ c.walk_variable-answer.ensures.runs (holding c.args.run.now.this) in_place k)
+    ⨾ c.walk_variable.ensures.runs (holding c.args.run.now.this) in_place k)
 
 pub run_root-returns-then-not-charge-2-clause-runs : goal.run_root-returns-then-not-charge-2-clause-runs
 unfolding Steps
@@ -349,8 +349,8 @@ run_root-returns-then-not-charge-2-clause-runs g t c in_place k =
     (c.if-not-charge-2.ensures.full refl) (c.if-not-charge-2.ensures.refused refl)
     (c.if-not-charge-2.ensures.same refl)
 
-pub run_root-walk_this-answer-requires : goal.run_root-walk_this-answer-requires
-run_root-walk_this-answer-requires g t c =
+pub run_root-walk_this-requires : goal.run_root-walk_this-requires
+run_root-walk_this-requires g t c =
     λ κs lives. (
       omega (
         arith,
@@ -365,11 +365,11 @@ run_root-returns-else-not-charge-2-clause-runs g t c in_place k =
     let rules = under g.H.Host.name_of c.args.self.now g.T.NativeTable.natives in
     let chain = chain_at c.args.root.now (out-Expr c.args.chain.now) c.args.args.now c.args.new in_place in
     let form : out-Expr c.args.root.now ≡ layer.ThisPtr c.in-ThisPtr.pos = rw (c.in-ThisPtr.is, exprs.outs-ThisPtr) refl in
-    rw (c.settle-in-ThisPtr.ensures, c.walk_this-answer.ensures.scope)
+    rw c.walk_this.ensures.scope
     (charged_on rules _ c.args.run.now.global c.charge-in-ThisPtr.new.global _ _ (ChainRoot chain) c.in-ThisPtr.pos k
     (λ l. this_root_core c.in-ThisPtr.pos chain k l) (this_root rules c.args.root.now c.in-ThisPtr.pos form chain refl k _)
     (c.if-not-charge-2.ensures.room refl) (c.if-not-charge-2.ensures.charged refl)
-    ⨾ c.walk_this-answer.ensures.runs c.args.run.now.scope None in_place k)
+    ⨾ c.walk_this.ensures.runs c.args.run.now.scope None in_place k)
 
 -- an assignment
 
@@ -408,14 +408,14 @@ assign_chain-returns-then-not-run_expr-clause-runs g t c k =
     begins_chain rules c.args.op c.args.lhs.now c.args.rhs.now c.in-Some.root.now c.args.restoring found k _
     ⨾ c.if-not-run_expr.ensures.runs (AssignChain _ _ _ _ ∷ k) ⨾ next here
 
-pub assign_chain-returns-then-not-flatten_value-clause-runs : goal.assign_chain-returns-then-not-flatten_value-clause-runs
+pub assign_chain-returns-then-not-flatten_at-clause-runs : goal.assign_chain-returns-then-not-flatten_at-clause-runs
 unfolding Steps
-assign_chain-returns-then-not-flatten_value-clause-runs g t c k =
+assign_chain-returns-then-not-flatten_at-clause-runs g t c k =
     let rules = under g.H.Host.name_of c.args.self.now g.T.NativeTable.natives in
     let found = sym c.first_of.ensures ∙ ap option_copied c.in-Some.is in
     begins_chain rules c.args.op c.args.lhs.now c.args.rhs.now c.in-Some.root.now c.args.restoring found k _
     ⨾ c.if-not-run_expr.ensures.runs (AssignChain _ _ _ _ ∷ k)
-    ⨾ flat_fails rules _ _ k _ _ (AssignChain _ _ _ _) refl (rw c.position-at.ensures at c.if-not-flatten_value.ensures.exact)
+    ⨾ flat_fails rules _ _ k _ _ (AssignChain _ _ _ _) refl c.if-not-flatten_at.ensures.exact
 
 pub assign_chain-returns-then-not-run_chain-clause-runs : goal.assign_chain-returns-then-not-run_chain-clause-runs
 unfolding after Steps
@@ -424,7 +424,7 @@ assign_chain-returns-then-not-run_chain-clause-runs g t c k =
     let found = sym c.first_of.ensures ∙ ap option_copied c.in-Some.is in
     begins_chain rules c.args.op c.args.lhs.now c.args.rhs.now c.in-Some.root.now c.args.restoring found k _
     ⨾ c.if-not-run_expr.ensures.runs (AssignChain _ _ _ _ ∷ k)
-    ⨾ next (rw (← c.position-at.ensures, ← (c.if-not-flatten_value.ensures.exact tt))
+    ⨾ next (rw (← (c.if-not-flatten_at.ensures.exact tt))
     ((rw c.take_value-value.ensures.taken at c.if-not-run_chain.ensures.runs) (AssignedChain ∷ k) ⨾ next here))
 
 pub assign_chain-returns-clause-runs : goal.assign_chain-returns-clause-runs
@@ -434,7 +434,7 @@ assign_chain-returns-clause-runs g t c k =
     let found = sym c.first_of.ensures ∙ ap option_copied c.in-Some.is in
     begins_chain rules c.args.op c.args.lhs.now c.args.rhs.now c.in-Some.root.now c.args.restoring found k _
     ⨾ c.if-not-run_expr.ensures.runs (AssignChain _ _ _ _ ∷ k)
-    ⨾ next (rw (← c.position-at.ensures, ← (c.if-not-flatten_value.ensures.exact tt))
+    ⨾ next (rw (← (c.if-not-flatten_at.ensures.exact tt))
     ((rw c.take_value-value.ensures.taken at c.if-not-run_chain.ensures.runs) (AssignedChain ∷ k)
     ⨾ next (rw c.put_unit.ensures here)))
 

@@ -7,6 +7,7 @@ use Rattle.rhai_chains.specs.Chains.{chain_at, link_seen}
 use Rattle.rhai_tree.specs.Links.{left_by}
 use Rattle.rhai_walk.proofs.OnTemporaries.{fails_behind, goes_behind, nothing_behind}
 use Rattle.rhai_walk.proofs.OnTemporaries.{on_temporary}
+use Rattle.rhai_context.specs.Ends.{came_marked, error_in}
 use Rattle.rhai_cycle.proofs.evaluator.Evaluator.+eval.Goals as goal
 
 pub walk_behind-walk_chain-result-requires : goal.walk_behind-walk_chain-result-requires
@@ -19,23 +20,26 @@ pub walk_behind-returns-in_default-clause-runs : goal.walk_behind-returns-in_def
 walk_behind-returns-in_default-clause-runs g t c scope held rest =
     let rules = under g.H.Host.name_of c.args.self.now g.T.NativeTable.natives in
     nothing_behind rules (chain_at c.args.root.now rest c.args.args.now c.args.new false)
-    (state_of (g.T.NativeTable.state c.args.table.now) c.args.run.now.global scope held) (link_seen c.args.link).behind c.args.answer
+    (state_of (g.T.NativeTable.state c.args.table.now) c.args.run.now.global scope held) (link_seen c.args.link).behind
+    (came_marked c.args.mark c.args.run.now.value c.args.run.now.error)
     (ap (λ behind. option_map out-Expr (option_copied behind)) c.in_default.is)
 
-pub walk_behind-returns-in-Ok-clause-runs : goal.walk_behind-returns-in-Ok-clause-runs
-walk_behind-returns-in-Ok-clause-runs g t c scope held rest =
+pub walk_behind-returns-in-Some-mark-clause-runs : goal.walk_behind-returns-in-Some-mark-clause-runs
+walk_behind-returns-in-Some-mark-clause-runs g t c scope held rest =
     let rules = under g.H.Host.name_of c.args.self.now g.T.NativeTable.natives in
     let behind = out-Expr c.in-Some.rest.now in
     let old = state_of (g.T.NativeTable.state c.args.table.now) c.args.run.now.global scope held in
     let new = state_of (g.T.NativeTable.state c.walk_chain-result.new.table) c.walk_chain-result.new.run.global scope held in
-    rw c.in-Ok.is (goes_behind rules (chain_at c.args.root.now rest c.args.args.now c.args.new false) old (link_seen c.args.link).behind
-    behind c.in-Ok.value c.in-Ok.field-0-1 c.walk_chain-result.result new
+    let result = came_marked c.walk_chain-result.result c.walk_chain-result.new.run.value c.walk_chain-result.new.run.error in
+    rw c.in-Some-mark.is (goes_behind rules (chain_at c.args.root.now rest c.args.args.now c.args.new false) old
+    (link_seen c.args.link).behind behind c.args.run.now.value c.in-Some-mark.field-0 result new
     (ap (λ behind. option_map out-Expr (option_copied behind)) c.in-Some.is)
-    (on_temporary rules (chain_at c.args.root.now behind c.args.args.now c.args.new false) c.in-Ok.value c.walk_chain-result.new.focus old
-    new c.walk_chain-result.result (c.walk_chain-result.ensures.runs scope held)))
+    (on_temporary rules (chain_at c.args.root.now behind c.args.args.now c.args.new false) c.args.run.now.value
+    c.walk_chain-result.new.focus old new result (rw c.take_value-focus.ensures.taken at (c.walk_chain-result.ensures.runs scope held))))
 
-pub walk_behind-returns-in-Err-clause-runs : goal.walk_behind-returns-in-Err-clause-runs
-walk_behind-returns-in-Err-clause-runs g t c scope held rest =
+pub walk_behind-returns-in-None-clause-runs : goal.walk_behind-returns-in-None-clause-runs
+walk_behind-returns-in-None-clause-runs g t c scope held rest =
     let rules = under g.H.Host.name_of c.args.self.now g.T.NativeTable.natives in
-    rw c.in-Err.is (fails_behind rules (chain_at c.args.root.now rest c.args.args.now c.args.new false)
-    (state_of (g.T.NativeTable.state c.args.table.now) c.args.run.now.global scope held) (link_seen c.args.link).behind c.in-Err.error)
+    rw c.in-None.is (fails_behind rules (chain_at c.args.root.now rest c.args.args.now c.args.new false)
+    (state_of (g.T.NativeTable.state c.args.table.now) c.args.run.now.global scope held) (link_seen c.args.link).behind
+    (error_in c.args.run.now.error))

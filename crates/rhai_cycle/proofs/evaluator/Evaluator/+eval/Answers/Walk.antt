@@ -8,6 +8,7 @@ use Rattle.rhai_chains.specs.Chains.{chain_at, link_seen}
 use Rattle.rhai_walk.proofs.Beginning.{comes_on}
 use Rattle.rhai_chains.proofs.LinkLemmas.{fewer_behind, has_link}
 use Rattle.rhai_walk.proofs.Walked.{link_walks, may_end}
+use Rattle.rhai_context.specs.Ends.{came_marked}
 use Rattle.rhai_cycle.proofs.evaluator.Evaluator.+eval.Goals as goal
 
 pub walk_chain-unreachable-requires : goal.walk_chain-unreachable-requires
@@ -31,8 +32,8 @@ walk_chain-walk_entered-requires g t c =
 
 pub walk_chain-returns-in-Ended-clause-runs : goal.walk_chain-returns-in-Ended-clause-runs
 walk_chain-returns-in-Ended-clause-runs g t c scope held =
-    c.in-Ended.ensures.begins (offer_of c.args.self.now) scope held
-    (chain_at c.args.root.now (out-Expr c.args.rest.now) c.args.args.now c.args.new c.args.in_place) (sym c.in-Some.ensures)
+    rw c.settle_marked.ensures (c.in-Ended.ensures.begins (offer_of c.args.self.now) scope held
+    (chain_at c.args.root.now (out-Expr c.args.rest.now) c.args.args.now c.args.new c.args.in_place) (sym c.in-Some.ensures))
 
 pub walk_chain-returns-in-Enters-clause-runs : goal.walk_chain-returns-in-Enters-clause-runs
 walk_chain-returns-in-Enters-clause-runs g t c scope held =
@@ -44,6 +45,6 @@ walk_chain-returns-in-Enters-clause-runs g t c scope held =
     (state_of (g.T.NativeTable.state c.args.table.now) c.args.run.now.global scope (lending held c.args.focus.now))
     (state_of (g.T.NativeTable.state c.args.table.now) c.begin_link.new.global scope (lending held c.args.focus.now))
     (state_of (g.T.NativeTable.state c.walk_entered.new.table) c.walk_entered.new.run.global scope (lending held c.walk_entered.new.focus))
-    c.walk_entered.result (c.in-Enters.ensures.begins (offer_of c.args.self.now) scope held chain (sym c.in-Some.ensures))
+    (came_marked c.walk_entered.result c.walk_entered.new.run.value c.walk_entered.new.run.error) (c.in-Enters.ensures.begins (offer_of c.args.self.now) scope held chain (sym c.in-Some.ensures))
     (may_end (link_seen c.in-Some.link).form (link_seen c.in-Some.link).behind c.args.new walks.behind walks.walks)
     (c.walk_entered.ensures.runs scope held (out-Expr c.args.rest.now))
