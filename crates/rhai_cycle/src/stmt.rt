@@ -1,21 +1,19 @@
 //! Statements. Ports upstream's `eval/stmt.rs`; the contracts speak of the machine's runs.
 
-ghost use Rattle.std.specs.Prelude.{◌≡◌, ◌<◌, ◌≤◌, ◌++◌, ◌∷◌, [], ◌&&◌, IfErr, IfSome, IsTrue, true, false};
-ghost use Rattle.std.specs.Prelude.{None, is_some, map};
+ghost use Rattle.std.specs.Prelude.{◌≡◌, ◌<◌, ◌≤◌, ◌++◌, ◌∷◌, [], IfErr, IfSome, IsTrue, true, false};
+ghost use Rattle.std.specs.Prelude.{None, map};
 ghost use Rattle.rhai_tree.specs.Forms.{is_exported};
 ghost use Rattle.rhai_tree.specs.Frame.{tests_of, target_resolves, resolves_expr, resolves_stmt};
 ghost use Rattle.rhai_tree.specs.Frame.{all_resolve};
 ghost use Rattle.rhai_tree.specs.declared.expr.Expr.{out-Expr};
 ghost use Rattle.rhai_tree.specs.declared.expr.Expr.TheOpen as layer;
-ghost use Rattle.rhai_values.specs.Cells.{cells_of};
 ghost use Rattle.rhai_state.specs.Errors.{is_out_of_memory};
-ghost use Rattle.rhai_state.specs.Scope.{entries_of, names_in};
+ghost use Rattle.rhai_state.specs.Scope.{names_in};
 ghost use Rattle.rhai_machine.specs.language.Values.{unit_value as unit};
 ghost use Rattle.rhai_machine.specs.language.Frames.{Exec, OpenStmt, Enter, Run};
 ghost use Rattle.rhai_machine.specs.language.Runs.{Runs};
 ghost use Rattle.rhai_machine.specs.language.Setting.{rules_of};
 ghost use Rattle.rhai_steps.specs.States.{state_of};
-ghost use Rattle.rhai_assign.specs.InPlace.{assigned};
 ghost use Rattle.rhai_assign.specs.Keeps.{Keeps};
 ghost use Rattle.rhai_context.specs.Ends.{came};
 ghost use Rattle.rhai_cycle.specs.Memory.{asks_stmt, may_ask};
@@ -29,6 +27,7 @@ use rhai_choices::SwitchParts;
 use rhai_context::Context;
 use rhai_context::ends::{put_unit, settle, stop, take_value};
 use rhai_context::outcomes::{charge, charge_stmt, flatten_value};
+use rhai_items::assign_item;
 use rhai_sharing::share_variables;
 use rhai_state::error::EvalAltResult;
 use rhai_state::limits::Limits;
@@ -46,7 +45,8 @@ use rhai_walks::parts::ForParts;
 use std::alloc::Global;
 
 /// An assignment that is done in place: under fast operators, one by an operator to a variable, where its
-/// value is an operand that stands and there is a built-in for it. None for any other: then nothing is
+/// value is an operand that stands and there is a built-in for it, or to an item of an array that a variable
+/// holds, where all that it works on are integers as they stand. None for any other: then nothing is
 /// charged. The table is not called.
 ///
 /// # Errors
@@ -66,8 +66,6 @@ fn assign_at_once<H: Host, T: NativeTable<H>>(
 ) -> Option<bool>
     requires resolves_target { IsTrue (target_resolves (tests_of lhs.now) (names_in scope.old)) }
     requires resolves { IsTrue (resolves_expr rhs.now (names_in scope.old)) }
-    ensures found { is_some result ≡ (is_fast && is_some (assigned op.op (out-Expr lhs.now) (out-Expr rhs.now)
-        (entries_of scope.old) global.old.lib (cells_of global.old.cells))) }
     ensures left_global { result ≡ None → global.new ≡ global.old }
     ensures left_scope { result ≡ None → scope.new ≡ scope.old }
     ensures keeps { Keeps global.old global.new scope.old scope.new }
@@ -77,13 +75,19 @@ fn assign_at_once<H: Host, T: NativeTable<H>>(
         (state_of (T.state table.now) global.old scope.old held)
         (came done out.new place.new) (state_of (T.state table.now) global.new scope.new held)) }
 {
-    if is_fast {
-        assign_in_place(
-            limits, alloc, global, table, scope, out, place, op, lhs, rhs,
-        )
-    } else {
-        None
+    if !is_fast {
+        return None;
     }
+    if let Expr::Index(..) = lhs {
+        if !assign_item(limits, global, table, scope, op, lhs, rhs) {
+            return None;
+        }
+        put_unit(out);
+        return Some(true);
+    }
+    assign_in_place(
+        limits, alloc, global, table, scope, out, place, op, lhs, rhs,
+    )
 }
 
 impl<'e, H: Host> Evaluator<'e, H> {

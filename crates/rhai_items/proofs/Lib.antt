@@ -1,0 +1,4 @@
+pub mod Parts
+pub mod Index
+pub mod Item
+pub mod Path

@@ -1,0 +1,202 @@
+//! An assignment by an operator to an item of an array that a variable holds, where the item, the index and the
+//! value are integers as they stand: the item is changed where it stands. Ports a part of upstream's
+//! `eval_dot_index_chain_raw`. The contracts cite the machine's specs/language/Chains.antt and the crate's own
+//! specs/.
+#![tactic(auto)]
+
+ghost use Rattle.std.specs.Prelude.{◌≡◌, ◌<◌, IsTrue, IfSome, Some, Ok, length, slice_get, true, false};
+ghost use Rattle.std.specs.Prelude.{unsigned_abs};
+ghost use Rattle.std.specs.Option.{option_map};
+ghost use Rattle.rhai_tree.specs.declared.expr.Expr.{out-Expr};
+ghost use Rattle.rhai_tree.specs.declared.expr.Expr.TheOpen as layer;
+ghost use Rattle.rhai_tree.specs.Frame.{tests_of, target_resolves, resolves_expr};
+ghost use Rattle.rhai_values.specs.Layers.{layer_of};
+ghost use Rattle.rhai_state.specs.Scope.{entries_of, names_in, revalued, value_of};
+ghost use Rattle.rhai_places.specs.declared.spot.Spot.TheVariants as spot;
+ghost use Rattle.rhai_places.specs.Indexing.{index_in};
+ghost use Rattle.rhai_places.specs.Parts.{IsPlace, value_at, with_value};
+ghost use Rattle.rhai_machine.specs.language.Frames.{OpenStmt};
+ghost use Rattle.rhai_machine.specs.language.Runs.{Runs};
+ghost use Rattle.rhai_machine.specs.language.Setting.{rules_of};
+ghost use Rattle.rhai_machine.specs.language.Values.{unit_value as unit};
+ghost use Rattle.rhai_steps.specs.States.{state_of};
+ghost use Rattle.rhai_assign.specs.Keeps.{Keeps};
+ghost use Rattle.rhai_items.specs.Items.{charges_of, index_alone, parts_in, place_in_array, writable_at};
+ghost use Rattle.rhai_assign.specs.InPlace.{writable_in};
+
+use rhai_operands::operands::{integer_at, integer_in_place};
+use rhai_operands::operators::assign_known;
+use rhai_places::place::place_mut;
+use rhai_places::spot::Spot;
+use rhai_state::limits::Limits;
+use rhai_state::scope::Scope;
+use rhai_state::state::GlobalRuntimeState;
+use rhai_state::table::NativeTable;
+use rhai_steps::charges::charge_all;
+use rhai_steps::values::let_go;
+use rhai_steps::variables::place_of_variable;
+use rhai_tree::expr::{Expr, OpAssignment};
+use rhai_values::base::value::{AccessMode, Dynamic, Host, Union};
+use std::mem::replace;
+
+/// Whether an index is a literal integer or a variable.
+fn is_alone(index: &Expr) -> bool
+    ensures { result ≡ index_alone (out-Expr index.now) }
+{
+    matches!(index, Expr::IntegerConstant(..) | Expr::Variable { .. })
+}
+
+/// The root and the index of an expression that is an item, where the index is a literal integer or a variable, and
+/// nothing stands behind it.
+fn item_parts(lhs: &Expr) -> Option<(&Expr, &Expr)>
+    ensures { option_map (λ pair. (pair.0.now, pair.1.now)) result ≡ parts_in (out-Expr lhs.now) }
+{
+    let Expr::Index(root, index, ..) = lhs else {
+        return None;
+    };
+    let index = index.get();
+    if !is_alone(index) {
+        return None;
+    }
+    Some((root.get(), index))
+}
+
+/// How many operations an assignment to an item charges: the value, the root and the item, and for an index that is a
+/// variable what stands behind the bracket and the index.
+fn charges(index: &Expr) -> u64
+    ensures { result ≡ charges_of (out-Expr index.now) }
+{
+    match index {
+        Expr::IntegerConstant(..) => 3,
+        _ => 5,
+    }
+}
+
+/// How far an index stands from zero.
+fn distance(index: i64) -> usize
+    ensures { result ≡ unsigned_abs index }
+{
+    index.unsigned_abs() as usize
+}
+
+/// The place of an index in a sequence, counted from the end where it is negative.
+#[inline(always)]
+fn place_of_index(length: usize, index: i64) -> Option<usize>
+    ensures at { result ≡ index_in length index }
+    ensures within { IfSome result (λ at. at < length) }
+{
+    let distance = distance(index);
+    if index >= 0 {
+        if distance < length {
+            Some(distance)
+        } else {
+            None
+        }
+    } else if distance <= length {
+        Some(length - distance)
+    } else {
+        None
+    }
+}
+
+/// The place of an item in a value that is an array, None where it is no array or the index leads nowhere.
+#[inline(always)]
+fn place_in_value<H>(source: &Dynamic<H>, index: Option<i64>) -> Option<usize>
+    ensures at { result ≡ place_in_array (layer_of source.now) index }
+    ensures within { IfSome result (λ at. IsPlace (layer_of source.now) (spot.Item at)) }
+{
+    match &source.value {
+        Union::Array(items) => place_of_index(items.get().len(), index?),
+        _ => None,
+    }
+}
+
+/// The integer that a value is, None where it is a constant or of another type.
+#[inline(always)]
+fn writable_integer<H>(value: &Dynamic<H>) -> Option<i64>
+    ensures { result ≡ writable_in value.now }
+{
+    match value.mode {
+        AccessMode::ReadWrite => integer_at(value),
+        AccessMode::ReadOnly => None,
+    }
+}
+
+/// The integer at a place of a value that is an array, None where it is a constant or of another type.
+#[inline(always)]
+fn integer_of_item<H>(source: &Dynamic<H>, at: usize) -> Option<i64>
+    ensures { result ≡ writable_at (value_at source.now (spot.Item at)) }
+{
+    match &source.value {
+        Union::Array(items) => writable_integer(items.get().get(at)?),
+        _ => None,
+    }
+}
+
+/// Writes a value to an item of an array that a variable holds.
+#[inline(always)]
+fn write_item<H: Host>(scope: &mut Scope<H>, entry: usize, at: usize, value: Dynamic<H>)
+    requires known { entry < length (entries_of scope.old) }
+    requires place { IfSome (option_map value_of (slice_get (entries_of scope.old) entry))
+        (λ source. IsPlace (layer_of source) (spot.Item at)) }
+    ensures { (source : _) → option_map value_of (slice_get (entries_of scope.old) entry) ≡ Some source →
+        entries_of scope.new ≡ revalued (entries_of scope.old) entry (slice_get (entries_of scope.old) entry)
+        (with_value source (spot.Item at) value) }
+{
+    let source = scope.value_at_mut(entry);
+    let_go(replace(place_mut(&mut source.value, Spot::Item(at)), value));
+}
+
+/// Assigns to an item of an array that a variable holds, by an operator on two integers, and makes all its charges at
+/// once. False where that is not so, or the limit has no room for all charges: then nothing is changed. The table is
+/// not called.
+pub fn assign_item<H: Host, T: NativeTable<H>>(
+    limits: &Limits,
+    global: &mut GlobalRuntimeState<H>,
+    _table: &T,
+    scope: &mut Scope<H>,
+    op: OpAssignment,
+    lhs: &Expr,
+    rhs: &Expr,
+) -> bool
+    requires resolves_target { IsTrue (target_resolves (tests_of lhs.now) (names_in scope.old)) }
+    requires resolves { IsTrue (resolves_expr rhs.now (names_in scope.old)) }
+    ensures left_global { result ≡ false → global.new ≡ global.old }
+    ensures left_scope { result ≡ false → scope.new ≡ scope.old }
+    ensures keeps { Keeps global.old global.new scope.old scope.new }
+    ensures runs { result ≡ true → (offer : _) (held : _) (restoring : _) → offer.fast_operators ≡ true →
+        Runs (rules_of limits.now H.name_of offer T.natives)
+        (OpenStmt (layer.Assignment op lhs.now rhs.now) restoring)
+        (state_of (T.state _table.now) global.old scope.old held)
+        (Ok unit) (state_of (T.state _table.now) global.new scope.new held) }
+{
+    let Some((root, index)) = item_parts(lhs) else {
+        return false;
+    };
+    let Expr::Variable { offset, name, .. } = root else {
+        return false;
+    };
+    let Some(token) = op.op else {
+        return false;
+    };
+    let Some(entry) = place_of_variable(global, scope, *offset, name) else {
+        return false;
+    };
+    let position = integer_in_place(global, scope, index);
+    let source = scope.value_at(entry);
+    let Some(at) = place_in_value(source, position) else {
+        return false;
+    };
+    let target = integer_of_item(source, at);
+    let operand = integer_in_place(global, scope, rhs);
+    let Some(value) = assign_known(token, target, operand) else {
+        return false;
+    };
+    let count = charges(index);
+    if !charge_all(limits, global, count) {
+        drop(value);
+        return false;
+    }
+    write_item(scope, entry, at, value);
+    true
+}
