@@ -132,8 +132,12 @@ pub fn flatten_at<H: Host>(
 ) -> bool
     ensures exact { Answers (came result out.new place.new)
         (flat (cells_of cells.now) out.old (position_of expr.now)) }
+    ensures memory { result ≡ false → is_handle out.old.value ≡ true }
 {
-    flatten_value(alloc, cells, out, place, expr.position())
+    match &out.value {
+        Union::Cell(_) => flatten_handle(alloc, cells, out, place, expr.position()),
+        _ => true,
+    }
 }
 
 /// The value of a run that is a handle becomes a copy of the cell's value.
@@ -161,15 +165,15 @@ pub fn truth_left<H: Host>(
     cells: &CellStore<H>,
     out: &mut Dynamic<H>,
     place: &mut Option<EvalAltResult<H>>,
-    pos: Position,
+    test: &Expr,
 ) -> Option<bool>
     ensures exact { Answers (came_test result place.new)
-        (truth H.name_of (cells_of cells.now) out.old pos) }
+        (truth H.name_of (cells_of cells.now) out.old (position_of test.now)) }
     ensures memory { result ≡ None → is_truth out.old.value ≡ false }
 {
     match &out.value {
         Union::Bool(holds) => Some(*holds),
-        _ => other_truth(alloc, cells, out, place, pos),
+        _ => other_truth(alloc, cells, out, place, test.position()),
     }
 }
 
@@ -206,11 +210,12 @@ pub fn unit_left<H: Host>(
     cells: &CellStore<H>,
     out: &Dynamic<H>,
     place: &mut Option<EvalAltResult<H>>,
-    pos: Position,
+    part: &Expr,
 ) -> Option<bool>
-    ensures { Answers (came_test result place.new) (unit_seen (through (cells_of cells.now) out.now pos)) }
+    ensures { Answers (came_test result place.new)
+        (unit_seen (through (cells_of cells.now) out.now (position_of part.now))) }
 {
-    match is_unit(alloc, cells, out, pos) {
+    match is_unit(alloc, cells, out, part.position()) {
         Ok(is_unit) => Some(is_unit),
         Err(error) => {
             stop(place, error);

@@ -82,8 +82,7 @@ impl<'e, H: Host> Evaluator<'e, H> {
             if !self.run_expr(alloc, run, table, part) {
                 return false;
             }
-            let at = part.position();
-            match unit_left(alloc, &run.global.cells, &run.value, &mut run.error, at) {
+            match unit_left(alloc, &run.global.cells, &run.value, &mut run.error, part) {
                 Some(true) => {}
                 Some(false) => return true,
                 None => return false,

@@ -36,6 +36,7 @@ use std::alloc::Global;
 ///
 /// # Errors
 /// `ErrorTooManyOperations` at the operator or an operand where the count has reached the limit.
+#[inline(always)]
 fn holds_at_once<H: Host, T: NativeTable<H>>(
     limits: &Limits,
     alloc: Global,
@@ -152,8 +153,13 @@ impl<'e, H: Host> Evaluator<'e, H> {
                 if !self.run_expr(alloc, run, table, test) {
                     return None;
                 }
-                let at = test.position();
-                truth_left(alloc, &run.global.cells, &mut run.value, &mut run.error, at)
+                truth_left(
+                    alloc,
+                    &run.global.cells,
+                    &mut run.value,
+                    &mut run.error,
+                    test,
+                )
             }
         }
     }

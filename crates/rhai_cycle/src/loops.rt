@@ -59,6 +59,7 @@ fn left_by<H: Host>(
 
 impl<'e, H: Host> Evaluator<'e, H> {
     /// A `while`, turn by turn. How it ended stands in the run.
+    #[inline(never)]
     #[cycle(eval)]
     pub(crate) fn run_while<T: NativeTable<H>>(
         &self,

@@ -150,6 +150,7 @@ fn write_item<H: Host>(scope: &mut Scope<H>, entry: usize, at: usize, value: Dyn
 /// Assigns to an item of an array that a variable holds, by an operator on two integers, and makes all its charges at
 /// once. False where that is not so, or the limit has no room for all charges: then nothing is changed. The table is
 /// not called.
+#[inline(never)]
 pub fn assign_item<H: Host, T: NativeTable<H>>(
     limits: &Limits,
     global: &mut GlobalRuntimeState<H>,

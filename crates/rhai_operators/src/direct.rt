@@ -30,6 +30,7 @@ pub fn compare_integers<H: Host>(op: Token, x: i64, y: i64) -> Option<bool>
 
 /// The integer that an operator before an `=` gives for two integers, None where it gives none: it may
 /// not stand there, the integer does not fit, or the operands are not allowed.
+#[inline(always)]
 pub fn assign_integers<H: Host>(op: Token, x: i64, y: i64) -> Option<i64>
     ensures { result ≡ integer_given {H = H} (spec.op_assign_at op (value.Int x) (value.Int y)) }
 {

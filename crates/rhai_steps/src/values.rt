@@ -103,6 +103,7 @@ fn copy_cell<H: Host>(
 }
 
 /// A value without its handle: of a handle, a copy of the cell's value; any other stays.
+#[inline(always)]
 pub fn flatten<H: Host>(
     alloc: Global,
     cells: &CellStore<H>,

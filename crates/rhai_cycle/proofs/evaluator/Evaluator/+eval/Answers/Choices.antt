@@ -90,7 +90,7 @@ run_coalesce-each_part-preserved g t c =
       counts = omega (arith, c.if-not-run_expr.ensures.charges refl);
       names = c.if-not-run_expr.ensures.names refl ∙ c.each_part.invariant.names;
       steps = λ k. c.each_part.invariant.steps k ⨾ rw (drop_item _ _ _ c.each_part-test.true c.part-item.is)
-          (c.if-not-run_expr.ensures.runs (CoalescePart _ _ ∷ k) ⨾ rw (← c.position-at.ensures) (coalesce_on rules _ _ _ k _ (rw
+          (c.if-not-run_expr.ensures.runs (CoalescePart _ _ ∷ k) ⨾ (coalesce_on rules _ _ _ k _ (rw
           c.in-Some-true.field-0-test at c.in-Some-true.ensures tt)));
     }
 
@@ -105,14 +105,14 @@ unfolding after Steps
 run_coalesce-returns-in-None-clause-runs g t c pos k =
     let rules = under g.H.Host.name_of c.args.self.now g.T.NativeTable.natives in
     next (c.each_part.invariant.steps k ⨾ rw (drop_item _ _ _ c.each_part-test.true c.part-item.is) (c.if-not-run_expr.ensures.runs
-    (CoalescePart _ _ ∷ k) ⨾ rw (← c.position-at.ensures) (coalesce_fails rules _ _ _ k _ _ c.in-None.ensures)))
+    (CoalescePart _ _ ∷ k) ⨾ (coalesce_fails rules _ _ _ k _ _ c.in-None.ensures)))
 
 pub run_coalesce-returns-in-Some-false-clause-runs : goal.run_coalesce-returns-in-Some-false-clause-runs
 unfolding after Steps
 run_coalesce-returns-in-Some-false-clause-runs g t c pos k =
     let rules = under g.H.Host.name_of c.args.self.now g.T.NativeTable.natives in
     next (c.each_part.invariant.steps k ⨾ rw (drop_item _ _ _ c.each_part-test.true c.part-item.is)
-    (c.if-not-run_expr.ensures.runs (CoalescePart _ _ ∷ k) ⨾ rw (← c.position-at.ensures) (coalesce_ends rules _ _ _ k _ (rw
+    (c.if-not-run_expr.ensures.runs (CoalescePart _ _ ∷ k) ⨾ (coalesce_ends rules _ _ _ k _ (rw
     c.in-Some-false.field-0-test at c.in-Some-false.ensures tt))))
 
 pub run_coalesce-returns-clause-runs : goal.run_coalesce-returns-clause-runs

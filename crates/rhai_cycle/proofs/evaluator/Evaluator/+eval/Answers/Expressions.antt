@@ -128,4 +128,4 @@ run_condition-returns-else-not-run_expr-clause-runs g t c =
     let rules = under g.H.Host.name_of c.args.self.now g.T.NativeTable.natives in
     tests_by rules c.args.test.now c.run_expr.new.run.value _ _ _
     (rw (c.holds_at_once.ensures.left_alone c.in-None.is) at c.if-not-run_expr.ensures.runs)
-    (rw c.position-at.ensures at c.truth_left.ensures.exact)
+    c.truth_left.ensures.exact
