@@ -1,9 +1,9 @@
 //! Errors as a user reads them.
 
-use crate::values::shared;
 use rhai_eval::base::{Boxed, Dynamic, EvalAltResult, Position, Shared, Text, Union};
 use rhai_state::error::{Bounds, FunctionCallError, TypeMismatch};
 use rhai_tables::host::Pair;
+use rhai_vectors::text::shared;
 use std::alloc::{AllocError, Global};
 use std::io;
 use std::io::Write;

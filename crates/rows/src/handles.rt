@@ -4,7 +4,6 @@ ghost use Rattle.std.specs.Prelude.{IfOk};
 ghost use Rattle.rhai_values.specs.Cells.{IsNoHandle};
 
 use crate::errors::write_error;
-use crate::values::shared;
 use rhai_bench::print::write_value;
 use rhai_bench::script::add_library;
 use rhai_bench::settings::{Settings, Way};
@@ -21,6 +20,7 @@ use rhai_samples::parts::Part::{
 use rhai_samples::parts::{Part, tree_of};
 use rhai_tables::host::Pair;
 use rhai_tables::tables::counting::Counting;
+use rhai_vectors::text::shared;
 use std::alloc::{AllocError, Global};
 use std::io;
 use std::io::Write;

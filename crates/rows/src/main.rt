@@ -20,7 +20,6 @@ mod searches;
 mod signatures;
 mod subject;
 mod values;
-mod vectors;
 
 use crate::compare::compare_lines;
 use crate::refused::are_all_well;

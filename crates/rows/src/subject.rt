@@ -1,7 +1,7 @@
 //! What the files of lines are about.
 
 use crate::answers::answer;
-use crate::vectors::{Answer, Leaf};
+use rhai_vectors::{Answer, Leaf};
 use std::alloc::Global;
 use std::io;
 

@@ -1,10 +1,9 @@
 //! Each kind of value as it is printed, and places.
 
 use rhai_bench::print::{write_place, write_value};
-use rhai_eval::base::{
-    Boxed, CellId, Dynamic, FnPtr, FnPtrKind, Items, Position, Shared, Text, Union,
-};
+use rhai_eval::base::{Boxed, CellId, Dynamic, FnPtr, FnPtrKind, Items, Position, Union};
 use rhai_tables::host::Pair;
+use rhai_vectors::text::shared;
 use std::alloc::{AllocError, Global};
 use std::io;
 use std::io::Write;
@@ -62,11 +61,6 @@ fn with_parts(alloc: Global, name: &str) -> Result<Option<Union<Pair>>, AllocErr
         _ => return Ok(None),
     };
     value.map(Some)
-}
-
-/// A shared copy of a text.
-pub fn shared(alloc: Global, text: &str) -> Result<Shared<Text>, AllocError> {
-    Shared::new(alloc, Text::from_str(alloc, text)?)
 }
 
 fn array(alloc: Global) -> Result<Union<Pair>, AllocError> {

@@ -1,8 +1,8 @@
 //! The built-in operators.
 
-use crate::vectors::host::Stone;
-use crate::vectors::reader::Reader;
-use crate::vectors::shown::Sheet;
+use crate::host::Stone;
+use crate::reader::Reader;
+use crate::shown::Sheet;
 use rhai_operators::{builtin_binary, builtin_op_assign, builtin_unary};
 use rhai_state::error::EvalAltResult;
 use rhai_tree::token::Token;

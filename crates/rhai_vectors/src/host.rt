@@ -1,6 +1,6 @@
 //! The host's own value in the vectors, and the cells that their handles lead to.
 
-use crate::vectors::reader::Reader;
+use crate::reader::Reader;
 use rhai_values::base::value::{CellId, Dynamic, Host, Union};
 use rhai_values::cells::CellStore;
 use std::alloc::{AllocError, Global};

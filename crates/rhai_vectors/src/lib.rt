@@ -1,17 +1,19 @@
 //! The worked vectors of the leaves: what the functions of the operators, the places, the values and the tree
 //! answer.
+#![tactic(auto)]
 
 mod host;
 mod indexing;
 mod operators;
 mod reader;
 mod shown;
+pub mod text;
 mod tree;
 mod trees;
 mod values;
 
-use crate::vectors::reader::{Fault, Reader};
-use crate::vectors::shown::Sheet;
+use crate::reader::{Fault, Reader};
+use crate::shown::Sheet;
 use std::alloc::Global;
 use std::io;
 

@@ -1,8 +1,8 @@
 //! What an index leads to, and what is put back there.
 
-use crate::vectors::host::{Stone, cells};
-use crate::vectors::reader::Reader;
-use crate::vectors::shown::Sheet;
+use crate::host::{Stone, cells};
+use crate::reader::Reader;
+use crate::shown::Sheet;
 use rhai_places::indexing::get_indexed_mut;
 use rhai_places::spot::Access;
 use rhai_places::target::Target;

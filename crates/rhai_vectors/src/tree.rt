@@ -1,9 +1,9 @@
 //! The faults of the checker, operators as they are written, and trees that are refused.
 
-use crate::vectors::operators::operator;
-use crate::vectors::reader::Reader;
-use crate::vectors::shown::Sheet;
-use crate::vectors::trees;
+use crate::operators::operator;
+use crate::reader::Reader;
+use crate::shown::Sheet;
+use crate::trees;
 use rhai_check::check::CheckFault;
 use rhai_tree::position::Position;
 

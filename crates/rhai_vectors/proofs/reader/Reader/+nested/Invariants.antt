@@ -1,5 +1,5 @@
 use Rattle.std.proofs.Common.{◌+◌, ◌*◌}
-use Rattle.rows.proofs.vectors.reader.Reader.+nested.Given as goal
+use Rattle.rhai_vectors.proofs.reader.Reader.+nested.Given as goal
 
 abbrev pub decreases-array : goal.decreases-array
 decreases-array l = 3 * l.depth + 2

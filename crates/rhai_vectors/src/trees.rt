@@ -1,7 +1,7 @@
 //! Trees that the checker refuses.
 
-use crate::vectors::reader::Reader;
-use crate::vectors::shown::Sheet;
+use crate::reader::Reader;
+use crate::shown::Sheet;
 use rhai_check::check::{CheckFault, check_tree};
 use rhai_samples::built::{dot_that_ends_and_goes_on, method_of_a_module};
 use rhai_samples::parts::statements_of;

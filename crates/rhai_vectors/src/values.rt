@@ -1,9 +1,9 @@
 //! Values and errors as they are printed, and how small they are.
 
-use crate::values::shared;
-use crate::vectors::host::Stone;
-use crate::vectors::reader::Reader;
-use crate::vectors::shown::Sheet;
+use crate::host::Stone;
+use crate::reader::Reader;
+use crate::shown::Sheet;
+use crate::text::shared;
 use rhai_state::error::{EvalAltResult, FunctionCallError};
 use rhai_tree::Boxed;
 use rhai_tree::position::Position;

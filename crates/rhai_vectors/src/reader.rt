@@ -2,7 +2,7 @@
 
 mod literals;
 
-use crate::values::shared;
+use crate::text::shared;
 use rhai_tree::position::Position;
 use rhai_tree::{Boxed, Items, Shared, Text};
 use std::alloc::Global;

@@ -1,9 +1,9 @@
 //! Values as scripts write them, and beside them `blob[01 ff]`, `Fn("name")`, `cell 0` for a handle
 //! of a cell, and `stone` for the host's value.
 
-use crate::values::shared;
-use crate::vectors::host::Stone;
-use crate::vectors::reader::Reader;
+use crate::host::Stone;
+use crate::reader::Reader;
+use crate::text::shared;
 use rhai_tree::{Items, Shared, Table, Text};
 use rhai_values::base::value::{AccessMode, CellId, Dynamic, FnPtr, FnPtrKind, Union};
 use std::alloc::{AllocError, Global};

@@ -1,7 +1,7 @@
 //! Values and errors as the vectors write them.
 
-use crate::vectors::host::Stone;
-use crate::vectors::reader::Fault;
+use crate::host::Stone;
+use crate::reader::Fault;
 use rhai_check::check::CheckFault;
 use rhai_state::error::{Bounds, EvalAltResult, TypeMismatch};
 use rhai_tree::position::Position;

@@ -1,0 +1,9 @@
+//! Texts that are shared.
+
+use rhai_tree::{Shared, Text};
+use std::alloc::{AllocError, Global};
+
+/// A shared copy of a text.
+pub fn shared(alloc: Global, text: &str) -> Result<Shared<Text>, AllocError> {
+    Shared::new(alloc, Text::from_str(alloc, text)?)
+}
