@@ -7,3 +7,5 @@ pub mod Updates
 pub mod Going
 pub mod Prepared
 pub mod Integers
+pub mod Stored
+pub mod Declared

@@ -5,8 +5,10 @@
 //! Assignment, and the crate's own specs/.
 #![tactic(auto)]
 
+pub mod declaring;
 pub mod focus;
 pub mod in_place;
+pub mod left;
 mod native;
 mod place;
 pub mod this;

@@ -3,5 +3,6 @@
 //! specs/language/Bodies.antt and the crate's own specs/.
 #![tactic(auto)]
 
+pub mod callers;
 pub mod closing;
 pub mod opening;

@@ -1,29 +1,27 @@
 //! The branch of a `try`: its variable, and what comes out of it.
 
-ghost use Rattle.std.specs.Prelude.{◌≡◌, ◌++◌, ◌∷◌, IfErr, IfOk, Ok, OnErr, OnOk, [], nat_le, length};
+ghost use Rattle.std.specs.Prelude.{◌≡◌, ◌++◌, ◌∷◌, IfErr, IfOk, IsTrue, Ok, OnErr, OnOk, [], false, length, nat_le, take, true};
 ghost use Rattle.rhai_tree.specs.declared.expr.Expr.{out-Expr};
 ghost use Rattle.rhai_values.specs.Cells.{cells_of};
 ghost use Rattle.rhai_state.specs.Scope.{entries_of};
-ghost use Rattle.rhai_machine.specs.language.State.{HasMemory};
+ghost use Rattle.rhai_machine.specs.language.State.{Answers, HasMemory};
 ghost use Rattle.rhai_machine.specs.language.Tries.{catch_variable};
+ghost use Rattle.rhai_context.specs.Ends.{came};
 ghost use Rattle.rhai_catches.specs.Branches.{bound, left_by, unbound};
 
 use crate::{caught_value, raised};
+use rhai_context::ends::{put_unit, stop, stopped};
 use rhai_state::error::EvalAltResult;
 use rhai_state::limits::Limits;
 use rhai_state::scope::Scope;
 use rhai_tree::expr::Expr;
 use rhai_tree::{Shared, Text};
-use rhai_values::base::value::{AccessMode, Dynamic, Host, Union};
+use rhai_values::base::value::{AccessMode, Dynamic, Host};
 use rhai_values::cells::CellStore;
 use std::alloc::Global;
 
 /// Adds the catch variable of a branch, if it has one.
-///
-/// # Errors
-/// `ErrorTooManyVariables` at the variable where there is no room for it, and `ErrorOutOfMemory`. Then the
-/// scope stays.
-pub fn bind_caught<H: Host>(
+fn add_caught<H: Host>(
     limits: &Limits,
     alloc: Global,
     source: &Option<Shared<Text>>,
@@ -53,20 +51,52 @@ pub fn bind_caught<H: Host>(
     }
 }
 
-/// What comes out of a branch: `()`, or an error as `raised` says.
+/// Adds the catch variable of a branch, if it has one. Where that fails the run stops.
+///
+/// # Errors
+/// `ErrorTooManyVariables` at the variable where there is no room for it, and `ErrorOutOfMemory`. Then the
+/// scope stays.
+pub fn bind_caught<H: Host>(
+    limits: &Limits,
+    alloc: Global,
+    source: &Option<Shared<Text>>,
+    scope: &mut Scope<H>,
+    place: &mut Option<EvalAltResult<H>>,
+    caught: &EvalAltResult<H>,
+    variable: &Expr,
+) -> bool
+    ensures bound { IsTrue result → entries_of scope.new ≡ entries_of scope.old
+        ++ bound (catch_variable (out-Expr variable.now)) source.now caught.now }
+    ensures exact { Answers (came result tt place.new) (unbound (catch_variable (out-Expr variable.now))
+        (nat_le limits.now.max_variables (length (entries_of scope.old)))) }
+    ensures same { result ≡ false → entries_of scope.new ≡ entries_of scope.old }
+{
+    match add_caught(limits, alloc, source, scope, caught, variable) {
+        Ok(()) => true,
+        Err(error) => stop(place, error),
+    }
+}
+
+/// Leaves a branch, whose scope began with so many variables and goes back to them: what comes out of it is
+/// `()`, or an error as `raised` says.
 pub fn leave_branch<H: Host>(
     cells: &CellStore<H>,
+    scope: &mut Scope<H>,
+    base: usize,
     caught: EvalAltResult<H>,
-    outcome: Result<Dynamic<H>, EvalAltResult<H>>,
-) -> Result<Dynamic<H>, EvalAltResult<H>>
-    ensures { result ≡ left_by (cells_of cells.now) caught outcome }
+    done: bool,
+    out: &mut Dynamic<H>,
+    place: &mut Option<EvalAltResult<H>>,
+) -> bool
+    ensures left { came result out.new place.new ≡ left_by (cells_of cells.now) caught (came done out.old place.old) }
+    ensures scope { entries_of scope.new ≡ take base (entries_of scope.old) }
 {
-    match outcome {
-        Ok(value) => {
-            drop(value);
-            drop(caught);
-            Ok(Dynamic::new(Union::Unit))
-        }
-        Err(error) => Err(raised(cells, caught, error)),
+    scope.rewind(base);
+    if done {
+        drop(caught);
+        put_unit(out);
+        return true;
     }
+    let error = stopped(place);
+    stop(place, raised(cells, caught, error))
 }

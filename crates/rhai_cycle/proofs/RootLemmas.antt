@@ -1,20 +1,20 @@
 -- The root of a chain: where its walk begins, and how its end comes back.
 use Rattle.std.proofs.Common.{◌≡◌, ℕ, Bool, true, false, not, List, [], ◌∷◌, Option, Some, None, Result, Ok, Err, slice_get, is_some}
-use Rattle.std.proofs.Common.{refl, sym, ap, subst, ◌∙◌}
+use Rattle.std.proofs.Common.{refl, sym, ap, map, subst, ◌∙◌}
 use Rattle.std.specs.Option.{option_map, option_or}
 use Rattle.rhai_tree.specs.Positions.{position_of}
 use Rattle.rhai_tree.specs.declared.position.Position.{Position}
 use Rattle.rhai_values.specs.declared.base.value.Dynamic.{Dynamic}
 use Rattle.rhai_values.specs.declared.base.value.Union.{Union}
 use Rattle.rhai_values.specs.declared.base.value.Union.TheVariants as value
-use Rattle.rhai_values.specs.Cells.{value_of_cell}
+use Rattle.rhai_values.specs.Cells.{cells_of, value_of_cell}
 use Rattle.rhai_state.specs.declared.scope.Scope.{Scope}
 use Rattle.rhai_state.specs.declared.scope.ScopeEntry.{ScopeEntry}
 use Rattle.rhai_state.specs.declared.state.GlobalRuntimeState.{GlobalRuntimeState}
 use Rattle.rhai_state.specs.declared.error.EvalAltResult.{EvalAltResult}
 use Rattle.rhai_state.specs.declared.error.EvalAltResult.TheVariants as error
 use Rattle.rhai_state.specs.Errors.{is_out_of_memory}
-use Rattle.rhai_state.specs.Scope.{entries_of, index_of, revalued, value_in}
+use Rattle.rhai_state.specs.Scope.{entries_of, index_of, name_of, names_in, revalued, value_in}
 use Rattle.rhai_machine.specs.machine.Machine.{Go}
 use Rattle.rhai_machine.specs.machine.Memory.{here, wanting, ◌⨾◌}
 use Rattle.rhai_machine.specs.language.Setting.{Rules}
@@ -37,6 +37,9 @@ use Rattle.rhai_calls.specs.Marks.{without_mark}
 use Rattle.rhai_steps.specs.Marked.{lending, RunsFrom}
 use Rattle.rhai_chains.specs.Chains.{WalkRuns}
 use Rattle.rhai_cycle.specs.Calls.{RunsUnder, StartsAs}
+use Rattle.rhai_cycle.specs.Roots.{GoesBack, LendsName, RefusesName, RefusesThis}
+use Rattle.rhai_context.specs.Ends.{unit}
+use Rattle.rhai_dispatch.proofs.Lending.{lent_names}
 use Rattle.rhai_cycle.proofs.FocusSteps.{through_held}
 
 module _ {H : Type 0} (cells : Cells H) (name : List ℕ) (at : Position) where
@@ -57,6 +60,13 @@ module _ {H : Type 0} (cells : Cells H) (name : List ℕ) (at : Position) where
   looked_free : (u : Union H) (v : Dynamic H) → is_held cells u ≡ false → looked_up cells name at u v ≡ Ok v
   looked_free (value.Cell id) v is = entered_free v (value_of_cell cells id.number) is
   looked_free _ v is = refl
+
+module _ {H : Type 0} (global : GlobalRuntimeState H) (name : List ℕ) (pos : Position) (old mid new : Scope H) (v w : Dynamic H) where
+  -- the variables keep their names
+  pub lent_back : (index : Option ℕ) → LendsName global name pos (entries_of old) (Ok (index, v)) (entries_of mid) →
+      GoesBack index w (entries_of mid) (entries_of new) → names_in new ≡ names_in old
+  lent_back (Some i) lends gives = lent_names old mid new i unit w lends.1.1.1 gives
+  lent_back None lends gives = ap (λ (entries : List (ScopeEntry H)). map name_of entries) (gives ∙ lends.1.1)
 
 module _ {S H : Type 0} (rules : Rules S H) where
   -- a state where this is worked on
@@ -161,6 +171,12 @@ module _ {S H : Type 0} (rules : Rules S H) where
       subst (λ (o : Option (Dynamic H)). Goes rules (with_core (on_value (bound_this pos o)
       (λ v. this_begun (through s.local.around.cells v pos) v chain k s.local) k s.local) s) (at (Fail (error.ErrorUnboundThis pos)) k s)) (sym is) here
 
+  -- no walk begins on `this`
+  pub this_refused : (pos : Position) (chain : Chain H) (s : State S H) (o : Option (Dynamic H)) → s.local.this ≡ o → (e : EvalAltResult H) →
+      RefusesThis s.local.around.cells pos o e → StartsAs rules (this_root_core pos chain) s (Err e) s
+  this_refused pos chain s None is e told = rw told (this_missing pos chain s is)
+  this_refused pos chain s (Some v) is e seen = this_held pos chain s v is seen.0 e seen.1
+
   -- ---- a variable
 
   module _ (name : List ℕ) (pos : Position) (chain : Chain H) (s : State S H) where
@@ -241,6 +257,37 @@ module _ {S H : Type 0} (rules : Rules S H) where
       root_begins new r held says is runs = read_as (λ k. begun_core true (Some (FromEntry i)) v chain k s.local) new r
           (λ k. seen k ∙ ap (λ (x : Result (Dynamic H) (EvalAltResult H)). reads (Some i) x k)
           (looked_free s.local.around.cells name pos v.value v (sym says ∙ is))) runs
+
+  -- no walk begins on a name
+  module _ (name : List ℕ) (pos : Position) (chain : Chain H) (t : S) (global : GlobalRuntimeState H) (scope : Scope H) (held : Held H)
+      (e : EvalAltResult H) where
+    refused_at : (at : Option ℕ) → index_of name (entries_of scope) ≡ at → RefusesName global name pos (entries_of scope) at e →
+        Runs rules (ReadRoot name pos chain) (state_of t global scope held) (Err e) (state_of t global scope held)
+    refused_at None missing told = function_missing name pos chain (state_of t global scope held) missing e told
+    refused_at (Some i) there seen = root_held name pos chain (state_of t global scope held) i seen.0 there seen.1.0 e true
+        (sym seen.1.1.0) refl seen.1.1.1
+
+    pub name_refused : RefusesName global name pos (entries_of scope) (index_of name (entries_of scope)) e →
+        Runs rules (ReadRoot name pos chain) (state_of t global scope held) (Err e) (state_of t global scope held)
+    name_refused told = refused_at (index_of name (entries_of scope)) refl told
+
+  -- on what a name leads to, which goes back to where it was lent from
+  module _ (name : List ℕ) (pos : Position) (chain : Chain H) (answer : Result (Dynamic H × Bool) (EvalAltResult H))
+      (r : Result (Dynamic H) (EvalAltResult H)) (same : r ≡ without_mark answer) (old mid new : Scope H) (v w : Dynamic H)
+      (before left : S) (was is : GlobalRuntimeState H) (held : Held H) where
+    pub name_runs : (index : Option ℕ) → LendsName was name pos (entries_of old) (Ok (index, v)) (entries_of mid) →
+        GoesBack index w (entries_of mid) (entries_of new) →
+        WalkRuns rules (record chain { in_place = is_some index }) (state_of before was old (lending held v)) answer
+        (state_of left is old (lending held w)) →
+        Runs rules (ReadRoot name pos chain) (state_of before was old held) r (state_of left is new held)
+    name_runs (Some i) lends gives runs = root_begins name pos chain (state_of before was old held) i v lends.0 lends.1.0
+        (state_of left is new held) r false (sym lends.1.1.0) refl
+        (lent_begins chain answer r same old mid new i unit v w lends.1.1.1 gives before left was is held runs)
+    name_runs None lends gives runs =
+        subst (λ (entries : List (ScopeEntry H)). Runs rules (ReadRoot name pos chain) (state_of before was old held) r
+        (record (state_of left is old held) { local = record (local_of is old held) { scope = entries } })) (sym (gives ∙ lends.1.1))
+        (function_begins name pos chain (state_of before was old held) lends.0 v (state_of left is old held) r lends.1.0
+        (begins chain answer r same false None v (state_of before was old held) (state_of left is old (lending held w)) runs))
 
   -- ---- any other value
 

@@ -10,7 +10,7 @@ ghost use Rattle.rhai_machine.specs.language.Calls.{entry_of};
 ghost use Rattle.rhai_machine.specs.language.Frames.{EnterFunction, EnterOnFocus};
 ghost use Rattle.rhai_machine.specs.language.Methods.{method_core};
 ghost use Rattle.rhai_machine.specs.language.Runs.{Runs};
-ghost use Rattle.rhai_machine.specs.language.State.{HasMemory, deeper};
+ghost use Rattle.rhai_machine.specs.language.State.{HasMemory};
 ghost use Rattle.rhai_steps.specs.States.{local_of, state_of};
 ghost use Rattle.rhai_calls.specs.Called.{came_out};
 ghost use Rattle.rhai_calls.specs.Dispatch.{Offers};
@@ -22,6 +22,7 @@ ghost use Rattle.rhai_cycle.specs.States.{names, offer_of, state_in, under};
 
 use crate::evaluator::Evaluator;
 use crate::roots::refuses_held;
+use rhai_bodies::callers::{body_of, capture, end_fresh, environ_in, level_below, release};
 use rhai_bodies::closing::close_body;
 use rhai_bodies::opening::{open_function, statements_of};
 use rhai_calls::dispatch::{Called, races};
@@ -41,23 +42,6 @@ use rhai_values::base::value::{Dynamic, EncapsulatedEnviron, Host};
 use rhai_walk::ways::{step_in, step_out};
 use std::alloc::Global;
 use std::mem::replace;
-
-/// The environment that a function runs in, if it has one.
-pub fn environ_in<H: Host>(function: &Function<H>) -> Option<&EncapsulatedEnviron<H>>
-    ensures { option_copied result ≡ function.now.environ }
-{
-    match &function.environ {
-        Some(environ) => Some(environ.get()),
-        None => None,
-    }
-}
-
-/// The level of a function that a call dispatches to.
-pub fn level_below(level: usize) -> usize
-    ensures { result ≡ deeper level }
-{
-    level.saturating_add(1)
-}
 
 /// The `this` that a function leaves goes back into the place that lent it.
 pub fn put_this<H: Host>(place: &mut Dynamic<H>, left: Option<Dynamic<H>>)
@@ -156,13 +140,10 @@ impl<'e, H: Host> Evaluator<'e, H> {
     {
         let mut args = args;
         let aside = put_aside(alloc, run, None);
-        let level = level_below(run.global.level);
-        let (def, environ) = (function.def.get(), environ_in(&function));
+        let (def, environ, level) = body_of(&function, run.global.level);
         let values = args.as_mut_slice();
         let done = self.run_body(alloc, run, table, def, environ, values, true, level, pos);
-        drop(take_up(run, aside));
-        keep_list(run, args);
-        drop(function);
+        end_fresh(run, aside, args, function);
         done
     }
 
@@ -188,16 +169,11 @@ impl<'e, H: Host> Evaluator<'e, H> {
             (state_of (T.state table.new) run.new.global run.new.scope held) }
     {
         let mut args = args;
-        let length = run.scope.len();
-        let outer = replace(&mut run.this, None);
-        let level = level_below(run.global.level);
-        let (def, environ) = (function.def.get(), environ_in(&function));
+        let captured = capture(run);
+        let (def, environ, level) = body_of(&function, run.global.level);
         let values = args.as_mut_slice();
         let done = self.run_body(alloc, run, table, def, environ, values, true, level, pos);
-        run.scope.rewind(length);
-        drop(replace(&mut run.this, outer));
-        keep_list(run, args);
-        drop(function);
+        release(run, captured, args, function);
         done
     }
 

@@ -18,12 +18,11 @@ ghost use Rattle.rhai_cycle.specs.States.{names, state_in, under};
 use crate::evaluator::Evaluator;
 use rhai_context::Context;
 use rhai_context::ends::{put_unit, settle_turn, stop, take_value};
-use rhai_context::outcomes::{BodyWay, body_way, charge, flatten_value, turn_end};
+use rhai_context::outcomes::{BodyWay, body_way, charge, flatten_at, turn_end};
 use rhai_state::error::EvalAltResult;
 use rhai_state::table::NativeTable;
 use rhai_steps::errors::{loop_break, returned};
 use rhai_steps::loops::{breaks, do_next, is_endless};
-use rhai_steps::values::unit_value;
 use rhai_tree::Boxed;
 use rhai_tree::expr::{Expr, StmtBlock};
 use rhai_tree::flags::ASTFlags;
@@ -42,7 +41,7 @@ fn thrown<H: Host>(alloc: Global, value: Dynamic<H>, pos: Position) -> EvalAltRe
 }
 
 /// The error that a `return` or a `throw` ends by.
-fn left_by<H: Host>(
+fn error_left<H: Host>(
     alloc: Global,
     value: Dynamic<H>,
     options: ASTFlags,
@@ -55,6 +54,38 @@ fn left_by<H: Host>(
     } else {
         returned(alloc, value, pos)
     }
+}
+
+/// The run stops by a `return` or a `throw` of its value.
+fn leave_with<H: Host>(
+    alloc: Global,
+    out: &mut Dynamic<H>,
+    place: &mut Option<EvalAltResult<H>>,
+    options: ASTFlags,
+    pos: Position,
+) -> bool
+    ensures stopped { result ≡ false }
+    ensures told { is_out_of_memory (error_in place.new) ≡ false →
+        error_in place.new ≡ left_with (has_option 2 options) out.old pos }
+{
+    let value = take_value(out);
+    stop(place, error_left(alloc, value, options, pos))
+}
+
+/// The run stops by a `break` or a `continue` with its value.
+fn break_with<H: Host>(
+    alloc: Global,
+    out: &mut Dynamic<H>,
+    place: &mut Option<EvalAltResult<H>>,
+    options: ASTFlags,
+    pos: Position,
+) -> bool
+    ensures stopped { result ≡ false }
+    ensures told { is_out_of_memory (error_in place.new) ≡ false →
+        error_in place.new ≡ error.LoopBreak out.old (has_option 2 options) pos }
+{
+    let value = take_value(out);
+    stop(place, loop_break(alloc, value, breaks(options), pos))
 }
 
 impl<'e, H: Host> Evaluator<'e, H> {
@@ -214,18 +245,14 @@ impl<'e, H: Host> Evaluator<'e, H> {
     {
         match value {
             None => {
-                let error = loop_break(alloc, unit_value(), breaks(options), pos);
-                stop(&mut run.error, error)
+                put_unit(&mut run.value);
+                break_with(alloc, &mut run.value, &mut run.error, options, pos)
             }
             Some(value) => {
                 if !self.run_expr(alloc, run, table, value) {
                     return false;
                 }
-                let value = take_value(&mut run.value);
-                stop(
-                    &mut run.error,
-                    loop_break(alloc, value, breaks(options), pos),
-                )
+                break_with(alloc, &mut run.value, &mut run.error, options, pos)
             }
         }
     }
@@ -251,19 +278,23 @@ impl<'e, H: Host> Evaluator<'e, H> {
     {
         match value {
             None => {
-                let error = left_by(alloc, unit_value(), options, pos);
-                stop(&mut run.error, error)
+                put_unit(&mut run.value);
+                leave_with(alloc, &mut run.value, &mut run.error, options, pos)
             }
             Some(value) => {
-                let at = value.position();
                 if !self.run_expr(alloc, run, table, value) {
                     return false;
                 }
-                if !flatten_value(alloc, &run.global.cells, &mut run.value, &mut run.error, at) {
+                if !flatten_at(
+                    alloc,
+                    &run.global.cells,
+                    &mut run.value,
+                    &mut run.error,
+                    value,
+                ) {
                     return false;
                 }
-                let value = take_value(&mut run.value);
-                stop(&mut run.error, left_by(alloc, value, options, pos))
+                leave_with(alloc, &mut run.value, &mut run.error, options, pos)
             }
         }
     }

@@ -13,8 +13,8 @@ ghost use Rattle.rhai_plain.specs.Callees.{IsPlain};
 ghost use Rattle.rhai_cycle.specs.Calls.{Fills, StartsAs};
 ghost use Rattle.rhai_cycle.specs.States.{names, state_in, under};
 
-use crate::bodies::level_below;
 use crate::evaluator::Evaluator;
+use rhai_bodies::callers::level_below;
 use rhai_bodies::closing::close_body;
 use rhai_bodies::opening::{enter_level, may_run, statements_of};
 use rhai_context::ends::put_unit;
@@ -31,7 +31,8 @@ use rhai_tree::position::Position;
 use rhai_values::base::value::{EncapsulatedEnviron, Host};
 use std::alloc::Global;
 
-/// The environment of a function that has none.
+/// The environment of a function that has none. A `None` that a function of the cycle hands on itself as an
+/// `Option<&T>` has a lifetime that the borrow checker's part of the cycle's proof does not find.
 #[inline(always)]
 fn no_environ<H: Host>(_def: &ScriptFuncDef) -> Option<&EncapsulatedEnviron<H>>
     ensures { option_copied result ≡ None }

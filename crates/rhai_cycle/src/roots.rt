@@ -2,25 +2,25 @@
 //! what upstream's `eval_dot_index_chain` does with the root. The contracts speak of the machine's runs and cite
 //! specs/Calls.antt.
 
-ghost use Rattle.std.specs.Prelude.{◌≡◌, ◌≤◌, ◌<◌, IsTrue, Some, None, [], true, false, is_some, length};
+ghost use Rattle.std.specs.Prelude.{◌≡◌, ◌≤◌, ◌<◌, IsTrue, IfSome, Some, None, [], true, false, is_some, length};
 ghost use Rattle.rhai_tree.specs.declared.expr.Expr.{out-Expr};
 ghost use Rattle.rhai_tree.specs.Names.{is_good};
+ghost use Rattle.rhai_tree.specs.Positions.{position_of};
 ghost use Rattle.rhai_values.specs.Cells.{cells_of};
 ghost use Rattle.rhai_state.specs.Errors.{is_out_of_memory};
-ghost use Rattle.rhai_state.specs.Scope.{entries_of, value_in};
+ghost use Rattle.rhai_state.specs.Scope.{entries_of, names_in};
 ghost use Rattle.rhai_state.specs.declared.error.EvalAltResult.TheVariants as error;
 ghost use Rattle.rhai_machine.specs.language.Calls.{is_held as is_anothers};
 ghost use Rattle.rhai_machine.specs.language.Chains.{this_root_core};
 ghost use Rattle.rhai_machine.specs.language.Frames.{Back, ReadRoot, RootValue};
-ghost use Rattle.rhai_machine.specs.language.Functions.{meant_function};
-ghost use Rattle.rhai_machine.specs.language.Names.{variable_of};
 ghost use Rattle.rhai_machine.specs.language.Runs.{Runs};
 ghost use Rattle.rhai_machine.specs.language.State.{Answers};
-ghost use Rattle.rhai_machine.specs.language.Values.{copied};
+ghost use Rattle.rhai_machine.specs.language.Values.{flat};
 ghost use Rattle.rhai_steps.specs.States.{state_of};
 ghost use Rattle.rhai_chains.specs.Chains.{chain_at, Walks};
 ghost use Rattle.rhai_cycle.specs.Calls.{RunsUnder, StartsAs};
 ghost use Rattle.rhai_context.specs.Ends.{came, came_some, error_in};
+ghost use Rattle.rhai_cycle.specs.Roots.{GoesBack, LendsName, RefusesThis};
 ghost use Rattle.rhai_cycle.specs.States.{names, under};
 
 use crate::evaluator::Evaluator;
@@ -45,49 +45,6 @@ use std::alloc::Global;
 use std::mem::replace;
 use std::num::NonZeroUsize;
 
-/// A pointer to the function of the libraries that a name means, where it means one; and else the error goes into
-/// its place.
-fn function_meant<H: Host>(
-    alloc: Global,
-    global: &GlobalRuntimeState<H>,
-    place: &mut Option<EvalAltResult<H>>,
-    name: &Shared<Text>,
-    pos: Position,
-) -> Option<Dynamic<H>>
-    ensures { (cells : _) → Answers (came_some result place.new)
-        (copied (variable_of cells name.now pos (meant_function global.now.lib name.now))) }
-{
-    match read_function(alloc, global.lib.as_slice(), name, pos) {
-        Ok(value) => Some(value),
-        Err(error) => {
-            stop(place, error);
-            None
-        }
-    }
-}
-
-/// Whether the variable that is to be lent is the handle of a cell that is held. The error goes into its place then.
-fn lends_not<H: Host>(
-    global: &GlobalRuntimeState<H>,
-    scope: &Scope<H>,
-    index: usize,
-    place: &mut Option<EvalAltResult<H>>,
-    name: &Shared<Text>,
-    pos: Position,
-) -> bool
-    requires { index < length (entries_of scope.now) }
-    ensures seen { (v : _) × (value_in (entries_of scope.now) (Some index) ≡ Some v)
-        × (result ≡ is_anothers (cells_of global.now.cells) v.value) }
-    ensures told { result ≡ true → is_out_of_memory (error_in place.new) ≡ false →
-        error_in place.new ≡ error.ErrorDataRace name.now pos }
-{
-    let is_anothers = is_held(&global.cells, scope.value_at(index));
-    if is_anothers {
-        stop(place, data_race_of(name, pos));
-    }
-    is_anothers
-}
-
 /// Whether a value is the handle of a cell that is held. The error goes into its place then.
 pub(crate) fn refuses_held<H: Host>(
     alloc: Global,
@@ -105,6 +62,133 @@ pub(crate) fn refuses_held<H: Host>(
         stop(place, data_race(alloc, pos));
     }
     is_anothers
+}
+
+/// Takes out what the walk of a chain begins on that a name leads to: a variable's value, with the place that has
+/// `()` meanwhile, or a pointer to a function of the libraries. Asked: the offset leads to the newest variable of the
+/// name.
+///
+/// # Errors
+/// At the name `ErrorVariableNotFound`, and `ErrorDataRace` for a variable that is the handle of a cell that is held.
+/// It goes into its place, and the variables stay.
+fn lend_variable<H: Host>(
+    alloc: Global,
+    global: &GlobalRuntimeState<H>,
+    scope: &mut Scope<H>,
+    place: &mut Option<EvalAltResult<H>>,
+    offset: Option<NonZeroUsize>,
+    name: &Shared<Text>,
+    pos: Position,
+) -> Option<(Option<usize>, Dynamic<H>)>
+    requires { IsTrue (is_good offset name.now (names_in scope.old)) }
+    ensures lends { LendsName global.now name.now pos (entries_of scope.old) (came_some result place.new)
+        (entries_of scope.new) }
+    ensures within { IfSome result (λ lent. IfSome lent.0 (λ at. at < length (entries_of scope.new))) }
+    ensures kept { result ≡ None → scope.new ≡ scope.old }
+{
+    match place_of_variable(global, scope, offset, name) {
+        None => match read_function(alloc, global.lib.as_slice(), name, pos) {
+            Ok(value) => Some((None, value)),
+            Err(error) => {
+                stop(place, error);
+                None
+            }
+        },
+        Some(index) => {
+            let is_anothers = is_held(&global.cells, scope.value_at(index));
+            if is_anothers {
+                stop(place, data_race_of(name, pos));
+                return None;
+            }
+            Some((Some(index), scope.replace_value(index, unit_value())))
+        }
+    }
+}
+
+/// What a walk began on goes back to the variable that it was lent from; a temporary is let go. Whether the walk went
+/// well.
+fn give_variable<H: Host>(
+    scope: &mut Scope<H>,
+    index: Option<usize>,
+    focus: Dynamic<H>,
+    mark: Option<bool>,
+) -> bool
+    requires { IfSome index (λ at. at < length (entries_of scope.old)) }
+    ensures back { GoesBack index focus (entries_of scope.old) (entries_of scope.new) }
+    ensures well { result ≡ is_some mark }
+{
+    match index {
+        Some(at) => let_go(scope.replace_value(at, focus)),
+        None => let_go(focus),
+    }
+    mark.is_some()
+}
+
+/// A temporary that a walk began on is let go. Whether the walk went well.
+fn leave_temporary<H: Host>(focus: Dynamic<H>, mark: Option<bool>) -> bool
+    ensures { result ≡ is_some mark }
+{
+    let_go(focus);
+    mark.is_some()
+}
+
+/// Takes `this` out of its place.
+///
+/// # Errors
+/// At the position `ErrorUnboundThis`, and `ErrorDataRace` for the handle of a cell that is held. It goes into its
+/// place, and `this` stays.
+fn lend_this<H: Host>(
+    alloc: Global,
+    cells: &CellStore<H>,
+    this: &mut Option<Dynamic<H>>,
+    place: &mut Option<EvalAltResult<H>>,
+    pos: Position,
+) -> Option<Dynamic<H>>
+    ensures lent { IfSome result (λ v. (this.old ≡ Some v) × (is_anothers (cells_of cells.now) v.value ≡ false)) }
+    ensures kept { result ≡ None → this.new ≡ this.old }
+    ensures refused { result ≡ None → RefusesThis (cells_of cells.now) pos this.old (error_in place.new) }
+{
+    match replace(this, None) {
+        None => {
+            stop(place, EvalAltResult::ErrorUnboundThis(pos));
+            None
+        }
+        Some(value) => {
+            if refuses_held(alloc, cells, &value, place, pos) {
+                drop(replace(this, Some(value)));
+                return None;
+            }
+            Some(value)
+        }
+    }
+}
+
+/// What a walk began on goes back to `this`. Whether the walk went well.
+fn give_this<H: Host>(this: &mut Option<Dynamic<H>>, focus: Dynamic<H>, mark: Option<bool>) -> bool
+    ensures back { this.new ≡ Some focus }
+    ensures well { result ≡ is_some mark }
+{
+    drop(replace(this, Some(focus)));
+    mark.is_some()
+}
+
+/// Takes the run's value that an expression gave out of its place, of a handle a copy of the cell's value. An error
+/// goes into its place.
+#[inline(always)]
+pub(crate) fn take_flat<H: Host>(
+    alloc: Global,
+    cells: &CellStore<H>,
+    out: &mut Dynamic<H>,
+    place: &mut Option<EvalAltResult<H>>,
+    expr: &Expr,
+) -> Option<Dynamic<H>>
+    ensures { Answers (came_some result place.new)
+        (flat (cells_of cells.now) out.old (position_of expr.now)) }
+{
+    if !flatten_at(alloc, cells, out, place, expr) {
+        return None;
+    }
+    Some(take_value(out))
 }
 
 impl<'e, H: Host> Evaluator<'e, H> {
@@ -141,34 +225,18 @@ impl<'e, H: Host> Evaluator<'e, H> {
             (came result run.new.value run.new.error)
             (state_of (T.state table.new) run.new.global run.new.scope held) }
     {
-        match place_of_variable(&run.global, &run.scope, offset, name) {
-            None => match function_meant(alloc, &run.global, &mut run.error, name, pos) {
-                Some(value) => {
-                    let mut focus = value;
-                    let mark = self.walk_chain(
-                        alloc, run, table, root, &mut focus, rest, args, new, false,
-                    );
-                    let_go(focus);
-                    mark.is_some()
-                }
-                None => {
-                    drop(new);
-                    false
-                }
-            },
-            Some(index) => {
-                if lends_not(&run.global, &run.scope, index, &mut run.error, name, pos) {
-                    drop(new);
-                    return false;
-                }
-                let mut focus = run.scope.replace_value(index, unit_value());
-                let mark = self.walk_chain(
-                    alloc, run, table, root, &mut focus, rest, args, new, true,
-                );
-                let_go(run.scope.replace_value(index, focus));
-                mark.is_some()
-            }
-        }
+        let (global, scope, place) = (&run.global, &mut run.scope, &mut run.error);
+        let Some((index, value)) = lend_variable(alloc, global, scope, place, offset, name, pos)
+        else {
+            drop(new);
+            return false;
+        };
+        let mut focus = value;
+        let in_place = index.is_some();
+        let mark = self.walk_chain(
+            alloc, run, table, root, &mut focus, rest, args, new, in_place,
+        );
+        give_variable(&mut run.scope, index, focus, mark)
     }
 
     /// A chain from `this`, which is charged already, its arguments there. Its value is taken out of its place,
@@ -201,25 +269,14 @@ impl<'e, H: Host> Evaluator<'e, H> {
             (state_of (T.state table.new) run.new.global scope
             (record { this = run.new.this; focus = focus })) }
     {
-        match replace(&mut run.this, None) {
-            None => {
-                drop(new);
-                stop(&mut run.error, EvalAltResult::ErrorUnboundThis(pos))
-            }
-            Some(value) => {
-                let mut focus = value;
-                if refuses_held(alloc, &run.global.cells, &focus, &mut run.error, pos) {
-                    drop(replace(&mut run.this, Some(focus)));
-                    drop(new);
-                    return false;
-                }
-                let mark = self.walk_chain(
-                    alloc, run, table, root, &mut focus, rest, args, new, true,
-                );
-                drop(replace(&mut run.this, Some(focus)));
-                mark.is_some()
-            }
-        }
+        let (cells, this) = (&run.global.cells, &mut run.this);
+        let Some(value) = lend_this(alloc, cells, this, &mut run.error, pos) else {
+            drop(new);
+            return false;
+        };
+        let mut focus = value;
+        let mark = self.walk_chain(alloc, run, table, root, &mut focus, rest, args, new, true);
+        give_this(&mut run.this, focus, mark)
     }
 
     /// A chain from the run's value, which is no variable's, its arguments there. The walk begins on that as a
@@ -249,18 +306,12 @@ impl<'e, H: Host> Evaluator<'e, H> {
             (came result run.new.value run.new.error)
             (state_of (T.state table.new) run.new.global scope held) }
     {
-        if !flatten_at(
-            alloc,
-            &run.global.cells,
-            &mut run.value,
-            &mut run.error,
-            root,
-        ) {
+        let (cells, out) = (&run.global.cells, &mut run.value);
+        let Some(value) = take_flat(alloc, cells, out, &mut run.error, root) else {
             return false;
-        }
-        let mut focus = take_value(&mut run.value);
+        };
+        let mut focus = value;
         let mark = self.walk_chain(alloc, run, table, root, &mut focus, rest, args, None, false);
-        let_go(focus);
-        mark.is_some()
+        leave_temporary(focus, mark)
     }
 }

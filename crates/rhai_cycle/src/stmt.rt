@@ -20,13 +20,13 @@ ghost use Rattle.rhai_cycle.specs.Memory.{asks_stmt, may_ask};
 ghost use Rattle.rhai_cycle.specs.States.{names, state_in, under};
 
 use crate::evaluator::Evaluator;
-use rhai_assign::assign_variable;
+use rhai_assign::declaring::{declare, is_declarable};
 use rhai_assign::in_place::assign_in_place;
-use rhai_assign::this::assign_this;
+use rhai_assign::left::{assign_left, assign_left_to_this};
 use rhai_choices::SwitchParts;
 use rhai_context::Context;
-use rhai_context::ends::{put_unit, settle, stop, take_value};
-use rhai_context::outcomes::{charge, charge_stmt, flatten_value};
+use rhai_context::ends::{put_unit, stop};
+use rhai_context::outcomes::{charge_stmt, flatten_at};
 use rhai_items::assign_item;
 use rhai_sharing::share_variables;
 use rhai_state::error::EvalAltResult;
@@ -34,9 +34,8 @@ use rhai_state::limits::Limits;
 use rhai_state::scope::Scope;
 use rhai_state::state::GlobalRuntimeState;
 use rhai_state::table::NativeTable;
-use rhai_steps::constants::enter_constant;
 use rhai_steps::loops::chosen;
-use rhai_steps::variables::{define_variable, enter_list, leave_list, may_declare, mode_of};
+use rhai_steps::variables::{enter_list, leave_list};
 use rhai_tree::expr::{Expr, Ident, OpAssignment, Stmt};
 use rhai_tree::flags::ASTFlags;
 use rhai_tree::position::Position;
@@ -122,13 +121,12 @@ impl<'e, H: Host> Evaluator<'e, H> {
                 if !self.run_expr(alloc, run, table, expr) {
                     return false;
                 }
-                let pos = expr.position();
-                flatten_value(
+                flatten_at(
                     alloc,
                     &run.global.cells,
                     &mut run.value,
                     &mut run.error,
-                    pos,
+                    expr,
                 )
             }
             Stmt::FnCall(call, pos) => self.run_fn_call_expr(alloc, run, table, call, *pos),
@@ -196,10 +194,16 @@ impl<'e, H: Host> Evaluator<'e, H> {
                 self.run_try(alloc, run, table, body, variable, branch)
             }
             Stmt::Share(variables) => {
-                let (global, scope) = (&mut run.global, &mut run.scope);
                 let names = variables.as_slice();
-                let answer = share_variables(self.limits, global, &*table, scope, names);
-                settle(&mut run.error, &mut run.value, answer)
+                share_variables(
+                    self.limits,
+                    &mut run.global,
+                    &*table,
+                    &mut run.scope,
+                    &mut run.value,
+                    &mut run.error,
+                    names,
+                )
             }
             _ => unreachable!(),
         }
@@ -257,24 +261,29 @@ impl<'e, H: Host> Evaluator<'e, H> {
         if !self.run_expr(alloc, run, table, rhs) {
             return false;
         }
-        let at = rhs.position();
-        if !flatten_value(alloc, &run.global.cells, &mut run.value, &mut run.error, at) {
+        if !flatten_at(
+            alloc,
+            &run.global.cells,
+            &mut run.value,
+            &mut run.error,
+            rhs,
+        ) {
             return false;
         }
-        let answer = assign_variable(
+        assign_left(
             self.limits,
             alloc,
             &mut run.global,
             table,
             &mut run.scope,
+            &mut run.value,
+            &mut run.error,
             *offset,
             name,
             *pos,
             op,
-            take_value(&mut run.value),
             self.fast_operators,
-        );
-        settle(&mut run.error, &mut run.value, answer)
+        )
     }
 
     /// An assignment to `this`, which has to be bound before its value is evaluated. How it ended stands in the
@@ -305,30 +314,27 @@ impl<'e, H: Host> Evaluator<'e, H> {
         if !self.run_expr(alloc, run, table, rhs) {
             return false;
         }
-        let at = rhs.position();
-        if !flatten_value(alloc, &run.global.cells, &mut run.value, &mut run.error, at) {
+        if !flatten_at(
+            alloc,
+            &run.global.cells,
+            &mut run.value,
+            &mut run.error,
+            rhs,
+        ) {
             return false;
         }
-        if !charge(self.limits, &mut run.global, &mut run.error, pos) {
-            return false;
-        }
-        match &mut run.this {
-            Some(this) => {
-                let answer = assign_this(
-                    self.limits,
-                    alloc,
-                    &mut run.global,
-                    table,
-                    this,
-                    pos,
-                    op,
-                    take_value(&mut run.value),
-                    self.fast_operators,
-                );
-                settle(&mut run.error, &mut run.value, answer)
-            }
-            None => stop(&mut run.error, EvalAltResult::ErrorUnboundThis(pos)),
-        }
+        assign_left_to_this(
+            self.limits,
+            alloc,
+            &mut run.global,
+            table,
+            &mut run.this,
+            &mut run.value,
+            &mut run.error,
+            pos,
+            op,
+            self.fast_operators,
+        )
     }
 
     /// A new variable. How it ended stands in the run.
@@ -352,44 +358,39 @@ impl<'e, H: Host> Evaluator<'e, H> {
             (state_in (T.state table.old) run.old) (came result run.new.value run.new.error)
             (state_in (T.state table.new) run.new) }
     {
-        let may = may_declare(
+        if !is_declarable(
             self.limits,
             self.allow_shadowing,
             &run.scope,
+            &mut run.error,
             &ident.name,
             pos,
-        );
-        if let Err(error) = may {
-            return stop(&mut run.error, error);
+        ) {
+            return false;
         }
         if !self.run_expr(alloc, run, table, value) {
             return false;
         }
-        let at = value.position();
-        if !flatten_value(alloc, &run.global.cells, &mut run.value, &mut run.error, at) {
+        if !flatten_at(
+            alloc,
+            &run.global.cells,
+            &mut run.value,
+            &mut run.error,
+            value,
+        ) {
             return false;
         }
-        let index = run.scope.len();
-        let mode = mode_of(options);
-        let flat = take_value(&mut run.value);
-        let defined = define_variable(&mut run.scope, ident, mode, flat, pos);
-        if let Err(error) = defined {
-            return stop(&mut run.error, error);
-        }
-        let entered = enter_constant(
+        declare(
             alloc,
             &mut run.global,
-            &ident.name,
-            run.scope.value_at(index),
+            &mut run.scope,
+            &mut run.value,
+            &mut run.error,
+            ident,
             options,
             restoring,
             pos,
-        );
-        if let Err(error) = entered {
-            run.scope.rewind(index);
-            return stop(&mut run.error, error);
-        }
-        true
+        )
     }
 
     /// What a list of statements does. A restoring list takes back on every way out the variables that

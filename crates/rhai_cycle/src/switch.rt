@@ -12,7 +12,7 @@ use crate::evaluator::Evaluator;
 use rhai_choices::{SwitchParts, candidates_for, default_result, written_truth};
 use rhai_context::Context;
 use rhai_context::ends::put_unit;
-use rhai_context::outcomes::flatten_value;
+use rhai_context::outcomes::flatten_at;
 use rhai_state::table::NativeTable;
 use rhai_values::base::value::Host;
 use std::alloc::Global;
@@ -41,8 +41,13 @@ impl<'e, H: Host> Evaluator<'e, H> {
         if !self.run_expr(alloc, run, table, parts.value) {
             return false;
         }
-        let at = parts.value.position();
-        if !flatten_value(alloc, &run.global.cells, &mut run.value, &mut run.error, at) {
+        if !flatten_at(
+            alloc,
+            &run.global.cells,
+            &mut run.value,
+            &mut run.error,
+            parts.value,
+        ) {
             return false;
         }
         let mut left = candidates_for(&run.value, parts.cases, parts.ranges);

@@ -14,7 +14,7 @@ ghost use Rattle.rhai_cycle.specs.States.{names, state_in, under};
 use crate::evaluator::Evaluator;
 use rhai_catches::branches::{bind_caught, leave_branch};
 use rhai_context::Context;
-use rhai_context::ends::{finish, may_catch, settle, stop, stopped};
+use rhai_context::ends::{may_catch, stopped};
 use rhai_state::error::EvalAltResult;
 use rhai_state::table::NativeTable;
 use rhai_tree::expr::{Expr, StmtBlock};
@@ -77,23 +77,28 @@ impl<'e, H: Host> Evaluator<'e, H> {
             (at (ended (came result run.new.value run.new.error)) k (state_in (T.state table.new) run.new)) }
     {
         let base = run.scope.len();
-        let bound = bind_caught(
+        if !bind_caught(
             self.limits,
             alloc,
             &run.global.source,
             &mut run.scope,
+            &mut run.error,
             &caught,
             variable,
-        );
-        if let Err(error) = bound {
+        ) {
             drop(caught);
-            return stop(&mut run.error, error);
+            return false;
         }
         let statements = branch.statements.as_slice();
         let done = self.run_stmt_block(alloc, run, table, statements, true);
-        let outcome = finish(done, &mut run.value, &mut run.error);
-        let left = leave_branch(&run.global.cells, caught, outcome);
-        run.scope.rewind(base);
-        settle(&mut run.error, &mut run.value, left)
+        leave_branch(
+            &run.global.cells,
+            &mut run.scope,
+            base,
+            caught,
+            done,
+            &mut run.value,
+            &mut run.error,
+        )
     }
 }

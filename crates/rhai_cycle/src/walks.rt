@@ -14,14 +14,13 @@ ghost use Rattle.rhai_cycle.specs.States.{names, state_in, under};
 
 use crate::evaluator::Evaluator;
 use rhai_context::Context;
-use rhai_context::ends::{put_unit, stop, take_value};
-use rhai_context::outcomes::{charge, flatten_value, turn_end};
-use rhai_state::error::EvalAltResult;
+use rhai_context::ends::put_unit;
+use rhai_context::outcomes::{charge, flatten_at, turn_end};
 use rhai_state::table::NativeTable;
 use rhai_steps::values::let_go;
 use rhai_values::base::value::Host;
 use rhai_walks::entering::enter_turn;
-use rhai_walks::parts::{ForParts, has_no_room, start_turns};
+use rhai_walks::parts::{ForParts, has_room, start_turns};
 use rhai_walks::turns::Turns;
 use std::alloc::Global;
 
@@ -53,22 +52,25 @@ impl<'e, H: Host> Evaluator<'e, H> {
             parts.entry.body.now pos) restoring) (state_in (T.state table.old) run.old)
             (came result run.new.value run.new.error) (state_in (T.state table.new) run.new) }
     {
-        if has_no_room(self.limits, &run.scope, parts.counter) {
-            let error = EvalAltResult::ErrorTooManyVariables(parts.variable.pos);
-            return stop(&mut run.error, error);
+        if !has_room(self.limits, &run.scope, &mut run.error, parts) {
+            return false;
         }
         if !self.run_expr(alloc, run, table, parts.items) {
             return false;
         }
-        let at = parts.items.position();
-        if !flatten_value(alloc, &run.global.cells, &mut run.value, &mut run.error, at) {
+        if !flatten_at(
+            alloc,
+            &run.global.cells,
+            &mut run.value,
+            &mut run.error,
+            parts.items,
+        ) {
             return false;
         }
         let base = run.scope.len();
-        let value = take_value(&mut run.value);
-        let mut turns = match start_turns(&mut run.scope, parts, value) {
-            Ok(turns) => turns,
-            Err(error) => return stop(&mut run.error, error),
+        let Some(mut turns) = start_turns(&mut run.scope, parts, &mut run.value, &mut run.error)
+        else {
+            return false;
         };
         let mut turn = 0;
         'turns: loop {
@@ -125,19 +127,19 @@ impl<'e, H: Host> Evaluator<'e, H> {
             }
             return Some(false);
         }
-        let entered = enter_turn(
+        if !enter_turn(
             self.limits,
             alloc,
             &mut run.global,
             &*table,
             &mut run.scope,
+            &mut run.error,
             parts,
             item,
             turn,
             base,
-        );
-        if let Err(error) = entered {
-            return Some(stop(&mut run.error, error));
+        ) {
+            return Some(false);
         }
         let statements = parts.body.statements.as_slice();
         let done = self.run_stmt_block(alloc, run, table, statements, true);

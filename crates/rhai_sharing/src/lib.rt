@@ -13,7 +13,9 @@ ghost use Rattle.rhai_machine.specs.language.Setting.{rules_of};
 ghost use Rattle.rhai_machine.specs.language.Sharing.{handle_of as handle_to, shared};
 ghost use Rattle.rhai_machine.specs.language.Values.{is_handle as leads_to_cell};
 ghost use Rattle.rhai_steps.specs.States.{local_of, state_of};
+ghost use Rattle.rhai_context.specs.Ends.{came};
 
+use rhai_context::ends::settle;
 use rhai_state::error::EvalAltResult;
 use rhai_state::limits::Limits;
 use rhai_state::scope::Scope;
@@ -78,11 +80,7 @@ fn share_value<H: Host>(
 }
 
 /// Shares variables, one after the other, each the newest of its name. The table is not called.
-///
-/// # Errors
-/// `ErrorVariableNotFound` at a variable that is not there, and `ErrorOutOfMemory`. Those before it stay
-/// shared.
-pub fn share_variables<H: Host, T: NativeTable<H>>(
+fn share_each<H: Host, T: NativeTable<H>>(
     limits: &Limits,
     global: &mut GlobalRuntimeState<H>,
     table: &T,
@@ -104,4 +102,30 @@ pub fn share_variables<H: Host, T: NativeTable<H>>(
         share_value(global, scope, index, ident.pos)?;
     }
     Ok(unit_value())
+}
+
+/// Shares variables, one after the other, each the newest of its name. How that ended stands in the run, whose
+/// value is `()` then. The table is not called.
+///
+/// # Errors
+/// `ErrorVariableNotFound` at a variable that is not there, and `ErrorOutOfMemory`. Those before it stay
+/// shared.
+pub fn share_variables<H: Host, T: NativeTable<H>>(
+    limits: &Limits,
+    global: &mut GlobalRuntimeState<H>,
+    table: &T,
+    scope: &mut Scope<H>,
+    out: &mut Dynamic<H>,
+    place: &mut Option<EvalAltResult<H>>,
+    variables: &[SharedVariable],
+) -> bool
+    requires { IsTrue (shared_resolve variables.now (names_in scope.old)) }
+    ensures rest { global.new ≡ record global.old { cells = global.new.cells } }
+    ensures names { names_in scope.new ≡ names_in scope.old }
+    ensures runs { (offer : _) (held : _) → Runs (rules_of limits.now H.name_of offer T.natives)
+        (Share variables.now) (state_of (T.state table.now) global.old scope.old held)
+        (came result out.new place.new) (state_of (T.state table.now) global.new scope.new held) }
+{
+    let answer = share_each(limits, global, table, scope, variables);
+    settle(place, out, answer)
 }

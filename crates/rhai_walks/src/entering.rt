@@ -13,11 +13,13 @@ ghost use Rattle.rhai_machine.specs.language.Turns.{next_turn};
 ghost use Rattle.rhai_machine.specs.language.Walks.{counter_overflow as text_of_overflow, counters, item_core};
 ghost use Rattle.rhai_machine.specs.language.Walks.{turn_core};
 ghost use Rattle.rhai_steps.specs.States.{state_of};
+ghost use Rattle.rhai_context.specs.Ends.{came};
 ghost use Rattle.rhai_walks.specs.Loops.{entered_at, loop_in};
 ghost use Rattle.rhai_walks.specs.Variables.{seen_as};
 
 use crate::parts::ForParts;
 use crate::variables::write_variable;
+use rhai_context::ends::stop;
 use rhai_state::error::EvalAltResult;
 use rhai_state::limits::Limits;
 use rhai_state::scope::Scope;
@@ -176,8 +178,22 @@ fn enter_item<H: Host>(
     )
 }
 
-/// Enters a turn whose body is not empty: its counter and then its variable are written. The table is not
-/// called.
+/// Whether the variables are written. Where they are not, the run stops.
+#[inline(always)]
+fn settled<H: Host>(
+    place: &mut Option<EvalAltResult<H>>,
+    entered: Result<(), EvalAltResult<H>>,
+) -> bool
+    ensures { came result tt place.new ≡ entered }
+{
+    match entered {
+        Ok(()) => true,
+        Err(error) => stop(place, error),
+    }
+}
+
+/// Enters a turn whose body is not empty: its counter and then its variable are written. Where that fails the
+/// run stops. The table is not called.
 ///
 /// # Errors
 /// Those of `count_turn`, and then those of `enter_item`.
@@ -187,11 +203,12 @@ pub fn enter_turn<H: Host, T: NativeTable<H>>(
     global: &mut GlobalRuntimeState<H>,
     table: &T,
     scope: &mut Scope<H>,
+    place: &mut Option<EvalAltResult<H>>,
     parts: ForParts<'_>,
     item: Dynamic<H>,
     turn: u64,
     base: usize,
-) -> Result<(), EvalAltResult<H>>
+) -> bool
     requires { base + counters parts.counter.now + 1 ≡ length (entries_of scope.old) }
     ensures rest { global.new ≡ record global.old { cells = global.new.cells } }
     ensures names { names_in scope.new ≡ names_in scope.old }
@@ -199,12 +216,13 @@ pub fn enter_turn<H: Host, T: NativeTable<H>>(
         next_turn left ≡ Some (item, rest) → parts.entry.body.now.statements ≢ [] →
         Goes (rules_of limits.now H.name_of offer T.natives)
         (at (ForTurn (loop_in parts.entry) left turn base) k (state_of (T.state table.now) global.old scope.old held))
-        (entered_at result (loop_in parts.entry) rest turn base k
+        (entered_at (came result tt place.new) (loop_in parts.entry) rest turn base k
         (state_of (T.state table.now) global.new scope.new held)) }
 {
     if let Err(error) = count_turn(alloc, global, scope, parts, turn, base) {
         let_go(item);
-        return Err(error);
+        return stop(place, error);
     }
-    enter_item(alloc, global, scope, parts, item, base)
+    let entered = enter_item(alloc, global, scope, parts, item, base);
+    settled(place, entered)
 }

@@ -1,6 +1,7 @@
 //! What a `for` is made of, and how it starts.
 
-ghost use Rattle.std.specs.Prelude.{◌≡◌, ◌+◌, ◌++◌, IfErr, IfOk, None, OnErr, OnOk, Some, false, length, nat_le, true};
+ghost use Rattle.std.specs.Prelude.{◌≡◌, ◌+◌, ◌++◌, IfErr, IfSome, None, OnErr, OnOk, Some, false, length};
+ghost use Rattle.std.specs.Prelude.{nat_le, true};
 ghost use Rattle.rhai_tree.specs.Positions.{start_of};
 ghost use Rattle.rhai_values.specs.Layers.{layer_of};
 ghost use Rattle.rhai_state.specs.declared.error.EvalAltResult.TheVariants as error;
@@ -8,10 +9,12 @@ ghost use Rattle.rhai_state.specs.Errors.{is_out_of_memory};
 ghost use Rattle.rhai_state.specs.Scope.{entries_of};
 ghost use Rattle.rhai_machine.specs.language.Turns.{turns_of as turns_in_value};
 ghost use Rattle.rhai_machine.specs.language.Walks.{counter_entry, counters, loop_entries};
+ghost use Rattle.rhai_context.specs.Ends.{error_in};
 ghost use Rattle.rhai_walks.specs.Left.{turns_in};
 ghost use Rattle.rhai_walks.specs.Loops.{loop_in};
 
 use crate::turns::{Turns, turns_of};
+use rhai_context::ends::{stop, take_value};
 use rhai_state::error::EvalAltResult;
 use rhai_state::limits::Limits;
 use rhai_state::scope::Scope;
@@ -40,10 +43,35 @@ fn counters_of(counter: &Option<Ident>) -> usize
 }
 
 /// Whether the scope has no room for the variables of a `for`.
-pub fn has_no_room<H: Host>(limits: &Limits, scope: &Scope<H>, counter: &Option<Ident>) -> bool
+fn has_no_room<H: Host>(limits: &Limits, scope: &Scope<H>, counter: &Option<Ident>) -> bool
     ensures { result ≡ nat_le limits.now.max_variables (length (entries_of scope.now) + counters counter.now) }
 {
     scope.len() >= limits.max_variables.saturating_sub(counters_of(counter))
+}
+
+/// Whether the scope has room for the variables of a `for`. Where it has none, the run stops.
+///
+/// # Errors
+/// `ErrorTooManyVariables` at the variable.
+pub fn has_room<H: Host>(
+    limits: &Limits,
+    scope: &Scope<H>,
+    place: &mut Option<EvalAltResult<H>>,
+    parts: ForParts<'_>,
+) -> bool
+    ensures room { result ≡ true → nat_le limits.now.max_variables
+        (length (entries_of scope.now) + counters parts.entry.counter.now) ≡ false }
+    ensures full { result ≡ false → nat_le limits.now.max_variables
+        (length (entries_of scope.now) + counters parts.entry.counter.now) ≡ true }
+    ensures told { result ≡ false → error_in place.new ≡ error.ErrorTooManyVariables parts.entry.variable.now.pos }
+{
+    if has_no_room(limits, scope, parts.counter) {
+        return stop(
+            place,
+            EvalAltResult::ErrorTooManyVariables(parts.variable.pos),
+        );
+    }
+    true
 }
 
 /// Adds the counter, at 0, if there is one.
@@ -99,7 +127,8 @@ fn push_variables<H: Host>(
     }
 }
 
-/// Starts a `for` over a value: its variables are added, and it has these turns.
+/// Starts a `for` over the value of a run: its variables are added, and it has these turns. None where the run
+/// stops.
 ///
 /// # Errors
 /// `ErrorFor` at the start of the expression where the value cannot be walked. Then, and where there is no
@@ -107,17 +136,28 @@ fn push_variables<H: Host>(
 pub fn start_turns<H: Host>(
     scope: &mut Scope<H>,
     parts: ForParts<'_>,
-    value: Dynamic<H>,
-) -> Result<Turns<H>, EvalAltResult<H>>
-    ensures turns { IfOk result (λ turns. turns_in_value (layer_of value) ≡ Some (turns_in turns)) }
-    ensures variables { OnOk result (entries_of scope.new ≡ entries_of scope.old ++ loop_entries (loop_in parts.entry)) }
-    ensures none { IfErr result (λ e. is_out_of_memory e ≡ false → turns_in_value (layer_of value) ≡ None) }
-    ensures told { IfErr result (λ e. is_out_of_memory e ≡ false → e ≡ error.ErrorFor (start_of parts.entry.items.now)) }
-    ensures same { OnErr result (entries_of scope.new ≡ entries_of scope.old) }
+    out: &mut Dynamic<H>,
+    place: &mut Option<EvalAltResult<H>>,
+) -> Option<Turns<H>>
+    ensures turns { IfSome result (λ turns. turns_in_value (layer_of out.old) ≡ Some (turns_in turns)) }
+    ensures variables { IfSome result (λ _. entries_of scope.new ≡ entries_of scope.old
+        ++ loop_entries (loop_in parts.entry)) }
+    ensures none { result ≡ None → is_out_of_memory (error_in place.new) ≡ false →
+        turns_in_value (layer_of out.old) ≡ None }
+    ensures told { result ≡ None → is_out_of_memory (error_in place.new) ≡ false →
+        error_in place.new ≡ error.ErrorFor (start_of parts.entry.items.now) }
+    ensures same { result ≡ None → entries_of scope.new ≡ entries_of scope.old }
 {
-    let Some(turns) = turns_of(value) else {
-        return Err(EvalAltResult::ErrorFor(parts.items.start_position()));
+    let Some(turns) = turns_of(take_value(out)) else {
+        stop(place, EvalAltResult::ErrorFor(parts.items.start_position()));
+        return None;
     };
-    push_variables(scope, parts)?;
-    Ok(turns)
+    match push_variables(scope, parts) {
+        Ok(()) => Some(turns),
+        Err(error) => {
+            drop(turns);
+            stop(place, error);
+            None
+        }
+    }
 }

@@ -8,10 +8,11 @@ ghost use Rattle.rhai_steps.specs.Marked.{lending};
 ghost use Rattle.rhai_steps.specs.States.{state_of};
 ghost use Rattle.rhai_cycle.specs.States.{under as under_what_is_read};
 
+use rhai_bodies::callers::{environ_in, level_below};
 use rhai_calls::dispatch::{is_held, races};
 use rhai_context::Context;
 use rhai_context::ends::finish;
-use rhai_cycle::bodies::{environ_in, level_below, put_this};
+use rhai_cycle::bodies::put_this;
 use rhai_cycle::evaluator::Evaluator;
 use rhai_functions::function::Function;
 use rhai_state::error::EvalAltResult;

@@ -625,11 +625,11 @@ run_return-returns-in-None-clause-runs = leaving.run_return-returns-in-None-clau
 pub run_return-returns-then-not-run_expr-clause-runs : goal.run_return-returns-then-not-run_expr-clause-runs
 run_return-returns-then-not-run_expr-clause-runs = leaving.run_return-returns-then-not-run_expr-clause-runs
 
-pub run_return-returns-then-not-flatten_value-clause-runs : goal.run_return-returns-then-not-flatten_value-clause-runs
-run_return-returns-then-not-flatten_value-clause-runs = leaving.run_return-returns-then-not-flatten_value-clause-runs
+pub run_return-returns-then-not-flatten_at-clause-runs : goal.run_return-returns-then-not-flatten_at-clause-runs
+run_return-returns-then-not-flatten_at-clause-runs = leaving.run_return-returns-then-not-flatten_at-clause-runs
 
-pub run_return-returns-else-not-flatten_value-clause-runs : goal.run_return-returns-else-not-flatten_value-clause-runs
-run_return-returns-else-not-flatten_value-clause-runs = leaving.run_return-returns-else-not-flatten_value-clause-runs
+pub run_return-returns-else-not-flatten_at-clause-runs : goal.run_return-returns-else-not-flatten_at-clause-runs
+run_return-returns-else-not-flatten_at-clause-runs = leaving.run_return-returns-else-not-flatten_at-clause-runs
 
 pub walk_entered-unreachable-requires : goal.walk_entered-unreachable-requires
 walk_entered-unreachable-requires = located.walk_entered-unreachable-requires
@@ -847,32 +847,29 @@ run_parameters-returns-then-not-push_parameter-clause-fills = plain.run_paramete
 pub run_parameters-returns-clause-fills : goal.run_parameters-returns-clause-fills
 run_parameters-returns-clause-fills = plain.run_parameters-returns-clause-fills
 
-pub walk_variable-returns-in-Some-function_meant-clause-runs : goal.walk_variable-returns-in-Some-function_meant-clause-runs
-walk_variable-returns-in-Some-function_meant-clause-runs = roots.walk_variable-returns-in-Some-function_meant-clause-runs
+pub walk_variable-returns-in_default-clause-names : goal.walk_variable-returns-in_default-clause-names
+walk_variable-returns-in_default-clause-names = roots.walk_variable-returns-in_default-clause-names
 
-pub walk_variable-returns-in-None-function_meant-clause-runs : goal.walk_variable-returns-in-None-function_meant-clause-runs
-walk_variable-returns-in-None-function_meant-clause-runs = roots.walk_variable-returns-in-None-function_meant-clause-runs
+pub walk_variable-returns-in_default-clause-runs : goal.walk_variable-returns-in_default-clause-runs
+walk_variable-returns-in_default-clause-runs = roots.walk_variable-returns-in_default-clause-runs
 
-pub walk_variable-returns-then-lends_not-clause-runs : goal.walk_variable-returns-then-lends_not-clause-runs
-walk_variable-returns-then-lends_not-clause-runs = roots.walk_variable-returns-then-lends_not-clause-runs
+pub walk_variable-give_variable-requires : goal.walk_variable-give_variable-requires
+walk_variable-give_variable-requires = roots.walk_variable-give_variable-requires
 
-pub walk_variable-returns-else-lends_not-clause-names : goal.walk_variable-returns-else-lends_not-clause-names
-walk_variable-returns-else-lends_not-clause-names = roots.walk_variable-returns-else-lends_not-clause-names
+pub walk_variable-returns-clause-names : goal.walk_variable-returns-clause-names
+walk_variable-returns-clause-names = roots.walk_variable-returns-clause-names
 
-pub walk_variable-returns-else-lends_not-clause-runs : goal.walk_variable-returns-else-lends_not-clause-runs
-walk_variable-returns-else-lends_not-clause-runs = roots.walk_variable-returns-else-lends_not-clause-runs
+pub walk_variable-returns-clause-runs : goal.walk_variable-returns-clause-runs
+walk_variable-returns-clause-runs = roots.walk_variable-returns-clause-runs
 
-pub walk_this-returns-in-None-clause-runs : goal.walk_this-returns-in-None-clause-runs
-walk_this-returns-in-None-clause-runs = roots.walk_this-returns-in-None-clause-runs
+pub walk_this-returns-in_default-clause-runs : goal.walk_this-returns-in_default-clause-runs
+walk_this-returns-in_default-clause-runs = roots.walk_this-returns-in_default-clause-runs
 
-pub walk_this-returns-then-refuses_held-clause-runs : goal.walk_this-returns-then-refuses_held-clause-runs
-walk_this-returns-then-refuses_held-clause-runs = roots.walk_this-returns-then-refuses_held-clause-runs
+pub walk_this-returns-clause-runs : goal.walk_this-returns-clause-runs
+walk_this-returns-clause-runs = roots.walk_this-returns-clause-runs
 
-pub walk_this-returns-else-refuses_held-clause-runs : goal.walk_this-returns-else-refuses_held-clause-runs
-walk_this-returns-else-refuses_held-clause-runs = roots.walk_this-returns-else-refuses_held-clause-runs
-
-pub walk_value-returns-then-not-flatten_at-clause-runs : goal.walk_value-returns-then-not-flatten_at-clause-runs
-walk_value-returns-then-not-flatten_at-clause-runs = roots.walk_value-returns-then-not-flatten_at-clause-runs
+pub walk_value-returns-in_default-clause-runs : goal.walk_value-returns-in_default-clause-runs
+walk_value-returns-in_default-clause-runs = roots.walk_value-returns-in_default-clause-runs
 
 pub walk_value-returns-clause-runs : goal.walk_value-returns-clause-runs
 walk_value-returns-clause-runs = roots.walk_value-returns-clause-runs
@@ -985,8 +982,8 @@ run_stmt-run_try-requires = statements.run_stmt-run_try-requires
 pub run_stmt-returns-in-TryCatch-clause-runs : goal.run_stmt-returns-in-TryCatch-clause-runs
 run_stmt-returns-in-TryCatch-clause-runs = statements.run_stmt-returns-in-TryCatch-clause-runs
 
-pub run_stmt-share_variables-answer-requires : goal.run_stmt-share_variables-answer-requires
-run_stmt-share_variables-answer-requires = statements.run_stmt-share_variables-answer-requires
+pub run_stmt-share_variables-requires : goal.run_stmt-share_variables-requires
+run_stmt-share_variables-requires = statements.run_stmt-share_variables-requires
 
 pub run_stmt-returns-in-Share-clause-runs : goal.run_stmt-returns-in-Share-clause-runs
 run_stmt-returns-in-Share-clause-runs = statements.run_stmt-returns-in-Share-clause-runs
@@ -1000,11 +997,11 @@ run_assignment-returns-in-Some-clause-runs = statements.run_assignment-returns-i
 pub run_assignment-returns-then-not-run_expr-clause-runs : goal.run_assignment-returns-then-not-run_expr-clause-runs
 run_assignment-returns-then-not-run_expr-clause-runs = statements.run_assignment-returns-then-not-run_expr-clause-runs
 
-pub run_assignment-returns-then-not-flatten_value-clause-runs : goal.run_assignment-returns-then-not-flatten_value-clause-runs
-run_assignment-returns-then-not-flatten_value-clause-runs = statements.run_assignment-returns-then-not-flatten_value-clause-runs
+pub run_assignment-returns-then-not-flatten_at-clause-runs : goal.run_assignment-returns-then-not-flatten_at-clause-runs
+run_assignment-returns-then-not-flatten_at-clause-runs = statements.run_assignment-returns-then-not-flatten_at-clause-runs
 
-pub run_assignment-assign_variable-answer-requires : goal.run_assignment-assign_variable-answer-requires
-run_assignment-assign_variable-answer-requires = statements.run_assignment-assign_variable-answer-requires
+pub run_assignment-assign_left-requires : goal.run_assignment-assign_left-requires
+run_assignment-assign_left-requires = statements.run_assignment-assign_left-requires
 
 pub run_assignment-returns-clause-runs : goal.run_assignment-returns-clause-runs
 run_assignment-returns-clause-runs = statements.run_assignment-returns-clause-runs
@@ -1018,35 +1015,20 @@ assign_to_this-returns-then-is_none-clause-runs = statements.assign_to_this-retu
 pub assign_to_this-returns-then-not-run_expr-clause-runs : goal.assign_to_this-returns-then-not-run_expr-clause-runs
 assign_to_this-returns-then-not-run_expr-clause-runs = statements.assign_to_this-returns-then-not-run_expr-clause-runs
 
-pub assign_to_this-returns-then-not-flatten_value-clause-runs : goal.assign_to_this-returns-then-not-flatten_value-clause-runs
-assign_to_this-returns-then-not-flatten_value-clause-runs = statements.assign_to_this-returns-then-not-flatten_value-clause-runs
+pub assign_to_this-returns-then-not-flatten_at-clause-runs : goal.assign_to_this-returns-then-not-flatten_at-clause-runs
+assign_to_this-returns-then-not-flatten_at-clause-runs = statements.assign_to_this-returns-then-not-flatten_at-clause-runs
 
-pub assign_to_this-returns-then-not-charge-clause-runs : goal.assign_to_this-returns-then-not-charge-clause-runs
-assign_to_this-returns-then-not-charge-clause-runs = statements.assign_to_this-returns-then-not-charge-clause-runs
+pub assign_to_this-returns-clause-runs : goal.assign_to_this-returns-clause-runs
+assign_to_this-returns-clause-runs = statements.assign_to_this-returns-clause-runs
 
-pub assign_to_this-returns-in-Some-clause-runs : goal.assign_to_this-returns-in-Some-clause-runs
-assign_to_this-returns-in-Some-clause-runs = statements.assign_to_this-returns-in-Some-clause-runs
-
-pub assign_to_this-returns-in-None-clause-runs : goal.assign_to_this-returns-in-None-clause-runs
-assign_to_this-returns-in-None-clause-runs = statements.assign_to_this-returns-in-None-clause-runs
-
-pub run_var-returns-in-Err-clause-runs : goal.run_var-returns-in-Err-clause-runs
-run_var-returns-in-Err-clause-runs = statements.run_var-returns-in-Err-clause-runs
+pub run_var-returns-then-not-is_declarable-clause-runs : goal.run_var-returns-then-not-is_declarable-clause-runs
+run_var-returns-then-not-is_declarable-clause-runs = statements.run_var-returns-then-not-is_declarable-clause-runs
 
 pub run_var-returns-then-not-run_expr-clause-runs : goal.run_var-returns-then-not-run_expr-clause-runs
 run_var-returns-then-not-run_expr-clause-runs = statements.run_var-returns-then-not-run_expr-clause-runs
 
-pub run_var-returns-then-not-flatten_value-clause-runs : goal.run_var-returns-then-not-flatten_value-clause-runs
-run_var-returns-then-not-flatten_value-clause-runs = statements.run_var-returns-then-not-flatten_value-clause-runs
-
-pub run_var-value_at-requires : goal.run_var-value_at-requires
-run_var-value_at-requires = statements.run_var-value_at-requires
-
-pub run_var-returns-in-Err-defined-clause-runs : goal.run_var-returns-in-Err-defined-clause-runs
-run_var-returns-in-Err-defined-clause-runs = statements.run_var-returns-in-Err-defined-clause-runs
-
-pub run_var-returns-in-Err-entered-clause-runs : goal.run_var-returns-in-Err-entered-clause-runs
-run_var-returns-in-Err-entered-clause-runs = statements.run_var-returns-in-Err-entered-clause-runs
+pub run_var-returns-then-not-flatten_at-clause-runs : goal.run_var-returns-then-not-flatten_at-clause-runs
+run_var-returns-then-not-flatten_at-clause-runs = statements.run_var-returns-then-not-flatten_at-clause-runs
 
 pub run_var-returns-clause-runs : goal.run_var-returns-clause-runs
 run_var-returns-clause-runs = statements.run_var-returns-clause-runs
@@ -1081,8 +1063,8 @@ run_statements-returns-then-not-run_stmt-clause-memory = statements.run_statemen
 pub run_switch-returns-then-not-run_expr-clause-runs : goal.run_switch-returns-then-not-run_expr-clause-runs
 run_switch-returns-then-not-run_expr-clause-runs = switches.run_switch-returns-then-not-run_expr-clause-runs
 
-pub run_switch-returns-then-not-flatten_value-clause-runs : goal.run_switch-returns-then-not-flatten_value-clause-runs
-run_switch-returns-then-not-flatten_value-clause-runs = switches.run_switch-returns-then-not-flatten_value-clause-runs
+pub run_switch-returns-then-not-flatten_at-clause-runs : goal.run_switch-returns-then-not-flatten_at-clause-runs
+run_switch-returns-then-not-flatten_at-clause-runs = switches.run_switch-returns-then-not-flatten_at-clause-runs
 
 pub run_switch-run_condition-requires : goal.run_switch-run_condition-requires
 run_switch-run_condition-requires = switches.run_switch-run_condition-requires
@@ -1129,8 +1111,8 @@ run_try-returns-clause-names = tries.run_try-returns-clause-names
 pub run_try-returns-clause-runs : goal.run_try-returns-clause-runs
 run_try-returns-clause-runs = tries.run_try-returns-clause-runs
 
-pub run_branch-returns-in-Err-clause-runs : goal.run_branch-returns-in-Err-clause-runs
-run_branch-returns-in-Err-clause-runs = tries.run_branch-returns-in-Err-clause-runs
+pub run_branch-returns-then-not-bind_caught-clause-runs : goal.run_branch-returns-then-not-bind_caught-clause-runs
+run_branch-returns-then-not-bind_caught-clause-runs = tries.run_branch-returns-then-not-bind_caught-clause-runs
 
 pub run_branch-run_stmt_block-done-requires : goal.run_branch-run_stmt_block-done-requires
 run_branch-run_stmt_block-done-requires = tries.run_branch-run_stmt_block-done-requires
@@ -1156,17 +1138,17 @@ walk_chain-returns-in-Ended-clause-runs = walking.walk_chain-returns-in-Ended-cl
 pub walk_chain-returns-in-Enters-clause-runs : goal.walk_chain-returns-in-Enters-clause-runs
 walk_chain-returns-in-Enters-clause-runs = walking.walk_chain-returns-in-Enters-clause-runs
 
-pub run_for-returns-then-has_no_room-clause-runs : goal.run_for-returns-then-has_no_room-clause-runs
-run_for-returns-then-has_no_room-clause-runs = walks.run_for-returns-then-has_no_room-clause-runs
+pub run_for-returns-then-not-has_room-clause-runs : goal.run_for-returns-then-not-has_room-clause-runs
+run_for-returns-then-not-has_room-clause-runs = walks.run_for-returns-then-not-has_room-clause-runs
 
 pub run_for-returns-then-not-run_expr-clause-runs : goal.run_for-returns-then-not-run_expr-clause-runs
 run_for-returns-then-not-run_expr-clause-runs = walks.run_for-returns-then-not-run_expr-clause-runs
 
-pub run_for-returns-then-not-flatten_value-clause-runs : goal.run_for-returns-then-not-flatten_value-clause-runs
-run_for-returns-then-not-flatten_value-clause-runs = walks.run_for-returns-then-not-flatten_value-clause-runs
+pub run_for-returns-then-not-flatten_at-clause-runs : goal.run_for-returns-then-not-flatten_at-clause-runs
+run_for-returns-then-not-flatten_at-clause-runs = walks.run_for-returns-then-not-flatten_at-clause-runs
 
-pub run_for-returns-in-Err-clause-runs : goal.run_for-returns-in-Err-clause-runs
-run_for-returns-in-Err-clause-runs = walks.run_for-returns-in-Err-clause-runs
+pub run_for-returns-in_default-clause-runs : goal.run_for-returns-in_default-clause-runs
+run_for-returns-in_default-clause-runs = walks.run_for-returns-in_default-clause-runs
 
 pub run_for-turns-init : goal.run_for-turns-init
 run_for-turns-init = walks.run_for-turns-init
@@ -1183,14 +1165,14 @@ run_for-turns-smaller = walks.run_for-turns-smaller
 pub run_for-turns-preserved : goal.run_for-turns-preserved
 run_for-turns-preserved = walks.run_for-turns-preserved
 
-pub run_for-returns-in-Some-clause-runs : goal.run_for-returns-in-Some-clause-runs
-run_for-returns-in-Some-clause-runs = walks.run_for-returns-in-Some-clause-runs
+pub run_for-returns-in-Some-run_for_turn-clause-runs : goal.run_for-returns-in-Some-run_for_turn-clause-runs
+run_for-returns-in-Some-run_for_turn-clause-runs = walks.run_for-returns-in-Some-run_for_turn-clause-runs
 
-pub run_for-returns-in-Some-clause-counts : goal.run_for-returns-in-Some-clause-counts
-run_for-returns-in-Some-clause-counts = walks.run_for-returns-in-Some-clause-counts
+pub run_for-returns-in-Some-run_for_turn-clause-counts : goal.run_for-returns-in-Some-run_for_turn-clause-counts
+run_for-returns-in-Some-run_for_turn-clause-counts = walks.run_for-returns-in-Some-run_for_turn-clause-counts
 
-pub run_for-returns-in-Some-clause-names : goal.run_for-returns-in-Some-clause-names
-run_for-returns-in-Some-clause-names = walks.run_for-returns-in-Some-clause-names
+pub run_for-returns-in-Some-run_for_turn-clause-names : goal.run_for-returns-in-Some-run_for_turn-clause-names
+run_for-returns-in-Some-run_for_turn-clause-names = walks.run_for-returns-in-Some-run_for_turn-clause-names
 
 pub run_for_turn-returns-in_default-clause-runs : goal.run_for_turn-returns-in_default-clause-runs
 run_for_turn-returns-in_default-clause-runs = walks.run_for_turn-returns-in_default-clause-runs
@@ -1201,11 +1183,11 @@ run_for_turn-returns-then-charge-clause-runs = walks.run_for_turn-returns-then-c
 pub run_for_turn-returns-then-is_empty-clause-runs : goal.run_for_turn-returns-then-is_empty-clause-runs
 run_for_turn-returns-then-is_empty-clause-runs = walks.run_for_turn-returns-then-is_empty-clause-runs
 
-pub run_for_turn-enter_turn-entered-requires : goal.run_for_turn-enter_turn-entered-requires
-run_for_turn-enter_turn-entered-requires = walks.run_for_turn-enter_turn-entered-requires
+pub run_for_turn-enter_turn-requires : goal.run_for_turn-enter_turn-requires
+run_for_turn-enter_turn-requires = walks.run_for_turn-enter_turn-requires
 
-pub run_for_turn-returns-in-Err-clause-runs : goal.run_for_turn-returns-in-Err-clause-runs
-run_for_turn-returns-in-Err-clause-runs = walks.run_for_turn-returns-in-Err-clause-runs
+pub run_for_turn-returns-then-not-enter_turn-clause-runs : goal.run_for_turn-returns-then-not-enter_turn-clause-runs
+run_for_turn-returns-then-not-enter_turn-clause-runs = walks.run_for_turn-returns-then-not-enter_turn-clause-runs
 
 pub run_for_turn-run_stmt_block-done-requires : goal.run_for_turn-run_stmt_block-done-requires
 run_for_turn-run_stmt_block-done-requires = walks.run_for_turn-run_stmt_block-done-requires

@@ -11,6 +11,7 @@ use Rattle.rhai_machine.specs.language.Runs.{Steps}
 use Rattle.rhai_machine.specs.language.State.{Held, deeper}
 use Rattle.rhai_steps.specs.States.{holding, local_of, state_of}
 use Rattle.rhai_bodies.specs.Closing.{taken_back}
+use Rattle.rhai_bodies.specs.declared.callers.Captured.{Captured}
 use Rattle.rhai_context.specs.declared.Context.{Context}
 use Rattle.rhai_laws.proofs.KeptLaws.{counted, kept, names_stay}
 use Rattle.rhai_steps.specs.Marked.{lending, RunsFrom}
@@ -144,19 +145,28 @@ pub enter_captured-returns-clause-runs : goal.enter_captured-returns-clause-runs
 enter_captured-returns-clause-runs g t c held =
     let rules = under g.H.Host.name_of c.args.self.now g.T.NativeTable.natives in
     let result = came c.run_body-done.result c.run_body-done.new.run.value c.run_body-done.new.run.error in
-    rw c.keep_list.ensures
+    let value_is : c.release.new.run.value ≡ c.run_body-done.new.run.value = ap (λ (r : Context _). r.value) c.release.ensures.run in
+    let error_is : c.release.new.run.error ≡ c.run_body-done.new.run.error = ap (λ (r : Context _). r.error) c.release.ensures.run in
+    let global_is : c.release.new.run.global ≡ c.run_body-done.new.run.global = ap (λ (r : Context _). r.global) c.release.ensures.run in
+    rw (value_is, error_is, global_is)
     (captured_ends rules c.args.function NoObject c.args.args c.args.pos c.args.run.now.global c.args.run.now.scope held
-    c.get-def.result.now (option_copied c.environ_in-environ.result) c.level_below-level.result (g.T.NativeTable.state c.args.table.now)
-    (g.T.NativeTable.state c.run_body-done.new.table) c.run_body-done.new.run result c.get-def.ensures
-    c.environ_in-environ.ensures c.level_below-level.ensures
-    (rw c.as_mut_slice-values.ensures.value at
-    (c.run_body-done.ensures.runs c.args.run.now.scope held NoObject false refl c.replace-outer.ensures.after))
-    c.rewind.new.self c.len-length.result c.len-length.ensures c.rewind.ensures c.run_body-done.new.run.this refl)
+    c.body_of-level.result.0.now (option_copied c.body_of-level.result.1) c.body_of-level.result.2
+    (g.T.NativeTable.state c.args.table.now)
+    (g.T.NativeTable.state c.run_body-done.new.table) c.run_body-done.new.run result c.body_of-level.ensures.def
+    c.body_of-level.ensures.environ
+    (c.body_of-level.ensures.level ∙ ap (λ (r : Context _). deeper r.global.level) c.capture-captured.ensures.run)
+    (rw (c.as_mut_slice-values.ensures.value, c.capture-captured.ensures.run) at
+    (c.run_body-done.ensures.runs c.args.run.now.scope held NoObject false
+    (ap (λ (r : Context _). entries_of r.scope) c.capture-captured.ensures.run)
+    (ap (λ (r : Context _). r.this) c.capture-captured.ensures.run)))
+    c.release.new.run.scope c.capture-captured.result.length
+    (ap (λ (kept : Captured _). kept.length) c.capture-captured.ensures.captured) c.release.ensures.scope
+    c.run_body-done.new.run.this refl)
 
 pub enter_captured-returns-clause-counts : goal.enter_captured-returns-clause-counts
 enter_captured-returns-clause-counts g t c =
     let rules = under g.H.Host.name_of c.args.self.now g.T.NativeTable.natives in
-    let result = came c.run_body-done.result c.keep_list.new.run.value c.keep_list.new.run.error in
+    let result = came c.run_body-done.result c.release.new.run.value c.release.new.run.error in
     counted rules (EnterFunction (entry_of c.args.function NoObject false c.args.args c.args.pos
     (local_of c.args.run.now.global c.args.run.now.scope (holding None)))) (ended result) _ _
     (enter_captured-returns-clause-runs g t c (holding None))
@@ -164,7 +174,7 @@ enter_captured-returns-clause-counts g t c =
 pub enter_captured-returns-clause-names : goal.enter_captured-returns-clause-names
 enter_captured-returns-clause-names g t c done =
     let rules = under g.H.Host.name_of c.args.self.now g.T.NativeTable.natives in
-    let result = came c.run_body-done.result c.keep_list.new.run.value c.keep_list.new.run.error in
+    let result = came c.run_body-done.result c.release.new.run.value c.release.new.run.error in
     names_stay rules (EnterFunction (entry_of c.args.function NoObject false c.args.args c.args.pos
     (local_of c.args.run.now.global c.args.run.now.scope (holding None)))) (ended result) _ _ refl tt
     (enter_captured-returns-clause-runs g t c (holding None))
@@ -173,23 +183,23 @@ pub enter_fresh-returns-clause-runs : goal.enter_fresh-returns-clause-runs
 enter_fresh-returns-clause-runs g t c scope held =
     let rules = under g.H.Host.name_of c.args.self.now g.T.NativeTable.natives in
     let result = came c.run_body-done.result c.run_body-done.new.run.value c.run_body-done.new.run.error in
-    let value_is : c.take_up.new.run.value ≡ c.run_body-done.new.run.value = ap (λ (r : Context _). r.value) c.take_up.ensures.run in
-    let error_is : c.take_up.new.run.error ≡ c.run_body-done.new.run.error = ap (λ (r : Context _). r.error) c.take_up.ensures.run in
-    rw (c.keep_list.ensures, value_is, error_is)
-    (fresh_ends rules c.args.function NoObject c.args.args c.args.pos c.args.run.now.global scope held c.get-def.result.now
-    (option_copied c.environ_in-environ.result) c.level_below-level.result c.put_aside-aside.new.run.global
+    let value_is : c.end_fresh.new.run.value ≡ c.run_body-done.new.run.value = ap (λ (r : Context _). r.value) c.end_fresh.ensures in
+    let error_is : c.end_fresh.new.run.error ≡ c.run_body-done.new.run.error = ap (λ (r : Context _). r.error) c.end_fresh.ensures in
+    rw (value_is, error_is)
+    (fresh_ends rules c.args.function NoObject c.args.args c.args.pos c.args.run.now.global scope held c.body_of-level.result.0.now
+    (option_copied c.body_of-level.result.1) c.body_of-level.result.2 c.put_aside-aside.new.run.global
     (g.T.NativeTable.state c.args.table.now) (g.T.NativeTable.state c.run_body-done.new.table) c.run_body-done.new.run
-    result c.get-def.ensures c.environ_in-environ.ensures
-    (c.level_below-level.ensures ∙ ap (λ (r : Context _). deeper r.global.level) c.put_aside-aside.ensures.rest)
+    result c.body_of-level.ensures.def c.body_of-level.ensures.environ
+    (c.body_of-level.ensures.level ∙ ap (λ (r : Context _). deeper r.global.level) c.put_aside-aside.ensures.rest)
     (ap (λ (r : Context _). r.global) c.put_aside-aside.ensures.rest)
     (rw c.as_mut_slice-values.ensures.value at
     (c.run_body-done.ensures.runs scope held NoObject true c.put_aside-aside.ensures.scope c.put_aside-aside.ensures.this))
-    c.take_up.new.run.global c.take_up.result (ap (λ (r : Context _). r.global) c.take_up.ensures.run) c.take_up.ensures.this)
+    c.end_fresh.new.run.global c.run_body-done.new.run.this (ap (λ (r : Context _). r.global) c.end_fresh.ensures) refl)
 
 pub enter_fresh-returns-clause-counts : goal.enter_fresh-returns-clause-counts
 enter_fresh-returns-clause-counts g t c =
     let rules = under g.H.Host.name_of c.args.self.now g.T.NativeTable.natives in
-    let result = came c.run_body-done.result c.keep_list.new.run.value c.keep_list.new.run.error in
+    let result = came c.run_body-done.result c.end_fresh.new.run.value c.end_fresh.new.run.error in
     counted rules (EnterFunction (entry_of c.args.function NoObject true c.args.args c.args.pos
     (local_of c.args.run.now.global c.args.run.now.scope (holding None)))) (ended result) _ _
     (enter_fresh-returns-clause-runs g t c c.args.run.now.scope (holding None))

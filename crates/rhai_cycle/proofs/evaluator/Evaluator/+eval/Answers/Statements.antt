@@ -1,8 +1,5 @@
-use Rattle.std.proofs.Common.{◌≡◌, ◌+◌, ◌∷◌, [], drop, map, not, None, Err, refl, sym, ap, ◌∙◌, arith, rules as common_rules, ◌++◌, take}
-use Rattle.rhai_steps.specs.States.{holding, local_of}
-use Rattle.std.proofs.Math.Seq.{take-append_seam}
-use Rattle.rhai_state.specs.Scope.{entries_of, new_entry}
-use Rattle.rhai_machine.specs.language.Statements.{enters}
+use Rattle.std.proofs.Common.{◌≡◌, ◌+◌, ◌∷◌, drop, map, not, None, Err, refl, sym, ap, ◌∙◌, arith, rules as common_rules}
+use Rattle.rhai_steps.specs.States.{holding}
 use Rattle.rhai_tree.specs.declared.expr.Stmt.{out-Stmt}
 use Rattle.rhai_tree.specs.declared.expr.Expr.TheOpen as layer
 use Rattle.rhai_tree.specs.declared.expr.Expr.TheVariants as exprs
@@ -13,11 +10,11 @@ use Rattle.rhai_tree.proofs.Statements.{for_resolves, share_resolves, switch_res
 use Rattle.rhai_state.specs.declared.state.GlobalRuntimeState.{GlobalRuntimeState}
 use Rattle.rhai_machine.specs.machine.Point.{after}
 use Rattle.rhai_machine.specs.machine.Memory.{here, next, ◌⨾◌}
-use Rattle.rhai_machine.specs.language.Frames.{StatementValue, DefineValue, IfCondition, RestOfList, RestoreList, AssignValue, AssignThis}
-use Rattle.rhai_machine.specs.language.Frames.{AssignThisValue, StoreThis}
+use Rattle.rhai_machine.specs.language.Frames.{StatementValue, DefineValue, IfCondition, RestOfList, RestoreList, AssignValue}
+use Rattle.rhai_machine.specs.language.Frames.{AssignThisValue}
 use Rattle.rhai_machine.specs.language.Runs.{Steps}
 use Rattle.rhai_laws.proofs.KeptLaws.{names_begin}
-use Rattle.rhai_steps.proofs.Pieces.{charged, refused, told}
+use Rattle.rhai_steps.proofs.Pieces.{told}
 use Rattle.rhai_context.specs.Ends.{came, error_in}
 use Rattle.rhai_cycle.specs.Memory.{asks_stmt}
 use Rattle.rhai_cycle.specs.States.{names, offer_of, state_in, under}
@@ -29,8 +26,8 @@ use Rattle.rhai_cycle.proofs.Conditions.{chooses}
 use Rattle.rhai_cycle.proofs.NameLemmas.{plain_var, names_restored, rest_resolves, sides_resolve, any_item}
 use Rattle.rhai_cycle.proofs.Chain.{flat_fails, drop_item, drop_all, begins_stmt, opens_stmt, refuses_stmt, restores, enters_empty}
 use Rattle.rhai_cycle.proofs.Chain.{enters_plain, enters_restoring, is_empty_list, is_not_empty, left_state, not_declared, begins_value}
-use Rattle.rhai_cycle.proofs.ThisSteps.{this_begins, this_gone, this_stored, this_unbound}
-use Rattle.rhai_cycle.proofs.VariableSteps.{defines, defines_not, entered_as_given, stands_there, value_there}
+use Rattle.rhai_cycle.proofs.ThisSteps.{this_begins, this_unbound}
+use Rattle.rhai_cycle.proofs.VariableSteps.{declared}
 use Rattle.rhai_cycle.proofs.evaluator.Evaluator.+eval.Goals as goal
 
 pub run_stmt-returns-then-not-charge_stmt-clause-runs : goal.run_stmt-returns-then-not-charge_stmt-clause-runs
@@ -66,7 +63,7 @@ run_stmt-returns-else-not-run_expr-clause-runs g t c =
     opens_stmt rules _ c.args.run.now.global c.charge_stmt.new.global _ _ (c.if-not-charge_stmt.ensures.room refl)
     (c.if-not-charge_stmt.ensures.charged refl) _ _ _ _ (layer.Expr c.in-Expr.expr)
     (λ k. next (c.if-not-run_expr.ensures.runs (StatementValue _ ∷ k)
-    ⨾ next (rw (← c.position-pos.ensures) (told rules _ _ c.flatten_value.ensures.exact k _)))) (rw (c.in-Expr.is, stmts.outs-Expr) refl)
+    ⨾ next (told rules _ _ c.flatten_at.ensures.exact k _))) (rw (c.in-Expr.is, stmts.outs-Expr) refl)
 
 pub run_stmt-returns-in-FnCall-clause-runs : goal.run_stmt-returns-in-FnCall-clause-runs
 unfolding after Steps
@@ -234,8 +231,8 @@ run_stmt-returns-in-TryCatch-clause-runs g t c =
     (c.run_try.ensures.runs c.in-TryCatch.field-3 c.args.restoring)
     (rw (c.in-TryCatch.is, stmts.outs-TryCatch) refl)
 
-pub run_stmt-share_variables-answer-requires : goal.run_stmt-share_variables-answer-requires
-run_stmt-share_variables-answer-requires g t c =
+pub run_stmt-share_variables-requires : goal.run_stmt-share_variables-requires
+run_stmt-share_variables-requires g t c =
     let resolves = share_resolves c.args.stmt.now (names c.args.run.now) c.requires.resolves c.in-Share.variables
     (rw (c.in-Share.is, stmts.outs-Share) refl) in
     rw c.as_slice-names.ensures resolves
@@ -246,8 +243,8 @@ run_stmt-returns-in-Share-clause-runs g t c k =
     let rules = under g.H.Host.name_of c.args.self.now g.T.NativeTable.natives in
     begins_stmt rules _ c.args.run.now.global c.charge_stmt.new.global _ _ (c.if-not-charge_stmt.ensures.room refl)
     (c.if-not-charge_stmt.ensures.charged refl) _ _ (layer.Share c.in-Share.variables) (rw (c.in-Share.is, stmts.outs-Share) refl) k
-    ⨾ next (rw c.settle.ensures ((rw c.as_slice-names.ensures at c.share_variables-answer.ensures.runs (offer_of c.args.self.now)
-    (holding c.args.run.now.this)) k))
+    ⨾ next ((rw c.as_slice-names.ensures at c.share_variables.ensures.runs (offer_of c.args.self.now)
+    (holding c.args.run.now.this)) k)
 
 pub run_stmt-returns-in-Var-default-default-None-default-default-clause-runs :
     goal.run_stmt-returns-in-Var-default-default-None-default-default-clause-runs
@@ -281,9 +278,9 @@ run_assignment-returns-then-not-run_expr-clause-runs g t c k =
       c.assign_at_once-at_once.ensures.left_scope c.in_default.is,
     ) at c.if-not-run_expr.ensures.runs) (AssignValue _ _ ∷ k) ⨾ next here
 
-pub run_assignment-returns-then-not-flatten_value-clause-runs : goal.run_assignment-returns-then-not-flatten_value-clause-runs
+pub run_assignment-returns-then-not-flatten_at-clause-runs : goal.run_assignment-returns-then-not-flatten_at-clause-runs
 unfolding after Steps
-run_assignment-returns-then-not-flatten_value-clause-runs g t c k =
+run_assignment-returns-then-not-flatten_at-clause-runs g t c k =
     let rules = under g.H.Host.name_of c.args.self.now g.T.NativeTable.natives in
     begins_assignment rules c.args.op c.args.lhs.now c.args.rhs.now c.in-Variable.offset c.in-Variable.name c.in-Variable.namespace
     c.in-Variable.pos
@@ -294,10 +291,10 @@ run_assignment-returns-then-not-flatten_value-clause-runs g t c k =
       c.assign_at_once-at_once.ensures.left_global c.in_default.is,
       c.assign_at_once-at_once.ensures.left_scope c.in_default.is,
     ) at c.if-not-run_expr.ensures.runs) (AssignValue _ _ ∷ k)
-    ⨾ flat_fails rules _ _ k _ _ (AssignValue _ _) refl (rw c.position-at.ensures at c.if-not-flatten_value.ensures.exact)
+    ⨾ flat_fails rules _ _ k _ _ (AssignValue _ _) refl c.if-not-flatten_at.ensures.exact
 
-pub run_assignment-assign_variable-answer-requires : goal.run_assignment-assign_variable-answer-requires
-run_assignment-assign_variable-answer-requires g t c =
+pub run_assignment-assign_left-requires : goal.run_assignment-assign_left-requires
+run_assignment-assign_left-requires g t c =
     let rules = under g.H.Host.name_of c.args.self.now g.T.NativeTable.natives in
     rw (c.if-not-run_expr.ensures.names refl, c.assign_at_once-at_once.ensures.left_scope c.in_default.is)
     (good_target c.args.lhs.now c.in-Variable.offset c.in-Variable.name c.in-Variable.namespace c.in-Variable.pos _
@@ -316,9 +313,8 @@ run_assignment-returns-clause-runs g t c k =
       c.assign_at_once-at_once.ensures.left_global c.in_default.is,
       c.assign_at_once-at_once.ensures.left_scope c.in_default.is,
     ) at c.if-not-run_expr.ensures.runs) (AssignValue _ _ ∷ k)
-    ⨾ next (rw (← c.position-at.ensures, ← (c.if-not-flatten_value.ensures.exact tt), c.settle.ensures)
-    ((rw c.take_value.ensures.taken at c.assign_variable-answer.ensures.runs (offer_of c.args.self.now)
-    (holding c.run_expr.new.run.this) refl) k))
+    ⨾ next (rw (← (c.if-not-flatten_at.ensures.exact tt))
+    (c.assign_left.ensures.runs (offer_of c.args.self.now) (holding c.run_expr.new.run.this) refl k))
 
 pub run_assignment-assign_to_this-requires : goal.run_assignment-assign_to_this-requires
 run_assignment-assign_to_this-requires g t c =
@@ -346,139 +342,59 @@ assign_to_this-returns-then-not-run_expr-clause-runs g t c k =
     (c.is_none.ensures ∙ ap not c.if-is_none.false)
     ⨾ c.if-not-run_expr.ensures.runs (AssignThisValue _ _ _ ∷ k) ⨾ next here
 
-pub assign_to_this-returns-then-not-flatten_value-clause-runs : goal.assign_to_this-returns-then-not-flatten_value-clause-runs
+pub assign_to_this-returns-then-not-flatten_at-clause-runs : goal.assign_to_this-returns-then-not-flatten_at-clause-runs
 unfolding Steps
-assign_to_this-returns-then-not-flatten_value-clause-runs g t c k =
+assign_to_this-returns-then-not-flatten_at-clause-runs g t c k =
     let rules = under g.H.Host.name_of c.args.self.now g.T.NativeTable.natives in
     this_begins rules c.args.op c.args.lhs.now c.args.rhs.now c.args.pos c.args.restoring c.requires.this k _
     (c.is_none.ensures ∙ ap not c.if-is_none.false)
     ⨾ c.if-not-run_expr.ensures.runs (AssignThisValue _ _ _ ∷ k)
-    ⨾ flat_fails rules _ _ k _ _ (AssignThisValue _ _ _) refl (rw c.position-at.ensures at c.if-not-flatten_value.ensures.exact)
+    ⨾ flat_fails rules _ _ k _ _ (AssignThisValue _ _ _) refl c.if-not-flatten_at.ensures.exact
 
-pub assign_to_this-returns-then-not-charge-clause-runs : goal.assign_to_this-returns-then-not-charge-clause-runs
+pub assign_to_this-returns-clause-runs : goal.assign_to_this-returns-clause-runs
 unfolding after Steps
-assign_to_this-returns-then-not-charge-clause-runs g t c k =
+assign_to_this-returns-clause-runs g t c k =
     let rules = under g.H.Host.name_of c.args.self.now g.T.NativeTable.natives in
-    let value = c.flatten_value.new.out in
     this_begins rules c.args.op c.args.lhs.now c.args.rhs.now c.args.pos c.args.restoring c.requires.this k _
     (c.is_none.ensures ∙ ap not c.if-is_none.false)
     ⨾ c.if-not-run_expr.ensures.runs (AssignThisValue _ _ _ ∷ k)
-    ⨾ next (rw (← c.position-at.ensures, ← (c.if-not-flatten_value.ensures.exact tt))
-    (refused rules _ c.run_expr.new.run.global c.charge.new.global _ _ (AssignThis c.args.op c.args.pos value)
-    (StoreThis c.args.op c.args.pos value) c.args.pos (λ k. refl) _ (c.if-not-charge.ensures.full refl)
-    (c.if-not-charge.ensures.refused refl) (c.if-not-charge.ensures.same refl) k))
-
-pub assign_to_this-returns-in-Some-clause-runs : goal.assign_to_this-returns-in-Some-clause-runs
-unfolding after Steps
-assign_to_this-returns-in-Some-clause-runs g t c k =
-    let rules = under g.H.Host.name_of c.args.self.now g.T.NativeTable.natives in
-    let value = c.flatten_value.new.out in
-    this_begins rules c.args.op c.args.lhs.now c.args.rhs.now c.args.pos c.args.restoring c.requires.this k _
-    (c.is_none.ensures ∙ ap not c.if-is_none.false)
-    ⨾ c.if-not-run_expr.ensures.runs (AssignThisValue _ _ _ ∷ k)
-    ⨾ next (rw (← c.position-at.ensures, ← (c.if-not-flatten_value.ensures.exact tt))
-    (charged rules _ c.run_expr.new.run.global c.charge.new.global _ _ (AssignThis c.args.op c.args.pos value)
-    (StoreThis c.args.op c.args.pos value) c.args.pos (λ k. refl) (c.if-not-charge.ensures.room refl)
-    (c.if-not-charge.ensures.charged refl) k
-    ⨾ rw (c.in-Some.is, c.settle.ensures) (this_stored rules c.args.op c.args.pos value k _ c.assign_this-answer.result _
-    ((rw c.take_value.ensures.taken at c.assign_this-answer.ensures.runs) (offer_of c.args.self.now) c.run_expr.new.run.scope None refl))))
-
-pub assign_to_this-returns-in-None-clause-runs : goal.assign_to_this-returns-in-None-clause-runs
-unfolding after Steps
-assign_to_this-returns-in-None-clause-runs g t c k =
-    let rules = under g.H.Host.name_of c.args.self.now g.T.NativeTable.natives in
-    let value = c.flatten_value.new.out in
-    this_begins rules c.args.op c.args.lhs.now c.args.rhs.now c.args.pos c.args.restoring c.requires.this k _
-    (c.is_none.ensures ∙ ap not c.if-is_none.false)
-    ⨾ c.if-not-run_expr.ensures.runs (AssignThisValue _ _ _ ∷ k)
-    ⨾ next (rw (
-      ← c.position-at.ensures,
-      ← (c.if-not-flatten_value.ensures.exact tt),
-      c.stop-in-None.ensures.stopped,
-      c.stop-in-None.ensures.told,
-    )
-    (charged rules _ c.run_expr.new.run.global c.charge.new.global _ _ (AssignThis c.args.op c.args.pos value)
-    (StoreThis c.args.op c.args.pos value) c.args.pos (λ k. refl) (c.if-not-charge.ensures.room refl)
-    (c.if-not-charge.ensures.charged refl) k
-    ⨾ this_gone rules c.args.op c.args.pos value k _ c.in-None.is))
+    ⨾ next (rw (← (c.if-not-flatten_at.ensures.exact tt))
+    (c.assign_left_to_this.ensures.runs (offer_of c.args.self.now) c.run_expr.new.run.scope refl k))
 
 -- a new variable
 
-pub run_var-returns-in-Err-clause-runs : goal.run_var-returns-in-Err-clause-runs
+pub run_var-returns-then-not-is_declarable-clause-runs : goal.run_var-returns-then-not-is_declarable-clause-runs
 unfolding after Steps
-run_var-returns-in-Err-clause-runs g t c kept k =
+run_var-returns-then-not-is_declarable-clause-runs g t c kept k =
     let rules = under g.H.Host.name_of c.args.self.now g.T.NativeTable.natives in
-    rw (c.stop.ensures.stopped, c.stop.ensures.told)
-    (not_declared rules c.args.ident.now c.args.value.now c.args.options c.args.pos c.args.restoring k _ _ c.in-Err.ensures kept)
+    not_declared rules c.args.ident.now c.args.value.now c.args.options c.args.pos c.args.restoring k _ _ c.if-not-is_declarable.ensures kept
 
 pub run_var-returns-then-not-run_expr-clause-runs : goal.run_var-returns-then-not-run_expr-clause-runs
 unfolding after Steps
 run_var-returns-then-not-run_expr-clause-runs g t c kept k =
     let rules = under g.H.Host.name_of c.args.self.now g.T.NativeTable.natives in
-    begins_value rules c.args.ident.now c.args.value.now c.args.options c.args.pos c.args.restoring k _ (c.in_default.ensures tt) kept
+    begins_value rules c.args.ident.now c.args.value.now c.args.options c.args.pos c.args.restoring k _ (c.if-not-is_declarable.ensures tt) kept
     ⨾ c.if-not-run_expr.ensures.runs (DefineValue _ _ _ _ ∷ k) ⨾ next here
 
-pub run_var-returns-then-not-flatten_value-clause-runs : goal.run_var-returns-then-not-flatten_value-clause-runs
+pub run_var-returns-then-not-flatten_at-clause-runs : goal.run_var-returns-then-not-flatten_at-clause-runs
 unfolding after Steps
-run_var-returns-then-not-flatten_value-clause-runs g t c kept k =
+run_var-returns-then-not-flatten_at-clause-runs g t c kept k =
     let rules = under g.H.Host.name_of c.args.self.now g.T.NativeTable.natives in
-    begins_value rules c.args.ident.now c.args.value.now c.args.options c.args.pos c.args.restoring k _ (c.in_default.ensures tt) kept
+    begins_value rules c.args.ident.now c.args.value.now c.args.options c.args.pos c.args.restoring k _ (c.if-not-is_declarable.ensures tt) kept
     ⨾ c.if-not-run_expr.ensures.runs (DefineValue _ _ _ _ ∷ k)
-    ⨾ flat_fails rules _ _ k _ _ (DefineValue _ _ _ _) refl (rw c.position-at.ensures at c.if-not-flatten_value.ensures.exact)
-
-pub run_var-value_at-requires : goal.run_var-value_at-requires
-run_var-value_at-requires g t c =
-    let v = c.take_value-flat.result in
-    stands_there c.mode_of-mode.result (entries_of c.run_expr.new.run.scope) (entries_of c.define_variable-defined.new.scope)
-    c.args.ident.now.name v v c.len-index.result c.in_default-defined.ensures.pushed c.len-index.ensures
-
-pub run_var-returns-in-Err-defined-clause-runs : goal.run_var-returns-in-Err-defined-clause-runs
-unfolding Steps
-run_var-returns-in-Err-defined-clause-runs g t c kept k =
-    let rules = under g.H.Host.name_of c.args.self.now g.T.NativeTable.natives in
-    begins_value rules c.args.ident.now c.args.value.now c.args.options c.args.pos c.args.restoring k _ (c.in_default.ensures tt) kept
-    ⨾ c.if-not-run_expr.ensures.runs (DefineValue _ _ _ _ ∷ k)
-    ⨾ rw (c.stop-in-Err-defined.ensures.stopped, c.stop-in-Err-defined.ensures.told)
-    (defines_not rules _ c.run_expr.new.run.global c.run_expr.new.run.global c.run_expr.new.run.scope
-    c.define_variable-defined.new.scope _ c.args.ident.now c.args.options c.args.restoring _ c.take_value-flat.result _ k _
-    c.in-Err-defined.ensures.refused c.in-Err-defined.ensures.same)
-
-pub run_var-returns-in-Err-entered-clause-runs : goal.run_var-returns-in-Err-entered-clause-runs
-unfolding Steps
-run_var-returns-in-Err-entered-clause-runs g t c kept k =
-    let rules = under g.H.Host.name_of c.args.self.now g.T.NativeTable.natives in
-    let old = c.run_expr.new.run in
-    let added = new_entry c.args.ident.now.name c.mode_of-mode.result c.take_value-flat.result ∷ [] in
-    begins_value rules c.args.ident.now c.args.value.now c.args.options c.args.pos c.args.restoring k _ (c.in_default.ensures tt) kept
-    ⨾ c.if-not-run_expr.ensures.runs (DefineValue _ _ _ _ ∷ k)
-    ⨾ rw (c.stop-in-Err-entered.ensures.stopped, c.stop-in-Err-entered.ensures.told, c.in-Err-entered.ensures.same)
-    (defines_not rules _ old.global old.global old.scope c.rewind.new.self (holding old.this) c.args.ident.now c.args.options
-    c.args.restoring _ c.take_value-flat.result _ k c.in-Err-entered.error c.in-Err-entered.ensures.refused
-    (c.rewind.ensures ∙ ap (λ entries. take c.len-index.result entries) c.in_default-defined.ensures.pushed
-    ∙ ap (λ n. take n (entries_of old.scope ++ added)) c.len-index.ensures ∙ take-append_seam (entries_of old.scope) added))
+    ⨾ flat_fails rules _ _ k _ _ (DefineValue _ _ _ _) refl c.if-not-flatten_at.ensures.exact
 
 pub run_var-returns-clause-runs : goal.run_var-returns-clause-runs
 unfolding Steps
 run_var-returns-clause-runs g t c kept k =
     let rules = under g.H.Host.name_of c.args.self.now g.T.NativeTable.natives in
     let old = c.run_expr.new.run in
-    let v = c.take_value-flat.result in
-    let mode = c.mode_of-mode.result in
-    let pushed = c.in_default-defined.ensures.pushed in
-    let there = value_there mode (entries_of old.scope) (entries_of c.define_variable-defined.new.scope) c.args.ident.now.name v
-    c.value_at.result.now c.len-index.result pushed c.len-index.ensures c.value_at.ensures in
-    let held = holding old.this in
-    let given = entered_as_given mode (entries_of old.scope) (entries_of c.define_variable-defined.new.scope) c.args.ident.now.name v
-    c.value_at.result.now c.len-index.result pushed c.len-index.ensures there
-    (enters c.args.options c.args.restoring (local_of old.global old.scope held)) (local_of old.global old.scope held) in
-    begins_value rules c.args.ident.now c.args.value.now c.args.options c.args.pos c.args.restoring k _ (c.in_default.ensures tt) kept
+    begins_value rules c.args.ident.now c.args.value.now c.args.options c.args.pos c.args.restoring k _ (c.if-not-is_declarable.ensures tt) kept
     ⨾ c.if-not-run_expr.ensures.runs (DefineValue _ _ _ _ ∷ k)
-    ⨾ rw c.take_value-flat.ensures.left
-    (defines rules _ old.global c.enter_constant-entered.new.global old.scope c.define_variable-defined.new.scope held c.args.ident.now
-    c.args.options c.args.restoring _ v _ k
-    (rw (c.position-at.ensures, ← c.take_value-flat.ensures.taken) at c.if-not-flatten_value.ensures.exact tt)
-    (rw c.mode_of-mode.ensures at pushed)
-    c.enter_constant-entered.ensures.counts (c.in_default-entered.ensures.entered old.scope held ∙ given))
+    ⨾ declared rules _ old.global c.declare.new.global old.scope c.declare.new.scope (holding old.this) c.args.ident.now c.args.options
+    c.args.restoring _ c.flatten_at.new.out _ k c.declare.result c.declare.new.out c.declare.new.place (c.if-not-flatten_at.ensures.exact tt)
+    c.declare.ensures.value (c.declare.ensures.defined (holding old.this)) c.declare.ensures.counts c.declare.ensures.refused
+    c.declare.ensures.same c.declare.ensures.same_scope
 
 -- lists
 

@@ -27,15 +27,15 @@ run_switch-returns-then-not-run_expr-clause-runs g t c pos restoring k =
     record { results = parts.results.now; cases = parts.cases.now; ranges = parts.ranges.now; default = parts.default } in
     next (c.if-not-run_expr.ensures.runs (SwitchValue _ choice ∷ k) ⨾ next here)
 
-pub run_switch-returns-then-not-flatten_value-clause-runs : goal.run_switch-returns-then-not-flatten_value-clause-runs
+pub run_switch-returns-then-not-flatten_at-clause-runs : goal.run_switch-returns-then-not-flatten_at-clause-runs
 unfolding after Steps
-run_switch-returns-then-not-flatten_value-clause-runs g t c pos restoring k =
+run_switch-returns-then-not-flatten_at-clause-runs g t c pos restoring k =
     let rules = under g.H.Host.name_of c.args.self.now g.T.NativeTable.natives in
     let parts = c.args.parts in
     let choice : Cases =
     record { results = parts.results.now; cases = parts.cases.now; ranges = parts.ranges.now; default = parts.default } in
     next (c.if-not-run_expr.ensures.runs (SwitchValue _ choice ∷ k)
-    ⨾ flat_fails rules _ _ k _ _ (SwitchValue _ choice) refl (rw c.position-at.ensures at c.if-not-flatten_value.ensures.exact))
+    ⨾ flat_fails rules _ _ k _ _ (SwitchValue _ choice) refl c.if-not-flatten_at.ensures.exact)
 
 pub run_switch-run_condition-requires : goal.run_switch-run_condition-requires
 run_switch-run_condition-requires g t c =
@@ -58,8 +58,7 @@ run_switch-each_candidate-init g t c =
       names = c.if-not-run_expr.ensures.names refl;
       steps = λ pos restoring k. rw (c.candidates_for-left.ensures parts.results.now parts.default)
           (next (c.if-not-run_expr.ensures.runs (SwitchValue _ choice ∷ k)
-          ⨾ value_on rules k choice _ _ c.flatten_value.new.out _
-          (rw c.position-at.ensures at (c.if-not-flatten_value.ensures.exact tt))));
+          ⨾ value_on rules k choice _ _ c.flatten_at.new.out _ (c.if-not-flatten_at.ensures.exact tt)));
     }
 
 pub run_switch-returns-in-None-default_result-clause-runs : goal.run_switch-returns-in-None-default_result-clause-runs

@@ -1,4 +1,4 @@
-use Rattle.std.proofs.Common.{◌∷◌, ◌∙◌, IsTrue, arith, false, subst, sym, true}
+use Rattle.std.proofs.Common.{◌∷◌, ◌∙◌, IsTrue, arith, false, refl, subst, sym, true}
 use Rattle.rhai_tree.specs.declared.expr.Expr.{out-Expr}
 use Rattle.rhai_state.specs.Scope.{entries_of, name_of}
 use Rattle.rhai_machine.specs.machine.Point.{after}
@@ -57,17 +57,17 @@ run_try-returns-clause-runs g t c pos restoring k =
     ⨾ try_catches rules k _ _ _ _ (sym c.may_catch.ensures ∙ c.if-not-may_catch.false)
     ⨾ (rw c.stopped-caught.ensures at c.run_branch.ensures.runs) k)
 
-pub run_branch-returns-in-Err-clause-runs : goal.run_branch-returns-in-Err-clause-runs
+pub run_branch-returns-then-not-bind_caught-clause-runs : goal.run_branch-returns-then-not-bind_caught-clause-runs
 unfolding after Steps
-run_branch-returns-in-Err-clause-runs g t c k =
+run_branch-returns-then-not-bind_caught-clause-runs g t c k =
     let rules = under g.H.Host.name_of c.args.self.now g.T.NativeTable.natives in
-    rw (c.stop.ensures.stopped, c.stop.ensures.told, c.in-Err.ensures.same)
-    (branch_not rules k c.args.caught c.args.branch.now _ _ c.in-Err.error c.in-Err.ensures.exact)
+    rw (c.if-not-bind_caught.ensures.same refl)
+    (branch_not rules k c.args.caught c.args.branch.now _ _ _ c.if-not-bind_caught.ensures.exact)
 
 pub run_branch-run_stmt_block-done-requires : goal.run_branch-run_stmt_block-done-requires
 run_branch-run_stmt_block-done-requires g t c =
     let runs = branch_runs c.args.branch.now c.args.run.now.global.source c.args.caught c.args.variable.now
-    (entries_of c.args.run.now.scope) _ c.requires.resolves c.in_default.ensures.bound in
+    (entries_of c.args.run.now.scope) _ c.requires.resolves (c.if-not-bind_caught.ensures.bound refl) in
     λ κs lives. (
       omega arith,
       (
@@ -90,15 +90,15 @@ run_branch-returns-clause-runs g t c k =
     let block = rw c.as_slice-statements.ensures at c.run_stmt_block-done.ensures.runs in
     let stay = names_stay rules (Enter c.args.branch.now.statements true) (ended (came c.run_stmt_block-done.result
     c.run_stmt_block-done.new.run.value c.run_stmt_block-done.new.run.error)) _ _ tt tt block in
-    branch_on rules k c.args.caught c.args.branch.now _ old.global old.scope c.bind_caught-bound.new.scope (holding old.this)
-    c.len-base.result c.len-base.ensures variable (c.in_default.ensures.exact tt) c.in_default.ensures.bound
+    branch_on rules k c.args.caught c.args.branch.now _ old.global old.scope c.bind_caught.new.scope (holding old.this)
+    c.len-base.result c.len-base.ensures variable (c.if-not-bind_caught.ensures.exact tt) (c.if-not-bind_caught.ensures.bound refl)
     ⨾ block (CatchBranch c.args.caught ∷ below rules k variable c.len-base.result)
     ⨾ branch_left rules (below rules k variable c.len-base.result) c.args.caught (came c.run_stmt_block-done.result
     c.run_stmt_block-done.new.run.value c.run_stmt_block-done.new.run.error) _
-    ⨾ rw (c.settle.ensures, c.leave_branch-left.ensures, c.finish-outcome.ensures.came)
-    (scope_back rules k variable _ c.len-base.result _ new.global new.scope c.rewind.new.self (holding new.this)
-    (nothing_bound variable old.global.source c.args.caught (entries_of old.scope) _ _ c.in_default.ensures.bound stay
-    c.len-base.result c.len-base.ensures) c.rewind.ensures)
+    ⨾ rw c.leave_branch.ensures.left
+    (scope_back rules k variable _ c.len-base.result _ new.global new.scope c.leave_branch.new.scope (holding new.this)
+    (nothing_bound variable old.global.source c.args.caught (entries_of old.scope) _ _ (c.if-not-bind_caught.ensures.bound refl) stay
+    c.len-base.result c.len-base.ensures) c.leave_branch.ensures.scope)
 
 pub run_branch-returns-clause-counts : goal.run_branch-returns-clause-counts
 run_branch-returns-clause-counts g t c done =
@@ -112,7 +112,7 @@ run_branch-returns-clause-names g t c done =
     let stay = names_stay rules (Enter c.args.branch.now.statements true) (ended (came c.run_stmt_block-done.result
     c.run_stmt_block-done.new.run.value c.run_stmt_block-done.new.run.error)) _ _ tt tt
     (rw c.as_slice-statements.ensures at c.run_stmt_block-done.ensures.runs) in
-    names_restored old.scope.entries c.run_stmt_block-done.new.run.scope.entries c.rewind.new.self.entries c.len-base.result
-    c.rewind.ensures c.len-base.ensures
+    names_restored old.scope.entries c.run_stmt_block-done.new.run.scope.entries c.leave_branch.new.scope.entries c.len-base.result
+    c.leave_branch.ensures.scope c.len-base.ensures
     (branch_begins (catch_variable (out-Expr c.args.variable.now)) old.global.source c.args.caught (entries_of old.scope) _ _
-    c.in_default.ensures.bound stay)
+    (c.if-not-bind_caught.ensures.bound refl) stay)

@@ -24,41 +24,40 @@ use Rattle.rhai_cycle.proofs.ForSteps.{if_well, on_turn, starts_not, turns_end}
 use Rattle.rhai_cycle.proofs.evaluator.Evaluator.+eval.Goals as goal
 use Rattle.rhai_cycle.proofs.Chain.{flat_fails}
 
-pub run_for-returns-then-has_no_room-clause-runs : goal.run_for-returns-then-has_no_room-clause-runs
+pub run_for-returns-then-not-has_room-clause-runs : goal.run_for-returns-then-not-has_room-clause-runs
 unfolding after Steps
-run_for-returns-then-has_no_room-clause-runs g t c pos restoring k =
+run_for-returns-then-not-has_room-clause-runs g t c pos restoring k =
     let rules = under g.H.Host.name_of c.args.self.now g.T.NativeTable.natives in
-    rw (c.stop.ensures.stopped, c.stop.ensures.told)
-    (has_none rules (loop_in c.args.parts) k pos restoring _ (sym c.has_no_room.ensures ∙ c.if-has_no_room.true))
+    rw (c.if-not-has_room.ensures.told refl)
+    (has_none rules (loop_in c.args.parts) k pos restoring _ (c.if-not-has_room.ensures.full refl))
 
 pub run_for-returns-then-not-run_expr-clause-runs : goal.run_for-returns-then-not-run_expr-clause-runs
 unfolding after Steps
 run_for-returns-then-not-run_expr-clause-runs g t c pos restoring k =
     let rules = under g.H.Host.name_of c.args.self.now g.T.NativeTable.natives in
     let loop = loop_in c.args.parts in
-    has_room rules loop k pos restoring _ (sym c.has_no_room.ensures ∙ c.if-has_no_room.false)
+    has_room rules loop k pos restoring _ (c.if-not-has_room.ensures.room refl)
     ⨾ c.if-not-run_expr.ensures.runs (ForItems loop ∷ k) ⨾ next here
 
-pub run_for-returns-then-not-flatten_value-clause-runs : goal.run_for-returns-then-not-flatten_value-clause-runs
+pub run_for-returns-then-not-flatten_at-clause-runs : goal.run_for-returns-then-not-flatten_at-clause-runs
 unfolding after Steps
-run_for-returns-then-not-flatten_value-clause-runs g t c pos restoring k =
+run_for-returns-then-not-flatten_at-clause-runs g t c pos restoring k =
     let rules = under g.H.Host.name_of c.args.self.now g.T.NativeTable.natives in
     let loop = loop_in c.args.parts in
-    has_room rules loop k pos restoring _ (sym c.has_no_room.ensures ∙ c.if-has_no_room.false)
+    has_room rules loop k pos restoring _ (c.if-not-has_room.ensures.room refl)
     ⨾ c.if-not-run_expr.ensures.runs (ForItems loop ∷ k)
-    ⨾ flat_fails rules _ _ k _ _ (ForItems loop) refl (rw c.position-at.ensures at c.if-not-flatten_value.ensures.exact)
+    ⨾ flat_fails rules _ _ k _ _ (ForItems loop) refl c.if-not-flatten_at.ensures.exact
 
-pub run_for-returns-in-Err-clause-runs : goal.run_for-returns-in-Err-clause-runs
+pub run_for-returns-in_default-clause-runs : goal.run_for-returns-in_default-clause-runs
 unfolding after Steps
-run_for-returns-in-Err-clause-runs g t c pos restoring k =
+run_for-returns-in_default-clause-runs g t c pos restoring k =
     let rules = under g.H.Host.name_of c.args.self.now g.T.NativeTable.natives in
     let loop = loop_in c.args.parts in
-    has_room rules loop k pos restoring _ (sym c.has_no_room.ensures ∙ c.if-has_no_room.false)
+    has_room rules loop k pos restoring _ (c.if-not-has_room.ensures.room refl)
     ⨾ c.if-not-run_expr.ensures.runs (ForItems loop ∷ k)
-    ⨾ rw (c.stop-in-Err.ensures.stopped, c.stop-in-Err.ensures.told, c.in-Err.ensures.same)
-    (starts_not rules loop k _ c.take_value-value.result c.in-Err.error _
-    (rw (c.position-at.ensures, ← c.take_value-value.ensures.taken) at (c.if-not-flatten_value.ensures.exact tt))
-    c.in-Err.ensures.none c.in-Err.ensures.told)
+    ⨾ rw (c.start_turns.ensures.same c.in_default.is)
+    (starts_not rules loop k _ c.flatten_at.new.out _ _ (c.if-not-flatten_at.ensures.exact tt)
+    (c.start_turns.ensures.none c.in_default.is) (c.start_turns.ensures.told c.in_default.is))
 
 pub run_for-turns-init : goal.run_for-turns-init
 unfolding after Steps
@@ -70,15 +69,14 @@ run_for-turns-init g t c =
     record {
       counts = omega (arith, c.if-not-run_expr.ensures.charges refl);
       base = c.len-base.ensures ∙ sym (length-map (entries_of old.scope) name_of) ∙ ap length stay;
-      names = loop_names loop (entries_of old.scope) _ c.in-Ok.ensures.variables
+      names = loop_names loop (entries_of old.scope) _ c.in-Some.ensures.variables
           ∙ ap (λ names. turn_names c.args.parts.variable.now c.args.parts.counter.now names) stay;
       steps = λ pos restoring k.
-          has_room rules loop k pos restoring _ (sym c.has_no_room.ensures ∙ c.if-has_no_room.false)
+          has_room rules loop k pos restoring _ (c.if-not-has_room.ensures.room refl)
           ⨾ c.if-not-run_expr.ensures.runs (ForItems loop ∷ k)
-          ⨾ starts rules loop k _ c.take_value-value.result _ _ old.global old.scope c.start_turns.new.scope (holding old.this)
+          ⨾ starts rules loop k _ c.flatten_at.new.out _ _ old.global old.scope c.start_turns.new.scope (holding old.this)
           c.len-base.result
-          (rw (c.position-at.ensures, ← c.take_value-value.ensures.taken) at (c.if-not-flatten_value.ensures.exact tt))
-          c.in-Ok.ensures.turns c.in-Ok.ensures.variables c.len-base.ensures;
+          (c.if-not-flatten_at.ensures.exact tt) c.in-Some.ensures.turns c.in-Some.ensures.variables c.len-base.ensures;
     }
 
 pub run_for-run_for_turn-requires : goal.run_for-run_for_turn-requires
@@ -91,7 +89,7 @@ run_for-run_for_turn-requires g t c =
     )
 
 pub run_for-next_number-turn-requires : goal.run_for-next_number-turn-requires
-run_for-next_number-turn-requires g t c = omega (arith, c.turns.invariant.counts, c.run_for_turn.ensures.charges c.in_default.is)
+run_for-next_number-turn-requires g t c = omega (arith, c.turns.invariant.counts, c.run_for_turn.ensures.charges c.in_default-run_for_turn.is)
 
 pub run_for-turns-smaller : goal.run_for-turns-smaller
 unfolding after Steps
@@ -105,34 +103,34 @@ pub run_for-turns-preserved : goal.run_for-turns-preserved
 unfolding after Steps
 run_for-turns-preserved g t c =
     record {
-      counts = omega (arith, c.turns.invariant.counts, c.run_for_turn.ensures.charges c.in_default.is, c.next_number-turn.ensures);
+      counts = omega (arith, c.turns.invariant.counts, c.run_for_turn.ensures.charges c.in_default-run_for_turn.is, c.next_number-turn.ensures);
       base = c.turns.invariant.base;
-      names = c.run_for_turn.ensures.names_stay c.in_default.is ∙ c.turns.invariant.names;
+      names = c.run_for_turn.ensures.names_stay c.in_default-run_for_turn.is ∙ c.turns.invariant.names;
       steps = λ pos restoring k.
           c.turns.invariant.steps pos restoring k
-          ⨾ rw c.next_number-turn.ensures ((rw c.in_default.is at c.run_for_turn.ensures.runs) (RestoreScope c.len-base.result ∷ k));
+          ⨾ rw c.next_number-turn.ensures ((rw c.in_default-run_for_turn.is at c.run_for_turn.ensures.runs) (RestoreScope c.len-base.result ∷ k));
     }
 
-pub run_for-returns-in-Some-clause-runs : goal.run_for-returns-in-Some-clause-runs
+pub run_for-returns-in-Some-run_for_turn-clause-runs : goal.run_for-returns-in-Some-run_for_turn-clause-runs
 unfolding after Steps
-run_for-returns-in-Some-clause-runs g t c pos restoring k =
+run_for-returns-in-Some-run_for_turn-clause-runs g t c pos restoring k =
     let rules = under g.H.Host.name_of c.args.self.now g.T.NativeTable.natives in
     let loop = loop_in c.args.parts in
     let new = c.run_for_turn.new.run in
     c.turns.invariant.steps pos restoring k
-    ⨾ (rw (turn_ended c.in-Some.done _ _ _) at c.in-Some.ensures.runs) (RestoreScope c.len-base.result ∷ k)
+    ⨾ (rw (turn_ended c.in-Some-run_for_turn.done _ _ _) at c.in-Some-run_for_turn.ensures.runs) (RestoreScope c.len-base.result ∷ k)
     ⨾ leaves_scope rules loop k _ c.len-base.result _ new.global new.scope c.rewind.new.self (holding new.this) c.rewind.ensures
 
-pub run_for-returns-in-Some-clause-counts : goal.run_for-returns-in-Some-clause-counts
-run_for-returns-in-Some-clause-counts g t c done = omega (arith, c.turns.invariant.counts, c.in-Some.ensures.counts done)
+pub run_for-returns-in-Some-run_for_turn-clause-counts : goal.run_for-returns-in-Some-run_for_turn-clause-counts
+run_for-returns-in-Some-run_for_turn-clause-counts g t c done = omega (arith, c.turns.invariant.counts, c.in-Some-run_for_turn.ensures.counts done)
 
-pub run_for-returns-in-Some-clause-names : goal.run_for-returns-in-Some-clause-names
-run_for-returns-in-Some-clause-names g t c done =
+pub run_for-returns-in-Some-run_for_turn-clause-names : goal.run_for-returns-in-Some-run_for_turn-clause-names
+run_for-returns-in-Some-run_for_turn-clause-names g t c done =
     let parts = c.args.parts in
     names_restored c.args.run.now.scope.entries c.run_for_turn.new.run.scope.entries c.rewind.new.self.entries c.len-base.result
     c.rewind.ensures
     (c.turns.invariant.base ∙ length-map (entries_of c.args.run.now.scope) name_of)
-    (turn_begins parts.variable.now parts.counter.now (names c.args.run.now) _ (c.in-Some.ensures.names done ∙ c.turns.invariant.names))
+    (turn_begins parts.variable.now parts.counter.now (names c.args.run.now) _ (c.in-Some-run_for_turn.ensures.names done ∙ c.turns.invariant.names))
 
 pub run_for_turn-returns-in_default-clause-runs : goal.run_for_turn-returns-in_default-clause-runs
 unfolding after Steps
@@ -157,26 +155,25 @@ run_for_turn-returns-then-is_empty-clause-runs g t c k =
     _ c.args.run.now.global c.charge.new.global _ _ _ (c.if-charge.ensures.full refl) (c.if-charge.ensures.refused refl)
     (c.if-charge.ensures.same refl)
 
-pub run_for_turn-enter_turn-entered-requires : goal.run_for_turn-enter_turn-entered-requires
-run_for_turn-enter_turn-entered-requires g t c = c.requires.variables ∙ length-map (entries_of c.args.run.now.scope) name_of
+pub run_for_turn-enter_turn-requires : goal.run_for_turn-enter_turn-requires
+run_for_turn-enter_turn-requires g t c = c.requires.variables ∙ length-map (entries_of c.args.run.now.scope) name_of
 
-pub run_for_turn-returns-in-Err-clause-runs : goal.run_for_turn-returns-in-Err-clause-runs
+pub run_for_turn-returns-then-not-enter_turn-clause-runs : goal.run_for_turn-returns-then-not-enter_turn-clause-runs
 unfolding after Steps
-run_for_turn-returns-in-Err-clause-runs g t c k =
-    rw (c.stop.ensures.stopped, c.stop.ensures.told)
-    (c.in-Err.ensures.enters (offer_of c.args.self.now) (holding c.args.run.now.this) _ _ k c.in-Some.ensures.some
-    (λ empty. absurd (true≢false (sym (c.is_empty.ensures.1 empty) ∙ c.if-is_empty.false))))
+run_for_turn-returns-then-not-enter_turn-clause-runs g t c k =
+    c.if-not-enter_turn.ensures.enters (offer_of c.args.self.now) (holding c.args.run.now.this) _ _ k c.in-Some.ensures.some
+    (λ empty. absurd (true≢false (sym (c.is_empty.ensures.1 empty) ∙ c.if-is_empty.false)))
 
 pub run_for_turn-run_stmt_block-done-requires : goal.run_for_turn-run_stmt_block-done-requires
 run_for_turn-run_stmt_block-done-requires g t c =
-    let count = ap (λ (global : GlobalRuntimeState _). global.num_operations) c.enter_turn-entered.ensures.rest in
+    let count = ap (λ (global : GlobalRuntimeState _). global.num_operations) c.enter_turn.ensures.rest in
     λ κs lives. (
       omega (arith, count),
       (
         lives.0,
         (
           lives.1,
-          rw (c.as_slice-statements.ensures, c.enter_turn-entered.ensures.names)
+          rw (c.as_slice-statements.ensures, c.enter_turn.ensures.names)
               (subst IsTrue (block_value c.args.parts.body.now (names c.args.run.now)) c.requires.resolves),
         ),
       ),
@@ -188,7 +185,7 @@ run_for_turn-returns-clause-runs g t c k =
     let rules = under g.H.Host.name_of c.args.self.now g.T.NativeTable.natives in
     let loop = loop_in c.args.parts in
     let rest = turns_in c.next.new.self in
-    c.in_default-entered.ensures.enters (offer_of c.args.self.now) (holding c.args.run.now.this) _ rest k c.in-Some.ensures.some
+    c.if-not-enter_turn.ensures.enters (offer_of c.args.self.now) (holding c.args.run.now.this) _ rest k c.in-Some.ensures.some
     (λ empty. absurd (true≢false (sym (c.is_empty.ensures.1 empty) ∙ c.if-is_empty.false)))
     ⨾ (rw c.as_slice-statements.ensures at c.run_stmt_block-done.ensures.runs) (ForBody loop rest c.args.turn c.args.base ∷ k)
     ⨾ rw c.turn_end.ensures
@@ -198,7 +195,7 @@ run_for_turn-returns-clause-runs g t c k =
 pub run_for_turn-returns-clause-charges : goal.run_for_turn-returns-clause-charges
 run_for_turn-returns-clause-charges g t c none =
     let rules = under g.H.Host.name_of c.args.self.now g.T.NativeTable.natives in
-    let count = ap (λ (global : GlobalRuntimeState _). global.num_operations) c.enter_turn-entered.ensures.rest in
+    let count = ap (λ (global : GlobalRuntimeState _). global.num_operations) c.enter_turn.ensures.rest in
     let charged = on_turn rules (loop_in c.args.parts) [] _ _ _ _ _ c.turn_end.ensures none
     (body_charges rules c.args.parts.body.now.statements _ _ (came c.run_stmt_block-done.result c.run_stmt_block-done.new.run.value
     c.run_stmt_block-done.new.run.error) (λ empty. absurd
@@ -209,7 +206,7 @@ run_for_turn-returns-clause-charges g t c none =
 pub run_for_turn-returns-clause-counts : goal.run_for_turn-returns-clause-counts
 run_for_turn-returns-clause-counts g t c =
     let rules = under g.H.Host.name_of c.args.self.now g.T.NativeTable.natives in
-    let count = ap (λ (global : GlobalRuntimeState _). global.num_operations) c.enter_turn-entered.ensures.rest in
+    let count = ap (λ (global : GlobalRuntimeState _). global.num_operations) c.enter_turn.ensures.rest in
     let later = counted rules _ _ _ _ c.run_stmt_block-done.ensures.runs in
     let counts : c.args.run.now.global.num_operations ≤ c.run_stmt_block-done.new.run.global.num_operations =
     omega (arith, later, count) in
@@ -220,11 +217,11 @@ run_for_turn-returns-clause-names_stay g t c none =
     let rules = under g.H.Host.name_of c.args.self.now g.T.NativeTable.natives in
     names_stay rules (Enter c.args.parts.body.now.statements true) (ended (came c.run_stmt_block-done.result
     c.run_stmt_block-done.new.run.value c.run_stmt_block-done.new.run.error)) _ _ tt tt
-    (rw c.as_slice-statements.ensures at c.run_stmt_block-done.ensures.runs) ∙ c.enter_turn-entered.ensures.names
+    (rw c.as_slice-statements.ensures at c.run_stmt_block-done.ensures.runs) ∙ c.enter_turn.ensures.names
 
 pub run_for_turn-returns-clause-names : goal.run_for_turn-returns-clause-names
 run_for_turn-returns-clause-names g t c =
     let rules = under g.H.Host.name_of c.args.self.now g.T.NativeTable.natives in
     if_well _ (names_stay rules (Enter c.args.parts.body.now.statements true) (ended
     (came c.run_stmt_block-done.result c.run_stmt_block-done.new.run.value c.run_stmt_block-done.new.run.error)) _ _ tt tt
-    (rw c.as_slice-statements.ensures at c.run_stmt_block-done.ensures.runs) ∙ c.enter_turn-entered.ensures.names)
+    (rw c.as_slice-statements.ensures at c.run_stmt_block-done.ensures.runs) ∙ c.enter_turn.ensures.names)

@@ -5,7 +5,7 @@ use Rattle.rhai_machine.specs.language.Runs.{Steps}
 use Rattle.rhai_machine.specs.language.Setting.{Offer, rules_of}
 use Rattle.rhai_machine.specs.language.State.{Held}
 use Rattle.rhai_steps.specs.States.{state_of}
-use Rattle.rhai_sharing.proofs.share_variables.Given as goal
+use Rattle.rhai_sharing.proofs.share_each.Given as goal
 
 -- the variables before one are shared
 abbrev pub invariant-each_variable : goal.invariant-each_variable

@@ -8,7 +8,7 @@ use Rattle.rhai_machine.specs.language.Setting.{rules_of}
 use Rattle.rhai_steps.specs.States.{local_of}
 use Rattle.rhai_steps.proofs.Pieces.{exits}
 use Rattle.rhai_sharing.proofs.Steps.{drop_all, drop_item, is_none, item_there, left_so, shares_none, shares_not, shares_one, shares_wanting}
-use Rattle.rhai_sharing.proofs.share_variables.Goals as goal
+use Rattle.rhai_sharing.proofs.share_each.Goals as goal
 
 pub each_variable-init : goal.each_variable-init
 unfolding Steps
