@@ -10,6 +10,7 @@ ghost use Rattle.rhai_calls.specs.Dispatch.{Offers};
 ghost use Rattle.rhai_calls.specs.Operates.{Operates};
 
 use crate::dispatch::{Called, call_all};
+use rhai_context::ends::take_value;
 use rhai_functions::function::Offered;
 use rhai_operators::{builtin_binary, builtin_unary};
 use rhai_state::error::EvalAltResult;
@@ -19,6 +20,7 @@ use rhai_state::table::NativeTable;
 use rhai_steps::replies::applied;
 use rhai_steps::values::let_go;
 use rhai_tree::Items;
+use rhai_tree::expr::FnCallExpr;
 use rhai_tree::position::Position;
 use rhai_tree::token::Token;
 use rhai_values::base::value::{Dynamic, Host};
@@ -89,8 +91,8 @@ fn call_listed<H: Host, T: NativeTable<H>>(
     }
 }
 
-/// A unary operator whose operand is there: the built-in, or else a call of its name. A function of a script
-/// that has it is for the caller to enter.
+/// A unary operator whose operand is the value of a run: the built-in, or else a call of its name. A function of a
+/// script that has it is for the caller to enter.
 ///
 /// # Errors
 /// The built-in's at the operator. `ErrorDataTooLarge` for a value above a limit. Of the call those
@@ -101,25 +103,23 @@ pub fn operate_one<H: Host, T: NativeTable<H>>(
     offered: &Offered<'_, H>,
     global: &mut GlobalRuntimeState<H>,
     table: &mut T,
-    name: &str,
+    call: &FnCallExpr,
     token: Token,
-    operand: Dynamic<H>,
+    out: &mut Dynamic<H>,
     pos: Position,
 ) -> Called<H>
     ensures counts { global.old.num_operations ≤ global.new.num_operations }
     ensures runs { (offer : _) (scope : _) (held : _) → Offers offer offered.now → Operates
         (rules_of limits.now H.name_of offer T.natives)
-        (call_at name.now token pos (operand ∷ []))
+        (call_at call.now.name token pos (out.old ∷ []))
         (state_of (T.state table.old) global.old scope held)
         result (state_of (T.state table.new) global.new scope held) }
 {
-    match builtin_unary(alloc, token, &operand) {
-        Some(outcome) => {
-            let_go(operand);
-            Called::Ended(applied(alloc, limits, outcome, pos))
-        }
+    match builtin_unary(alloc, token, &*out) {
+        Some(outcome) => Called::Ended(applied(alloc, limits, outcome, pos)),
         None => {
-            let operands = one(alloc, operand);
+            let operands = one(alloc, take_value(out));
+            let name = call.name.get().as_str();
             call_listed(
                 limits, alloc, offered, global, table, name, token, operands, pos,
             )
@@ -127,8 +127,8 @@ pub fn operate_one<H: Host, T: NativeTable<H>>(
     }
 }
 
-/// A binary operator whose operands are there: the built-in, or else a call of its name. A function of a
-/// script that has it is for the caller to enter.
+/// A binary operator whose left operand is there and whose right one is the value of a run: the built-in, or else a
+/// call of its name. A function of a script that has it is for the caller to enter.
 ///
 /// # Errors
 /// Those of `operate_one`.
@@ -138,27 +138,27 @@ pub fn operate_two<H: Host, T: NativeTable<H>>(
     offered: &Offered<'_, H>,
     global: &mut GlobalRuntimeState<H>,
     table: &mut T,
-    name: &str,
+    call: &FnCallExpr,
     token: Token,
     left: Dynamic<H>,
-    right: Dynamic<H>,
+    out: &mut Dynamic<H>,
     pos: Position,
 ) -> Called<H>
     ensures counts { global.old.num_operations ≤ global.new.num_operations }
     ensures runs { (offer : _) (scope : _) (held : _) → Offers offer offered.now → Operates
         (rules_of limits.now H.name_of offer T.natives)
-        (call_at name.now token pos (left ∷ right ∷ []))
+        (call_at call.now.name token pos (left ∷ out.old ∷ []))
         (state_of (T.state table.old) global.old scope held)
         result (state_of (T.state table.new) global.new scope held) }
 {
-    match builtin_binary(alloc, token, &left, &right) {
+    match builtin_binary(alloc, token, &left, &*out) {
         Some(outcome) => {
             let_go(left);
-            let_go(right);
             Called::Ended(applied(alloc, limits, outcome, pos))
         }
         None => {
-            let operands = two(alloc, left, right);
+            let operands = two(alloc, left, take_value(out));
+            let name = call.name.get().as_str();
             call_listed(
                 limits, alloc, offered, global, table, name, token, operands, pos,
             )

@@ -1,7 +1,8 @@
 -- A function of a script that is entered and left.
 use Rattle.std.proofs.Common.{◌≡◌, ◌≢◌, ◌<◌, ◌≤◌, ◌+◌, ℕ, zero, suc, Bool, true, false, List, [], ◌∷◌, ◌++◌, Option, Some, None, Result, Ok, Err}
-use Rattle.std.proofs.Common.{refl, sym, ap, subst, ◌∙◌, arith, length, map, take, drop, IsTrue}
+use Rattle.std.proofs.Common.{refl, sym, ap, subst, ◌∙◌, arith, inl, inr, length, map, take, drop, IsTrue}
 use Rattle.std.proofs.Math.Seq.{take-append_seam, take-length}
+use Rattle.std.proofs.lemmas.Bool.{cases_lt, true≢false}
 use Rattle.std.proofs.lemmas.List.{append-nil, length-append, map-append}
 use Rattle.rhai_tree.specs.Frame.{all_resolve, resolves_body, resolves_stmt, ResolvesFunction}
 use Rattle.rhai_tree.specs.Names.{Name}
@@ -43,6 +44,7 @@ use Rattle.rhai_laws.proofs.KeptLaws.{grown}
 use Rattle.rhai_bodies.specs.Opening.{enterable, entered_global, entry, exit_seen, is_deep, is_full}
 use Rattle.rhai_bodies.proofs.Calls.{enters, passes, refuses}
 use Rattle.rhai_context.specs.declared.Context.{Context}
+use Rattle.rhai_context.specs.Ends.{came, error_in}
 use Rattle.rhai_laws.proofs.Keeping.{few_parameters}
 use Rattle.rhai_cycle.specs.Bodies.{behind_call, entered, held_again}
 use Rattle.rhai_functions.specs.declared.function.Function.{Function}
@@ -400,6 +402,71 @@ module _ {S H : Type 0} (rules : Rules S H) (e : Entered H) (t : S) (old mid : G
             (body_runs rules e t old mid scope held room charged deep_is full_there outcome result (state_in left run) some
             (subst (λ (s : State S H). Runs rules (Enter (statements_of e.def.body) e.restores) s outcome (state_in left run)) here_entered runs)
             (told exit ends)))
+
+-- a call that ended before its body did not end in two ways, and one that is to enter it has not ended
+ended_once : {P : Type 0} (result : Option Bool) → result ≡ Some true → result ≡ Some false → P
+ended_once result passed failed = absurd cc
+
+not_ended : {P : Type 0} (result : Option Bool) → result ≡ None → result ≡ Some false → P
+not_ended result enters failed = absurd cc
+
+-- a call that is to enter its body was charged
+pub was_charged : (count limit : ℕ) (result : Option Bool) → result ≡ None → (limit ≤ count → result ≡ Some false) → count < limit
+was_charged count limit result enters spent = elim (cases_lt count limit) as (λ _. count < limit) [
+  | inl room ↦ room
+  | inr full ↦ not_ended result enters (spent full)
+]
+
+-- and so was one that passed its body over
+pub passed_charged : (count limit : ℕ) (done : Bool) (result : Option Bool) → result ≡ Some done → IsTrue done →
+    (limit ≤ count → result ≡ Some false) → count < limit
+passed_charged count limit false result is well spent = absurd cc
+passed_charged count limit true result is well spent = elim (cases_lt count limit) as (λ _. count < limit) [
+  | inl room ↦ room
+  | inr full ↦ ended_once result is (spent full)
+]
+
+module _ {S H : Type 0} (rules : Rules S H) (e : Entered H) (t : S) (old mid : GlobalRuntimeState H) (scope : Scope H) (held : Held H)
+    (start : Context H) (scope_is : entries_of start.scope ≡ variables_before e.is_fresh (local_of old scope held).scope)
+    (this_is : start.this ≡ this_by e.object (local_of old scope held)) (run : Context H) (alike : run ≡ record start { global = mid })
+    (out : Dynamic H) (place : Option (EvalAltResult H)) (result : Option Bool) where
+  abbrev ends_early : Bool → Type 0
+  ends_early done = Runs rules (EnterFunction e) (state_of t old scope held) (came done out place)
+      (behind_call e (local_of old scope held) (state_in t run))
+
+  abbrev variables : ℕ
+  variables = length (entries_of start.scope)
+
+  module _ (spent : limit_under rules ≤ old.num_operations →
+      (result ≡ Some false) × (error_in place ≡ error.ErrorTooManyOperations e.at) × (mid ≡ old))
+      (charged : old.num_operations < limit_under rules → mid ≡ record old { num_operations = old.num_operations + 1 })
+      (refused : old.num_operations < limit_under rules → result ≡ Some false →
+      (entry rules.setting.limits e.level variables (length e.def.params) e.at ≡ Err (error_in place))
+      × (is_out_of_memory (error_in place) ≡ false))
+      (passed : result ≡ Some true → (is_deep rules.setting.limits e.level ≡ false)
+      × (is_full rules.setting.limits variables (length e.def.params) ≡ false) × (statements_of e.def.body ≡ []) × (out ≡ unit_value)) where
+    fails_early : result ≡ Some false → ends_early false
+    fails_early is = elim (cases_lt old.num_operations (limit_under rules)) as (λ _. ends_early false) [
+      | inl room ↦ failed_ends rules e t old mid scope held start scope_is this_is room (charged room) (error_in place)
+          (λ memory. (refused room is).0) (λ wants. absurd (true≢false (sym wants ∙ (refused room is).1))) run
+          (ap (λ (r : Context H). r.global) alike) (ap (λ (r : Context H). entries_of r.scope) alike)
+          (ap (λ (r : Context H). r.this) alike)
+      | inr full ↦ refused_ends rules e t old mid scope held start scope_is this_is (error_in place) full (spent full).1 (spent full).2 run
+          alike
+    ]
+
+    passes_early : result ≡ Some true → ends_early true
+    passes_early is = elim (cases_lt old.num_operations (limit_under rules)) as (λ _. ends_early true) [
+      | inl room ↦ rw (passed is).3 (passed_ends rules e t old mid scope held start scope_is this_is room (charged room) (passed is).0
+          (passed is).1 (passed is).2 run (ap (λ (r : Context H). r.global) alike) (ap (λ (r : Context H). entries_of r.scope) alike)
+          (ap (λ (r : Context H). r.this) alike))
+      | inr full ↦ ended_once result is (spent full).0
+    ]
+
+    -- it ends before its body
+    pub early_ends : (done : Bool) → result ≡ Some done → ends_early done
+    early_ends false is = fails_early is
+    early_ends true is = passes_early is
 
 module _ {S H : Type 0} (rules : Rules S H) (f : Function H) where
   -- a function with variables of its own

@@ -342,7 +342,7 @@ impl<'e, H: Host> Evaluator<'e, H> {
         }
         let cells = &run.global.cells;
         let (out, place) = (&mut run.value, &mut run.error);
-        if !push_argument(alloc, cells, values, out, place, true, arg.position()) {
+        if !push_argument(alloc, cells, values, out, place, true, arg) {
             return false;
         }
         self.run_more_args(alloc, run, table, values, rest, true)
@@ -374,7 +374,7 @@ impl<'e, H: Host> Evaluator<'e, H> {
             }
             let cells = &run.global.cells;
             let (out, place) = (&mut run.value, &mut run.error);
-            if !push_argument(alloc, cells, values, out, place, flattened, arg.position()) {
+            if !push_argument(alloc, cells, values, out, place, flattened, arg) {
                 return false;
             }
         }

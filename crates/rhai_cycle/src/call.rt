@@ -7,9 +7,11 @@ ghost use Rattle.std.specs.Option.{option_copied};
 ghost use Rattle.rhai_tree.specs.Frame.{all_resolve_exprs, resolves_expr, resolves_call, tests_of};
 ghost use Rattle.rhai_tree.specs.declared.expr.Expr.TheOpen as layer;
 ghost use Rattle.rhai_tree.specs.Positions.{start_of};
+ghost use Rattle.rhai_machine.specs.language.Calls.{call_at};
 ghost use Rattle.rhai_machine.specs.language.Frames.{Argument, KeywordArgument, OpenExpr};
 ghost use Rattle.rhai_machine.specs.language.Arguments.{arguments_core};
 ghost use Rattle.rhai_machine.specs.language.Runs.{Runs};
+ghost use Rattle.rhai_calls.specs.Operates.{Operates};
 ghost use Rattle.rhai_pointers.specs.Keywords.{word_of};
 ghost use Rattle.rhai_pointers.specs.Leading.{all_args};
 ghost use Rattle.rhai_dispatch.specs.Going.{GoesOut};
@@ -21,8 +23,9 @@ use crate::evaluator::Evaluator;
 use rhai_calls::dispatch::Called;
 use rhai_calls::operators::{operate_one, operate_two};
 use rhai_context::ends::{put, settle, stop, take_value};
-use rhai_context::outcomes::flatten_value;
+use rhai_context::outcomes::flatten_at;
 use rhai_context::{Context, keep_list, lend_list};
+use rhai_dispatch::arguments::parts_of_call;
 use rhai_dispatch::pointer::parts_of;
 use rhai_dispatch::{call_function, call_number};
 use rhai_functions::function::Function;
@@ -82,23 +85,11 @@ impl<'e, H: Host> Evaluator<'e, H> {
                 if !self.run_arg(alloc, run, table, operand) {
                     return false;
                 }
-                let at = operand.position();
-                if !flatten_value(alloc, &run.global.cells, &mut run.value, &mut run.error, at) {
+                let (out, place) = (&mut run.value, &mut run.error);
+                if !flatten_at(alloc, &run.global.cells, out, place, operand) {
                     return false;
                 }
-                let value = take_value(&mut run.value);
-                let offered = self.offered();
-                let called = operate_one(
-                    self.limits,
-                    alloc,
-                    &offered,
-                    &mut run.global,
-                    table,
-                    call.name.get().as_str(),
-                    token,
-                    value,
-                    pos,
-                );
+                let called = self.operate_on_one(alloc, run, table, call, token, pos);
                 self.run_out(alloc, run, table, called, true, pos)
             }
             CallForm::Binary(token, left, right) => {
@@ -122,11 +113,10 @@ impl<'e, H: Host> Evaluator<'e, H> {
                 self.run_operator(alloc, run, table, call, token, left, right, pos)
             }
             CallForm::Function => {
-                if let Some(function) = plain_callee(run.global.lib.as_slice(), call) {
+                if let Some(function) = plain_callee(&run.global, call) {
                     return self.run_plain_call(alloc, run, table, call, function, pos);
                 }
-                let (first, rest) = parted(call.args.as_slice());
-                let name = call.name.get().as_str();
+                let (name, first, rest) = parts_of_call(call);
                 let captures = call.capture_parent_scope;
                 self.run_call(
                     alloc,
@@ -344,6 +334,72 @@ impl<'e, H: Host> Evaluator<'e, H> {
         self.run_out(alloc, run, table, called, true, pos)
     }
 
+    /// A unary operator on the value of a run. A function of a script that has it is for the caller to enter.
+    #[inline(always)]
+    fn operate_on_one<T: NativeTable<H>>(
+        &self,
+        alloc: Global,
+        run: &mut Context<H>,
+        table: &mut T,
+        call: &FnCallExpr,
+        token: Token,
+        pos: Position,
+    ) -> Called<H>
+        ensures counts { run.old.global.num_operations ≤ run.new.global.num_operations }
+        ensures scope { run.new.scope ≡ run.old.scope }
+        ensures runs { Operates (under H.name_of self.now T.natives)
+            (call_at call.now.name token pos (run.old.value ∷ [])) (state_in (T.state table.old) run.old)
+            result (state_in (T.state table.new) run.new) }
+    {
+        let offered = self.offered();
+        let (global, out) = (&mut run.global, &mut run.value);
+        operate_one(
+            self.limits,
+            alloc,
+            &offered,
+            global,
+            table,
+            call,
+            token,
+            out,
+            pos,
+        )
+    }
+
+    /// A binary operator on a value and that of a run. A function of a script that has it is for the caller to enter.
+    #[inline(always)]
+    fn operate_on_two<T: NativeTable<H>>(
+        &self,
+        alloc: Global,
+        run: &mut Context<H>,
+        table: &mut T,
+        call: &FnCallExpr,
+        token: Token,
+        left: Dynamic<H>,
+        pos: Position,
+    ) -> Called<H>
+        ensures counts { run.old.global.num_operations ≤ run.new.global.num_operations }
+        ensures scope { run.new.scope ≡ run.old.scope }
+        ensures runs { Operates (under H.name_of self.now T.natives)
+            (call_at call.now.name token pos (left ∷ run.old.value ∷ [])) (state_in (T.state table.old) run.old)
+            result (state_in (T.state table.new) run.new) }
+    {
+        let offered = self.offered();
+        let (global, out) = (&mut run.global, &mut run.value);
+        operate_two(
+            self.limits,
+            alloc,
+            &offered,
+            global,
+            table,
+            call,
+            token,
+            left,
+            out,
+            pos,
+        )
+    }
+
     /// A binary operator whose operands are evaluated, the left one first. How it ended stands in the run.
     #[inline(never)]
     #[cycle(eval)]
@@ -372,8 +428,8 @@ impl<'e, H: Host> Evaluator<'e, H> {
         if !self.run_arg(alloc, run, table, left) {
             return false;
         }
-        let at = left.position();
-        if !flatten_value(alloc, &run.global.cells, &mut run.value, &mut run.error, at) {
+        let (out, place) = (&mut run.value, &mut run.error);
+        if !flatten_at(alloc, &run.global.cells, out, place, left) {
             return false;
         }
         let first = take_value(&mut run.value);
@@ -381,29 +437,15 @@ impl<'e, H: Host> Evaluator<'e, H> {
             let_go(first);
             return false;
         }
-        let at = right.position();
-        if !flatten_value(alloc, &run.global.cells, &mut run.value, &mut run.error, at) {
+        let (out, place) = (&mut run.value, &mut run.error);
+        if !flatten_at(alloc, &run.global.cells, out, place, right) {
             let_go(first);
             return false;
         }
-        if let Some(value) = operate_known(token, &first, &run.value) {
-            put(&mut run.value, value);
+        if operate_known(token, &first, &mut run.value) {
             return true;
         }
-        let second = take_value(&mut run.value);
-        let offered = self.offered();
-        let called = operate_two(
-            self.limits,
-            alloc,
-            &offered,
-            &mut run.global,
-            table,
-            call.name.get().as_str(),
-            token,
-            first,
-            second,
-            pos,
-        );
+        let called = self.operate_on_two(alloc, run, table, call, token, first, pos);
         self.run_out(alloc, run, table, called, true, pos)
     }
 

@@ -10,7 +10,6 @@ ghost use Rattle.rhai_cycle.specs.States.{names, state_in, under};
 
 use crate::evaluator::Evaluator;
 use rhai_context::Context;
-use rhai_context::ends::{settle, stop, take_value};
 use rhai_data::array::ArrayItems;
 use rhai_data::map::EntryValues;
 use rhai_data::text::{finish, join};
@@ -45,21 +44,14 @@ impl<'e, H: Host> Evaluator<'e, H> {
                 drop(made);
                 return false;
             }
-            let value = take_value(&mut run.value);
-            let added = made.add(
-                alloc,
-                self.limits,
-                &run.global.cells,
-                value,
-                item.position(),
-            );
-            if let Err(error) = added {
+            let cells = &run.global.cells;
+            let (out, place) = (&mut run.value, &mut run.error);
+            if !made.add(alloc, self.limits, cells, out, place, item) {
                 drop(made);
-                return stop(&mut run.error, error);
+                return false;
             }
         }
-        let array = made.finish(alloc, pos);
-        settle(&mut run.error, &mut run.value, array)
+        made.finish(alloc, &mut run.value, &mut run.error, pos)
     }
 
     /// A map of the values of its entries, which are evaluated from left to right. How it ended
@@ -87,21 +79,14 @@ impl<'e, H: Host> Evaluator<'e, H> {
                 drop(made);
                 return false;
             }
-            let value = take_value(&mut run.value);
-            let added = made.add(
-                alloc,
-                self.limits,
-                &run.global.cells,
-                value,
-                entry.value.position(),
-            );
-            if let Err(error) = added {
+            let cells = &run.global.cells;
+            let (out, place) = (&mut run.value, &mut run.error);
+            if !made.add(alloc, self.limits, cells, out, place, &entry.value) {
                 drop(made);
-                return stop(&mut run.error, error);
+                return false;
             }
         }
-        let map = made.finish(alloc, entries, pos);
-        settle(&mut run.error, &mut run.value, map)
+        made.finish(alloc, &mut run.value, &mut run.error, entries, pos)
     }
 
     /// A text that is joined of the values of its parts, which are evaluated from left to right. How it ended
@@ -128,21 +113,20 @@ impl<'e, H: Host> Evaluator<'e, H> {
             if !self.run_expr(alloc, run, table, part) {
                 return false;
             }
-            let value = take_value(&mut run.value);
-            let joined = join(
+            let (global, out, place) = (&mut run.global, &mut run.value, &mut run.error);
+            if !join(
                 self.limits,
                 alloc,
-                &mut run.global,
+                global,
                 table,
                 &mut text,
-                value,
-                part.position(),
-            );
-            if let Err(error) = joined {
-                return stop(&mut run.error, error);
+                out,
+                place,
+                part,
+            ) {
+                return false;
             }
         }
-        let whole = finish(alloc, text, pos);
-        settle(&mut run.error, &mut run.value, whole)
+        finish(alloc, &mut run.value, &mut run.error, text, pos)
     }
 }

@@ -2,7 +2,6 @@
 //! `func/call.rs` and `call_script_fn` that such a call takes; the contracts speak of the machine's runs.
 
 ghost use Rattle.std.specs.Prelude.{◌≡◌, ◌≤◌, [], None, IsTrue, false, length, map};
-ghost use Rattle.std.specs.Option.{option_copied};
 ghost use Rattle.rhai_tree.specs.Frame.{all_resolve_exprs, tests_of};
 ghost use Rattle.rhai_state.specs.Scope.{entries_of};
 ghost use Rattle.rhai_machine.specs.language.Arguments.{arguments_core};
@@ -14,13 +13,11 @@ ghost use Rattle.rhai_cycle.specs.Calls.{Fills, StartsAs};
 ghost use Rattle.rhai_cycle.specs.States.{names, state_in, under};
 
 use crate::evaluator::Evaluator;
-use rhai_bodies::callers::level_below;
-use rhai_bodies::closing::close_body;
-use rhai_bodies::opening::{enter_level, may_run, statements_of};
-use rhai_context::ends::put_unit;
-use rhai_context::outcomes::charge;
-use rhai_context::{Context, enter_scope, keep_scope, leave_scope, lend_scope};
-use rhai_plain::parameters::{push_parameter, stop_race, variables_race};
+use rhai_bodies::callers::definition_of;
+use rhai_bodies::opening::statements_of;
+use rhai_context::{Context, keep_scope, lend_scope};
+use rhai_plain::calls::{ends_before, enter_plain, leave_plain, stops_by_race};
+use rhai_plain::parameters::push_parameter;
 use rhai_state::scope::Scope;
 use rhai_state::table::NativeTable;
 use rhai_tree::Shared;
@@ -28,17 +25,8 @@ use rhai_tree::checked::CheckedFn;
 use rhai_tree::expr::{Expr, FnCallExpr};
 use rhai_tree::function::ScriptFuncDef;
 use rhai_tree::position::Position;
-use rhai_values::base::value::{EncapsulatedEnviron, Host};
+use rhai_values::base::value::Host;
 use std::alloc::Global;
-
-/// The environment of a function that has none. A `None` that a function of the cycle hands on itself as an
-/// `Option<&T>` has a lifetime that the borrow checker's part of the cycle's proof does not find.
-#[inline(always)]
-fn no_environ<H: Host>(_def: &ScriptFuncDef) -> Option<&EncapsulatedEnviron<H>>
-    ensures { option_copied result ≡ None }
-{
-    None
-}
 
 impl<'e, H: Host> Evaluator<'e, H> {
     /// A call whose function is known before its arguments are evaluated. Its scope keeps its room for another call.
@@ -64,41 +52,27 @@ impl<'e, H: Host> Evaluator<'e, H> {
             (state_in (T.state table.old) run.old)
             (came result run.new.value run.new.error) (state_in (T.state table.new) run.new) }
     {
-        let def = function.get();
+        let def = definition_of(&function);
         let mut scope = lend_scope(alloc, run);
         let args = call.args.as_slice();
-        if !self.run_parameters(alloc, run, table, &mut scope, def.def(), args) {
+        if !self.run_parameters(alloc, run, table, &mut scope, def, args) {
             keep_scope(run, scope);
             return false;
         }
-        if variables_race(&run.global.cells, &scope) {
-            keep_scope(run, scope);
-            return stop_race(alloc, &mut run.error, call, pos);
-        }
-        if !charge(self.limits, &mut run.global, &mut run.error, pos) {
+        let cells = &run.global.cells;
+        if stops_by_race(alloc, cells, &mut run.error, &scope, call, pos) {
             keep_scope(run, scope);
             return false;
         }
-        let level = level_below(run.global.level);
-        let def = def.def();
-        if !may_run(self.limits, level, &mut run.error, def, pos) {
-            keep_scope(run, scope);
-            return false;
-        }
-        let statements = statements_of(def);
-        if statements.is_empty() {
-            keep_scope(run, scope);
-            put_unit(&mut run.value);
-            return true;
-        }
-        let exit = enter_level(&mut run.global, level);
-        let aside = enter_scope(run, scope);
-        let done = self.run_stmt_block(alloc, run, table, statements, true);
         let (global, out, place) = (&mut run.global, &mut run.value, &mut run.error);
-        let environ = no_environ(def);
-        let done = close_body(alloc, global, out, place, def, environ, exit, done, pos);
-        leave_scope(run, aside);
-        done
+        if let Some(done) = ends_before(self.limits, global, out, place, def, pos) {
+            keep_scope(run, scope);
+            return done;
+        }
+        let entered = enter_plain(run, scope);
+        let statements = statements_of(def);
+        let done = self.run_stmt_block(alloc, run, table, statements, true);
+        leave_plain(alloc, run, def, entered, done, pos)
     }
 
     /// The values of arguments become a function's variables, from left to right and flattened. Whether it went well;
@@ -128,7 +102,7 @@ impl<'e, H: Host> Evaluator<'e, H> {
             }
             let cells = &run.global.cells;
             let (out, place) = (&mut run.value, &mut run.error);
-            if !push_parameter(alloc, cells, out, place, scope, def, arg.position()) {
+            if !push_parameter(alloc, cells, out, place, scope, def, arg) {
                 return false;
             }
         }

@@ -1,7 +1,8 @@
 //! An array while it is made, one item after the other. Ports the array literal of upstream's
 //! `eval/expr.rs`.
 
-ghost use Rattle.std.specs.Prelude.{◌≡◌, List, [], ◌∷◌, ◌++◌, IfErr, OnOk, Ok, Err, false};
+ghost use Rattle.std.specs.Prelude.{◌≡◌, List, [], ◌∷◌, ◌++◌, IsTrue, Ok, Err, false};
+ghost use Rattle.rhai_tree.specs.Positions.{position_of};
 ghost use Rattle.rhai_values.specs.Cells.{cells_of};
 ghost use Rattle.rhai_values.specs.DataSize.{data_sizes};
 ghost use Rattle.rhai_values.specs.declared.base.value.Dynamic.{Dynamic};
@@ -9,12 +10,15 @@ ghost use Rattle.rhai_state.specs.Errors.{is_out_of_memory};
 ghost use Rattle.rhai_machine.specs.language.Data.{array_of, with_item as item_added};
 ghost use Rattle.rhai_machine.specs.language.State.{Answers};
 ghost use Rattle.rhai_machine.specs.language.Values.{flat};
+ghost use Rattle.rhai_context.specs.Ends.{came, error_in};
 ghost use Rattle.rhai_data.specs.Arrays.{IsMeasured};
 
+use rhai_context::ends::{put, stop, take_value};
+use rhai_context::outcomes::flatten_at;
 use rhai_state::error::EvalAltResult;
 use rhai_state::limits::Limits;
 use rhai_steps::errors::data_too_large;
-use rhai_steps::values::flatten;
+use rhai_tree::expr::Expr;
 use rhai_tree::position::Position;
 use rhai_tree::{Boxed, Items};
 use rhai_values::base::size::DataSizes;
@@ -57,8 +61,8 @@ impl<H: Host> ArrayItems<H> {
         }
     }
 
-    /// One item more, flattened. Its data is added to what was counted before, so that no item is
-    /// counted twice.
+    /// The value of a run, flattened, is one item more. Whether it went well; an error stands in the run's place. Its
+    /// data is added to what was counted before, so that no item is counted twice.
     ///
     /// # Errors
     /// Both at the item: `ErrorDataRace` for a handle whose cell is held, `ErrorDataTooLarge` where the
@@ -68,44 +72,57 @@ impl<H: Host> ArrayItems<H> {
         alloc: Global,
         limits: &Limits,
         cells: &CellStore<H>,
-        value: Dynamic<H>,
-        pos: Position,
-    ) -> Result<(), EvalAltResult<H>>
+        out: &mut Dynamic<H>,
+        place: &mut Option<EvalAltResult<H>>,
+        item: &Expr,
+    ) -> bool
         requires measured { IsMeasured self.old }
         ensures measured { IsMeasured self.new }
-        ensures added { OnOk result (item_added limits.now self.old.items
-            (flat (cells_of cells.now) value pos) pos ≡ Ok self.new.items) }
-        ensures refused { IfErr result (λ error. is_out_of_memory error ≡ false →
-            item_added limits.now self.old.items (flat (cells_of cells.now) value pos) pos ≡ Err error) }
-        ensures same { IfErr result (λ _. self.new ≡ self.old) }
+        ensures added { IsTrue result → item_added limits.now self.old.items
+            (flat (cells_of cells.now) out.old (position_of item.now)) (position_of item.now) ≡ Ok self.new.items }
+        ensures refused { result ≡ false → is_out_of_memory (error_in place.new) ≡ false →
+            item_added limits.now self.old.items (flat (cells_of cells.now) out.old (position_of item.now))
+            (position_of item.now) ≡ Err (error_in place.new) }
+        ensures same { result ≡ false → self.new ≡ self.old }
     {
-        let value = flatten(alloc, cells, value, pos)?;
-        let sizes = with_item(self.sizes, &value);
+        if !flatten_at(alloc, cells, out, place, item) {
+            return false;
+        }
+        let sizes = with_item(self.sizes, &*out);
         if let Some(fault) = sizes.exceeds(
             limits.max_string_size,
             limits.max_array_size,
             limits.max_map_size,
         ) {
-            drop(value);
-            return Err(data_too_large(alloc, fault, pos));
+            return stop(place, data_too_large(alloc, fault, item.position()));
         }
-        match self.items.push(value) {
+        match self.items.push(take_value(out)) {
             Ok(()) => {
                 self.sizes = sizes;
-                Ok(())
+                true
             }
-            Err(_) => Err(EvalAltResult::ErrorOutOfMemory(pos)),
+            Err(_) => stop(place, EvalAltResult::ErrorOutOfMemory(item.position())),
         }
     }
 
-    /// The array.
-    pub fn finish(self, alloc: Global, pos: Position) -> Result<Dynamic<H>, EvalAltResult<H>>
-        ensures { Answers result (Ok (array_of self.items)) }
+    /// The array becomes the value of a run. Whether there was memory for it; else the error stands in the run's
+    /// place.
+    pub fn finish(
+        self,
+        alloc: Global,
+        out: &mut Dynamic<H>,
+        place: &mut Option<EvalAltResult<H>>,
+        pos: Position,
+    ) -> bool
+        ensures { Answers (came result out.new place.new) (Ok (array_of self.items)) }
     {
         let ArrayItems { items, sizes: _ } = self;
         match Boxed::new(alloc, items) {
-            Ok(items) => Ok(Dynamic::new(Union::Array(items))),
-            Err(_) => Err(EvalAltResult::ErrorOutOfMemory(pos)),
+            Ok(items) => {
+                put(out, Dynamic::new(Union::Array(items)));
+                true
+            }
+            Err(_) => stop(place, EvalAltResult::ErrorOutOfMemory(pos)),
         }
     }
 }

@@ -1,21 +1,24 @@
 //! A map while it is made, one entry after the other. Ports the map literal of upstream's
 //! `eval/expr.rs`.
 
-ghost use Rattle.std.specs.Prelude.{◌≡◌, List, [], ◌∷◌, ◌++◌, IfErr, IfOk, OnOk, Ok, Err, false, map};
+ghost use Rattle.std.specs.Prelude.{◌≡◌, List, [], ◌∷◌, ◌++◌, IfOk, IsTrue, Ok, Err, false, map};
 ghost use Rattle.rhai_tree.specs.Keys.{key_of};
+ghost use Rattle.rhai_tree.specs.Positions.{position_of};
 ghost use Rattle.rhai_values.specs.Cells.{cells_of};
 ghost use Rattle.rhai_values.specs.declared.base.value.Dynamic.{Dynamic};
 ghost use Rattle.rhai_state.specs.Errors.{is_out_of_memory};
 ghost use Rattle.rhai_machine.specs.language.Data.{entry_sizes, filled, map_of, with_value as value_added};
 ghost use Rattle.rhai_machine.specs.language.State.{Answers};
 ghost use Rattle.rhai_machine.specs.language.Values.{flat};
+ghost use Rattle.rhai_context.specs.Ends.{came, error_in};
 ghost use Rattle.rhai_data.specs.Maps.{IsCounted};
 
+use rhai_context::ends::{put, stop, take_value};
+use rhai_context::outcomes::flatten_at;
 use rhai_state::error::EvalAltResult;
 use rhai_state::limits::Limits;
 use rhai_steps::errors::data_too_large;
-use rhai_steps::values::flatten;
-use rhai_tree::expr::MapEntry;
+use rhai_tree::expr::{Expr, MapEntry};
 use rhai_tree::position::Position;
 use rhai_tree::{Boxed, Items, Table};
 use rhai_values::base::size::DataSizes;
@@ -80,8 +83,8 @@ impl<H: Host> EntryValues<H> {
         }
     }
 
-    /// The value of the next entry, flattened. Its data is added to what was counted before, so that no
-    /// value is counted twice.
+    /// The value of a run, flattened, is that of the next entry. Whether it went well; an error stands in the run's
+    /// place. Its data is added to what was counted before, so that no value is counted twice.
     ///
     /// # Errors
     /// Both at the value: `ErrorDataRace` for a handle whose cell is held, `ErrorDataTooLarge` where the
@@ -91,49 +94,58 @@ impl<H: Host> EntryValues<H> {
         alloc: Global,
         limits: &Limits,
         cells: &CellStore<H>,
-        value: Dynamic<H>,
-        pos: Position,
-    ) -> Result<(), EvalAltResult<H>>
+        out: &mut Dynamic<H>,
+        place: &mut Option<EvalAltResult<H>>,
+        item: &Expr,
+    ) -> bool
         requires counted { IsCounted self.old }
         ensures counted { IsCounted self.new }
-        ensures added { OnOk result (value_added limits.now self.old.values
-            (flat (cells_of cells.now) value pos) pos ≡ Ok self.new.values) }
-        ensures refused { IfErr result (λ error. is_out_of_memory error ≡ false →
-            value_added limits.now self.old.values (flat (cells_of cells.now) value pos) pos ≡ Err error) }
-        ensures same { IfErr result (λ _. self.new ≡ self.old) }
+        ensures added { IsTrue result → value_added limits.now self.old.values
+            (flat (cells_of cells.now) out.old (position_of item.now)) (position_of item.now) ≡ Ok self.new.values }
+        ensures refused { result ≡ false → is_out_of_memory (error_in place.new) ≡ false →
+            value_added limits.now self.old.values (flat (cells_of cells.now) out.old (position_of item.now))
+            (position_of item.now) ≡ Err (error_in place.new) }
+        ensures same { result ≡ false → self.new ≡ self.old }
     {
-        let value = flatten(alloc, cells, value, pos)?;
-        let sizes = with_value(self.sizes, &value);
+        if !flatten_at(alloc, cells, out, place, item) {
+            return false;
+        }
+        let sizes = with_value(self.sizes, &*out);
         if let Some(fault) = sizes.exceeds(
             limits.max_string_size,
             limits.max_array_size,
             limits.max_map_size,
         ) {
-            drop(value);
-            return Err(data_too_large(alloc, fault, pos));
+            return stop(place, data_too_large(alloc, fault, item.position()));
         }
-        match self.values.push(value) {
+        match self.values.push(take_value(out)) {
             Ok(()) => {
                 self.sizes = sizes;
-                Ok(())
+                true
             }
-            Err(_) => Err(EvalAltResult::ErrorOutOfMemory(pos)),
+            Err(_) => stop(place, EvalAltResult::ErrorOutOfMemory(item.position())),
         }
     }
 
-    /// The map of the entries' keys with the values.
+    /// The map of the entries' keys with the values becomes the value of a run. Whether there was memory for it; else
+    /// the error stands in the run's place.
     pub fn finish(
         self,
         alloc: Global,
+        out: &mut Dynamic<H>,
+        place: &mut Option<EvalAltResult<H>>,
         entries: &[MapEntry],
         pos: Position,
-    ) -> Result<Dynamic<H>, EvalAltResult<H>>
-        ensures { Answers result (Ok (map_of (map key_of entries.now) self.values)) }
+    ) -> bool
+        ensures { Answers (came result out.new place.new) (Ok (map_of (map key_of entries.now) self.values)) }
     {
         let EntryValues { values, sizes: _ } = self;
         match made(alloc, entries, values) {
-            Ok(value) => Ok(value),
-            Err(AllocError) => Err(EvalAltResult::ErrorOutOfMemory(pos)),
+            Ok(value) => {
+                put(out, value);
+                true
+            }
+            Err(AllocError) => stop(place, EvalAltResult::ErrorOutOfMemory(pos)),
         }
     }
 }

@@ -4,6 +4,7 @@
 ghost use Rattle.std.specs.Prelude.{◌≡◌, ◌≤◌, IfErr, OnOk, Ok, Err, false};
 ghost use Rattle.std.specs.Option.{option_copied};
 ghost use Rattle.std.specs.String.{string_bytes};
+ghost use Rattle.rhai_tree.specs.Positions.{position_of};
 ghost use Rattle.rhai_values.specs.Cells.{cells_of};
 ghost use Rattle.rhai_values.specs.TypeNames.{type_name_of};
 ghost use Rattle.rhai_state.specs.Errors.{is_out_of_memory};
@@ -11,16 +12,20 @@ ghost use Rattle.rhai_machine.specs.language.Data.{text_of, with_part};
 ghost use Rattle.rhai_machine.specs.language.Setting.{rules_of};
 ghost use Rattle.rhai_machine.specs.language.State.{Answers};
 ghost use Rattle.rhai_steps.specs.States.{state_of};
+ghost use Rattle.rhai_context.specs.Ends.{came};
 ghost use Rattle.rhai_data.specs.Texts.{text_in as text_of_value, print_of, Prints, PrintsAndJoins};
 ghost use Rattle.rhai_data.specs.Texts.{Joins, JoinsFlat};
 
 use rhai_calls::native::call_native;
+use rhai_context::ends::{put, stop};
+use rhai_context::outcomes::flatten_at;
 use rhai_state::error::EvalAltResult;
 use rhai_state::limits::Limits;
 use rhai_state::state::GlobalRuntimeState;
 use rhai_state::table::NativeTable;
 use rhai_steps::errors::{data_too_large, shared_text};
-use rhai_steps::values::{copy, flatten, is_bare_handle};
+use rhai_steps::values::{copy, is_bare_handle};
+use rhai_tree::expr::Expr;
 use rhai_tree::position::Position;
 use rhai_tree::{Items, Shared, Text};
 use rhai_values::base::size::DataSizes;
@@ -237,8 +242,8 @@ fn join_flat<H: Host, T: NativeTable<H>>(
     }
 }
 
-/// Joins the value of a part: a text as it is, any other as the native `to_string` prints it, or as its
-/// type's name where that answers no text.
+/// Joins the value that a part gave a run: a text as it is, any other as the native `to_string` prints it, or as its
+/// type's name where that answers no text. Whether it went well; an error stands in the run's place.
 ///
 /// # Errors
 /// All at the part: `ErrorDataRace` for a handle whose cell is held, the errors of the system that the
@@ -249,27 +254,42 @@ pub fn join<H: Host, T: NativeTable<H>>(
     global: &mut GlobalRuntimeState<H>,
     table: &mut T,
     text: &mut String,
-    value: Dynamic<H>,
-    pos: Position,
-) -> Result<(), EvalAltResult<H>>
+    out: &mut Dynamic<H>,
+    place: &mut Option<EvalAltResult<H>>,
+    part: &Expr,
+) -> bool
     ensures counts { global.old.num_operations ≤ global.new.num_operations }
     ensures runs { (offer : _) (scope : _) (held : _) →
-        Joins (rules_of limits.now H.name_of offer T.natives) (string_bytes text.old) value pos
-        (state_of (T.state table.old) global.old scope held) result (string_bytes text.new)
+        Joins (rules_of limits.now H.name_of offer T.natives) (string_bytes text.old) out.old (position_of part.now)
+        (state_of (T.state table.old) global.old scope held) (came result (string_bytes text.new) place.new)
+        (string_bytes text.new)
         (state_of (T.state table.new) global.new scope held) }
 {
-    let value = flatten(alloc, &global.cells, value, pos)?;
-    let joined = join_flat(limits, alloc, global, table, text, &value, pos);
-    drop(value);
-    joined
+    if !flatten_at(alloc, &global.cells, out, place, part) {
+        return false;
+    }
+    match join_flat(limits, alloc, global, table, text, &*out, part.position()) {
+        Ok(()) => true,
+        Err(error) => stop(place, error),
+    }
 }
 
-/// A joined text.
-pub fn finish<H>(alloc: Global, text: String, pos: Position) -> Result<Dynamic<H>, EvalAltResult<H>>
-    ensures { Answers result (Ok (text_of (string_bytes text))) }
+/// A joined text becomes the value of a run. Whether there was memory for it; else the error stands in the run's
+/// place.
+pub fn finish<H: Host>(
+    alloc: Global,
+    out: &mut Dynamic<H>,
+    place: &mut Option<EvalAltResult<H>>,
+    text: String,
+    pos: Position,
+) -> bool
+    ensures { Answers (came result out.new place.new) (Ok (text_of (string_bytes text))) }
 {
     match Shared::new(alloc, Text::from_string(text)) {
-        Ok(text) => Ok(Dynamic::new(Union::Str(text))),
-        Err(_) => Err(EvalAltResult::ErrorOutOfMemory(pos)),
+        Ok(text) => {
+            put(out, Dynamic::new(Union::Str(text)));
+            true
+        }
+        Err(_) => stop(place, EvalAltResult::ErrorOutOfMemory(pos)),
     }
 }

@@ -1,47 +1,72 @@
 //! Lists of arguments.
 
-ghost use Rattle.std.specs.Prelude.{◌≡◌, ◌++◌, IfOk, IfErr, IsTrue, OnOk, Err, true, false};
+ghost use Rattle.std.specs.Prelude.{◌≡◌, ◌++◌, IfOk, IfErr, IsTrue, Err, true, false};
+ghost use Rattle.std.specs.Option.{option_copied};
+ghost use Rattle.rhai_tree.specs.Positions.{position_of};
 ghost use Rattle.rhai_values.specs.Cells.{cells_of};
 ghost use Rattle.rhai_state.specs.Errors.{is_out_of_memory};
 ghost use Rattle.rhai_machine.specs.language.Arguments.{taken as taken_as};
-ghost use Rattle.rhai_context.specs.Ends.{error_in};
+ghost use Rattle.rhai_machine.specs.language.State.{Answers};
+ghost use Rattle.rhai_pointers.specs.Leading.{all_args};
+ghost use Rattle.rhai_context.specs.Ends.{came, error_in};
 ghost use Rattle.rhai_dispatch.specs.Kept.{HasKept};
 
 use rhai_context::ends::{stop, take_value};
-use rhai_pointers::arguments::{keep_argument, taken};
+use rhai_context::outcomes::flatten_at;
+use rhai_pointers::arguments::parted;
 use rhai_state::error::EvalAltResult;
 use rhai_tree::Items;
+use rhai_tree::expr::{Expr, FnCallExpr};
 use rhai_tree::position::Position;
 use rhai_values::base::value::{Dynamic, Host};
 use rhai_values::cells::CellStore;
 use std::alloc::Global;
 
-/// Takes an argument behind those that are there; one of a function is flattened first.
-///
-/// # Errors
-/// `ErrorDataRace` at the argument, where it is the handle of a cell that is held and is flattened.
-pub fn take_argument<H: Host>(
+/// The name of a call, the first of its arguments, and the others.
+#[inline(always)]
+pub fn parts_of_call(call: &FnCallExpr) -> (&str, Option<&Expr>, &[Expr])
+    ensures name { result.0.now ≡ call.now.name }
+    ensures args { call.now.args ≡ all_args (option_copied result.1) result.2.now }
+{
+    let (first, rest) = parted(call.args.as_slice());
+    (call.name.get().as_str(), first, rest)
+}
+
+/// The value of a run as an argument: flattened for a function, and as it is for what keeps it.
+#[inline(always)]
+fn flatten_argument<H: Host>(
     alloc: Global,
     cells: &CellStore<H>,
-    made: &mut Items<Dynamic<H>>,
-    value: Dynamic<H>,
+    out: &mut Dynamic<H>,
+    place: &mut Option<EvalAltResult<H>>,
     flattened: bool,
-    pos: Position,
-) -> Result<(), EvalAltResult<H>>
-    ensures kept { OnOk result
-        (HasKept (taken_as flattened (cells_of cells.now) value pos) made.old made.new) }
-    ensures refused { IfErr result (λ e. is_out_of_memory e ≡ false →
-        taken_as flattened (cells_of cells.now) value pos ≡ Err e) }
+    arg: &Expr,
+) -> bool
+    ensures { Answers (came result out.new place.new)
+        (taken_as flattened (cells_of cells.now) out.old (position_of arg.now)) }
 {
-    let value = taken(alloc, cells, value, flattened, pos)?;
-    keep_argument(made, value, pos)
+    if flattened {
+        flatten_at(alloc, cells, out, place, arg)
+    } else {
+        true
+    }
+}
+
+/// A run stops at an argument for which there is no memory.
+#[cold]
+#[inline(never)]
+fn stop_without_room<H: Host>(place: &mut Option<EvalAltResult<H>>, arg: &Expr) -> bool
+    ensures stopped { result ≡ false }
+    ensures told { is_out_of_memory (error_in place.new) ≡ true }
+{
+    stop(place, EvalAltResult::ErrorOutOfMemory(arg.position()))
 }
 
 /// Takes the value of a run as an argument behind those that are there; one of a function is flattened first.
 /// Whether it went well; an error stands in the run's place.
 ///
 /// # Errors
-/// Those of `take_argument`.
+/// `ErrorDataRace` at the argument, where it is the handle of a cell that is held and is flattened.
 pub fn push_argument<H: Host>(
     alloc: Global,
     cells: &CellStore<H>,
@@ -49,16 +74,19 @@ pub fn push_argument<H: Host>(
     out: &mut Dynamic<H>,
     place: &mut Option<EvalAltResult<H>>,
     flattened: bool,
-    pos: Position,
+    arg: &Expr,
 ) -> bool
     ensures kept { IsTrue result →
-        HasKept (taken_as flattened (cells_of cells.now) out.old pos) made.old made.new }
+        HasKept (taken_as flattened (cells_of cells.now) out.old (position_of arg.now)) made.old made.new }
     ensures refused { result ≡ false → is_out_of_memory (error_in place.new) ≡ false →
-        taken_as flattened (cells_of cells.now) out.old pos ≡ Err (error_in place.new) }
+        taken_as flattened (cells_of cells.now) out.old (position_of arg.now) ≡ Err (error_in place.new) }
 {
-    match take_argument(alloc, cells, made, take_value(out), flattened, pos) {
+    if !flatten_argument(alloc, cells, out, place, flattened, arg) {
+        return false;
+    }
+    match made.push(take_value(out)) {
         Ok(()) => true,
-        Err(error) => stop(place, error),
+        Err(_) => stop_without_room(place, arg),
     }
 }
 

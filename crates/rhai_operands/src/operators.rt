@@ -229,17 +229,23 @@ pub fn operate_in_place<H: Host, T: NativeTable<H>>(
     )
 }
 
-/// The value that an operator gives for two values, where both are integers. None where one of them is none, or the
-/// operator gives no integer, or may not stand before an `=`.
+/// Where a value and that of a run are integers, what an operator gives for them becomes the value of the run. Whether
+/// it did: it does not where one of them is none, or the operator gives no integer, or may not stand before an `=`.
 #[inline(always)]
-pub fn operate_known<H: Host>(
-    token: Token,
-    left: &Dynamic<H>,
-    right: &Dynamic<H>,
-) -> Option<Dynamic<H>>
-    ensures { result ≡ assigned_known token (integer_in left.now.value) (integer_in right.now.value) }
+pub fn operate_known<H: Host>(token: Token, left: &Dynamic<H>, out: &mut Dynamic<H>) -> bool
+    ensures known { IsTrue result →
+        assigned_known token (integer_in left.now.value) (integer_in out.old.value) ≡ Some out.new }
+    ensures unknown { result ≡ false →
+        assigned_known {H = H} token (integer_in left.now.value) (integer_in out.old.value) ≡ None }
+    ensures same { result ≡ false → out.new ≡ out.old }
 {
-    assign_known(token, integer_at(left), integer_at(right))
+    match assign_known(token, integer_at(left), integer_at(&*out)) {
+        Some(value) => {
+            put(out, value);
+            true
+        }
+        None => false,
+    }
 }
 
 /// The truth value that an operator gave, None where it gave something else.

@@ -5,10 +5,11 @@ ghost use Rattle.rhai_plain.specs.Callees.{IsPlain, has_own_meaning as own_meani
 
 use rhai_functions::key::FnKey;
 use rhai_functions::lookup::find_in_modules;
+use rhai_state::state::GlobalRuntimeState;
 use rhai_tree::Shared;
 use rhai_tree::checked::CheckedFn;
 use rhai_tree::expr::{Expr, FnCallExpr};
-use rhai_values::base::value::{Host, Module, ModuleFn};
+use rhai_values::base::value::Host;
 
 /// Whether a name means something besides functions.
 fn has_own_meaning(name: &str) -> bool
@@ -35,15 +36,15 @@ fn starts_by_value(args: &[Expr]) -> bool
     !matches!(first, Expr::Variable { .. } | Expr::ThisPtr(..))
 }
 
-/// The function of the libraries that a call means whatever its arguments come to, with an owner of its own. None
+/// The function of a run's libraries that a call means whatever its arguments come to, with an owner of its own. None
 /// where that is not known before they are evaluated: of an operator, a call that captures its caller's variables,
 /// one whose first argument is a variable or `this`, a name that means something besides functions, and a function
 /// with an environment. It takes no memory.
 pub fn plain_callee<H: Host>(
-    lib: &[Shared<Module<H>>],
+    global: &GlobalRuntimeState<H>,
     call: &FnCallExpr,
 ) -> Option<Shared<CheckedFn>>
-    ensures { IfSome result (λ def. IsPlain call.now lib.now def) }
+    ensures { IfSome result (λ def. IsPlain call.now global.now.lib def) }
 {
     if call.op_token.is_some() || call.capture_parent_scope {
         return None;
@@ -58,7 +59,7 @@ pub fn plain_callee<H: Host>(
         arity: args.len(),
         this_type: None,
     };
-    let function = find_in_modules(lib, key)?;
+    let function = find_in_modules(global.lib.as_slice(), key)?;
     if function.environ.is_some() || has_own_meaning(name) {
         return None;
     }

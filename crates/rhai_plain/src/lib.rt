@@ -4,4 +4,5 @@
 #![tactic(auto)]
 
 pub mod callee;
+pub mod calls;
 pub mod parameters;

@@ -1,6 +1,7 @@
 //! Arguments that become a function's variables as they are evaluated.
 
-ghost use Rattle.std.specs.Prelude.{◌≡◌, ◌<◌, IsTrue, Err, false, length, map};
+ghost use Rattle.std.specs.Prelude.{◌≡◌, ◌<◌, IsTrue, Err, false, true, length, map};
+ghost use Rattle.rhai_tree.specs.Positions.{position_of};
 ghost use Rattle.rhai_values.specs.Cells.{cells_of};
 ghost use Rattle.rhai_state.specs.declared.error.EvalAltResult.TheVariants as error;
 ghost use Rattle.rhai_state.specs.Errors.{is_out_of_memory};
@@ -12,16 +13,26 @@ ghost use Rattle.rhai_plain.specs.Filling.{HasFilled};
 
 use rhai_calls::dispatch::is_held;
 use rhai_context::ends::{stop, take_value};
-use rhai_context::outcomes::flatten_value;
+use rhai_context::outcomes::flatten_at;
 use rhai_state::error::EvalAltResult;
 use rhai_state::scope::Scope;
 use rhai_steps::errors::data_race_by;
-use rhai_tree::expr::FnCallExpr;
+use rhai_tree::expr::{Expr, FnCallExpr};
 use rhai_tree::function::ScriptFuncDef;
 use rhai_tree::position::Position;
 use rhai_values::base::value::{AccessMode, Dynamic, Host};
 use rhai_values::cells::CellStore;
 use std::alloc::Global;
+
+/// A run stops at an argument for which there is no memory.
+#[cold]
+#[inline(never)]
+fn stop_without_room<H: Host>(place: &mut Option<EvalAltResult<H>>, arg: &Expr) -> bool
+    ensures stopped { result ≡ false }
+    ensures told { is_out_of_memory (error_in place.new) ≡ true }
+{
+    stop(place, EvalAltResult::ErrorOutOfMemory(arg.position()))
+}
 
 /// The value of a run, flattened, becomes a function's next parameter, which may be written. Whether it went well;
 /// an error stands in the run's place. Asked: there is a parameter for it.
@@ -35,23 +46,23 @@ pub fn push_parameter<H: Host>(
     place: &mut Option<EvalAltResult<H>>,
     scope: &mut Scope<H>,
     def: &ScriptFuncDef,
-    pos: Position,
+    arg: &Expr,
 ) -> bool
     requires { length (entries_of scope.old) < length def.now.params }
-    ensures filled { IsTrue result → HasFilled def.now.params (flat (cells_of cells.now) out.old pos)
+    ensures filled { IsTrue result → HasFilled def.now.params (flat (cells_of cells.now) out.old (position_of arg.now))
         (entries_of scope.old) (entries_of scope.new) }
     ensures refused { result ≡ false → is_out_of_memory (error_in place.new) ≡ false →
-        flat (cells_of cells.now) out.old pos ≡ Err (error_in place.new) }
+        flat (cells_of cells.now) out.old (position_of arg.now) ≡ Err (error_in place.new) }
 {
-    if !flatten_value(alloc, cells, out, place, pos) {
+    if !flatten_at(alloc, cells, out, place, arg) {
         return false;
     }
     let Ok(name) = def.params.as_slice()[scope.len()].share() else {
-        return stop(place, EvalAltResult::ErrorOutOfMemory(pos));
+        return stop_without_room(place, arg);
     };
     match scope.push_shared(name, AccessMode::ReadWrite, take_value(out)) {
         Ok(()) => true,
-        Err(_) => stop(place, EvalAltResult::ErrorOutOfMemory(pos)),
+        Err(_) => stop_without_room(place, arg),
     }
 }
 

@@ -127,11 +127,11 @@ run_fn_call_expr-run_operator-requires = calls.run_fn_call_expr-run_operator-req
 pub run_fn_call_expr-returns-then-not-run_arg-clause-runs : goal.run_fn_call_expr-returns-then-not-run_arg-clause-runs
 run_fn_call_expr-returns-then-not-run_arg-clause-runs = calls.run_fn_call_expr-returns-then-not-run_arg-clause-runs
 
-pub run_fn_call_expr-returns-then-not-flatten_value-clause-runs : goal.run_fn_call_expr-returns-then-not-flatten_value-clause-runs
-run_fn_call_expr-returns-then-not-flatten_value-clause-runs = calls.run_fn_call_expr-returns-then-not-flatten_value-clause-runs
+pub run_fn_call_expr-returns-then-not-flatten_at-clause-runs : goal.run_fn_call_expr-returns-then-not-flatten_at-clause-runs
+run_fn_call_expr-returns-then-not-flatten_at-clause-runs = calls.run_fn_call_expr-returns-then-not-flatten_at-clause-runs
 
-pub run_fn_call_expr-returns-else-not-flatten_value-clause-runs : goal.run_fn_call_expr-returns-else-not-flatten_value-clause-runs
-run_fn_call_expr-returns-else-not-flatten_value-clause-runs = calls.run_fn_call_expr-returns-else-not-flatten_value-clause-runs
+pub run_fn_call_expr-returns-else-not-flatten_at-clause-runs : goal.run_fn_call_expr-returns-else-not-flatten_at-clause-runs
+run_fn_call_expr-returns-else-not-flatten_at-clause-runs = calls.run_fn_call_expr-returns-else-not-flatten_at-clause-runs
 
 pub run_fn_call_expr-returns-in-Some-clause-runs : goal.run_fn_call_expr-returns-in-Some-clause-runs
 run_fn_call_expr-returns-in-Some-clause-runs = calls.run_fn_call_expr-returns-in-Some-clause-runs
@@ -160,17 +160,17 @@ run_operator-run_arg-requires-2 = calls.run_operator-run_arg-requires-2
 pub run_operator-returns-then-not-run_arg-clause-runs : goal.run_operator-returns-then-not-run_arg-clause-runs
 run_operator-returns-then-not-run_arg-clause-runs = calls.run_operator-returns-then-not-run_arg-clause-runs
 
-pub run_operator-returns-then-not-flatten_value-clause-runs : goal.run_operator-returns-then-not-flatten_value-clause-runs
-run_operator-returns-then-not-flatten_value-clause-runs = calls.run_operator-returns-then-not-flatten_value-clause-runs
+pub run_operator-returns-then-not-flatten_at-clause-runs : goal.run_operator-returns-then-not-flatten_at-clause-runs
+run_operator-returns-then-not-flatten_at-clause-runs = calls.run_operator-returns-then-not-flatten_at-clause-runs
 
 pub run_operator-returns-then-not-run_arg-2-clause-runs : goal.run_operator-returns-then-not-run_arg-2-clause-runs
 run_operator-returns-then-not-run_arg-2-clause-runs = calls.run_operator-returns-then-not-run_arg-2-clause-runs
 
-pub run_operator-returns-then-not-flatten_value-2-clause-runs : goal.run_operator-returns-then-not-flatten_value-2-clause-runs
-run_operator-returns-then-not-flatten_value-2-clause-runs = calls.run_operator-returns-then-not-flatten_value-2-clause-runs
+pub run_operator-returns-then-not-flatten_at-2-clause-runs : goal.run_operator-returns-then-not-flatten_at-2-clause-runs
+run_operator-returns-then-not-flatten_at-2-clause-runs = calls.run_operator-returns-then-not-flatten_at-2-clause-runs
 
-pub run_operator-returns-in-Some-clause-runs : goal.run_operator-returns-in-Some-clause-runs
-run_operator-returns-in-Some-clause-runs = calls.run_operator-returns-in-Some-clause-runs
+pub run_operator-returns-then-operate_known-clause-runs : goal.run_operator-returns-then-operate_known-clause-runs
+run_operator-returns-then-operate_known-clause-runs = calls.run_operator-returns-then-operate_known-clause-runs
 
 pub run_operator-returns-clause-runs : goal.run_operator-returns-clause-runs
 run_operator-returns-clause-runs = calls.run_operator-returns-clause-runs
@@ -346,8 +346,8 @@ run_array-each_item-init = making.run_array-each_item-init
 pub run_array-each_item-preserved : goal.run_array-each_item-preserved
 run_array-each_item-preserved = making.run_array-each_item-preserved
 
-pub run_array-returns-in-Err-clause-runs : goal.run_array-returns-in-Err-clause-runs
-run_array-returns-in-Err-clause-runs = making.run_array-returns-in-Err-clause-runs
+pub run_array-returns-then-not-add-clause-runs : goal.run_array-returns-then-not-add-clause-runs
+run_array-returns-then-not-add-clause-runs = making.run_array-returns-then-not-add-clause-runs
 
 pub run_array-returns-then-not-run_expr-clause-runs : goal.run_array-returns-then-not-run_expr-clause-runs
 run_array-returns-then-not-run_expr-clause-runs = making.run_array-returns-then-not-run_expr-clause-runs
@@ -364,8 +364,8 @@ run_map-each_entry-init = making.run_map-each_entry-init
 pub run_map-each_entry-preserved : goal.run_map-each_entry-preserved
 run_map-each_entry-preserved = making.run_map-each_entry-preserved
 
-pub run_map-returns-in-Err-clause-runs : goal.run_map-returns-in-Err-clause-runs
-run_map-returns-in-Err-clause-runs = making.run_map-returns-in-Err-clause-runs
+pub run_map-returns-then-not-add-clause-runs : goal.run_map-returns-then-not-add-clause-runs
+run_map-returns-then-not-add-clause-runs = making.run_map-returns-then-not-add-clause-runs
 
 pub run_map-returns-then-not-run_expr-clause-runs : goal.run_map-returns-then-not-run_expr-clause-runs
 run_map-returns-then-not-run_expr-clause-runs = making.run_map-returns-then-not-run_expr-clause-runs
@@ -385,8 +385,8 @@ run_interpolated-each_part-preserved = making.run_interpolated-each_part-preserv
 pub run_interpolated-returns-then-not-run_expr-clause-runs : goal.run_interpolated-returns-then-not-run_expr-clause-runs
 run_interpolated-returns-then-not-run_expr-clause-runs = making.run_interpolated-returns-then-not-run_expr-clause-runs
 
-pub run_interpolated-returns-in-Err-clause-runs : goal.run_interpolated-returns-in-Err-clause-runs
-run_interpolated-returns-in-Err-clause-runs = making.run_interpolated-returns-in-Err-clause-runs
+pub run_interpolated-returns-then-not-join-clause-runs : goal.run_interpolated-returns-then-not-join-clause-runs
+run_interpolated-returns-then-not-join-clause-runs = making.run_interpolated-returns-then-not-join-clause-runs
 
 pub run_interpolated-returns-clause-runs : goal.run_interpolated-returns-clause-runs
 run_interpolated-returns-clause-runs = making.run_interpolated-returns-clause-runs
@@ -802,17 +802,14 @@ run_plain_call-run_parameters-requires = plain.run_plain_call-run_parameters-req
 pub run_plain_call-returns-then-not-run_parameters-clause-runs : goal.run_plain_call-returns-then-not-run_parameters-clause-runs
 run_plain_call-returns-then-not-run_parameters-clause-runs = plain.run_plain_call-returns-then-not-run_parameters-clause-runs
 
-pub run_plain_call-returns-then-variables_race-clause-runs : goal.run_plain_call-returns-then-variables_race-clause-runs
-run_plain_call-returns-then-variables_race-clause-runs = plain.run_plain_call-returns-then-variables_race-clause-runs
+pub run_plain_call-returns-then-stops_by_race-clause-runs : goal.run_plain_call-returns-then-stops_by_race-clause-runs
+run_plain_call-returns-then-stops_by_race-clause-runs = plain.run_plain_call-returns-then-stops_by_race-clause-runs
 
-pub run_plain_call-returns-then-not-charge-clause-runs : goal.run_plain_call-returns-then-not-charge-clause-runs
-run_plain_call-returns-then-not-charge-clause-runs = plain.run_plain_call-returns-then-not-charge-clause-runs
+pub run_plain_call-returns-in-Some-clause-runs : goal.run_plain_call-returns-in-Some-clause-runs
+run_plain_call-returns-in-Some-clause-runs = plain.run_plain_call-returns-in-Some-clause-runs
 
-pub run_plain_call-returns-then-not-may_run-clause-runs : goal.run_plain_call-returns-then-not-may_run-clause-runs
-run_plain_call-returns-then-not-may_run-clause-runs = plain.run_plain_call-returns-then-not-may_run-clause-runs
-
-pub run_plain_call-returns-then-is_empty-clause-runs : goal.run_plain_call-returns-then-is_empty-clause-runs
-run_plain_call-returns-then-is_empty-clause-runs = plain.run_plain_call-returns-then-is_empty-clause-runs
+pub run_plain_call-returns-in-Some-clause-counts : goal.run_plain_call-returns-in-Some-clause-counts
+run_plain_call-returns-in-Some-clause-counts = plain.run_plain_call-returns-in-Some-clause-counts
 
 pub run_plain_call-run_stmt_block-done-requires : goal.run_plain_call-run_stmt_block-done-requires
 run_plain_call-run_stmt_block-done-requires = plain.run_plain_call-run_stmt_block-done-requires

@@ -41,26 +41,23 @@ run_fn_call_expr-returns-then-not-run_arg-clause-runs g t c k =
     opens_unary rules c.args.call.now c.in-Unary.token c.in-Unary.operand.now c.args.pos k _ form.0 form.1 form.2
     ⨾ c.if-not-run_arg.ensures.runs (UnaryOperand _ _ ∷ k) ⨾ next here
 
-pub run_fn_call_expr-returns-then-not-flatten_value-clause-runs : goal.run_fn_call_expr-returns-then-not-flatten_value-clause-runs
+pub run_fn_call_expr-returns-then-not-flatten_at-clause-runs : goal.run_fn_call_expr-returns-then-not-flatten_at-clause-runs
 unfolding after Steps
-run_fn_call_expr-returns-then-not-flatten_value-clause-runs g t c k =
+run_fn_call_expr-returns-then-not-flatten_at-clause-runs g t c k =
     let rules = under g.H.Host.name_of c.args.self.now g.T.NativeTable.natives in
     let form = rw c.in-Unary.is at c.form_of.ensures in
     opens_unary rules c.args.call.now c.in-Unary.token c.in-Unary.operand.now c.args.pos k _ form.0 form.1 form.2
     ⨾ c.if-not-run_arg.ensures.runs (UnaryOperand _ _ ∷ k)
-    ⨾ flat_fails rules _ _ k _ _ (UnaryOperand _ _) refl (rw c.position-at.ensures at c.if-not-flatten_value.ensures.exact)
+    ⨾ flat_fails rules _ _ k _ _ (UnaryOperand _ _) refl c.if-not-flatten_at.ensures.exact
 
-pub run_fn_call_expr-returns-else-not-flatten_value-clause-runs : goal.run_fn_call_expr-returns-else-not-flatten_value-clause-runs
+pub run_fn_call_expr-returns-else-not-flatten_at-clause-runs : goal.run_fn_call_expr-returns-else-not-flatten_at-clause-runs
 unfolding after Steps StartsAs
-run_fn_call_expr-returns-else-not-flatten_value-clause-runs g t c k =
+run_fn_call_expr-returns-else-not-flatten_at-clause-runs g t c k =
     let rules = under g.H.Host.name_of c.args.self.now g.T.NativeTable.natives in
     let form = rw c.in-Unary.is at c.form_of.ensures in
     opens_unary rules c.args.call.now c.in-Unary.token c.in-Unary.operand.now c.args.pos k _ form.0 form.1 form.2
     ⨾ c.if-not-run_arg.ensures.runs (UnaryOperand _ _ ∷ k)
-    ⨾ next (rw (← c.position-at.ensures, ← (c.if-not-flatten_value.ensures.exact tt))
-    ((rw (c.take_value-value.ensures.taken, c.as_str.ensures, c.get.ensures)
-    at (c.operate_one-called.ensures.runs (offer_of c.args.self.now) c.run_arg.new.run.scope
-    (holding c.run_arg.new.run.this) c.offered-offered.ensures)) k))
+    ⨾ next (rw (← (c.if-not-flatten_at.ensures.exact tt)) (c.operate_on_one-called.ensures.runs k))
     ⨾ c.run_out.ensures.runs k
 
 pub run_fn_call_expr-returns-in-Some-clause-runs : goal.run_fn_call_expr-returns-in-Some-clause-runs
@@ -75,7 +72,7 @@ run_fn_call_expr-returns-in_default-clause-runs g t c =
 pub run_fn_call_expr-run_plain_call-requires : goal.run_fn_call_expr-run_plain_call-requires
 run_fn_call_expr-run_plain_call-requires g t c =
     let resolved = operands_of_call c.args.call.now c.args.pos (names c.args.run.now) c.requires.resolves in
-    λ κs lives. (omega arith, (lives.0, (lives.1, (resolved, rw c.as_slice.ensures at c.in-Some-plain_callee.ensures))))
+    λ κs lives. (omega arith, (lives.0, (lives.1, (resolved, c.in-Some-plain_callee.ensures))))
 
 pub run_fn_call_expr-returns-in-Some-plain_callee-clause-runs : goal.run_fn_call_expr-returns-in-Some-plain_callee-clause-runs
 unfolding Steps StartsAs
@@ -83,7 +80,7 @@ run_fn_call_expr-returns-in-Some-plain_callee-clause-runs g t c k =
     let rules = under g.H.Host.name_of c.args.self.now g.T.NativeTable.natives in
     let form = rw c.in-Function.is at c.form_of.ensures in
     plain_begins rules c.args.call.now c.args.run.now.global.lib c.in-Some-plain_callee.function
-    (rw c.as_slice.ensures at c.in-Some-plain_callee.ensures) c.args.pos k _
+    c.in-Some-plain_callee.ensures c.args.pos k _
     (call_is_plain c.args.call.now c.args.pos _ c.requires.resolves) form
     ⨾ c.run_plain_call.ensures.runs k
 
@@ -95,7 +92,7 @@ run_fn_call_expr-run_call-requires g t c =
         lives.0,
         (
           lives.1,
-          rw (← c.parted.ensures, c.as_slice-in-Function.ensures)
+          rw (← c.parts_of_call.ensures.args)
               (operands_of_call c.args.call.now c.args.pos (names c.args.run.now) c.requires.resolves),
         ),
       ),
@@ -107,7 +104,7 @@ run_fn_call_expr-returns-in_default-plain_callee-clause-runs g t c k =
     let rules = under g.H.Host.name_of c.args.self.now g.T.NativeTable.natives in
     let form = rw c.in-Function.is at c.form_of.ensures in
     begins_call rules c.args.call.now c.args.pos k _ (call_is_plain c.args.call.now c.args.pos _ c.requires.resolves) form
-    ⨾ (rw (← c.parted.ensures, c.as_slice-in-Function.ensures, c.as_str-name.ensures, c.get-in-Function.ensures)
+    ⨾ (rw (← c.parts_of_call.ensures.args, c.parts_of_call.ensures.name)
     at c.run_call.ensures.runs) k
 
 pub run_operator-run_arg-requires : goal.run_operator-run_arg-requires
@@ -130,14 +127,14 @@ run_operator-returns-then-not-run_arg-clause-runs g t c k =
     ⨾ c.if-not-run_arg.ensures.runs (LeftOperand _ _ _ ∷ k)
     ⨾ next here
 
-pub run_operator-returns-then-not-flatten_value-clause-runs : goal.run_operator-returns-then-not-flatten_value-clause-runs
+pub run_operator-returns-then-not-flatten_at-clause-runs : goal.run_operator-returns-then-not-flatten_at-clause-runs
 unfolding after Steps
-run_operator-returns-then-not-flatten_value-clause-runs g t c k =
+run_operator-returns-then-not-flatten_at-clause-runs g t c k =
     let rules = under g.H.Host.name_of c.args.self.now g.T.NativeTable.natives in
     opens_binary rules c.args.call.now c.args.token c.args.left.now c.args.right.now c.args.pos k _ c.requires.fast c.requires.token
     c.requires.args
     ⨾ c.if-not-run_arg.ensures.runs (LeftOperand _ _ _ ∷ k)
-    ⨾ flat_fails rules _ _ k _ _ (LeftOperand _ _ _) refl (rw c.position-at.ensures at c.if-not-flatten_value.ensures.exact)
+    ⨾ flat_fails rules _ _ k _ _ (LeftOperand _ _ _) refl c.if-not-flatten_at.ensures.exact
 
 pub run_operator-returns-then-not-run_arg-2-clause-runs : goal.run_operator-returns-then-not-run_arg-2-clause-runs
 unfolding after Steps
@@ -146,34 +143,33 @@ run_operator-returns-then-not-run_arg-2-clause-runs g t c k =
     opens_binary rules c.args.call.now c.args.token c.args.left.now c.args.right.now c.args.pos k _ c.requires.fast c.requires.token
     c.requires.args
     ⨾ c.if-not-run_arg.ensures.runs (LeftOperand _ _ _ ∷ k)
-    ⨾ next (rw (← c.position-at.ensures, ← (c.if-not-flatten_value.ensures.exact tt)) (c.if-not-run_arg-2.ensures.runs
+    ⨾ next (rw (← (c.if-not-flatten_at.ensures.exact tt)) (c.if-not-run_arg-2.ensures.runs
     (RightOperand _ _ _ ∷ k) ⨾ next here))
 
-pub run_operator-returns-then-not-flatten_value-2-clause-runs : goal.run_operator-returns-then-not-flatten_value-2-clause-runs
+pub run_operator-returns-then-not-flatten_at-2-clause-runs : goal.run_operator-returns-then-not-flatten_at-2-clause-runs
 unfolding after Steps
-run_operator-returns-then-not-flatten_value-2-clause-runs g t c k =
+run_operator-returns-then-not-flatten_at-2-clause-runs g t c k =
     let rules = under g.H.Host.name_of c.args.self.now g.T.NativeTable.natives in
     opens_binary rules c.args.call.now c.args.token c.args.left.now c.args.right.now c.args.pos k _ c.requires.fast c.requires.token
     c.requires.args
     ⨾ c.if-not-run_arg.ensures.runs (LeftOperand _ _ _ ∷ k)
-    ⨾ next (rw (← c.position-at.ensures, ← (c.if-not-flatten_value.ensures.exact tt)) (c.if-not-run_arg-2.ensures.runs
+    ⨾ next (rw (← (c.if-not-flatten_at.ensures.exact tt)) (c.if-not-run_arg-2.ensures.runs
     (RightOperand _ _ _ ∷ k)
-    ⨾ flat_fails rules _ _ k _ _ (RightOperand _ _ _) refl (rw c.position-at-2.ensures at c.if-not-flatten_value-2.ensures.exact)))
+    ⨾ flat_fails rules _ _ k _ _ (RightOperand _ _ _) refl c.if-not-flatten_at-2.ensures.exact))
 
-pub run_operator-returns-in-Some-clause-runs : goal.run_operator-returns-in-Some-clause-runs
+pub run_operator-returns-then-operate_known-clause-runs : goal.run_operator-returns-then-operate_known-clause-runs
 unfolding after Steps
-run_operator-returns-in-Some-clause-runs g t c k =
+run_operator-returns-then-operate_known-clause-runs g t c k =
     let rules = under g.H.Host.name_of c.args.self.now g.T.NativeTable.natives in
-    let known = rw (c.in-Some.is, c.take_value-first.ensures.taken) at c.operate_known.ensures in
-    rw c.put.ensures
-    (opens_binary rules c.args.call.now c.args.token c.args.left.now c.args.right.now c.args.pos k _ c.requires.fast c.requires.token
+    let known = sym (rw c.take_value-first.ensures.taken at c.if-operate_known.ensures.known refl) in
+    opens_binary rules c.args.call.now c.args.token c.args.left.now c.args.right.now c.args.pos k _ c.requires.fast c.requires.token
     c.requires.args
     ⨾ c.if-not-run_arg.ensures.runs (LeftOperand _ _ _ ∷ k)
-    ⨾ next (rw (← c.position-at.ensures, ← (c.if-not-flatten_value.ensures.exact tt)) (c.if-not-run_arg-2.ensures.runs
+    ⨾ next (rw (← (c.if-not-flatten_at.ensures.exact tt)) (c.if-not-run_arg-2.ensures.runs
     (RightOperand _ _ _ ∷ k)
-    ⨾ next (rw (← c.position-at-2.ensures, ← (c.if-not-flatten_value-2.ensures.exact tt))
-    (known_goes rules c.args.call.now.name c.args.token c.args.pos c.flatten_value.new.out c.flatten_value-2.new.out
-    c.in-Some.value k _ known)))))
+    ⨾ next (rw (← (c.if-not-flatten_at-2.ensures.exact tt))
+    (known_goes rules c.args.call.now.name c.args.token c.args.pos c.flatten_at.new.out c.flatten_at-2.new.out
+    c.operate_known.new.out k _ known))))
 
 pub run_operator-returns-clause-runs : goal.run_operator-returns-clause-runs
 unfolding after Steps StartsAs
@@ -182,12 +178,10 @@ run_operator-returns-clause-runs g t c k =
     opens_binary rules c.args.call.now c.args.token c.args.left.now c.args.right.now c.args.pos k _ c.requires.fast c.requires.token
     c.requires.args
     ⨾ c.if-not-run_arg.ensures.runs (LeftOperand _ _ _ ∷ k)
-    ⨾ next (rw (← c.position-at.ensures, ← (c.if-not-flatten_value.ensures.exact tt)) (c.if-not-run_arg-2.ensures.runs
+    ⨾ next (rw (← (c.if-not-flatten_at.ensures.exact tt)) (c.if-not-run_arg-2.ensures.runs
     (RightOperand _ _ _ ∷ k)
-    ⨾ next (rw (← c.position-at-2.ensures, ← (c.if-not-flatten_value-2.ensures.exact tt))
-    ((rw (c.take_value-first.ensures.taken, c.take_value-second.ensures.taken, c.as_str.ensures, c.get.ensures)
-    at (c.operate_two-called.ensures.runs (offer_of c.args.self.now) c.run_arg-2.new.run.scope
-    (holding c.run_arg-2.new.run.this) c.offered-offered.ensures)) k))))
+    ⨾ next (rw (← (c.if-not-flatten_at-2.ensures.exact tt))
+    ((rw (c.take_value-first.ensures.taken, c.if-operate_known.ensures.same refl) at c.operate_on_two-called.ensures.runs) k))))
     ⨾ c.run_out.ensures.runs k
 
 pub run_arg-returns-in-Some-clause-runs : goal.run_arg-returns-in-Some-clause-runs

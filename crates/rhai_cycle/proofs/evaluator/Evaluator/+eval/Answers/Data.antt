@@ -6,6 +6,7 @@ use Rattle.rhai_machine.specs.machine.Memory.{here, next, ◌⨾◌}
 use Rattle.rhai_machine.specs.language.Frames.{ArrayItem, EntryValue, TextPart}
 use Rattle.rhai_machine.specs.language.Runs.{Steps}
 use Rattle.rhai_steps.proofs.Pieces.{told}
+use Rattle.rhai_context.specs.Ends.{error_in}
 use Rattle.rhai_data.specs.Texts.{Joins}
 use Rattle.rhai_cycle.specs.States.{names, offer_of, under}
 use Rattle.rhai_cycle.proofs.NameLemmas.{part_resolves, value_resolves}
@@ -44,24 +45,19 @@ run_array-each_item-preserved g t c =
     record {
       counts = omega (arith, c.each_item.invariant.counts, c.if-not-run_expr.ensures.charges refl);
       names = c.if-not-run_expr.ensures.names refl ∙ c.each_item.invariant.names;
-      measured = c.add-added.ensures.measured;
+      measured = c.if-not-add.ensures.measured;
       steps = λ k. c.each_item.invariant.steps k ⨾ rw (drop_item _ _ _ c.each_item-test.true c.item-item.is)
-          (c.if-not-run_expr.ensures.runs (ArrayItem _ _ _ ∷ k) ⨾ rw (← c.position.ensures) (item_on rules c.each_item.made.items
-          c.run_expr.new.run.value c.position.result _ k _ c.add-added.new.self.items
-          (rw c.take_value-value.ensures.taken at c.in_default.ensures.added)));
+          (c.if-not-run_expr.ensures.runs (ArrayItem _ _ _ ∷ k) ⨾ item_on rules c.each_item.made.items
+          c.run_expr.new.run.value _ _ k _ c.add.new.self.items (c.if-not-add.ensures.added refl));
     }
 
-pub run_array-returns-in-Err-clause-runs : goal.run_array-returns-in-Err-clause-runs
+pub run_array-returns-then-not-add-clause-runs : goal.run_array-returns-then-not-add-clause-runs
 unfolding after Steps
-run_array-returns-in-Err-clause-runs g t c k =
+run_array-returns-then-not-add-clause-runs g t c k =
     let rules = under g.H.Host.name_of c.args.self.now g.T.NativeTable.natives in
-    next (c.each_item.invariant.steps k ⨾ rw (
-      drop_item _ _ _ c.each_item-test.true c.item-item.is,
-      c.stop.ensures.stopped,
-      c.stop.ensures.told,
-    )
-    (c.if-not-run_expr.ensures.runs (ArrayItem _ _ _ ∷ k) ⨾ rw (← c.position.ensures) (item_fails rules c.each_item.made.items
-    c.run_expr.new.run.value c.position.result _ k _ c.in-Err.error (rw c.take_value-value.ensures.taken at c.in-Err.ensures.refused))))
+    next (c.each_item.invariant.steps k ⨾ rw (drop_item _ _ _ c.each_item-test.true c.item-item.is)
+    (c.if-not-run_expr.ensures.runs (ArrayItem _ _ _ ∷ k) ⨾ item_fails rules c.each_item.made.items
+    c.run_expr.new.run.value _ _ k _ (error_in c.add.new.place) (c.if-not-add.ensures.refused refl)))
 
 pub run_array-returns-then-not-run_expr-clause-runs : goal.run_array-returns-then-not-run_expr-clause-runs
 unfolding after Steps
@@ -73,7 +69,7 @@ pub run_array-returns-clause-runs : goal.run_array-returns-clause-runs
 unfolding after Steps
 run_array-returns-clause-runs g t c k =
     let rules = under g.H.Host.name_of c.args.self.now g.T.NativeTable.natives in
-    next (c.each_item.invariant.steps k ⨾ rw (drop_all _ _ c.each_item-test.false, c.settle.ensures) (told rules _ _ c.finish-array.ensures k _))
+    next (c.each_item.invariant.steps k ⨾ rw (drop_all _ _ c.each_item-test.false) (told rules _ _ c.finish.ensures k _))
 
 pub run_map-run_expr-requires : goal.run_map-run_expr-requires
 run_map-run_expr-requires g t c =
@@ -106,24 +102,19 @@ run_map-each_entry-preserved g t c =
     record {
       counts = omega (arith, c.each_entry.invariant.counts, c.if-not-run_expr.ensures.charges refl);
       names = c.if-not-run_expr.ensures.names refl ∙ c.each_entry.invariant.names;
-      counted = c.add-added.ensures.counted;
+      counted = c.if-not-add.ensures.counted;
       steps = λ k. c.each_entry.invariant.steps k ⨾ rw (drop_item _ _ _ c.each_entry-test.true c.entry-item.is)
-          (c.if-not-run_expr.ensures.runs (EntryValue _ _ _ _ ∷ k) ⨾ rw (← c.position.ensures) (value_on rules (map key_of c.args.entries.now) c.each_entry.made.values
-          c.run_expr.new.run.value c.position.result _ k _ c.add-added.new.self.values
-          (rw c.take_value-value.ensures.taken at c.in_default.ensures.added)));
+          (c.if-not-run_expr.ensures.runs (EntryValue _ _ _ _ ∷ k) ⨾ value_on rules (map key_of c.args.entries.now) c.each_entry.made.values
+          c.run_expr.new.run.value _ _ k _ c.add.new.self.values (c.if-not-add.ensures.added refl));
     }
 
-pub run_map-returns-in-Err-clause-runs : goal.run_map-returns-in-Err-clause-runs
+pub run_map-returns-then-not-add-clause-runs : goal.run_map-returns-then-not-add-clause-runs
 unfolding after Steps
-run_map-returns-in-Err-clause-runs g t c template k =
+run_map-returns-then-not-add-clause-runs g t c template k =
     let rules = under g.H.Host.name_of c.args.self.now g.T.NativeTable.natives in
-    next (c.each_entry.invariant.steps k ⨾ rw (
-      drop_item _ _ _ c.each_entry-test.true c.entry-item.is,
-      c.stop.ensures.stopped,
-      c.stop.ensures.told,
-    )
-    (c.if-not-run_expr.ensures.runs (EntryValue _ _ _ _ ∷ k) ⨾ rw (← c.position.ensures) (value_fails rules
-    (map key_of c.args.entries.now) c.each_entry.made.values c.run_expr.new.run.value c.position.result _ k _ c.in-Err.error (rw c.take_value-value.ensures.taken at c.in-Err.ensures.refused))))
+    next (c.each_entry.invariant.steps k ⨾ rw (drop_item _ _ _ c.each_entry-test.true c.entry-item.is)
+    (c.if-not-run_expr.ensures.runs (EntryValue _ _ _ _ ∷ k) ⨾ value_fails rules (map key_of c.args.entries.now)
+    c.each_entry.made.values c.run_expr.new.run.value _ _ k _ (error_in c.add.new.place) (c.if-not-add.ensures.refused refl)))
 
 pub run_map-returns-then-not-run_expr-clause-runs : goal.run_map-returns-then-not-run_expr-clause-runs
 unfolding after Steps
@@ -135,7 +126,7 @@ pub run_map-returns-clause-runs : goal.run_map-returns-clause-runs
 unfolding after Steps
 run_map-returns-clause-runs g t c template k =
     let rules = under g.H.Host.name_of c.args.self.now g.T.NativeTable.natives in
-    next (c.each_entry.invariant.steps k ⨾ rw (drop_all _ _ c.each_entry-test.false, c.settle.ensures) (told rules _ _ c.finish-map.ensures k _))
+    next (c.each_entry.invariant.steps k ⨾ rw (drop_all _ _ c.each_entry-test.false) (told rules _ _ c.finish.ensures k _))
 
 pub run_interpolated-run_expr-requires : goal.run_interpolated-run_expr-requires
 run_interpolated-run_expr-requires g t c =
@@ -160,11 +151,11 @@ pub run_interpolated-each_part-preserved : goal.run_interpolated-each_part-prese
 unfolding after Steps Joins
 run_interpolated-each_part-preserved g t c =
     record {
-      counts = omega (arith, c.each_part.invariant.counts, c.if-not-run_expr.ensures.charges refl, c.join-joined.ensures.counts);
+      counts = omega (arith, c.each_part.invariant.counts, c.if-not-run_expr.ensures.charges refl, c.if-not-join.ensures.counts);
       names = c.if-not-run_expr.ensures.names refl ∙ c.each_part.invariant.names;
       steps = λ k. c.each_part.invariant.steps k ⨾ rw (drop_item _ _ _ c.each_part-test.true c.part-item.is)
-          (c.if-not-run_expr.ensures.runs (TextPart _ _ _ ∷ k) ⨾ rw (← c.position.ensures) ((rw c.take_value-value.ensures.taken at
-          c.in_default.ensures.runs (offer_of c.args.self.now) c.run_expr.new.run.scope (holding c.run_expr.new.run.this)) _ k));
+          (c.if-not-run_expr.ensures.runs (TextPart _ _ _ ∷ k) ⨾ c.if-not-join.ensures.runs (offer_of c.args.self.now)
+          c.run_expr.new.run.scope (holding c.run_expr.new.run.this) _ k);
     }
 
 pub run_interpolated-returns-then-not-run_expr-clause-runs : goal.run_interpolated-returns-then-not-run_expr-clause-runs
@@ -173,19 +164,15 @@ run_interpolated-returns-then-not-run_expr-clause-runs g t c k =
     next (c.each_part.invariant.steps k ⨾ rw (drop_item _ _ _ c.each_part-test.true c.part-item.is) (c.if-not-run_expr.ensures.runs
     (TextPart _ _ _ ∷ k) ⨾ next here))
 
-pub run_interpolated-returns-in-Err-clause-runs : goal.run_interpolated-returns-in-Err-clause-runs
+pub run_interpolated-returns-then-not-join-clause-runs : goal.run_interpolated-returns-then-not-join-clause-runs
 unfolding after Steps Joins
-run_interpolated-returns-in-Err-clause-runs g t c k =
-    next (c.each_part.invariant.steps k ⨾ rw (
-      drop_item _ _ _ c.each_part-test.true c.part-item.is,
-      c.stop.ensures.stopped,
-      c.stop.ensures.told,
-    ) (c.if-not-run_expr.ensures.runs
-    (TextPart _ _ _ ∷ k) ⨾ rw (← c.position.ensures) ((rw c.take_value-value.ensures.taken at
-    c.in-Err.ensures.runs (offer_of c.args.self.now) c.run_expr.new.run.scope (holding c.run_expr.new.run.this)) _ k)))
+run_interpolated-returns-then-not-join-clause-runs g t c k =
+    next (c.each_part.invariant.steps k ⨾ rw (drop_item _ _ _ c.each_part-test.true c.part-item.is)
+    (c.if-not-run_expr.ensures.runs (TextPart _ _ _ ∷ k) ⨾ c.if-not-join.ensures.runs (offer_of c.args.self.now)
+    c.run_expr.new.run.scope (holding c.run_expr.new.run.this) _ k))
 
 pub run_interpolated-returns-clause-runs : goal.run_interpolated-returns-clause-runs
 unfolding after Steps
 run_interpolated-returns-clause-runs g t c k =
     let rules = under g.H.Host.name_of c.args.self.now g.T.NativeTable.natives in
-    next (c.each_part.invariant.steps k ⨾ rw (drop_all _ _ c.each_part-test.false, c.settle.ensures) (told rules _ _ c.finish-whole.ensures k _))
+    next (c.each_part.invariant.steps k ⨾ rw (drop_all _ _ c.each_part-test.false) (told rules _ _ c.finish.ensures k _))

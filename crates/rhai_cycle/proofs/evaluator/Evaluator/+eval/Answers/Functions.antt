@@ -476,8 +476,8 @@ run_more_args-each_arg-preserved g t c =
       );
       steps = λ purpose is k. c.each_arg.invariant.steps purpose is k ⨾ rw (drop_item _ _ _ c.each_arg-test.true c.arg-item.is)
           (c.if-not-run_arg.ensures.runs (CallArgument _ _ _ _ ∷ k)
-          ⨾ rw (← c.position.ensures) (taken_on rules purpose c.each_arg.values c.run_arg.new.run.value c.position.result _ k _
-          c.args.flattened c.push_argument.new.made is (c.if-not-push_argument.ensures.kept refl)));
+          ⨾ taken_on rules purpose c.each_arg.values c.run_arg.new.run.value _ _ k _
+          c.args.flattened c.push_argument.new.made is (c.if-not-push_argument.ensures.kept refl));
     }
 
 pub run_more_args-returns-then-not-run_arg-clause-collects : goal.run_more_args-returns-then-not-run_arg-clause-collects
@@ -492,8 +492,8 @@ run_more_args-returns-then-not-push_argument-clause-collects g t c purpose is k 
     let rules = under g.H.Host.name_of c.args.self.now g.T.NativeTable.natives in
     c.each_arg.invariant.steps purpose is k ⨾ rw (drop_item _ _ _ c.each_arg-test.true c.arg-item.is)
     (c.if-not-run_arg.ensures.runs (CallArgument _ _ _ _ ∷ k)
-    ⨾ rw (← c.position.ensures) (taken_fails rules purpose c.each_arg.values c.run_arg.new.run.value c.position.result _ k _
-    c.args.flattened (error_in c.push_argument.new.place) is (c.if-not-push_argument.ensures.refused refl)))
+    ⨾ taken_fails rules purpose c.each_arg.values c.run_arg.new.run.value _ _ k _
+    c.args.flattened (error_in c.push_argument.new.place) is (c.if-not-push_argument.ensures.refused refl))
 
 pub run_more_args-returns-clause-collects : goal.run_more_args-returns-clause-collects
 unfolding Collects
@@ -521,8 +521,8 @@ run_all_args-returns-then-not-push_argument-clause-collects g t c purpose is k =
     let rules = under g.H.Host.name_of c.args.self.now g.T.NativeTable.natives in
     rw c.in-Some.is
     (c.if-not-run_arg.ensures.runs (CallArgument _ _ _ _ ∷ k)
-    ⨾ rw (← c.position.ensures) (taken_fails rules purpose c.args.values.now c.run_arg.new.run.value c.position.result c.args.rest.now k _
-    true (error_in c.push_argument.new.place) is (c.if-not-push_argument.ensures.refused refl)))
+    ⨾ taken_fails rules purpose c.args.values.now c.run_arg.new.run.value _ c.args.rest.now k _
+    true (error_in c.push_argument.new.place) is (c.if-not-push_argument.ensures.refused refl))
 
 pub run_all_args-run_more_args-requires : goal.run_all_args-run_more_args-requires
 run_all_args-run_more_args-requires g t c =
@@ -550,6 +550,6 @@ run_all_args-returns-clause-collects g t c purpose is k =
     let rules = under g.H.Host.name_of c.args.self.now g.T.NativeTable.natives in
     rw c.in-Some.is
     (c.if-not-run_arg.ensures.runs (CallArgument _ _ _ _ ∷ k)
-    ⨾ rw (← c.position.ensures) (taken_on rules purpose c.args.values.now c.run_arg.new.run.value c.position.result c.args.rest.now k _ true
-    c.push_argument.new.made is (c.if-not-push_argument.ensures.kept refl))
+    ⨾ taken_on rules purpose c.args.values.now c.run_arg.new.run.value _ c.args.rest.now k _ true
+    c.push_argument.new.made is (c.if-not-push_argument.ensures.kept refl)
     ⨾ c.run_more_args.ensures.collects purpose is k)
