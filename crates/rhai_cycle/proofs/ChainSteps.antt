@@ -26,7 +26,7 @@ use Rattle.rhai_machine.specs.machine.Point.{Point}
 use Rattle.rhai_machine.specs.language.Setting.{Rules}
 use Rattle.rhai_machine.specs.language.State.{Answers, Local, State}
 use Rattle.rhai_machine.specs.language.Links.{Link, LinkForm, AtIndex, AtProperty, AtMethod, asked_by, first_in, link_of}
-use Rattle.rhai_machine.specs.language.Frames.{Chain, Frame, core, AssignChain, ChainArguments, ChainRoot, Eval}
+use Rattle.rhai_machine.specs.language.Frames.{Chain, Frame, core, AssignChain, ChainArguments, ChainRoot, Eval, Fail}
 use Rattle.rhai_machine.specs.language.Frames.{OpenChain, OpenStmt, ReadRoot, RootValue, ToChain}
 use Rattle.rhai_machine.specs.language.Arguments.{arguments_core, arguments_there}
 use Rattle.rhai_machine.specs.language.Assignment.{assignment_move}
@@ -187,12 +187,8 @@ module _ {S H : Type 0} (rules : Rules S H) where
         (opened_link chain k s.local (link_of chain.rest) args (ap (λ (x : ExprLayer). at_once (link_of x)) whole ∙ given)) here
 
     -- or memory is wanting for them
-    pub opens_given : (given : Ready) (r : Result (List (Dynamic H)) (EvalAltResult H)) →
-        IsReady {H = H} (Some given) (at_once (link_of form)) → IfOk r (λ args. IsReady (Some given) (Some args)) →
-        IfErr r (λ e. is_out_of_memory e ≡ true) → Goes rules (at (OpenChain chain) k s) (gathered rules chain r k s)
-    opens_given given (Ok args) is told wants = opens_at_once args (given_same given (at_once (link_of form)) args is told)
-    opens_given given (Err e) is told wants =
-        or_wants rules (OpenChain chain) k s e (λ m. let clear : true ≡ false = sym wants ∙ m in cc)
+    pub opens_wanting : (e : EvalAltResult H) → is_out_of_memory e ≡ true → Goes rules (at (OpenChain chain) k s) (at (Fail e) k s)
+    opens_wanting e wants = or_wants rules (OpenChain chain) k s e (λ m. let clear : true ≡ false = sym wants ∙ m in cc)
 
     -- and any other asks for them
     pub opens_asking : (link : Link) → link_of form ≡ Some link → at_once {H = H} (link_of form) ≡ None →

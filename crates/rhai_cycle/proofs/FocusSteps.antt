@@ -23,10 +23,9 @@ use Rattle.rhai_machine.specs.language.Values.{Cells, is_handle, through_union, 
 use Rattle.rhai_machine.specs.language.Frames.{Frame, Core, core, ended, marked, on_value, EnterFunction, EnterOnFocus, Fail, StepDown}
 use Rattle.rhai_machine.specs.language.Runs.{at, with_core, Goes, Runs, Steps}
 use Rattle.rhai_steps.proofs.Pieces.{faulted, step_by}
-use Rattle.rhai_bodies.proofs.Ends.{denied}
 use Rattle.rhai_calls.specs.Marks.{without_mark}
 use Rattle.rhai_context.specs.Ends.{came, came_marked, unchanged}
-use Rattle.rhai_walk.specs.Walking.{Enters, IsFree, Leaves}
+use Rattle.rhai_walk.specs.Walking.{Enters, Leaves}
 use Rattle.rhai_walk.proofs.Entering.{not_entered, seen_itself, standing}
 use Rattle.rhai_cycle.specs.Calls.{StartsAs}
 
@@ -43,10 +42,10 @@ module _ {H : Type 0} where
   without_came (Some changed) well v e is = rw is refl
   without_came None well v e is = rw is refl
 
-  -- what is no handle of a held cell may be entered
-  pub may_be_entered : (cells : Cells H) (u : Union H) → is_held cells u ≡ false → IsFree cells u
-  may_be_entered cells (value.Cell id) is = denied (is_some (value_of_cell cells id.number)) is
-  may_be_entered cells _ is = tt
+  -- a `this` that a function leaves
+  pub is_bound : (o : Option (Dynamic H)) → is_some o ≡ true → (v : Dynamic H) × (o ≡ Some v)
+  is_bound None is = cc
+  is_bound (Some v) is = (v, refl)
 
   used_none : (at : Position) (o : Option (Dynamic H)) → not (is_some o) ≡ true → used [] at o ≡ Err (error.ErrorDataRace [] at)
   used_none at None is = refl
@@ -133,3 +132,19 @@ module _ {S H : Type 0} (rules : Rules S H) (f : Function H) (is_fresh : Bool) (
     enters_focus (Some (id, handle)) focus inner worked end cells taken left put e runs l k = rw (l.0, l.1, e.1.0)
         (opens_focus focus cells k _ (starts_inside focus inner id cells k e.0 e.1.1.0)
         ((rw e.1.1.1 at runs) (StepDown focus (ToCell id.number) ∷ k) ⨾ up_from_cell r focus worked id left new k))
+
+    -- or it is not entered, or left at once
+    pub focus_refused : (e : EvalAltResult H) (focus end : Dynamic H) (cells put : Cells H) → old ≡ new → r ≡ Err e → (seen : Bool) →
+        is_held cells focus.value ≡ seen →
+        (seen ≡ true → (put ≡ cells) × (end ≡ focus) × (is_out_of_memory e ≡ false → e ≡ error.ErrorDataRace [] pos)) →
+        (seen ≡ false → (above : Option (CellId × Dynamic H)) × (inner : Dynamic H) × (taken : Cells H)
+        × (Enters above focus inner cells taken) × (races taken args ≡ true) × (Leaves above inner end taken put)
+        × (is_out_of_memory e ≡ false → e ≡ error.ErrorDataRace f.def.name pos)) →
+        Runs rules (EnterOnFocus f is_fresh args pos) (standing focus cells old) r (standing end put new)
+    focus_refused e focus end cells put same fails true is held raced =
+        let (cells_are, focus_is, told) = held refl in
+        rw (← same, fails, cells_are, focus_is) (focus_held e focus (standing focus cells old) refl is told)
+    focus_refused e focus end cells put same fails false is held raced =
+        let seen = raced refl in
+        enters_focus seen.0 focus seen.1 seen.1 end cells seen.2 seen.2 put seen.3
+        (rw (← same, fails) (inside_races e (standing seen.1 seen.2 old) seen.4 seen.6)) seen.5

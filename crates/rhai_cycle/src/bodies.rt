@@ -1,7 +1,7 @@
 //! Functions of scripts that are entered. Ports upstream's `call_script_fn`; the contracts speak of the
 //! machine's runs.
 
-ghost use Rattle.std.specs.Prelude.{◌≡◌, ◌≤◌, ◌<◌, IsTrue, Some, false, is_some, length, true};
+ghost use Rattle.std.specs.Prelude.{◌≡◌, ◌≤◌, ◌<◌, IsTrue, Some, false, length, true};
 ghost use Rattle.std.specs.Option.{option_copied};
 ghost use Rattle.rhai_state.specs.Scope.{entries_of};
 ghost use Rattle.rhai_machine.specs.language.Activations.{NoObject};
@@ -21,37 +21,23 @@ ghost use Rattle.rhai_cycle.specs.Calls.{StartsAs};
 ghost use Rattle.rhai_cycle.specs.States.{names, offer_of, state_in, under};
 
 use crate::evaluator::Evaluator;
-use crate::roots::refuses_held;
-use rhai_bodies::callers::{body_of, capture, end_fresh, environ_in, level_below, release};
+use rhai_bodies::callers::{body_of, capture, end_call, end_fresh, release};
 use rhai_bodies::closing::close_body;
 use rhai_bodies::opening::{open_function, statements_of};
-use rhai_calls::dispatch::{Called, races};
+use rhai_calls::dispatch::Called;
 use rhai_context::ends::{put_unit, settle, settle_marked, stop, unchanged};
 use rhai_context::outcomes::charge;
-use rhai_context::{Context, keep_list, put_aside, take_up};
+use rhai_context::{Context, put_aside};
 use rhai_functions::function::{Function, Offered};
 use rhai_methods::calls::MethodCall;
 use rhai_methods::methods::call_method;
 use rhai_state::table::NativeTable;
-use rhai_steps::errors::data_race_by;
-use rhai_steps::values::{let_go, unit_value};
 use rhai_tree::Items;
 use rhai_tree::checked::CheckedFn;
 use rhai_tree::position::Position;
 use rhai_values::base::value::{Dynamic, EncapsulatedEnviron, Host};
-use rhai_walk::ways::{step_in, step_out};
+use rhai_walk::focus::{enter_focus, leave_focus, lend_focus};
 use std::alloc::Global;
-use std::mem::replace;
-
-/// The `this` that a function leaves goes back into the place that lent it.
-pub fn put_this<H: Host>(place: &mut Dynamic<H>, left: Option<Dynamic<H>>)
-    ensures { is_some left ≡ true → left ≡ Some place.new }
-{
-    match left {
-        Some(value) => let_go(replace(place, value)),
-        None => {}
-    }
-}
 
 impl<'e, H: Host> Evaluator<'e, H> {
     /// The modules of the engine that functions are found in.
@@ -179,6 +165,7 @@ impl<'e, H: Host> Evaluator<'e, H> {
 
     /// What becomes of a call that lends nothing: it has ended, or enters a function, which has variables of its
     /// own or runs on the caller's.
+    #[inline(never)]
     #[cycle(eval)]
     pub(crate) fn run_out<T: NativeTable<H>>(
         &self,
@@ -229,31 +216,19 @@ impl<'e, H: Host> Evaluator<'e, H> {
             (came result run.new.value run.new.error)
             (state_of (T.state table.new) run.new.global scope (lending held focus.new)) }
     {
-        if refuses_held(alloc, &run.global.cells, focus, &mut run.error, pos) {
-            keep_list(run, args);
-            drop(function);
+        let (cells, place) = (&mut run.global.cells, &mut run.error);
+        let values = args.as_slice();
+        let Some(above) = enter_focus(alloc, cells, place, focus, &function, values, pos) else {
+            end_call(run, args, function);
             return false;
-        }
-        let above = step_in(&mut run.global.cells, focus);
-        let is_racing = races(&run.global.cells, args.as_slice());
-        if is_racing {
-            let error = data_race_by(alloc, function.def.get().def().name.get().as_str(), pos);
-            step_out(&mut run.global.cells, focus, above);
-            keep_list(run, args);
-            drop(function);
-            return stop(&mut run.error, error);
-        }
-        let this = replace(focus, unit_value());
+        };
         let mut args = args;
-        let aside = put_aside(alloc, run, Some(this));
-        let level = level_below(run.global.level);
-        let (def, environ) = (function.def.get(), environ_in(&function));
+        let aside = lend_focus(alloc, run, focus);
+        let (def, environ, level) = body_of(&function, run.global.level);
         let values = args.as_mut_slice();
         let done = self.run_body(alloc, run, table, def, environ, values, true, level, pos);
-        put_this(focus, take_up(run, aside));
-        step_out(&mut run.global.cells, focus, above);
-        keep_list(run, args);
-        drop(function);
+        leave_focus(run, focus, aside, above);
+        end_call(run, args, function);
         done
     }
 

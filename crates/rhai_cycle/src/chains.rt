@@ -2,27 +2,28 @@
 //! `eval_dot_index_chain`, up to the walk; the contracts speak of the machine's runs and of
 //! specs/Chains.antt.
 
-ghost use Rattle.std.specs.Prelude.{◌≡◌, ◌≤◌, IsTrue, IfOk, IfErr, Some, true, is_some, length};
+ghost use Rattle.std.specs.Prelude.{◌≡◌, ◌≤◌, IsTrue, IfOk, IfErr, IfSome, Some, None, [], true, false, is_some, length};
 ghost use Rattle.rhai_tree.specs.declared.expr.Expr.{out-Expr};
 ghost use Rattle.rhai_tree.specs.declared.expr.Expr.TheOpen as layer;
 ghost use Rattle.rhai_tree.specs.Frame.{resolves_expr, target_resolves, tests_of};
 ghost use Rattle.rhai_state.specs.Errors.{is_out_of_memory};
 ghost use Rattle.rhai_machine.specs.language.Frames.{ChainRoot, OpenChain, OpenStmt, chain_on};
-ghost use Rattle.rhai_machine.specs.language.Links.{first_in};
+ghost use Rattle.rhai_machine.specs.language.Links.{first_in, link_of as link_in};
 ghost use Rattle.rhai_machine.specs.language.Runs.{Runs};
 ghost use Rattle.rhai_chains.specs.Chains.{Walks, chain_at, new_of};
-ghost use Rattle.rhai_chains.specs.Ready.{IsReady};
-ghost use Rattle.rhai_context.specs.Ends.{came};
+ghost use Rattle.rhai_chains.specs.Ready.{at_once, IsReady};
+ghost use Rattle.rhai_context.specs.Ends.{came, error_in};
 ghost use Rattle.rhai_cycle.specs.Chains.{Gathers, HasAsked, IsGiven, MayWalk, StartsFrom, AsksFirst};
 ghost use Rattle.rhai_cycle.specs.Chains.{behind_resolves};
 ghost use Rattle.rhai_cycle.specs.States.{names, state_in, under};
 
 use crate::evaluator::Evaluator;
+use crate::roots::take_flat;
 use rhai_chains::arguments::{Ready, asked, needs_no_step, ready_value};
 use rhai_chains::chain::NewValue;
 use rhai_chains::links::{first_of, link_of};
-use rhai_context::ends::{put_unit, stop, take_value};
-use rhai_context::outcomes::{charge, flatten_at};
+use rhai_context::ends::{put_unit, stop};
+use rhai_context::outcomes::charge;
 use rhai_context::{Context, keep_list, lend_list};
 use rhai_pointers::arguments::keep_argument;
 use rhai_state::error::EvalAltResult;
@@ -54,6 +55,34 @@ fn ready_args<H: Host>(
     }
 }
 
+/// The list of what the links of a chain ask for, and whether they are to be asked: what needs no step is there.
+///
+/// # Errors
+/// `ErrorOutOfMemory` alone. It goes into its place.
+fn given_args<H: Host>(
+    alloc: Global,
+    run: &mut Context<H>,
+    chain: &Expr,
+) -> Option<(Items<Dynamic<H>>, bool)>
+    ensures given { IfSome result (λ given. given.1 ≡ false →
+        at_once (link_in (out-Expr chain.now)) ≡ Some given.0) }
+    ensures asks { IfSome result (λ given. given.1 ≡ true → (given.0 ≡ [])
+        × (at_once {H = H} (link_in (out-Expr chain.now)) ≡ None)) }
+    ensures refused { result ≡ None → is_out_of_memory (error_in run.new.error) ≡ true }
+    ensures run { run.new ≡ record run.old { error = run.new.error } }
+{
+    match needs_no_step::<H>(chain) {
+        Some(ready) => match ready_args(alloc, run, ready) {
+            Ok(values) => Some((values, false)),
+            Err(error) => {
+                stop(&mut run.error, error);
+                None
+            }
+        },
+        None => Some((lend_list(alloc, run), true)),
+    }
+}
+
 impl<'e, H: Host> Evaluator<'e, H> {
     /// A chain that is read or assigned to: first what all its links ask for, then its root, and then the
     /// walk. One link alone that asks for nothing, or for a literal, needs no step for what it asks for. How it
@@ -82,32 +111,26 @@ impl<'e, H: Host> Evaluator<'e, H> {
             (chain_on root.now (out-Expr chain.now) (new_of new))
             (state_in (T.state table.old) run.old) }
     {
-        match needs_no_step::<H>(chain) {
-            Some(ready) => match ready_args(alloc, run, ready) {
-                Ok(values) => {
-                    let mut values = values;
-                    let args = values.as_mut_slice();
-                    let done = self.run_root(alloc, run, table, root, chain, args, new);
-                    keep_list(run, values);
-                    done
-                }
-                Err(error) => {
-                    drop(new);
-                    stop(&mut run.error, error)
-                }
-            },
-            None => {
-                let mut values = lend_list(alloc, run);
-                if !self.run_link_args(alloc, run, table, &mut values, chain) {
-                    drop(new);
-                    keep_list(run, values);
-                    return false;
-                }
-                let args = values.as_mut_slice();
-                let done = self.run_root(alloc, run, table, root, chain, args, new);
+        let Some((values, asks)) = given_args(alloc, run, chain) else {
+            drop(new);
+            return false;
+        };
+        let mut values = values;
+        if asks {
+            if !self.run_link_args(alloc, run, table, &mut values, chain) {
+                drop(new);
                 keep_list(run, values);
-                done
+                return false;
             }
+            let args = values.as_mut_slice();
+            let done = self.run_root(alloc, run, table, root, chain, args, new);
+            keep_list(run, values);
+            done
+        } else {
+            let args = values.as_mut_slice();
+            let done = self.run_root(alloc, run, table, root, chain, args, new);
+            keep_list(run, values);
+            done
         }
     }
 
@@ -229,16 +252,10 @@ impl<'e, H: Host> Evaluator<'e, H> {
         if !self.run_expr(alloc, run, table, rhs) {
             return false;
         }
-        if !flatten_at(
-            alloc,
-            &run.global.cells,
-            &mut run.value,
-            &mut run.error,
-            rhs,
-        ) {
+        let (cells, out) = (&run.global.cells, &mut run.value);
+        let Some(value) = take_flat(alloc, cells, out, &mut run.error, rhs) else {
             return false;
-        }
-        let value = take_value(&mut run.value);
+        };
         let new = Some(NewValue { op, value });
         if !self.run_chain(alloc, run, table, root, lhs, new) {
             return false;

@@ -2,6 +2,7 @@ pub mod Beginning
 mod Below
 pub mod Descending
 pub mod Entering
+pub mod FreeFocus
 pub mod Inside
 pub mod PartCalls
 pub mod OnTemporaries

@@ -7,6 +7,7 @@
 
 pub mod calls;
 pub mod ends;
+pub mod focus;
 pub mod temporaries;
 pub mod ways;
 

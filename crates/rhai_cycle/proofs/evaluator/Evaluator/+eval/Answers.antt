@@ -94,14 +94,8 @@ run_out-returns-then-is_fresh-clause-runs = bodies.run_out-returns-then-is_fresh
 pub run_out-returns-else-is_fresh-clause-runs : goal.run_out-returns-else-is_fresh-clause-runs
 run_out-returns-else-is_fresh-clause-runs = bodies.run_out-returns-else-is_fresh-clause-runs
 
-pub enter_on_focus-returns-then-refuses_held-clause-runs : goal.enter_on_focus-returns-then-refuses_held-clause-runs
-enter_on_focus-returns-then-refuses_held-clause-runs = bodies.enter_on_focus-returns-then-refuses_held-clause-runs
-
-pub enter_on_focus-step_in-above-requires : goal.enter_on_focus-step_in-above-requires
-enter_on_focus-step_in-above-requires = bodies.enter_on_focus-step_in-above-requires
-
-pub enter_on_focus-returns-then-is_racing-clause-runs : goal.enter_on_focus-returns-then-is_racing-clause-runs
-enter_on_focus-returns-then-is_racing-clause-runs = bodies.enter_on_focus-returns-then-is_racing-clause-runs
+pub enter_on_focus-returns-in_default-clause-runs : goal.enter_on_focus-returns-in_default-clause-runs
+enter_on_focus-returns-in_default-clause-runs = bodies.enter_on_focus-returns-in_default-clause-runs
 
 pub enter_on_focus-returns-clause-runs : goal.enter_on_focus-returns-clause-runs
 enter_on_focus-returns-clause-runs = bodies.enter_on_focus-returns-clause-runs
@@ -181,26 +175,20 @@ run_arg-returns-in-Some-clause-runs = calls.run_arg-returns-in-Some-clause-runs
 pub run_arg-returns-in-None-clause-runs : goal.run_arg-returns-in-None-clause-runs
 run_arg-returns-in-None-clause-runs = calls.run_arg-returns-in-None-clause-runs
 
-pub run_chain-ready_args-requires : goal.run_chain-ready_args-requires
-run_chain-ready_args-requires = chains.run_chain-ready_args-requires
-
-pub run_chain-run_root-done-requires : goal.run_chain-run_root-done-requires
-run_chain-run_root-done-requires = chains.run_chain-run_root-done-requires
-
-pub run_chain-returns-in-Ok-clause-runs : goal.run_chain-returns-in-Ok-clause-runs
-run_chain-returns-in-Ok-clause-runs = chains.run_chain-returns-in-Ok-clause-runs
-
-pub run_chain-returns-in-Ok-clause-asks : goal.run_chain-returns-in-Ok-clause-asks
-run_chain-returns-in-Ok-clause-asks = chains.run_chain-returns-in-Ok-clause-asks
-
-pub run_chain-returns-in-Err-clause-runs : goal.run_chain-returns-in-Err-clause-runs
-run_chain-returns-in-Err-clause-runs = chains.run_chain-returns-in-Err-clause-runs
+pub run_chain-returns-in_default-clause-runs : goal.run_chain-returns-in_default-clause-runs
+run_chain-returns-in_default-clause-runs = chains.run_chain-returns-in_default-clause-runs
 
 pub run_chain-run_link_args-requires : goal.run_chain-run_link_args-requires
 run_chain-run_link_args-requires = chains.run_chain-run_link_args-requires
 
-pub run_chain-run_root-done-requires-in-None : goal.run_chain-run_root-done-requires-in-None
-run_chain-run_root-done-requires-in-None = chains.run_chain-run_root-done-requires-in-None
+pub run_chain-run_root-done-requires : goal.run_chain-run_root-done-requires
+run_chain-run_root-done-requires = chains.run_chain-run_root-done-requires
+
+pub run_chain-run_root-done-requires-else-asks : goal.run_chain-run_root-done-requires-else-asks
+run_chain-run_root-done-requires-else-asks = chains.run_chain-run_root-done-requires-else-asks
+
+pub run_chain-returns-then-not-run_link_args-clause-runs : goal.run_chain-returns-then-not-run_link_args-clause-runs
+run_chain-returns-then-not-run_link_args-clause-runs = chains.run_chain-returns-then-not-run_link_args-clause-runs
 
 pub run_chain-returns-else-not-run_link_args-clause-runs : goal.run_chain-returns-else-not-run_link_args-clause-runs
 run_chain-returns-else-not-run_link_args-clause-runs = chains.run_chain-returns-else-not-run_link_args-clause-runs
@@ -208,8 +196,11 @@ run_chain-returns-else-not-run_link_args-clause-runs = chains.run_chain-returns-
 pub run_chain-returns-else-not-run_link_args-clause-asks : goal.run_chain-returns-else-not-run_link_args-clause-asks
 run_chain-returns-else-not-run_link_args-clause-asks = chains.run_chain-returns-else-not-run_link_args-clause-asks
 
-pub run_chain-returns-then-not-run_link_args-clause-runs : goal.run_chain-returns-then-not-run_link_args-clause-runs
-run_chain-returns-then-not-run_link_args-clause-runs = chains.run_chain-returns-then-not-run_link_args-clause-runs
+pub run_chain-returns-else-asks-clause-runs : goal.run_chain-returns-else-asks-clause-runs
+run_chain-returns-else-asks-clause-runs = chains.run_chain-returns-else-asks-clause-runs
+
+pub run_chain-returns-else-asks-clause-asks : goal.run_chain-returns-else-asks-clause-asks
+run_chain-returns-else-asks-clause-asks = chains.run_chain-returns-else-asks-clause-asks
 
 pub run_link_args-unreachable-requires : goal.run_link_args-unreachable-requires
 run_link_args-unreachable-requires = chains.run_link_args-unreachable-requires
@@ -274,8 +265,8 @@ assign_chain-run_chain-requires = chains.assign_chain-run_chain-requires
 pub assign_chain-returns-then-not-run_expr-clause-runs : goal.assign_chain-returns-then-not-run_expr-clause-runs
 assign_chain-returns-then-not-run_expr-clause-runs = chains.assign_chain-returns-then-not-run_expr-clause-runs
 
-pub assign_chain-returns-then-not-flatten_at-clause-runs : goal.assign_chain-returns-then-not-flatten_at-clause-runs
-assign_chain-returns-then-not-flatten_at-clause-runs = chains.assign_chain-returns-then-not-flatten_at-clause-runs
+pub assign_chain-returns-in_default-take_flat-clause-runs : goal.assign_chain-returns-in_default-take_flat-clause-runs
+assign_chain-returns-in_default-take_flat-clause-runs = chains.assign_chain-returns-in_default-take_flat-clause-runs
 
 pub assign_chain-returns-then-not-run_chain-clause-runs : goal.assign_chain-returns-then-not-run_chain-clause-runs
 assign_chain-returns-then-not-run_chain-clause-runs = chains.assign_chain-returns-then-not-run_chain-clause-runs

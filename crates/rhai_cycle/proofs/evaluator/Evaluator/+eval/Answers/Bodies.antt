@@ -1,13 +1,13 @@
-use Rattle.std.proofs.Common.{◌≡◌, false, true, None, Some, Err, length, refl, sym, ap, ◌∙◌, arith}
+use Rattle.std.proofs.Common.{◌≡◌, false, true, None, Some, Err, length, refl, subst, sym, ap, ◌∙◌, arith}
 use Rattle.std.specs.Option.{option_copied}
 use Rattle.rhai_state.specs.Scope.{entries_of}
 use Rattle.rhai_state.specs.declared.state.GlobalRuntimeState.{GlobalRuntimeState}
 use Rattle.rhai_machine.specs.machine.Memory.{here, ◌⨾◌}
 use Rattle.rhai_machine.specs.language.Activations.{NoObject, OwnThis, TheFocus}
 use Rattle.rhai_values.specs.Cells.{cells_of}
-use Rattle.rhai_machine.specs.language.Calls.{entry_of}
+use Rattle.rhai_machine.specs.language.Calls.{entry_of, is_held}
 use Rattle.rhai_machine.specs.language.Frames.{Enter, EnterFunction, EnterOnFocus, ended}
-use Rattle.rhai_machine.specs.language.Runs.{Steps}
+use Rattle.rhai_machine.specs.language.Runs.{Runs, Steps}
 use Rattle.rhai_machine.specs.language.State.{Held, deeper}
 use Rattle.rhai_steps.specs.States.{holding, local_of, state_of}
 use Rattle.rhai_bodies.specs.Closing.{taken_back}
@@ -22,7 +22,8 @@ use Rattle.rhai_cycle.specs.States.{offer_of, under}
 use Rattle.rhai_cycle.proofs.BodyLemmas.{body_resolves, brings_no_charge, captured_ends, failed_ends, fresh_ends, passed_ends}
 use Rattle.rhai_cycle.proofs.BodyLemmas.{refused_ends, whole_ends}
 use Rattle.rhai_cycle.proofs.ArgsLeft.{entered_never, entered_not, entered_nothing, entered_so}
-use Rattle.rhai_cycle.proofs.FocusSteps.{enters_focus, focus_held, inside_races, inside_runs, may_be_entered, unmarked_ends}
+use Rattle.rhai_cycle.proofs.FocusSteps.{enters_focus, focus_refused, inside_runs, is_bound, unmarked_ends}
+use Rattle.rhai_walk.proofs.Entering.{standing}
 use Rattle.rhai_cycle.proofs.evaluator.Evaluator.+eval.Goals as goal
 use Rattle.rhai_context.specs.Ends.{came, error_in}
 
@@ -221,80 +222,68 @@ run_out-returns-else-is_fresh-clause-runs g t c k =
     rw (c.in-Enters.is, c.if-is_fresh.false, c.enter_captured.ensures.this)
     (c.enter_captured.ensures.runs (holding c.args.run.now.this) k)
 
-pub enter_on_focus-returns-then-refuses_held-clause-runs : goal.enter_on_focus-returns-then-refuses_held-clause-runs
-enter_on_focus-returns-then-refuses_held-clause-runs g t c scope held =
+pub enter_on_focus-returns-in_default-clause-runs : goal.enter_on_focus-returns-in_default-clause-runs
+enter_on_focus-returns-in_default-clause-runs g t c scope held =
     let rules = under g.H.Host.name_of c.args.self.now g.T.NativeTable.natives in
-    rw c.keep_list.ensures
-    (focus_held rules c.args.function true c.args.args c.args.pos (error_in c.refuses_held.new.place)
-    c.args.focus.now
-    (state_of (g.T.NativeTable.state c.args.table.now) c.args.run.now.global scope (lending held c.args.focus.now)) refl
-    (sym c.refuses_held.ensures.seen ∙ c.if-refuses_held.true) (c.refuses_held.ensures.told c.if-refuses_held.true))
-
-pub enter_on_focus-step_in-above-requires : goal.enter_on_focus-step_in-above-requires
-enter_on_focus-step_in-above-requires g t c =
-    may_be_entered (cells_of c.args.run.now.global.cells) c.args.focus.now.value
-    (sym c.refuses_held.ensures.seen ∙ c.if-refuses_held.false)
-
-pub enter_on_focus-returns-then-is_racing-clause-runs : goal.enter_on_focus-returns-then-is_racing-clause-runs
-enter_on_focus-returns-then-is_racing-clause-runs g t c scope held =
-    let rules = under g.H.Host.name_of c.args.self.now g.T.NativeTable.natives in
-    let lent = state_of (g.T.NativeTable.state c.args.table.now) (record c.args.run.now.global { cells = c.step_in-above.new.cells }) scope
-    (lending held c.step_in-above.new.focus) in
-    rw (c.stop.ensures.stopped, c.stop.ensures.told, c.keep_list-then-is_racing.ensures)
-    (enters_focus rules c.args.function true c.args.args c.args.pos
-    (state_of (g.T.NativeTable.state c.args.table.now) c.args.run.now.global scope (lending held c.args.focus.now)) lent
-    (Err c.data_race_by-error.result) c.step_in-above.result c.args.focus.now c.step_in-above.new.focus c.step_in-above.new.focus
-    c.step_out.new.focus (cells_of c.args.run.now.global.cells) (cells_of c.step_in-above.new.cells)
-    (cells_of c.step_in-above.new.cells) (cells_of c.step_out.new.cells) c.step_in-above.ensures
-    (inside_races rules c.args.function true c.args.args c.args.pos c.data_race_by-error.result lent
-    (sym (rw c.as_slice.ensures at c.races-is_racing.ensures) ∙ c.if-is_racing.true)
-    (rw (c.as_str.ensures, c.get-then-is_racing.ensures, c.def.ensures.value, c.get.ensures) at c.data_race_by-error.ensures))
-    c.step_out.ensures)
+    let begun = state_of (g.T.NativeTable.state c.args.table.now) c.args.run.now.global scope (lending held c.args.focus.now) in
+    let error = error_in c.enter_focus.new.place in
+    let cells = cells_of c.args.run.now.global.cells in
+    rw c.end_call.ensures
+    (focus_refused rules c.args.function true c.args.args c.args.pos begun begun (Err error) error c.args.focus.now
+    c.enter_focus.new.focus cells (cells_of c.enter_focus.new.cells) refl refl (is_held cells c.args.focus.now.value) refl
+    (λ is. let seen = c.enter_focus.ensures.held is in (ap cells_of seen.1, seen.2, seen.3))
+    (λ free. rw c.as_slice-values.ensures at (c.enter_focus.ensures.raced free c.in_default.is)))
 
 pub enter_on_focus-returns-clause-runs : goal.enter_on_focus-returns-clause-runs
 enter_on_focus-returns-clause-runs g t c scope held =
     let rules = under g.H.Host.name_of c.args.self.now g.T.NativeTable.natives in
     let result = came c.run_body-done.result c.run_body-done.new.run.value c.run_body-done.new.run.error in
-    let value_is : c.take_up.new.run.value ≡ c.run_body-done.new.run.value = ap (λ (r : Context _). r.value) c.take_up.ensures.run in
-    let error_is : c.take_up.new.run.error ≡ c.run_body-done.new.run.error = ap (λ (r : Context _). r.error) c.take_up.ensures.run in
-    let inner = c.step_in-above.new.focus in
-    let entered : GlobalRuntimeState _ = record c.args.run.now.global { cells = c.step_in-above.new.cells } in
-    let stands : c.put_aside-aside.new.run.this ≡ Some inner = c.put_aside-aside.ensures.this ∙ ap Some c.replace-this.ensures.value in
-    let level_is = c.level_below-level.ensures ∙ ap (λ (r : Context _). deeper r.global.level) c.put_aside-aside.ensures.rest in
-    let global_is = ap (λ (r : Context _). r.global) c.put_aside-aside.ensures.rest in
-    let runs = fresh_ends rules c.args.function TheFocus c.args.args c.args.pos entered scope (lending held inner) c.get-def.result.now
-    (option_copied c.environ_in-environ.result) c.level_below-level.result c.put_aside-aside.new.run.global
-    (g.T.NativeTable.state c.args.table.now) (g.T.NativeTable.state c.run_body-done.new.table) c.run_body-done.new.run
-    result c.get-def.ensures c.environ_in-environ.ensures level_is global_is
+    let value_is : c.leave_focus.new.run.value ≡ c.run_body-done.new.run.value = ap (λ (r : Context _). r.value) c.leave_focus.ensures.run in
+    let error_is : c.leave_focus.new.run.error ≡ c.run_body-done.new.run.error = ap (λ (r : Context _). r.error) c.leave_focus.ensures.run in
+    let inner = c.enter_focus.new.focus in
+    let entered : GlobalRuntimeState _ = record c.args.run.now.global { cells = c.enter_focus.new.cells } in
+    let passes = c.enter_focus.ensures.entered c.in-Some.above c.in-Some.is in
+    let level_is = c.body_of-level.ensures.level ∙ ap (λ (r : Context _). deeper r.global.level) c.lend_focus-aside.ensures.rest in
+    let global_is = ap (λ (r : Context _). r.global) c.lend_focus-aside.ensures.rest in
+    let table = g.T.NativeTable.state c.args.table.now in
+    let left = g.T.NativeTable.state c.run_body-done.new.table in
+    let run = c.run_body-done.new.run in
+    let runs = fresh_ends rules c.args.function TheFocus c.args.args c.args.pos entered scope (lending held inner)
+    c.body_of-level.result.0.now (option_copied c.body_of-level.result.1) c.body_of-level.result.2 c.lend_focus-aside.new.run.global
+    table left run result c.body_of-level.ensures.def c.body_of-level.ensures.environ level_is global_is
     (rw c.as_mut_slice-values.ensures.value at
-    (c.run_body-done.ensures.runs scope (lending held inner) TheFocus true c.put_aside-aside.ensures.scope stands))
-    c.take_up.new.run.global c.take_up.result (ap (λ (r : Context _). r.global) c.take_up.ensures.run) c.take_up.ensures.this in
+    (c.run_body-done.ensures.runs scope (lending held inner) TheFocus true c.lend_focus-aside.ensures.scope
+    c.lend_focus-aside.ensures.this)) run.global run.this refl refl in
     let owned : Held _ = record { this = Some inner; focus = None } in
-    let owns = fresh_ends rules c.args.function OwnThis c.args.args c.args.pos entered scope owned c.get-def.result.now
-    (option_copied c.environ_in-environ.result) c.level_below-level.result c.put_aside-aside.new.run.global
-    (g.T.NativeTable.state c.args.table.now) (g.T.NativeTable.state c.run_body-done.new.table) c.run_body-done.new.run
-    result c.get-def.ensures c.environ_in-environ.ensures level_is global_is
+    let owns = fresh_ends rules c.args.function OwnThis c.args.args c.args.pos entered scope owned
+    c.body_of-level.result.0.now (option_copied c.body_of-level.result.1) c.body_of-level.result.2 c.lend_focus-aside.new.run.global
+    table left run result c.body_of-level.ensures.def c.body_of-level.ensures.environ level_is global_is
     (rw c.as_mut_slice-values.ensures.value at
-    (c.run_body-done.ensures.runs scope owned OwnThis true c.put_aside-aside.ensures.scope stands))
-    c.take_up.new.run.global c.take_up.result (ap (λ (r : Context _). r.global) c.take_up.ensures.run) c.take_up.ensures.this in
+    (c.run_body-done.ensures.runs scope owned OwnThis true c.lend_focus-aside.ensures.scope c.lend_focus-aside.ensures.this))
+    run.global run.this refl refl in
     let bound = (kept rules (EnterFunction (entry_of c.args.function OwnThis true c.args.args c.args.pos (local_of entered scope owned)))
     (ended result) _ _ tt owns).bound in
-    rw (c.keep_list-2.ensures, value_is, error_is)
+    let worked = is_bound run.this bound in
+    let closed = c.leave_focus.new.run.global in
+    rw (c.end_call-2.ensures, value_is, error_is)
+    (subst (λ (global : GlobalRuntimeState _). Runs rules (EnterOnFocus c.args.function true c.args.args c.args.pos)
+    (state_of table c.args.run.now.global scope (lending held c.args.focus.now)) result
+    (standing c.leave_focus.new.focus (cells_of closed.cells) (state_of left global scope (lending held worked.0))))
+    (sym (ap (λ (r : Context _). r.global) c.leave_focus.ensures.run))
     (enters_focus rules c.args.function true c.args.args c.args.pos
-    (state_of (g.T.NativeTable.state c.args.table.now) c.args.run.now.global scope (lending held c.args.focus.now))
-    (state_of (g.T.NativeTable.state c.run_body-done.new.table) c.take_up.new.run.global scope (lending held c.put_this.new.place))
-    result c.step_in-above.result c.args.focus.now inner c.put_this.new.place
-    c.step_out-2.new.focus (cells_of c.args.run.now.global.cells) (cells_of c.step_in-above.new.cells)
-    (cells_of c.take_up.new.run.global.cells) (cells_of c.step_out-2.new.cells) c.step_in-above.ensures
+    (state_of table c.args.run.now.global scope (lending held c.args.focus.now))
+    (state_of left run.global scope (lending held worked.0)) result c.in-Some.above c.args.focus.now inner worked.0
+    c.leave_focus.new.focus (cells_of c.args.run.now.global.cells) (cells_of c.enter_focus.new.cells)
+    (cells_of run.global.cells) (cells_of closed.cells) passes.0
     (inside_runs rules c.args.function true c.args.args c.args.pos
-    (state_of (g.T.NativeTable.state c.args.table.now) entered scope (lending held inner)) _ result
-    (sym (rw c.as_slice.ensures at c.races-is_racing.ensures) ∙ c.if-is_racing.false) (rw (c.put_this.ensures bound) at runs))
-    c.step_out-2.ensures)
+    (state_of table entered scope (lending held inner)) (state_of left run.global scope (lending held worked.0)) result
+    (rw c.as_slice-values.ensures at passes.1) (rw worked.1 at runs))
+    (c.leave_focus.ensures.leaves worked.0 worked.1)))
 
 pub enter_on_focus-returns-clause-counts : goal.enter_on_focus-returns-clause-counts
 enter_on_focus-returns-clause-counts g t c =
     let rules = under g.H.Host.name_of c.args.self.now g.T.NativeTable.natives in
-    let result = came c.run_body-done.result c.keep_list-2.new.run.value c.keep_list-2.new.run.error in
+    let result = came c.run_body-done.result c.end_call-2.new.run.value c.end_call-2.new.run.error in
     counted rules (EnterOnFocus c.args.function true c.args.args c.args.pos) (ended result) _ _
     (enter_on_focus-returns-clause-runs g t c c.args.run.now.scope (holding None))
 

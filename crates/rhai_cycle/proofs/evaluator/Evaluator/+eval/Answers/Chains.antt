@@ -17,6 +17,7 @@ use Rattle.rhai_machine.specs.language.Runs.{Steps}
 use Rattle.rhai_steps.proofs.Pieces.{charged, refused}
 use Rattle.rhai_operands.proofs.Names.{good_name, plain_name}
 use Rattle.rhai_chains.specs.Chains.{chain_at, link_seen, new_of}
+use Rattle.rhai_context.specs.Ends.{error_in}
 use Rattle.rhai_context.specs.declared.Context.{Context}
 use Rattle.rhai_cycle.specs.Calls.{Collects, RunsUnder, StartsAs}
 use Rattle.rhai_cycle.specs.Chains.{Gathers}
@@ -27,83 +28,38 @@ use Rattle.rhai_cycle.proofs.CallSteps.{charged_on, refused_on}
 use Rattle.rhai_cycle.proofs.ChainLemmas.{has_link, left_chain, link_resolves, may_walk, no_name, RestResolves, root_resolves}
 use Rattle.rhai_cycle.proofs.ChainLemmas.{target_parts}
 use Rattle.rhai_cycle.proofs.ChainSteps.{arrives_last, arrives_on, asks_further, asks_last, asks_link, begins_chain, evaluates_root}
-use Rattle.rhai_cycle.proofs.ChainSteps.{given_asked, is_given, not_assigned, nothing_there, opens_asking, opens_given, this_root}
+use Rattle.rhai_cycle.proofs.ChainSteps.{asked_at_once, not_assigned, nothing_there, opens_asking, opens_at_once, opens_wanting, this_root}
 use Rattle.rhai_cycle.proofs.ChainSteps.{variable_root, walks_given}
 use Rattle.rhai_cycle.proofs.evaluator.Evaluator.+eval.Goals as goal
 
 -- a chain, its arguments and its root
 
-pub run_chain-ready_args-requires : goal.run_chain-ready_args-requires
-run_chain-ready_args-requires g t c = is_given c.in-Some.ready _ (rw c.in-Some.is at c.needs_no_step.ensures)
-
-pub run_chain-run_root-done-requires : goal.run_chain-run_root-done-requires
-run_chain-run_root-done-requires g t c =
-    let asked = given_asked c.in-Some.ready (out-Expr c.args.chain.now) (Ok c.in-Ok.values) (rw c.in-Some.is at c.needs_no_step.ensures)
-    c.in-Ok.ensures.given in
-    λ κs lives. (
-      omega (arith, ap (λ (r : Context _). r.global.num_operations) c.in-Ok.ensures.run),
-      (
-        lives.0,
-        (
-          lives.1,
-          (
-            rw c.in-Ok.ensures.run c.requires.root,
-            (
-              rw c.as_mut_slice-args.ensures.value
-                  (walks_given _ (out-Expr c.args.chain.now) c.in-Ok.values c.requires.walks asked),
-              c.requires.starts,
-            ),
-          ),
-        ),
-      ),
-    )
-
-pub run_chain-returns-in-Ok-clause-runs : goal.run_chain-returns-in-Ok-clause-runs
+pub run_chain-returns-in_default-clause-runs : goal.run_chain-returns-in_default-clause-runs
 unfolding Steps
-run_chain-returns-in-Ok-clause-runs g t c k =
+run_chain-returns-in_default-clause-runs g t c k =
     let rules = under g.H.Host.name_of c.args.self.now g.T.NativeTable.natives in
     let chain = chain_on c.args.root.now (out-Expr c.args.chain.now) (new_of c.args.new) in
-    rw c.keep_list.ensures
-    (opens_given rules chain (out-Expr c.args.chain.now) refl k (state_in (g.T.NativeTable.state c.args.table.now) c.args.run.now)
-    c.in-Some.ready (Ok c.in-Ok.values) (rw c.in-Some.is at c.needs_no_step.ensures) c.in-Ok.ensures.given tt
-    ⨾ (rw (c.as_mut_slice-args.ensures.value, c.in-Ok.ensures.run) at c.run_root-done.ensures.runs false) k)
-
-pub run_chain-returns-in-Ok-clause-asks : goal.run_chain-returns-in-Ok-clause-asks
-run_chain-returns-in-Ok-clause-asks g t c =
-    let rules = under g.H.Host.name_of c.args.self.now g.T.NativeTable.natives in
-    let chain = chain_on c.args.root.now (out-Expr c.args.chain.now) (new_of c.args.new) in
-    λ done. (
-      c.in-Ok.values,
-      state_in (g.T.NativeTable.state c.args.table.now) c.args.run.now,
-      opens_given rules chain (out-Expr c.args.chain.now) refl [] (state_in (g.T.NativeTable.state c.args.table.now) c.args.run.now)
-          c.in-Some.ready (Ok c.in-Ok.values) (rw c.in-Some.is at c.needs_no_step.ensures) c.in-Ok.ensures.given tt,
-    )
-
-pub run_chain-returns-in-Err-clause-runs : goal.run_chain-returns-in-Err-clause-runs
-unfolding Steps
-run_chain-returns-in-Err-clause-runs g t c k =
-    let rules = under g.H.Host.name_of c.args.self.now g.T.NativeTable.natives in
-    let chain = chain_on c.args.root.now (out-Expr c.args.chain.now) (new_of c.args.new) in
-    rw (c.stop.ensures.stopped, c.stop.ensures.told, c.in-Err.ensures.run)
-    (opens_given rules chain (out-Expr c.args.chain.now) refl k (state_in (g.T.NativeTable.state c.args.table.now) c.args.run.now)
-    c.in-Some.ready (Err c.in-Err.error) (rw c.in-Some.is at c.needs_no_step.ensures) tt c.in-Err.ensures.refused)
+    rw c.given_args.ensures.run
+    (opens_wanting rules chain (out-Expr c.args.chain.now) refl k (state_in (g.T.NativeTable.state c.args.table.now) c.args.run.now)
+    (error_in c.given_args.new.run.error) (c.in_default.ensures.refused refl))
 
 pub run_chain-run_link_args-requires : goal.run_chain-run_link_args-requires
 run_chain-run_link_args-requires g t c =
     λ κs lives. (
-      omega (arith, ap (λ (r : Context _). r.global.num_operations) c.lend_list-values.ensures.run),
-      (lives.0, (lives.1, rw c.lend_list-values.ensures.run c.requires.behind)),
+      omega (arith, ap (λ (r : Context _). r.global.num_operations) c.given_args.ensures.run),
+      (lives.0, (lives.1, rw (ap (λ (r : Context _). names r) c.given_args.ensures.run) c.requires.behind)),
     )
 
-pub run_chain-run_root-done-requires-in-None : goal.run_chain-run_root-done-requires-in-None
-run_chain-run_root-done-requires-in-None g t c =
-    let asked = rw c.lend_list-values.ensures.list at c.if-not-run_link_args.ensures.asked in
-    let same = ap (λ (r : Context _). names r) c.lend_list-values.ensures.run in
+pub run_chain-run_root-done-requires : goal.run_chain-run_root-done-requires
+run_chain-run_root-done-requires g t c =
+    let asks = c.in-Some.ensures.asks c.if-asks.true in
+    let asked = rw asks.0 at c.if-not-run_link_args.ensures.asked in
+    let same = ap (λ (r : Context _). names r) c.given_args.ensures.run in
     λ κs lives. (
       omega (
         arith,
         c.if-not-run_link_args.ensures.counts refl,
-        ap (λ (r : Context _). r.global.num_operations) c.lend_list-values.ensures.run,
+        ap (λ (r : Context _). r.global.num_operations) c.given_args.ensures.run,
       ),
       (
         lives.0,
@@ -112,7 +68,7 @@ run_chain-run_root-done-requires-in-None g t c =
           (
             rw (c.if-not-run_link_args.ensures.names refl, same) c.requires.root,
             (
-              rw c.as_mut_slice-args-in-None.ensures.value
+              rw c.as_mut_slice-args.ensures.value
                   (walks_given _ (out-Expr c.args.chain.now) c.run_link_args.new.values c.requires.walks asked),
               c.requires.starts,
             ),
@@ -121,28 +77,26 @@ run_chain-run_root-done-requires-in-None g t c =
       ),
     )
 
-pub run_chain-returns-else-not-run_link_args-clause-runs : goal.run_chain-returns-else-not-run_link_args-clause-runs
-unfolding Steps Gathers
-run_chain-returns-else-not-run_link_args-clause-runs g t c k =
-    let rules = under g.H.Host.name_of c.args.self.now g.T.NativeTable.natives in
-    let chain = chain_on c.args.root.now (out-Expr c.args.chain.now) (new_of c.args.new) in
-    let there = has_link (out-Expr c.args.chain.now) (names c.args.run.now) c.requires.behind in
-    rw c.keep_list-in-None.ensures
-    (opens_asking rules chain (out-Expr c.args.chain.now) refl k _ there.0 there.1 (rw c.in-None.is at c.needs_no_step.ensures)
-    ⨾ (rw (c.lend_list-values.ensures.list, c.lend_list-values.ensures.run) at c.if-not-run_link_args.ensures.gathers) chain k
-    ⨾ (rw c.as_mut_slice-args-in-None.ensures.value at c.run_root-done-in-None.ensures.runs false) k)
-
-pub run_chain-returns-else-not-run_link_args-clause-asks : goal.run_chain-returns-else-not-run_link_args-clause-asks
-unfolding Gathers
-run_chain-returns-else-not-run_link_args-clause-asks g t c =
-    let rules = under g.H.Host.name_of c.args.self.now g.T.NativeTable.natives in
-    let chain = chain_on c.args.root.now (out-Expr c.args.chain.now) (new_of c.args.new) in
-    let there = has_link (out-Expr c.args.chain.now) (names c.args.run.now) c.requires.behind in
-    λ done. (
-      c.run_link_args.new.values,
-      state_in (g.T.NativeTable.state c.run_link_args.new.table) c.run_link_args.new.run,
-      opens_asking rules chain (out-Expr c.args.chain.now) refl [] _ there.0 there.1 (rw c.in-None.is at c.needs_no_step.ensures)
-          ⨾ (rw (c.lend_list-values.ensures.list, c.lend_list-values.ensures.run) at c.if-not-run_link_args.ensures.gathers) chain [],
+pub run_chain-run_root-done-requires-else-asks : goal.run_chain-run_root-done-requires-else-asks
+run_chain-run_root-done-requires-else-asks g t c =
+    let asked = asked_at_once (out-Expr c.args.chain.now) c.in-Some.values (c.in-Some.ensures.given c.if-asks.false) in
+    let same = ap (λ (r : Context _). names r) c.given_args.ensures.run in
+    λ κs lives. (
+      omega (arith, ap (λ (r : Context _). r.global.num_operations) c.given_args.ensures.run),
+      (
+        lives.0,
+        (
+          lives.1,
+          (
+            rw same c.requires.root,
+            (
+              rw c.as_mut_slice-args-else-asks.ensures.value
+                  (walks_given _ (out-Expr c.args.chain.now) c.in-Some.values c.requires.walks asked),
+              c.requires.starts,
+            ),
+          ),
+        ),
+      ),
     )
 
 pub run_chain-returns-then-not-run_link_args-clause-runs : goal.run_chain-returns-then-not-run_link_args-clause-runs
@@ -151,9 +105,57 @@ run_chain-returns-then-not-run_link_args-clause-runs g t c k =
     let rules = under g.H.Host.name_of c.args.self.now g.T.NativeTable.natives in
     let chain = chain_on c.args.root.now (out-Expr c.args.chain.now) (new_of c.args.new) in
     let there = has_link (out-Expr c.args.chain.now) (names c.args.run.now) c.requires.behind in
-    rw c.keep_list-then-not-run_link_args.ensures
-    (opens_asking rules chain (out-Expr c.args.chain.now) refl k _ there.0 there.1 (rw c.in-None.is at c.needs_no_step.ensures)
-    ⨾ (rw (c.lend_list-values.ensures.list, c.lend_list-values.ensures.run) at c.if-not-run_link_args.ensures.gathers) chain k)
+    let asks = c.in-Some.ensures.asks c.if-asks.true in
+    rw c.keep_list.ensures
+    (opens_asking rules chain (out-Expr c.args.chain.now) refl k _ there.0 there.1 asks.1
+    ⨾ (rw (asks.0, c.given_args.ensures.run) at c.if-not-run_link_args.ensures.gathers) chain k)
+
+pub run_chain-returns-else-not-run_link_args-clause-runs : goal.run_chain-returns-else-not-run_link_args-clause-runs
+unfolding Steps Gathers
+run_chain-returns-else-not-run_link_args-clause-runs g t c k =
+    let rules = under g.H.Host.name_of c.args.self.now g.T.NativeTable.natives in
+    let chain = chain_on c.args.root.now (out-Expr c.args.chain.now) (new_of c.args.new) in
+    let there = has_link (out-Expr c.args.chain.now) (names c.args.run.now) c.requires.behind in
+    let asks = c.in-Some.ensures.asks c.if-asks.true in
+    rw c.keep_list-then-asks.ensures
+    (opens_asking rules chain (out-Expr c.args.chain.now) refl k _ there.0 there.1 asks.1
+    ⨾ (rw (asks.0, c.given_args.ensures.run) at c.if-not-run_link_args.ensures.gathers) chain k
+    ⨾ (rw c.as_mut_slice-args.ensures.value at c.run_root-done.ensures.runs false) k)
+
+pub run_chain-returns-else-not-run_link_args-clause-asks : goal.run_chain-returns-else-not-run_link_args-clause-asks
+unfolding Gathers
+run_chain-returns-else-not-run_link_args-clause-asks g t c =
+    let rules = under g.H.Host.name_of c.args.self.now g.T.NativeTable.natives in
+    let chain = chain_on c.args.root.now (out-Expr c.args.chain.now) (new_of c.args.new) in
+    let there = has_link (out-Expr c.args.chain.now) (names c.args.run.now) c.requires.behind in
+    let asks = c.in-Some.ensures.asks c.if-asks.true in
+    λ done. (
+      c.run_link_args.new.values,
+      state_in (g.T.NativeTable.state c.run_link_args.new.table) c.run_link_args.new.run,
+      opens_asking rules chain (out-Expr c.args.chain.now) refl [] _ there.0 there.1 asks.1
+          ⨾ (rw (asks.0, c.given_args.ensures.run) at c.if-not-run_link_args.ensures.gathers) chain [],
+    )
+
+pub run_chain-returns-else-asks-clause-runs : goal.run_chain-returns-else-asks-clause-runs
+unfolding Steps
+run_chain-returns-else-asks-clause-runs g t c k =
+    let rules = under g.H.Host.name_of c.args.self.now g.T.NativeTable.natives in
+    let chain = chain_on c.args.root.now (out-Expr c.args.chain.now) (new_of c.args.new) in
+    rw c.keep_list-else-asks.ensures
+    (opens_at_once rules chain (out-Expr c.args.chain.now) refl k (state_in (g.T.NativeTable.state c.args.table.now) c.args.run.now)
+    c.in-Some.values (c.in-Some.ensures.given c.if-asks.false)
+    ⨾ (rw (c.as_mut_slice-args-else-asks.ensures.value, c.given_args.ensures.run) at c.run_root-done-else-asks.ensures.runs false) k)
+
+pub run_chain-returns-else-asks-clause-asks : goal.run_chain-returns-else-asks-clause-asks
+run_chain-returns-else-asks-clause-asks g t c =
+    let rules = under g.H.Host.name_of c.args.self.now g.T.NativeTable.natives in
+    let chain = chain_on c.args.root.now (out-Expr c.args.chain.now) (new_of c.args.new) in
+    λ done. (
+      c.in-Some.values,
+      state_in (g.T.NativeTable.state c.args.table.now) c.args.run.now,
+      opens_at_once rules chain (out-Expr c.args.chain.now) refl [] (state_in (g.T.NativeTable.state c.args.table.now) c.args.run.now)
+          c.in-Some.values (c.in-Some.ensures.given c.if-asks.false),
+    )
 
 -- what the links ask for
 
@@ -408,14 +410,14 @@ assign_chain-returns-then-not-run_expr-clause-runs g t c k =
     begins_chain rules c.args.op c.args.lhs.now c.args.rhs.now c.in-Some.root.now c.args.restoring found k _
     ⨾ c.if-not-run_expr.ensures.runs (AssignChain _ _ _ _ ∷ k) ⨾ next here
 
-pub assign_chain-returns-then-not-flatten_at-clause-runs : goal.assign_chain-returns-then-not-flatten_at-clause-runs
+pub assign_chain-returns-in_default-take_flat-clause-runs : goal.assign_chain-returns-in_default-take_flat-clause-runs
 unfolding Steps
-assign_chain-returns-then-not-flatten_at-clause-runs g t c k =
+assign_chain-returns-in_default-take_flat-clause-runs g t c k =
     let rules = under g.H.Host.name_of c.args.self.now g.T.NativeTable.natives in
     let found = sym c.first_of.ensures ∙ ap option_copied c.in-Some.is in
     begins_chain rules c.args.op c.args.lhs.now c.args.rhs.now c.in-Some.root.now c.args.restoring found k _
     ⨾ c.if-not-run_expr.ensures.runs (AssignChain _ _ _ _ ∷ k)
-    ⨾ flat_fails rules _ _ k _ _ (AssignChain _ _ _ _) refl c.if-not-flatten_at.ensures.exact
+    ⨾ flat_fails rules _ _ k _ _ (AssignChain _ _ _ _) refl c.in_default-take_flat.ensures
 
 pub assign_chain-returns-then-not-run_chain-clause-runs : goal.assign_chain-returns-then-not-run_chain-clause-runs
 unfolding after Steps
@@ -424,8 +426,8 @@ assign_chain-returns-then-not-run_chain-clause-runs g t c k =
     let found = sym c.first_of.ensures ∙ ap option_copied c.in-Some.is in
     begins_chain rules c.args.op c.args.lhs.now c.args.rhs.now c.in-Some.root.now c.args.restoring found k _
     ⨾ c.if-not-run_expr.ensures.runs (AssignChain _ _ _ _ ∷ k)
-    ⨾ next (rw (← (c.if-not-flatten_at.ensures.exact tt))
-    ((rw c.take_value-value.ensures.taken at c.if-not-run_chain.ensures.runs) (AssignedChain ∷ k) ⨾ next here))
+    ⨾ next (rw (← (c.in-Some-take_flat.ensures tt))
+    (c.if-not-run_chain.ensures.runs (AssignedChain ∷ k) ⨾ next here))
 
 pub assign_chain-returns-clause-runs : goal.assign_chain-returns-clause-runs
 unfolding after Steps
@@ -434,8 +436,8 @@ assign_chain-returns-clause-runs g t c k =
     let found = sym c.first_of.ensures ∙ ap option_copied c.in-Some.is in
     begins_chain rules c.args.op c.args.lhs.now c.args.rhs.now c.in-Some.root.now c.args.restoring found k _
     ⨾ c.if-not-run_expr.ensures.runs (AssignChain _ _ _ _ ∷ k)
-    ⨾ next (rw (← (c.if-not-flatten_at.ensures.exact tt))
-    ((rw c.take_value-value.ensures.taken at c.if-not-run_chain.ensures.runs) (AssignedChain ∷ k)
+    ⨾ next (rw (← (c.in-Some-take_flat.ensures tt))
+    (c.if-not-run_chain.ensures.runs (AssignedChain ∷ k)
     ⨾ next (rw c.put_unit.ensures here)))
 
 -- where a chain is read, and where it is assigned to
