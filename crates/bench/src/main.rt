@@ -3,7 +3,8 @@
 //!
 //! - `loop`: a loop of so many decrements
 //! - `array`: an array of so many literals, and one of twice as many
-//! - `natives`: so many calls of natives of one argument, and of two, in loops that count down
+//! - `native`: so many calls of a native of one argument, in a loop that counts down
+//! - `natives`: the same, and so many calls of one of two arguments
 //! - `item`: so many additions to the last item of an array of a thousand items, and of a hundred thousand
 //! - `fib`: a function that calls itself twice, with that number
 //! - `range`: a `for` over a range of so many integers
@@ -28,7 +29,7 @@ fn main(rt: HostRuntime) -> io::Result<ExitCode> {
         }
         None => {
             eprintln!(&rt;
-                "usage: bench loop|array|natives|item|fib|range|walk|switch|throw [NUMBER]"
+                "usage: bench loop|array|native|natives|item|fib|range|walk|switch|throw [NUMBER]"
             )?;
             Ok(ExitCode::from(WRONG_ARGUMENTS))
         }

@@ -16,6 +16,7 @@ use std::io;
 pub enum Work {
     Loop,
     Array,
+    Native,
     Natives,
     Item,
     Fib,
@@ -31,6 +32,7 @@ impl Work {
         match word {
             "loop" => Some(Work::Loop),
             "array" => Some(Work::Array),
+            "native" => Some(Work::Native),
             "natives" => Some(Work::Natives),
             "item" => Some(Work::Item),
             "fib" => Some(Work::Fib),
@@ -45,7 +47,7 @@ impl Work {
     /// How long the work is where no argument says it.
     pub fn usual(self) -> u32 {
         match self {
-            Work::Loop | Work::Natives | Work::Item => 1_000_000,
+            Work::Loop | Work::Native | Work::Natives | Work::Item => 1_000_000,
             Work::Range | Work::Walk | Work::Switch | Work::Throw => 1_000_000,
             Work::Array => 100_000,
             Work::Fib => 28,
@@ -58,6 +60,7 @@ impl Work {
         match self {
             Work::Loop => time_statements(rt, "the loop", Decrements(turns)),
             Work::Array => time_arrays(rt, number),
+            Work::Native => time_native(rt, turns),
             Work::Natives => time_natives(rt, turns),
             Work::Item => time_items(rt, turns),
             Work::Fib => time(rt, "the function", WithFunctions(Fibonacci(turns))),
@@ -75,8 +78,12 @@ fn time_arrays(rt: &HostRuntime, length: u32) -> io::Result<()> {
     time_statements(rt, "one of twice the length", twice)
 }
 
+fn time_native(rt: &HostRuntime, calls: i64) -> io::Result<()> {
+    time_statements(rt, "one argument", Doublings(calls))
+}
+
 fn time_natives(rt: &HostRuntime, calls: i64) -> io::Result<()> {
-    time_statements(rt, "one argument", Doublings(calls))?;
+    time_native(rt, calls)?;
     time_statements(rt, "two arguments", Pairings(calls))
 }
 

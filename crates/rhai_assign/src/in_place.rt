@@ -1,13 +1,13 @@
 //! An assignment by a built-in operator whose value is an operand as it stands: the target is changed
 //! where it stands, and no operand is copied.
 
-ghost use Rattle.std.specs.Prelude.{◌≡◌, IsTrue, IfSome, Some, None, Ok, is_some, true, false};
+ghost use Rattle.std.specs.Prelude.{◌≡◌, ◌<◌, IsTrue, IfSome, Some, None, Ok, is_some, length, slice_get, true, false};
 ghost use Rattle.rhai_tree.specs.declared.expr.Expr.{out-Expr};
 ghost use Rattle.rhai_tree.specs.declared.expr.Expr.TheOpen as layer;
 ghost use Rattle.rhai_tree.specs.Frame.{tests_of, target_resolves, resolves_expr};
 ghost use Rattle.rhai_tree.specs.Names.{is_good};
 ghost use Rattle.rhai_values.specs.Cells.{cells_of};
-ghost use Rattle.rhai_state.specs.Scope.{entries_of, names_in};
+ghost use Rattle.rhai_state.specs.Scope.{entries_of, names_in, revalued};
 ghost use Rattle.rhai_machine.specs.language.Frames.{OpenStmt};
 ghost use Rattle.rhai_machine.specs.language.Runs.{Runs};
 ghost use Rattle.rhai_machine.specs.language.Places.{target_of};
@@ -21,7 +21,7 @@ ghost use Rattle.rhai_assign.specs.Keeps.{Keeps};
 
 use crate::place::{Place, find_target, value_at};
 use crate::write::write_outcome;
-use rhai_context::ends::{put_unit, settle};
+use rhai_context::ends::{put_number, put_unit, settle};
 use rhai_operands::operands::{integer_at, integer_in_place, operand_in_place};
 use rhai_operands::operators::assign_known;
 use rhai_operators::builtin_op_assign;
@@ -31,7 +31,6 @@ use rhai_state::scope::Scope;
 use rhai_state::state::GlobalRuntimeState;
 use rhai_state::table::NativeTable;
 use rhai_steps::charges::{charge_all, track_operation};
-use rhai_steps::values::let_go;
 use rhai_steps::variables::place_of_variable;
 use rhai_tree::expr::{Expr, OpAssignment};
 use rhai_tree::position::Position;
@@ -91,6 +90,16 @@ fn writable_integer<H: Host>(value: &Dynamic<H>) -> Option<i64>
     }
 }
 
+/// Writes a value that is most often an integer over that of a variable.
+#[inline(always)]
+fn write_number<H: Host>(scope: &mut Scope<H>, index: usize, value: Dynamic<H>)
+    requires { index < length (entries_of scope.old) }
+    ensures { entries_of scope.new ≡ revalued (entries_of scope.old) index
+        (slice_get (entries_of scope.old) index) value }
+{
+    put_number(scope.value_at_mut(index), value);
+}
+
 /// Assigns to a variable that holds an integer, by an operator whose value is an integer as it stands,
 /// and charges the value and the variable at once. False where that is not so, or the limit has no room
 /// for both charges: then nothing is changed. The table is not called.
@@ -135,7 +144,7 @@ fn assign_integer<H: Host, T: NativeTable<H>>(
         drop(value);
         return false;
     }
-    let_go(scope.replace_value(index, value));
+    write_number(scope, index, value);
     true
 }
 

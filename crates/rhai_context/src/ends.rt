@@ -2,14 +2,14 @@
 //! well: its value stands in `run.value` then, and else its error in `run.error`. A part of a chain's walk answers
 //! in Some whether it may have changed what it worked on, and None where it failed.
 
-ghost use Rattle.std.specs.Prelude.{◌≡◌, OnOk, None, false, true};
+ghost use Rattle.std.specs.Prelude.{◌≡◌, IsTrue, OnOk, None, false, true};
 ghost use Rattle.rhai_state.specs.Errors.{is_catchable};
 ghost use Rattle.rhai_machine.specs.language.Values.{bool_value as truth_of};
 ghost use Rattle.rhai_context.specs.Ends.{came, came_marked, came_turn, error_in, unchanged as unchanged_by, unit};
 
 use rhai_state::error::EvalAltResult;
 use rhai_tree::position::Position;
-use rhai_values::base::value::{Dynamic, Host, Union};
+use rhai_values::base::value::{AccessMode, Dynamic, Host, Union};
 use std::mem::replace;
 
 /// A value goes into its place.
@@ -19,11 +19,40 @@ pub fn put<H: Host>(out: &mut Dynamic<H>, value: Dynamic<H>)
     drop(replace(out, value));
 }
 
-/// `()` goes into the place of a value.
+/// Whether a value is `()` that may be changed.
+#[inline(always)]
+fn is_unit<H>(value: &Dynamic<H>) -> bool
+    ensures { IsTrue result → value.now ≡ unit }
+{
+    match (&value.value, value.mode) {
+        (Union::Unit, AccessMode::ReadWrite) => true,
+        _ => false,
+    }
+}
+
+/// `()` goes into the place of a value, where most often it is already.
 pub fn put_unit<H: Host>(out: &mut Dynamic<H>)
     ensures { out.new ≡ unit }
 {
+    if is_unit(out) {
+        return;
+    }
     put(out, Dynamic::new(Union::Unit));
+}
+
+/// A value goes into the place of another one, where most often both are integers.
+#[inline(always)]
+pub fn put_number<H: Host>(out: &mut Dynamic<H>, value: Dynamic<H>)
+    ensures { out.new ≡ value }
+{
+    if let Union::Int(new) = &value.value {
+        if let Union::Int(old) = &mut out.value {
+            *old = *new;
+            out.mode = value.mode;
+            return;
+        }
+    }
+    put(out, value);
 }
 
 /// A truth value goes into the place of a value.

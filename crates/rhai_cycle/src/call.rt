@@ -20,6 +20,7 @@ ghost use Rattle.rhai_cycle.specs.Calls.{RunsUnder, StartsAs, called, purpose_of
 ghost use Rattle.rhai_cycle.specs.States.{names, state_in, under};
 
 use crate::evaluator::Evaluator;
+use rhai_at_once::call_at_once;
 use rhai_calls::dispatch::Called;
 use rhai_calls::operators::{operate_one, operate_two};
 use rhai_context::ends::{put, settle, stop, take_value};
@@ -116,6 +117,22 @@ impl<'e, H: Host> Evaluator<'e, H> {
                 if let Some(function) = plain_callee(&run.global, call) {
                     return self.run_plain_call(alloc, run, table, call, function, pos);
                 }
+                let offered = self.offered();
+                let at_once = call_at_once(
+                    self.limits,
+                    alloc,
+                    &offered,
+                    &mut run.global,
+                    table,
+                    &mut run.scope,
+                    &mut run.value,
+                    &mut run.error,
+                    call,
+                    pos,
+                );
+                if let Some(done) = at_once {
+                    return done;
+                }
                 let (name, first, rest) = parts_of_call(call);
                 let captures = call.capture_parent_scope;
                 self.run_call(
@@ -134,6 +151,7 @@ impl<'e, H: Host> Evaluator<'e, H> {
     }
 
     /// A call of a keyword, or of a function by its name. How it ended stands in the run.
+    #[inline(never)]
     #[cycle(eval)]
     pub fn run_call<T: NativeTable<H>>(
         &self,

@@ -29,6 +29,7 @@ fn is_same(left: bool, right: bool) -> bool
 impl<'e, H: Host> Evaluator<'e, H> {
     /// The parts of an `&&` or an `||` from left to right, up to the first with the truth value that stops it:
     /// false for `&&`, true for `||`. How it ended stands in the run.
+    #[inline(never)]
     #[cycle(eval)]
     pub(crate) fn run_until<T: NativeTable<H>>(
         &self,
@@ -61,6 +62,7 @@ impl<'e, H: Host> Evaluator<'e, H> {
 
     /// The parts of a `??` from left to right, up to the first that is not `()`, whose value comes
     /// up as it is, a handle too. How it ended stands in the run.
+    #[inline(never)]
     #[cycle(eval)]
     pub(crate) fn run_coalesce<T: NativeTable<H>>(
         &self,

@@ -22,6 +22,7 @@ use std::alloc::Global;
 impl<'e, H: Host> Evaluator<'e, H> {
     /// An array of the values of its items, which are evaluated from left to right. How it ended
     /// stands in the run.
+    #[inline(never)]
     #[cycle(eval)]
     pub(crate) fn run_array<T: NativeTable<H>>(
         &self,
@@ -56,6 +57,7 @@ impl<'e, H: Host> Evaluator<'e, H> {
 
     /// A map of the values of its entries, which are evaluated from left to right. How it ended
     /// stands in the run.
+    #[inline(never)]
     #[cycle(eval)]
     pub(crate) fn run_map<T: NativeTable<H>>(
         &self,
@@ -91,6 +93,7 @@ impl<'e, H: Host> Evaluator<'e, H> {
 
     /// A text that is joined of the values of its parts, which are evaluated from left to right. How it ended
     /// stands in the run.
+    #[inline(never)]
     #[cycle(eval)]
     pub(crate) fn run_interpolated<T: NativeTable<H>>(
         &self,

@@ -162,6 +162,7 @@ impl<'e, H: Host> Evaluator<'e, H> {
     }
 
     /// A `do`, turn by turn. How it ended stands in the run.
+    #[inline(never)]
     #[cycle(eval)]
     pub(crate) fn run_do<T: NativeTable<H>>(
         &self,
@@ -226,6 +227,7 @@ impl<'e, H: Host> Evaluator<'e, H> {
     }
 
     /// A `break` or a `continue`: an error on its way to its loop, with its value as it is.
+    #[inline(never)]
     #[cycle(eval)]
     pub(crate) fn run_break<T: NativeTable<H>>(
         &self,
@@ -259,6 +261,7 @@ impl<'e, H: Host> Evaluator<'e, H> {
 
     /// A `return`: an error on its way to the end of its function or script. A `throw`: one on its way to a
     /// `try`.
+    #[inline(never)]
     #[cycle(eval)]
     pub(crate) fn run_return<T: NativeTable<H>>(
         &self,

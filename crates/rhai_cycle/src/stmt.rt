@@ -338,6 +338,7 @@ impl<'e, H: Host> Evaluator<'e, H> {
     }
 
     /// A new variable. How it ended stands in the run.
+    #[inline(never)]
     #[cycle(eval)]
     fn run_var<T: NativeTable<H>>(
         &self,

@@ -20,6 +20,7 @@ use std::alloc::Global;
 impl<'e, H: Host> Evaluator<'e, H> {
     /// A `switch`: the first of the results that its value leads to whose condition holds, and else its
     /// default. How it ended stands in the run.
+    #[inline(never)]
     #[cycle(eval)]
     pub(crate) fn run_switch<T: NativeTable<H>>(
         &self,

@@ -24,6 +24,7 @@ use std::alloc::Global;
 impl<'e, H: Host> Evaluator<'e, H> {
     /// A `try`: its body, and where that ends by an error that a script may catch its branch. How it ended
     /// stands in the run.
+    #[inline(never)]
     #[cycle(eval)]
     pub(crate) fn run_try<T: NativeTable<H>>(
         &self,

@@ -34,6 +34,7 @@ fn next_number(turn: u64, num_operations: u64) -> u64
 
 impl<'e, H: Host> Evaluator<'e, H> {
     /// A `for`, turn by turn. How it ended stands in the run. Its variables are gone on every way out.
+    #[inline(never)]
     #[cycle(eval)]
     pub(crate) fn run_for<T: NativeTable<H>>(
         &self,

@@ -40,7 +40,8 @@ use std::mem::replace;
 use std::num::NonZeroUsize;
 
 /// Whether a variable's value may be lent: it is no handle and no constant.
-fn is_lendable<H: Host>(value: &Dynamic<H>) -> bool
+#[inline(always)]
+pub fn is_lendable<H: Host>(value: &Dynamic<H>) -> bool
     ensures { result ≡ lendable value.now }
 {
     match value.access_mode() {

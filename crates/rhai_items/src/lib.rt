@@ -24,6 +24,7 @@ ghost use Rattle.rhai_assign.specs.Keeps.{Keeps};
 ghost use Rattle.rhai_items.specs.Items.{charges_of, index_alone, parts_in, place_in_array, writable_at};
 ghost use Rattle.rhai_assign.specs.InPlace.{writable_in};
 
+use rhai_context::ends::put_number;
 use rhai_operands::operands::{integer_at, integer_in_place};
 use rhai_operands::operators::assign_known;
 use rhai_places::place::place_mut;
@@ -33,11 +34,9 @@ use rhai_state::scope::Scope;
 use rhai_state::state::GlobalRuntimeState;
 use rhai_state::table::NativeTable;
 use rhai_steps::charges::charge_all;
-use rhai_steps::values::let_go;
 use rhai_steps::variables::place_of_variable;
 use rhai_tree::expr::{Expr, OpAssignment};
 use rhai_values::base::value::{AccessMode, Dynamic, Host, Union};
-use std::mem::replace;
 
 /// Whether an index is a literal integer or a variable.
 fn is_alone(index: &Expr) -> bool
@@ -144,7 +143,7 @@ fn write_item<H: Host>(scope: &mut Scope<H>, entry: usize, at: usize, value: Dyn
         (with_value source (spot.Item at) value) }
 {
     let source = scope.value_at_mut(entry);
-    let_go(replace(place_mut(&mut source.value, Spot::Item(at)), value));
+    put_number(place_mut(&mut source.value, Spot::Item(at)), value);
 }
 
 /// Assigns to an item of an array that a variable holds, by an operator on two integers, and makes all its charges at

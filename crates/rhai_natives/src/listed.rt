@@ -80,6 +80,7 @@ pub(crate) struct Found<K> {
 }
 
 /// The first native of a name in a list.
+#[inline(always)]
 pub(crate) fn find_named<K: Copy>(listed: &[Listed<K>], name: &str) -> Option<Found<K>>
     ensures { result ≡ found (map entry_of listed.now) (Named name.now) }
 {

@@ -96,6 +96,7 @@ fn is_pure<K: Copy>(found: Option<Found<K>>) -> bool
 }
 
 /// Calls the native that was found, if one was, with a first argument.
+#[inline(always)]
 fn call_with<H: Host, N: ListedNatives<H>>(
     alloc: Global,
     natives: &mut N,
@@ -141,6 +142,7 @@ fn call_without<H: Host, N: ListedNatives<H>>(
 }
 
 /// What a table answers for a response, and what becomes of the first argument.
+#[inline(always)]
 fn answered<H: Drop>(alloc: Global, response: Response<H>) -> (Answer<H>, Option<Datum<H>>)
     ensures reply { IsReplied response (reply_of result.0) }
     ensures change { result.1 ≡ change_in response }
@@ -176,6 +178,7 @@ fn failed<H: Drop>(alloc: Global, fault: Fault<H>) -> Answer<H>
 }
 
 /// Changes a first argument. That of a pure native stays.
+#[inline(always)]
 fn apply<H: Drop>(is_pure: bool, change: Option<Datum<H>>, first: &mut Dynamic<H>)
     ensures { first.new ≡ changed is_pure change first.old }
 {

@@ -20,7 +20,7 @@ ghost use Rattle.rhai_operands.specs.Tests.{Tests};
 ghost use Rattle.rhai_context.specs.Ends.{came, came_test, error_in};
 
 use crate::operands::{integer_at, integer_in_place, operand_in_place, two_operands};
-use rhai_context::ends::{put, settle};
+use rhai_context::ends::{put_number, settle};
 use rhai_context::outcomes::charge;
 use rhai_operators::builtin_binary;
 use rhai_operators::direct::{assign_integers, compare_integers};
@@ -176,7 +176,7 @@ fn operate_integers<H: Host>(
         drop(value);
         return false;
     }
-    put(out, value);
+    put_number(out, value);
     true
 }
 
@@ -241,7 +241,7 @@ pub fn operate_known<H: Host>(token: Token, left: &Dynamic<H>, out: &mut Dynamic
 {
     match assign_known(token, integer_at(left), integer_at(&*out)) {
         Some(value) => {
-            put(out, value);
+            put_number(out, value);
             true
         }
         None => false,

@@ -60,7 +60,7 @@ none_of false false false false false true g h is = cc
 none_of false false false false false false true h is = cc
 none_of false false false false false false false h is = (refl, refl, refl, refl, refl, refl, refl, is)
 
-means_nothing : (name : List ℕ) → has_own_meaning name ≡ false → Means name
+pub means_nothing : (name : List ℕ) → has_own_meaning name ≡ false → Means name
 means_nothing name plain =
     let none = none_of (bytes_eq name (codes "call")) (bytes_eq name (codes "Fn")) (bytes_eq name (codes "curry"))
     (bytes_eq name (codes "is_shared")) (bytes_eq name (codes "is_def_var")) (bytes_eq name (codes "type_of"))

@@ -12,7 +12,7 @@ use rhai_tree::expr::{Expr, FnCallExpr};
 use rhai_values::base::value::Host;
 
 /// Whether a name means something besides functions.
-fn has_own_meaning(name: &str) -> bool
+pub fn has_own_meaning(name: &str) -> bool
     ensures { result ≡ own_meaning name.now }
 {
     name == "call"

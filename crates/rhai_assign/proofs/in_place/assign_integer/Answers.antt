@@ -10,9 +10,9 @@ use Rattle.rhai_assign.proofs.Integers.{integer_assigned, integer_found, integer
 use Rattle.rhai_assign.proofs.in_place.assign_integer.Goals as goal
 
 pub returns-clause-keeps : goal.returns-clause-keeps
-returns-clause-keeps g c = integer_keeps c.args.global.now c.charge_all.new.global c.args.scope.now c.replace_value.new.self
+returns-clause-keeps g c = integer_keeps c.args.global.now c.charge_all.new.global c.args.scope.now c.write_number.new.scope
     c.in-Some-place_of_variable.index c.in-Some-assign_known.value (c.charge_all.ensures.charged c.if-not-charge_all.false)
-    c.replace_value.ensures.after
+    c.write_number.ensures
 
 pub returns-clause-found : goal.returns-clause-found
 returns-clause-found g c is = integer_found c.args.scope.now c.args.global.now.lib (cells_of c.args.global.now.cells) c.args.op c.args.lhs.now c.args.rhs.now
@@ -32,8 +32,8 @@ returns-clause-runs g c is offer held restoring fast =
     integer_assigned (rules_of c.args.limits.now g.H.Host.name_of offer g.T.NativeTable.natives)
     (g.T.NativeTable.state c.args._table.now) c.args.scope.now held c.args.op c.args.lhs.now c.args.rhs.now c.in-Variable.offset
     c.in-Variable.name c.in-Variable.namespace c.in-Variable.pos restoring form plain c.requires.resolves c.args.global.now
-    c.charge_all.new.global c.replace_value.new.self (c.charge_all.ensures.room c.if-not-charge_all.false)
+    c.charge_all.new.global c.write_number.new.scope (c.charge_all.ensures.room c.if-not-charge_all.false)
     (c.charge_all.ensures.charged c.if-not-charge_all.false) c.in-Some.token c.in-Some.is fast c.in-Some-place_of_variable.index
     c.value_at.result.now c.in-Some-assign_known.value (sym c.place_of_variable.ensures.exact ∙ c.in-Some-place_of_variable.is)
     c.value_at.ensures (sym (rw (c.writable_integer-target.ensures, c.integer_in_place-operand.ensures) at c.assign_known.ensures)
-    ∙ c.in-Some-assign_known.is) c.replace_value.ensures.after
+    ∙ c.in-Some-assign_known.is) c.write_number.ensures

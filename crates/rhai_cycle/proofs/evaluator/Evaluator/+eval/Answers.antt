@@ -139,11 +139,14 @@ run_fn_call_expr-run_plain_call-requires = calls.run_fn_call_expr-run_plain_call
 pub run_fn_call_expr-returns-in-Some-plain_callee-clause-runs : goal.run_fn_call_expr-returns-in-Some-plain_callee-clause-runs
 run_fn_call_expr-returns-in-Some-plain_callee-clause-runs = calls.run_fn_call_expr-returns-in-Some-plain_callee-clause-runs
 
+pub run_fn_call_expr-returns-in-Some-at_once-clause-runs : goal.run_fn_call_expr-returns-in-Some-at_once-clause-runs
+run_fn_call_expr-returns-in-Some-at_once-clause-runs = calls.run_fn_call_expr-returns-in-Some-at_once-clause-runs
+
 pub run_fn_call_expr-run_call-requires : goal.run_fn_call_expr-run_call-requires
 run_fn_call_expr-run_call-requires = calls.run_fn_call_expr-run_call-requires
 
-pub run_fn_call_expr-returns-in_default-plain_callee-clause-runs : goal.run_fn_call_expr-returns-in_default-plain_callee-clause-runs
-run_fn_call_expr-returns-in_default-plain_callee-clause-runs = calls.run_fn_call_expr-returns-in_default-plain_callee-clause-runs
+pub run_fn_call_expr-returns-in_default-at_once-clause-runs : goal.run_fn_call_expr-returns-in_default-at_once-clause-runs
+run_fn_call_expr-returns-in_default-at_once-clause-runs = calls.run_fn_call_expr-returns-in_default-at_once-clause-runs
 
 pub run_operator-run_arg-requires : goal.run_operator-run_arg-requires
 run_operator-run_arg-requires = calls.run_operator-run_arg-requires

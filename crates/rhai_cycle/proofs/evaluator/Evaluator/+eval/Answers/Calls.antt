@@ -84,28 +84,37 @@ run_fn_call_expr-returns-in-Some-plain_callee-clause-runs g t c k =
     (call_is_plain c.args.call.now c.args.pos _ c.requires.resolves) form
     ⨾ c.run_plain_call.ensures.runs k
 
+pub run_fn_call_expr-returns-in-Some-at_once-clause-runs : goal.run_fn_call_expr-returns-in-Some-at_once-clause-runs
+run_fn_call_expr-returns-in-Some-at_once-clause-runs g t c =
+    c.in-Some-at_once.ensures.runs (offer_of c.args.self.now) (holding c.args.run.now.this) c.offered-offered.ensures
+
 pub run_fn_call_expr-run_call-requires : goal.run_fn_call_expr-run_call-requires
 run_fn_call_expr-run_call-requires g t c =
     λ κs lives. (
-      omega arith,
+      omega (arith, c.call_at_once-at_once.ensures.counts),
       (
         lives.0,
         (
           lives.1,
-          rw (← c.parts_of_call.ensures.args)
+          rw (c.call_at_once-at_once.ensures.names, ← c.parts_of_call.ensures.args)
               (operands_of_call c.args.call.now c.args.pos (names c.args.run.now) c.requires.resolves),
         ),
       ),
     )
 
-pub run_fn_call_expr-returns-in_default-plain_callee-clause-runs : goal.run_fn_call_expr-returns-in_default-plain_callee-clause-runs
+pub run_fn_call_expr-returns-in_default-at_once-clause-runs : goal.run_fn_call_expr-returns-in_default-at_once-clause-runs
 unfolding Steps StartsAs
-run_fn_call_expr-returns-in_default-plain_callee-clause-runs g t c k =
+run_fn_call_expr-returns-in_default-at_once-clause-runs g t c k =
     let rules = under g.H.Host.name_of c.args.self.now g.T.NativeTable.natives in
     let form = rw c.in-Function.is at c.form_of.ensures in
     begins_call rules c.args.call.now c.args.pos k _ (call_is_plain c.args.call.now c.args.pos _ c.requires.resolves) form
-    ⨾ (rw (← c.parts_of_call.ensures.args, c.parts_of_call.ensures.name)
-    at c.run_call.ensures.runs) k
+    ⨾ (rw (
+      c.call_at_once-at_once.ensures.left_global c.in_default-at_once.is,
+      c.call_at_once-at_once.ensures.left_scope c.in_default-at_once.is,
+      c.call_at_once-at_once.ensures.left_table c.in_default-at_once.is,
+      ← c.parts_of_call.ensures.args,
+      c.parts_of_call.ensures.name,
+    ) at c.run_call.ensures.runs) k
 
 pub run_operator-run_arg-requires : goal.run_operator-run_arg-requires
 run_operator-run_arg-requires g t c =

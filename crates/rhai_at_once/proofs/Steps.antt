@@ -1,0 +1,267 @@
+-- What the machine does with a call by name whose one argument is a variable that is lent, where the name is a native's.
+use Rattle.std.proofs.Common.{◌≡◌, ◌<◌, ◌+◌, ℕ, Bool, true, false, not, ◌&&◌, IsTrue, List, [], ◌∷◌, Option, Some, None, Result, Ok, Err}
+use Rattle.std.proofs.Common.{refl, sym, ap, subst, ◌∙◌, slice_get, is_some, map, ◌||◌, IfSome, ℤ}
+use Rattle.std.proofs.lemmas.Bool.{lt-ltb}
+use Rattle.std.proofs.lemmas.Option.{get_or_from_slice_get}
+use Rattle.std.proofs.Math.Seq.{map-set_same}
+use Rattle.std.specs.Prelude.{IfOk}
+use Rattle.std.specs.declared.num.NonZeroUsize.{NonZeroUsize}
+use Rattle.rhai_tree.specs.declared.expr.Expr.{Expr, out-Expr}
+use Rattle.rhai_tree.specs.declared.expr.Expr.TheOpen as layer
+use Rattle.rhai_tree.specs.declared.expr.FnCallExpr.{FnCallExpr}
+use Rattle.rhai_tree.specs.declared.expr.Namespace.{Namespace}
+use Rattle.rhai_tree.specs.declared.position.Position.{Position}
+use Rattle.rhai_tree.specs.declared.token.Token.{Token}
+use Rattle.rhai_tree.specs.Forms.{is_unqualified}
+use Rattle.rhai_tree.specs.Frame.{all_resolve_exprs, resolves_call, resolves_expr, tests_of}
+use Rattle.rhai_tree.specs.Names.{Name}
+use Rattle.rhai_values.specs.declared.base.value.Dynamic.{Dynamic}
+use Rattle.rhai_values.specs.declared.base.value.Union.{Union}
+use Rattle.rhai_values.specs.declared.base.value.Union.TheVariants as value
+use Rattle.rhai_values.specs.Cells.{cells_of}
+use Rattle.rhai_values.specs.Copy.{plain}
+use Rattle.rhai_state.specs.declared.error.EvalAltResult.{EvalAltResult}
+use Rattle.rhai_state.specs.declared.scope.Scope.{Scope}
+use Rattle.rhai_state.specs.declared.scope.ScopeEntry.{ScopeEntry}
+use Rattle.rhai_state.specs.declared.state.GlobalRuntimeState.{GlobalRuntimeState}
+use Rattle.rhai_state.specs.declared.limits.Limits.{Limits}
+use Rattle.rhai_state.specs.Native.{Gives, MayLeave, Named, Obeys, Reply, request}
+use Rattle.rhai_state.specs.Scope.{entries_of, index_of, name_of, revalued, value_in}
+use Rattle.rhai_machine.specs.machine.Machine.{Charge, Go}
+use Rattle.rhai_machine.specs.machine.Memory.{here, ◌⨾◌}
+use Rattle.rhai_machine.specs.language.Setting.{Rules, limit_under}
+use Rattle.rhai_machine.specs.language.State.{Answers, HasMemory, Held, State}
+use Rattle.rhai_machine.specs.language.Values.{Cells, is_handle}
+use Rattle.rhai_machine.specs.language.Places.{is_constant}
+use Rattle.rhai_machine.specs.language.Calls.{is_held, plainly, replied}
+use Rattle.rhai_machine.specs.language.Arguments.{arguments_core, function_of}
+use Rattle.rhai_machine.specs.language.Frames.{Ask, Call, Control, Frame, FromEntry, OpenExpr, Operation, ToCallOn}
+use Rattle.rhai_machine.specs.language.Frames.{ended, marked}
+use Rattle.rhai_machine.specs.language.Runs.{Goes, Runs, Steps, at, with_core}
+use Rattle.rhai_steps.specs.States.{local_of, state_of, surroundings_of}
+use Rattle.rhai_steps.proofs.Pieces.{step_by}
+use Rattle.rhai_operands.proofs.InPlace.{integer_sized}
+use Rattle.rhai_operands.proofs.Names.{both, operands_of_call}
+use Rattle.rhai_calls.specs.declared.dispatch.Called.TheVariants as called
+use Rattle.rhai_calls.specs.declared.dispatch.Dispatched.TheVariants.{Ended}
+use Rattle.rhai_calls.specs.declared.dispatch.Seeks.{Seeks}
+use Rattle.rhai_calls.specs.Called.{Calls}
+use Rattle.rhai_calls.specs.Dispatch.{Dispatches, IfEnded, Means, meant, plain_found}
+use Rattle.rhai_calls.specs.Lending.{back_in, lent_call, passed_call}
+use Rattle.rhai_calls.specs.Marks.{MarkedRuns, with_mark, without_mark}
+use Rattle.rhai_calls.proofs.Dispatching.{calls_ended, resolved_asks}
+use Rattle.rhai_calls.specs.Natives.{is_pure_on}
+use Rattle.rhai_calls.proofs.NativeCalls.{calls_on, charges_call, first_by_itself, plain_ends, plain_mark}
+use Rattle.rhai_pointers.specs.Forms.{is_operator_form}
+use Rattle.rhai_pointers.specs.Leading.{Leading, by_value, lent_first}
+use Rattle.rhai_pointers.proofs.FormLemmas.{function_goes}
+use Rattle.rhai_pointers.proofs.LeadingLemmas.{variable_goes}
+use Rattle.rhai_plain.proofs.PlainSteps.{Means as MeansNothing, means_nothing, plain_named}
+use Rattle.rhai_dispatch.specs.Going.{GoesOut}
+use Rattle.rhai_dispatch.specs.Variables.{is_lendable}
+use Rattle.rhai_dispatch.proofs.Going.{on_called}
+use Rattle.rhai_dispatch.proofs.Passing.{on_lent}
+use Rattle.rhai_at_once.specs.AtOnce.{IsLone}
+
+-- ---- the native
+
+module _ {S H : Type 0} (rules : Rules S H) where
+  -- an answer without a mark is the call's
+  pub ended_plain : (c : Control H) (old new : State S H) (r : Result (Dynamic H × Bool) (EvalAltResult H))
+      (q : Result (Dynamic H) (EvalAltResult H)) → IfOk r (λ answer. false ≡ false → answer.1 ≡ false) → q ≡ without_mark r →
+      MarkedRuns rules c old r new → Runs rules c old q new
+  unfolding Steps
+  ended_plain c old new r q plain is runs k = rw (is, ← plain_ends r plain) (runs k)
+
+-- a value that goes back to its entry
+pub back_there : {S H : Type 0} (t : S) (global : GlobalRuntimeState H) (old new : Scope H) (held : Held H) (i : ℕ) (v : Dynamic H) →
+    entries_of new ≡ revalued (entries_of old) i (slice_get (entries_of old) i) v →
+    back_in (Some (FromEntry i)) v (state_of t global old held) ≡ state_of t global new held
+back_there t global old new held i v is =
+    ap (λ (entries : List (ScopeEntry _)). record (state_of t global old held) {
+      local = record (local_of global old held) { scope = entries };
+    }) (sym is)
+
+-- so a native is called on the value of an entry
+pub asks_entry : {S H : Type 0} (rules : Rules S H) (operation : Operation) (i : ℕ) (v : Dynamic H) (t : S) (old : GlobalRuntimeState H)
+    (t' : S) (last : GlobalRuntimeState H) (scope later : Scope H) (held : Held H) (left : Dynamic H) →
+    entries_of later ≡ revalued (entries_of scope) i (slice_get (entries_of scope) i) left →
+    (r : Result (Dynamic H × Bool) (EvalAltResult H)) (q : Result (Dynamic H) (EvalAltResult H)) →
+    IfOk r (λ answer. false ≡ false → answer.1 ≡ false) → q ≡ without_mark r →
+    MarkedRuns rules (Ask (passed_call operation (Some (FromEntry i)) true false (v ∷ []))) (state_of t old scope held) r
+    (back_in (Some (FromEntry i)) left (state_of t' last scope held)) →
+    Runs rules (Ask (lent_call operation (Some (FromEntry i)) true (v ∷ []))) (state_of t old scope held) q (state_of t' last later held)
+asks_entry rules operation i v t old t' last scope later held left put_there r q plain is runs =
+    ended_plain rules (Ask (lent_call operation (Some (FromEntry i)) true (v ∷ []))) (state_of t old scope held)
+    (state_of t' last later held) r q plain is
+    (subst (λ (s : State _ _). MarkedRuns rules (Ask (lent_call operation (Some (FromEntry i)) true (v ∷ []))) (state_of t old scope held)
+    r s) (back_there t' last scope later held i left put_there) runs)
+
+module _ {H : Type 0} where
+  -- a result without its mark
+  unmarks_itself : (q : Result (Dynamic H) (EvalAltResult H)) → q ≡ without_mark (with_mark false q)
+  unmarks_itself (Ok v) = refl
+  unmarks_itself (Err e) = refl
+
+  names_by : (entries : List (ScopeEntry H)) (i : ℕ) (there : Option (ScopeEntry H)) (v : Dynamic H) → slice_get entries i ≡ there →
+      map name_of (revalued entries i there v) ≡ map name_of entries
+  names_by entries i None v is = refl
+  names_by entries i (Some entry) v is =
+      map-set_same name_of entries i (record entry { value = v }) entry (sym (ap name_of (get_or_from_slice_get entries i entry entry is)))
+
+  -- and the names stay
+  pub names_kept : (entries : List (ScopeEntry H)) (i : ℕ) (v : Dynamic H) →
+      map name_of (revalued entries i (slice_get entries i) v) ≡ map name_of entries
+  names_kept entries i v = names_by entries i (slice_get entries i) v refl
+
+-- what may be lent is no constant and no handle
+lent_freely : (constant handle : Bool) → (not constant && not handle) ≡ true → (constant ≡ false) × (handle ≡ false)
+lent_freely false false is = (refl, refl)
+lent_freely false true is = cc
+lent_freely true handle is = cc
+
+free_of_bar : (constant pure : Bool) → constant ≡ false → (true && (constant && not pure)) ≡ false
+free_of_bar false pure is = refl
+free_of_bar true pure is = cc
+
+-- it is charged, and the native of its name is asked with the value, which goes back to its entry
+pub asks_native : {S H : Type 0} (rules : Rules S H) (operation : Operation) (i : ℕ) (v : Dynamic H) → is_lendable v ≡ true → (t : S)
+    (old mid : GlobalRuntimeState H) (t' : S) (scope later : Scope H) (held : Held H) (left : Dynamic H) →
+    value_in (entries_of scope) (Some i) ≡ Some v →
+    entries_of later ≡ revalued (entries_of scope) i (slice_get (entries_of scope) i) left →
+    old.num_operations < limit_under rules → mid ≡ record old { num_operations = old.num_operations + 1 } →
+    (answer : Option (Reply H)) →
+    Obeys (rules.natives.gives t (request (cells_of mid.cells) (Named operation.name) (Some v) [] operation.at)) answer (Some left) t' →
+    MayLeave rules.setting.host_type rules.natives t (request (cells_of mid.cells) (Named operation.name) (Some v) [] operation.at)
+    (Some left) t' → (q : Result (Dynamic H) (EvalAltResult H)) →
+    IfSome answer (λ r. Answers q (replied rules.setting.limits rules.setting.host_type r (Some left) [] operation false (cells_of mid.cells))) →
+    (HasMemory q → is_some answer ≡ true) →
+    Runs rules (Ask (lent_call operation (Some (FromEntry i)) true (v ∷ []))) (state_of t old scope held) q (state_of t' mid later held)
+unfolding Steps
+asks_native rules operation i v lends t old mid t' scope later held left stands put_there room charged answer obeys may q told memory =
+    let free = lent_freely (is_constant v.mode) (is_handle v.value) lends in
+    let cells = cells_of mid.cells in
+    let on = calls_on rules cells cells operation None true false v [] t free.1 answer left t' false false q (with_mark false q) (
+      free_of_bar (is_constant v.mode) (is_pure_on rules.natives rules.setting.host_type t (Named operation.name) v []) free.0,
+      (obeys, may),
+      refl,
+    ) refl told memory refl in
+    asks_entry rules operation i v t old t' mid scope later held left put_there (with_mark false q) q (plain_mark false false q (λ h. refl))
+    (unmarks_itself q)
+    (λ k. charges_call rules t old mid scope held (passed_call operation (Some (FromEntry i)) true false (v ∷ [])) room charged k
+    ⨾ first_by_itself rules operation None (Some (FromEntry i)) true false v [] t t' mid scope held stands (with_mark false q) left free.1 on k)
+
+-- what a native answers that is an integer is the call's value
+pub number_told : (H : Type 0) (limits : Limits) (host : H → List ℕ) (z : ℤ) (left : Option (Dynamic H)) (rest : List (Dynamic H))
+    (operation : Operation) (cells : Cells H) →
+    replied limits host (Gives (plain (value.Int z))) left rest operation false cells ≡ Ok (plain (value.Int z))
+number_told H limits host z left rest operation cells = integer_sized H limits z operation.at
+
+-- ---- the call
+
+-- the argument resolves
+pub argument_resolves : (call : FnCallExpr) (arg : Expr) (pos : Position) (names : List Name) → IsLone call arg →
+    IsTrue (resolves_call call pos names) → IsTrue (resolves_expr arg names)
+argument_resolves call arg pos names lone h =
+    (both (resolves_expr arg names) true
+    (subst (λ (args : List Expr). IsTrue (all_resolve_exprs (map tests_of args) names)) lone.alone (operands_of_call call pos names h))).0
+
+-- it is no operator's
+no_operator : (fast : Bool) (op : Option Token) (args : List Expr) → op ≡ None → is_operator_form fast op args ≡ false
+no_operator fast (Some token) args is = cc
+no_operator true None args is = refl
+no_operator false None args is = refl
+
+not_raced : (held : Bool) → held ≡ false → (held || false) ≡ false
+not_raced held is = rw is refl
+
+none_there : {A : Type 0} (o : Option A) → is_some o ≡ false → None ≡ o
+none_there None is = refl
+none_there (Some x) is = cc
+
+module _ {H : Type 0} where
+  -- what is lent is no handle, and so none of a held cell
+  free_by : (cells : Cells H) (u : Union H) (constant : Bool) → (not constant && not (is_handle u)) ≡ true → is_held cells u ≡ false
+  free_by cells (value.Cell id) true is = cc
+  free_by cells (value.Cell id) false is = cc
+  free_by cells _ constant is = refl
+
+  -- a result without its mark
+  marked_plain : (q : Result (Dynamic H) (EvalAltResult H)) → marked (with_mark false q) ≡ ended q
+  marked_plain (Ok v) = refl
+  marked_plain (Err e) = refl
+
+  plain_end : (q : Result (Dynamic H) (EvalAltResult H)) → IfEnded (Ended (with_mark false q)) (λ answer. false ≡ false → answer.1 ≡ false)
+  plain_end (Ok v) = λ m. refl
+  plain_end (Err e) = tt
+
+module _ {S H : Type 0} (rules : Rules S H) (call : FnCallExpr) (arg : Expr) (lone : IsLone call arg) (pos : Position)
+    (unqualified : is_unqualified call.namespace.path ≡ true) (offset : Option NonZeroUsize) (name : List ℕ) (namespace : Namespace)
+    (where_ : Position) (form : out-Expr arg ≡ layer.Variable offset name namespace where_)
+    (plainly_named : is_unqualified namespace.path ≡ true) (t : S) (old mid : GlobalRuntimeState H) (scope : Scope H) (held : Held H)
+    (room : old.num_operations < limit_under rules) (charged : mid ≡ record old { num_operations = old.num_operations + 1 }) where
+  abbrev operation : Operation
+  operation = record { name = call.name; token = None; at = pos }
+
+  abbrev leads : Leading
+  leads = record { offset = offset; name = name; at = where_; rest = [] }
+
+  -- it comes first
+  first_leads : lent_first (by_value {H = H} [] call.capture_parent_scope (entries_of scope)) call.args ≡ Some leads
+  first_leads = rw (lone.captures, lone.alone, form, plainly_named) refl
+
+  -- the call begins, and its variable is charged
+  begins : (k : List (Frame H)) →
+      Goes rules (at (OpenExpr (layer.Expr::FnCall call pos)) k (state_of t old scope held))
+      (with_core (arguments_core rules.setting (ToCallOn operation name where_ (plainly false false)) [] [] k (local_of mid scope held))
+      (state_of t mid scope held))
+  begins k =
+      let written : Operation = record { name = call.name; token = call.op_token; at = pos } in
+      let same : written ≡ operation = ap (λ (token : Option Token). record operation { token = token }) lone.token in
+      step_by rules _ _ (Go (function_of call pos k (local_of old scope held)))
+      (function_goes rules.setting.offer.fast_operators call.op_token call call.args pos k (local_of old scope held)
+      (no_operator rules.setting.offer.fast_operators call.op_token call.args lone.token) ∙ rw unqualified refl)
+      (rw (
+        plain_named call.op_token call.name written call.args call.capture_parent_scope k (local_of old scope held) lone.token
+            lone.meaning,
+        same,
+      )
+      (step_by rules _ _ (Charge where_ (arguments_core rules.setting (ToCallOn operation name where_ (plainly false false)) [] [] k
+      (local_of old scope held)))
+      (variable_goes rules.setting operation [] call.args call.capture_parent_scope false k (local_of old scope held) leads first_leads)
+      (rw (lt-ltb _ _ room, charged) here)))
+
+  module _ (index : ℕ) (v : Dynamic H) (there : index_of name (entries_of scope) ≡ Some index)
+      (stands : value_in (entries_of scope) (Some index) ≡ Some v) (lends : is_lendable v ≡ true)
+      (native : is_some (plain_found rules.setting.offer (surroundings_of old) call.name 1) ≡ false) where
+    abbrev lent : Call H
+    lent = lent_call operation (Some (FromEntry index)) true (v ∷ [])
+
+    abbrev cells : Cells H
+    cells = cells_of mid.cells
+
+    free : is_held cells v.value ≡ false
+    free = free_by cells v.value (is_constant v.mode) lends
+
+    -- its name means nothing else
+    means : Means None (meant rules.setting.offer (surroundings_of mid) operation rules.setting.host_type (v ∷ []))
+    means = let m : MeansNothing call.name = means_nothing call.name lone.meaning in rw (m.no_type, m.no_compiler) tt
+
+    unfound : None ≡ plain_found rules.setting.offer (surroundings_of mid) call.name 1
+    unfound = rw charged (none_there _ native)
+
+    -- so that the native is asked
+    pub at_once : (q : Result (Dynamic H) (EvalAltResult H)) (new : State S H) → Runs rules (Ask lent) (state_of t mid scope held) q new →
+        Runs rules (OpenExpr (layer.Expr::FnCall call pos)) (state_of t old scope held) q new
+    unfolding Steps Calls Dispatches GoesOut
+    at_once q new runs k =
+        let seeks : Seeks = record { of_method = false; natives_alone = false } in
+        let asks : Dispatches rules (plainly false false) lent (state_of t mid scope held) (Ended (with_mark false q)) new =
+        resolved_asks rules seeks false lent (state_of t mid scope held) (not_raced (is_held cells v.value) free, means, unfound)
+        (with_mark false q) new (λ r. rw (marked_plain q) (runs r)) in
+        let ends : Calls rules (plainly false false) lent (state_of t mid scope held) (called.Ended q) new =
+        calls_ended rules (state_of t mid scope held) new (plainly false false) lent (with_mark false q) q (plain_end q) (unmarks_itself q)
+        asks in
+        begins k
+        ⨾ on_called rules operation name where_ (plainly false false) [] (state_of t mid scope held) lent
+        (on_lent cells where_ mid.lib (entries_of scope) operation name [] index v there stands free lends) (called.Ended q) new ends k

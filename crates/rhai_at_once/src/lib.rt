@@ -1,0 +1,281 @@
+//! A call of a native at once: a call by name whose one argument is a variable, where no function of a script has the
+//! name. The native is called on the variable's value where it stands. Ports a part of upstream's
+//! `make_function_call`. The contracts cite the machine's specs/language/Arguments.antt and the crate's own specs/.
+#![tactic(auto)]
+
+ghost use Rattle.std.specs.Prelude.{◌≡◌, ◌<◌, ◌≤◌, ◌∷◌, [], IsTrue, IfSome, None, Some, is_some, length, slice_get};
+ghost use Rattle.std.specs.Prelude.{false, true, ℤ};
+ghost use Rattle.std.specs.Option.{option_copied, option_map};
+ghost use Rattle.rhai_tree.specs.declared.expr.Expr.TheOpen as layer;
+ghost use Rattle.rhai_tree.specs.Frame.{resolves_call};
+ghost use Rattle.rhai_values.specs.declared.base.value.Union.TheVariants as kind;
+ghost use Rattle.rhai_values.specs.Cells.{cells_of, IsNoHandle};
+ghost use Rattle.rhai_values.specs.Copy.{plain};
+ghost use Rattle.rhai_state.specs.Native.{Gives, Leaves, Named, Obeys, reply_of, request};
+ghost use Rattle.rhai_state.specs.Scope.{entries_of, names_in, value_in, value_of};
+ghost use Rattle.rhai_machine.specs.language.Frames.{Ask, FromEntry, OpenExpr};
+ghost use Rattle.rhai_machine.specs.language.Calls.{replied as replied_at};
+ghost use Rattle.rhai_machine.specs.language.Runs.{Runs};
+ghost use Rattle.rhai_machine.specs.language.Setting.{rules_of};
+ghost use Rattle.rhai_machine.specs.language.State.{Answers, HasMemory};
+ghost use Rattle.rhai_steps.specs.States.{state_of, surroundings_of};
+ghost use Rattle.rhai_context.specs.Ends.{came};
+ghost use Rattle.rhai_calls.specs.Dispatch.{Offers, plain_found};
+ghost use Rattle.rhai_calls.specs.Lending.{lent_call};
+ghost use Rattle.rhai_dispatch.specs.Variables.{is_lendable as is_lent};
+ghost use Rattle.rhai_at_once.specs.AtOnce.{IsLone};
+
+use rhai_context::ends::{put_number, settle};
+use rhai_context::outcomes::charge;
+use rhai_dispatch::variable::is_lendable;
+use rhai_functions::function::Offered;
+use rhai_functions::key::FnKey;
+use rhai_functions::lookup::find_function;
+use rhai_plain::callee::has_own_meaning;
+use rhai_state::error::EvalAltResult;
+use rhai_state::limits::Limits;
+use rhai_state::scope::Scope;
+use rhai_state::state::GlobalRuntimeState;
+use rhai_state::table::{Answer, NativeTable};
+use rhai_steps::charges::charge_all;
+use rhai_steps::replies::replied;
+use rhai_steps::values::int_value;
+use rhai_steps::variables::place_of_variable;
+use rhai_tree::Items;
+use rhai_tree::expr::{Expr, FnCallExpr};
+use rhai_tree::position::Position;
+use rhai_values::base::value::{AccessMode, Dynamic, Host, Union};
+use rhai_values::cells::CellStore;
+use std::alloc::Global;
+
+/// The one of some arguments, None where there are none or more.
+#[inline(always)]
+fn only(args: &[Expr]) -> Option<&Expr>
+    ensures { IfSome (option_copied result) (λ arg. args.now ≡ arg ∷ []) }
+{
+    let [arg] = args else {
+        return None;
+    };
+    Some(arg)
+}
+
+/// The argument of a call by name that has no other. None where an operator was written, where the variables of the
+/// caller are captured, and where the name means something besides functions.
+#[inline(always)]
+fn lone_argument(call: &FnCallExpr) -> Option<&Expr>
+    ensures { IfSome (option_copied result) (λ arg. IsLone call.now arg) }
+{
+    if call.op_token.is_some() || call.capture_parent_scope {
+        return None;
+    }
+    if has_own_meaning(call.name.get().as_str()) {
+        return None;
+    }
+    only(call.args.as_slice())
+}
+
+/// Whether a call by a name looks through no module.
+#[inline(always)]
+fn has_no_modules<H: Host>(offered: &Offered<'_, H>, global: &GlobalRuntimeState<H>) -> bool
+    ensures libraries { IsTrue result → global.now.lib ≡ [] }
+    ensures modules { IsTrue result → offered.now.global_modules.now ≡ [] }
+    ensures imports { IsTrue result → global.now.imports ≡ [] }
+    ensures named { IsTrue result → offered.now.global_sub_modules.now ≡ [] }
+{
+    global.lib.is_empty()
+        && offered.global_modules.is_empty()
+        && global.imports.is_empty()
+        && offered.global_sub_modules.is_empty()
+}
+
+/// Whether a function of a script has a name and one parameter.
+#[inline(always)]
+fn is_found<H: Host>(offered: &Offered<'_, H>, global: &GlobalRuntimeState<H>, name: &str) -> bool
+    ensures { (offer : _) → Offers offer offered.now →
+        result ≡ is_some (plain_found offer (surroundings_of global.now) name.now 1) }
+{
+    if has_no_modules(offered, global) {
+        return false;
+    }
+    let key = FnKey {
+        name,
+        arity: 1,
+        this_type: None,
+    };
+    let found = find_function(
+        key,
+        global.lib.as_slice(),
+        offered.global_modules,
+        global.imports.as_slice(),
+        offered.global_sub_modules,
+    );
+    found.is_some()
+}
+
+/// The value that a native answered where that is an integer, None where it answered anything else.
+#[inline(always)]
+fn number_in<H: Host>(answer: &Answer<H>) -> Option<Dynamic<H>>
+    ensures { IfSome result (λ value. (reply_of answer.now ≡ Some (Gives value))
+        × (number : ℤ) × (value ≡ plain (kind.Int number))) }
+{
+    let Answer::Value(value) = answer else {
+        return None;
+    };
+    let Union::Int(number) = &value.value else {
+        return None;
+    };
+    match value.mode {
+        AccessMode::ReadWrite => Some(int_value(number)),
+        AccessMode::ReadOnly => None,
+    }
+}
+
+/// What a native's answer comes to, at the call, as `rhai_steps::replies::replied` has it. How the call ended stands
+/// in the run. An integer is within every limit.
+#[inline(always)]
+fn settle_answer<H: Host>(
+    alloc: Global,
+    limits: &Limits,
+    cells: &CellStore<H>,
+    out: &mut Dynamic<H>,
+    place: &mut Option<EvalAltResult<H>>,
+    answer: Answer<H>,
+    name: &str,
+    first: &Dynamic<H>,
+    rest: &[Dynamic<H>],
+    pos: Position,
+) -> bool
+    ensures told { IfSome (reply_of answer) (λ reply. Answers (came result out.new place.new)
+        (replied_at limits.now H.name_of reply (Some first.now) rest.now
+        (record { name = name.now; token = None; at = pos }) false (cells_of cells.now))) }
+    ensures memory { HasMemory (came result out.new place.new) → is_some (reply_of answer) ≡ true }
+{
+    if let Some(value) = number_in(&answer) {
+        drop(answer);
+        put_number(out, value);
+        return true;
+    }
+    let answered = replied(
+        alloc, limits, cells, answer, name, false, None, first, rest, pos,
+    );
+    settle(place, out, answered)
+}
+
+/// What the native of a name answers on a value that is no handle.
+#[inline(always)]
+fn ask<H: Host, T: NativeTable<H>>(
+    table: &mut T,
+    cells: &CellStore<H>,
+    name: &str,
+    first: &mut Dynamic<H>,
+    rest: &[Dynamic<H>],
+    pos: Position,
+) -> Answer<H>
+    requires { IsNoHandle first.old.value }
+    ensures obeys { Obeys (T.natives.gives (T.state table.old)
+        (request (cells_of cells.now) (Named name.now) (Some first.old) rest.now pos))
+        (reply_of result) (Some first.new) (T.state table.new) }
+    ensures no_handle { IsNoHandle first.new.value }
+    ensures leaves { Leaves H.name_of T.natives (T.state table.old)
+        (request (cells_of cells.now) (Named name.now) (Some first.old) rest.now pos)
+        (Some first.new) (T.state table.new) }
+{
+    table.call(cells, name, Some(&mut *first), rest, pos)
+}
+
+/// Charges a call, and calls the native of its name on the value of a variable where it stands. How it ended stands
+/// in the run.
+#[inline(always)]
+fn call_entry<H: Host, T: NativeTable<H>>(
+    limits: &Limits,
+    alloc: Global,
+    global: &mut GlobalRuntimeState<H>,
+    table: &mut T,
+    scope: &mut Scope<H>,
+    out: &mut Dynamic<H>,
+    place: &mut Option<EvalAltResult<H>>,
+    index: usize,
+    name: &str,
+    pos: Position,
+) -> bool
+    requires within { index < length (entries_of scope.old) }
+    requires lendable { IfSome (option_map value_of (slice_get (entries_of scope.old) index))
+        (λ v. is_lent v ≡ true) }
+    ensures counts { global.old.num_operations ≤ global.new.num_operations }
+    ensures names { names_in scope.new ≡ names_in scope.old }
+    ensures runs { (offer : _) (held : _) (v : _) → value_in (entries_of scope.old) (Some index) ≡ Some v →
+        Runs (rules_of limits.now H.name_of offer T.natives)
+        (Ask (lent_call (record { name = name.now; token = None; at = pos }) (Some (FromEntry index)) true
+        (v ∷ [])))
+        (state_of (T.state table.old) global.old scope.old held)
+        (came result out.new place.new) (state_of (T.state table.new) global.new scope.new held) }
+{
+    if !charge(limits, global, place, pos) {
+        return false;
+    }
+    let rest = Items::new(alloc);
+    let rest = rest.as_slice();
+    let cells = &global.cells;
+    let first = scope.value_at_mut(index);
+    let answer = ask(table, cells, name, first, rest, pos);
+    settle_answer(
+        alloc, limits, cells, out, place, answer, name, &*first, rest, pos,
+    )
+}
+
+/// A call by name of a native whose one argument is a variable, which is read and lent at once. None where that is
+/// not so: where an operator was written or variables are captured, where the name means something besides functions
+/// or a function of a script, where the argument is no variable or a constant's or a handle's, and where the limit
+/// has no room for the variable; then nothing is charged or changed. How it ended stands in the run. Asked: the call
+/// resolves to the names of the scope.
+///
+/// # Errors
+/// Those of `rhai_calls::native::pass_native`, but for a race and a constant.
+#[inline(never)]
+pub fn call_at_once<H: Host, T: NativeTable<H>>(
+    limits: &Limits,
+    alloc: Global,
+    offered: &Offered<'_, H>,
+    global: &mut GlobalRuntimeState<H>,
+    table: &mut T,
+    scope: &mut Scope<H>,
+    out: &mut Dynamic<H>,
+    place: &mut Option<EvalAltResult<H>>,
+    call: &FnCallExpr,
+    pos: Position,
+) -> Option<bool>
+    requires resolves { IsTrue (resolves_call call.now pos (names_in scope.old)) }
+    ensures left_global { result ≡ None → global.new ≡ global.old }
+    ensures left_scope { result ≡ None → scope.new ≡ scope.old }
+    ensures left_table { result ≡ None → T.state table.new ≡ T.state table.old }
+    ensures counts { global.old.num_operations ≤ global.new.num_operations }
+    ensures names { names_in scope.new ≡ names_in scope.old }
+    ensures runs { (offer : _) (held : _) → Offers offer offered.now → IfSome result (λ done.
+        Runs (rules_of limits.now H.name_of offer T.natives) (OpenExpr (layer.Expr::FnCall call.now pos))
+        (state_of (T.state table.old) global.old scope.old held)
+        (came done out.new place.new) (state_of (T.state table.new) global.new scope.new held)) }
+{
+    let Some(arg) = lone_argument(call) else {
+        return None;
+    };
+    let Expr::Variable { offset, name, .. } = arg else {
+        return None;
+    };
+    let Some(index) = place_of_variable(global, scope, *offset, name) else {
+        return None;
+    };
+    let value = scope.value_at(index);
+    if !is_lendable(value) {
+        return None;
+    }
+    let function = call.name.get().as_str();
+    if is_found(offered, global, function) {
+        return None;
+    }
+    if !charge_all(limits, global, 1) {
+        return None;
+    }
+    Some(call_entry(
+        limits, alloc, global, table, scope, out, place, index, function, pos,
+    ))
+}
