@@ -8,7 +8,7 @@
 //! - `item`: so many additions to the last item of an array of a thousand items, and of a hundred thousand
 //! - `fib`: a function that calls itself twice, with that number
 //! - `range`: a `for` over a range of so many integers
-//! - `walk`: a `for` over an array of so many literals
+//! - `walk`: so many turns of a `for` over an array of a thousand items, and of a hundred thousand
 //! - `switch`: so many turns with a `switch` of ten cases
 //! - `throw`: so many turns with a value that is thrown and caught
 #![tactic(auto)]

@@ -65,7 +65,7 @@ impl Work {
             Work::Item => time_items(rt, turns),
             Work::Fib => time(rt, "the function", WithFunctions(Fibonacci(turns))),
             Work::Range => time_statements(rt, "the range", RangeSummed(turns)),
-            Work::Walk => time_statements(rt, "the array", ArraySummed(number)),
+            Work::Walk => time_walks(rt, turns),
             Work::Switch => time_statements(rt, "the choices", ChoicesInTurn(turns)),
             Work::Throw => time_statements(rt, "the throws", ThrowsInTurn(turns)),
         }
@@ -90,6 +90,12 @@ fn time_natives(rt: &HostRuntime, calls: i64) -> io::Result<()> {
 fn time_items(rt: &HostRuntime, turns: i64) -> io::Result<()> {
     time_statements(rt, "a thousand items", Increments(1_000, turns))?;
     let items = Increments(100_000, turns);
+    time_statements(rt, "a hundred thousand items", items)
+}
+
+fn time_walks(rt: &HostRuntime, turns: i64) -> io::Result<()> {
+    time_statements(rt, "a thousand items", ArraySummed(1_000, turns / 1_000))?;
+    let items = ArraySummed(100_000, turns / 100_000);
     time_statements(rt, "a hundred thousand items", items)
 }
 

@@ -1,5 +1,5 @@
 -- An assignment by an operator between two integers, charged at once.
-use Rattle.std.proofs.Common.{◌≡◌, ◌≤◌, ◌+◌, ℕ, ℤ, Bool, true, false, IsTrue, List, Option, Some, None, is_some, slice_get, Ok}
+use Rattle.std.proofs.Common.{◌≡◌, ◌≤◌, ◌+◌, ◌-◌, ℕ, ℤ, Bool, true, false, IsTrue, List, Option, Some, None, is_some, slice_get, Ok}
 use Rattle.std.proofs.Common.{if◌then◌else◌, refl, sym, ap, ◌∙◌, arith}
 use Rattle.std.specs.Option.{option_map}
 use Rattle.std.specs.declared.num.NonZeroUsize.{NonZeroUsize}
@@ -41,7 +41,7 @@ use Rattle.rhai_operands.specs.Standing.{assigned_known, integer_of, integer_val
 use Rattle.rhai_operands.proofs.InPlace.{integer_sized}
 use Rattle.rhai_operands.proofs.Integers.{number_given}
 use Rattle.rhai_assign.specs.declared.place.Place.TheVariants as place
-use Rattle.rhai_assign.specs.InPlace.{assigned, writable_in}
+use Rattle.rhai_assign.specs.InPlace.{assigned, charged_at, writable_in}
 use Rattle.rhai_assign.specs.Keeps.{Keeps}
 use Rattle.rhai_assign.specs.Updates.{Becomes}
 use Rattle.rhai_assign.proofs.Places.{keeps_names, local_put, standing_is}
@@ -171,10 +171,18 @@ module _ {H : Type 0} (scope : Scope H) (lib : List (Module H)) (cells : Cells H
       (writable_in v) (integer_of (standing (out-Expr rhs) (entries_of scope))) refl refl known)
 
 -- it keeps what each assignment does
-pub integer_keeps : {H : Type 0} (old new : GlobalRuntimeState H) (scope later : Scope H) (i : ℕ) (w : Dynamic H) →
-    new ≡ record old { num_operations = old.num_operations + 2 } →
+pub integer_keeps : {H : Type 0} (old new : GlobalRuntimeState H) (scope later : Scope H) (charges i : ℕ) (w : Dynamic H) →
+    new ≡ record old { num_operations = old.num_operations + charges } →
     entries_of later ≡ revalued (entries_of scope) i (slice_get (entries_of scope) i) w → Keeps old new scope later
-integer_keeps old new scope later i w is put_there = record {
+integer_keeps old new scope later charges i w is put_there = record {
   counts = rw is (omega arith);
   names = keeps_names (place.InEntry i) w scope later old.cells old.cells (record { entries = put_there; cells = refl });
 }
+
+-- both of its charges end so many charges later
+pub both_charged : {H : Type 0} (old new : GlobalRuntimeState H) (charges level : ℕ) → 2 ≤ charges →
+    new ≡ record old { num_operations = old.num_operations + charges } →
+    record new { scope_level = level }
+    ≡ record (charged_at (charges - 2) level old) { num_operations = (charged_at (charges - 2) level old).num_operations + 2 }
+both_charged old new charges level two is =
+    rw is (ap (λ (n : ℕ). record old { num_operations = n; scope_level = level }) (omega (arith, two)))

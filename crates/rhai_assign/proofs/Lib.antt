@@ -1,3 +1,4 @@
+pub mod Alone
 pub mod Places
 pub mod Found
 pub mod Lent

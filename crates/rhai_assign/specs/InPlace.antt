@@ -1,5 +1,5 @@
 -- An assignment that can be done in place.
-use Rattle.std.specs.Prelude.{◌≡◌, ℕ, ℤ, List, Option, Some, None, Result, true, Ok, if◌then◌else◌}
+use Rattle.std.specs.Prelude.{◌≡◌, ◌+◌, ℕ, ℤ, List, Option, Some, None, Result, true, Ok, if◌then◌else◌}
 use Rattle.rhai_tree.specs.declared.position.Position.{Position}
 use Rattle.rhai_tree.specs.declared.token.Token.{Token}
 use Rattle.rhai_tree.specs.declared.expr.Expr.TheOpen as layer
@@ -10,6 +10,7 @@ use Rattle.rhai_values.specs.Cells.{cells_of}
 use Rattle.rhai_state.specs.declared.scope.Scope.{Scope}
 use Rattle.rhai_state.specs.Scope.{entries_of}
 use Rattle.rhai_state.specs.declared.scope.ScopeEntry.{ScopeEntry}
+use Rattle.rhai_state.specs.declared.state.GlobalRuntimeState.{GlobalRuntimeState}
 use Rattle.rhai_values.specs.declared.base.value.Module.{Module}
 use Rattle.rhai_state.specs.declared.error.EvalAltResult.{EvalAltResult}
 use Rattle.rhai_operators.specs.Answers.{Answer, IsAnswer, op_assign_of}
@@ -45,3 +46,7 @@ module _ {H : Type 0} where
   assigned op (layer.Variable offset name namespace pos) rhs entries lib cells =
       assigned_by op (target_of cells lib name pos entries) (standing rhs entries)
   assigned op lhs rhs entries lib cells = None
+
+  -- a state after so many charges more, at a level
+  abbrev pub charged_at : (more level : ℕ) → GlobalRuntimeState H → GlobalRuntimeState H
+  charged_at more level global = record global { num_operations = global.num_operations + more; scope_level = level }

@@ -1,13 +1,13 @@
 //! An assignment by a built-in operator whose value is an operand as it stands: the target is changed
 //! where it stands, and no operand is copied.
 
-ghost use Rattle.std.specs.Prelude.{◌≡◌, ◌<◌, IsTrue, IfSome, Some, None, Ok, is_some, length, slice_get, true, false};
+ghost use Rattle.std.specs.Prelude.{◌≡◌, ◌<◌, ◌≤◌, ◌+◌, ◌-◌, IsTrue, IfSome, Some, None, Ok, is_some, length, slice_get, true, false};
 ghost use Rattle.rhai_tree.specs.declared.expr.Expr.{out-Expr};
 ghost use Rattle.rhai_tree.specs.declared.expr.Expr.TheOpen as layer;
 ghost use Rattle.rhai_tree.specs.Frame.{tests_of, target_resolves, resolves_expr};
 ghost use Rattle.rhai_tree.specs.Names.{is_good};
 ghost use Rattle.rhai_values.specs.Cells.{cells_of};
-ghost use Rattle.rhai_state.specs.Scope.{entries_of, names_in, revalued};
+ghost use Rattle.rhai_state.specs.Scope.{entries_of, names_in};
 ghost use Rattle.rhai_machine.specs.language.Frames.{OpenStmt};
 ghost use Rattle.rhai_machine.specs.language.Runs.{Runs};
 ghost use Rattle.rhai_machine.specs.language.Places.{target_of};
@@ -16,12 +16,12 @@ ghost use Rattle.rhai_machine.specs.language.Values.{unit_value as unit};
 ghost use Rattle.rhai_steps.specs.States.{state_of};
 ghost use Rattle.rhai_context.specs.Ends.{came};
 ghost use Rattle.rhai_operands.specs.Standing.{standing};
-ghost use Rattle.rhai_assign.specs.InPlace.{IsReady, assigned, assigned_by, writable_in};
+ghost use Rattle.rhai_assign.specs.InPlace.{IsReady, assigned, assigned_by, charged_at, writable_in};
 ghost use Rattle.rhai_assign.specs.Keeps.{Keeps};
 
 use crate::place::{Place, find_target, value_at};
 use crate::write::write_outcome;
-use rhai_context::ends::{put_number, put_unit, settle};
+use rhai_context::ends::{put_unit, settle, write_number};
 use rhai_operands::operands::{integer_at, integer_in_place, operand_in_place};
 use rhai_operands::operators::assign_known;
 use rhai_operators::builtin_op_assign;
@@ -31,7 +31,7 @@ use rhai_state::scope::Scope;
 use rhai_state::state::GlobalRuntimeState;
 use rhai_state::table::NativeTable;
 use rhai_steps::charges::{charge_all, track_operation};
-use rhai_steps::variables::place_of_variable;
+use rhai_steps::variables::place_by_offset;
 use rhai_tree::expr::{Expr, OpAssignment};
 use rhai_tree::position::Position;
 use rhai_tree::token::Token;
@@ -90,41 +90,36 @@ fn writable_integer<H: Host>(value: &Dynamic<H>) -> Option<i64>
     }
 }
 
-/// Writes a value that is most often an integer over that of a variable.
+/// Assigns to a variable that holds an integer, by an operator whose value is an integer as it stands, and makes so
+/// many charges at once: those of the value and of the variable, and what was to be charged before. False where that
+/// is not so, or the limit has no room for all of them: then nothing is changed. The table is not called.
 #[inline(always)]
-fn write_number<H: Host>(scope: &mut Scope<H>, index: usize, value: Dynamic<H>)
-    requires { index < length (entries_of scope.old) }
-    ensures { entries_of scope.new ≡ revalued (entries_of scope.old) index
-        (slice_get (entries_of scope.old) index) value }
-{
-    put_number(scope.value_at_mut(index), value);
-}
-
-/// Assigns to a variable that holds an integer, by an operator whose value is an integer as it stands,
-/// and charges the value and the variable at once. False where that is not so, or the limit has no room
-/// for both charges: then nothing is changed. The table is not called.
-#[inline(always)]
-fn assign_integer<H: Host, T: NativeTable<H>>(
+pub(crate) fn assign_integer<H: Host, T: NativeTable<H>>(
     limits: &Limits,
     global: &mut GlobalRuntimeState<H>,
     _table: &T,
     scope: &mut Scope<H>,
-    op: OpAssignment,
+    op: &OpAssignment,
     lhs: &Expr,
     rhs: &Expr,
+    charges: u64,
 ) -> bool
+    requires both { 2 ≤ charges }
     requires resolves_target { IsTrue (target_resolves (tests_of lhs.now) (names_in scope.old)) }
     requires resolves { IsTrue (resolves_expr rhs.now (names_in scope.old)) }
-    ensures found { result ≡ true → is_some (assigned op.op (out-Expr lhs.now) (out-Expr rhs.now)
+    ensures found { result ≡ true → is_some (assigned op.now.op (out-Expr lhs.now) (out-Expr rhs.now)
         (entries_of scope.old) global.old.lib (cells_of global.old.cells)) ≡ true }
     ensures left_global { result ≡ false → global.new ≡ global.old }
     ensures left_scope { result ≡ false → scope.new ≡ scope.old }
+    ensures room { result ≡ true → global.old.num_operations + charges ≤ limits.now.max_operations }
+    ensures charged { result ≡ true → global.new ≡ record global.old
+        { num_operations = global.old.num_operations + charges } }
     ensures keeps { Keeps global.old global.new scope.old scope.new }
-    ensures runs { result ≡ true → (offer : _) (held : _) (restoring : _) → offer.fast_operators ≡ true →
-        Runs (rules_of limits.now H.name_of offer T.natives)
-        (OpenStmt (layer.Assignment op lhs.now rhs.now) restoring)
-        (state_of (T.state _table.now) global.old scope.old held)
-        (Ok unit) (state_of (T.state _table.now) global.new scope.new held) }
+    ensures runs { result ≡ true → (offer : _) (held : _) (restoring : _) (level : _) →
+        offer.fast_operators ≡ true → Runs (rules_of limits.now H.name_of offer T.natives)
+        (OpenStmt (layer.Assignment op.now lhs.now rhs.now) restoring)
+        (state_of (T.state _table.now) (charged_at (charges - 2) level global.old) scope.old held)
+        (Ok unit) (state_of (T.state _table.now) (record global.new { scope_level = level }) scope.new held) }
 {
     let Expr::Variable { offset, name, .. } = lhs else {
         return false;
@@ -132,15 +127,21 @@ fn assign_integer<H: Host, T: NativeTable<H>>(
     let Some(token) = op.op else {
         return false;
     };
-    let Some(index) = place_of_variable(global, scope, *offset, name) else {
+    let Some(index) = place_by_offset(global, scope, *offset, name) else {
         return false;
     };
     let target = writable_integer(scope.value_at(index));
+    if target.is_none() {
+        return false;
+    }
     let operand = integer_in_place(global, scope, rhs);
+    if operand.is_none() {
+        return false;
+    }
     let Some(value) = assign_known(token, target, operand) else {
         return false;
     };
-    if !charge_all(limits, global, 2) {
+    if !charge_all(limits, global, charges) {
         drop(value);
         return false;
     }
@@ -198,6 +199,39 @@ fn assign_prepared<H: Host, T: NativeTable<H>>(
     Some(write_outcome(limits, alloc, global, scope, place, op.position, outcome))
 }
 
+/// The same, where how it ended goes into the run's places.
+#[inline(never)]
+fn assign_others<H: Host, T: NativeTable<H>>(
+    limits: &Limits,
+    alloc: Global,
+    global: &mut GlobalRuntimeState<H>,
+    _table: &T,
+    scope: &mut Scope<H>,
+    out: &mut Dynamic<H>,
+    place: &mut Option<EvalAltResult<H>>,
+    op: &OpAssignment,
+    lhs: &Expr,
+    rhs: &Expr,
+) -> Option<bool>
+    requires resolves_target { IsTrue (target_resolves (tests_of lhs.now) (names_in scope.old)) }
+    requires resolves { IsTrue (resolves_expr rhs.now (names_in scope.old)) }
+    ensures found { is_some result ≡ is_some (assigned op.now.op (out-Expr lhs.now) (out-Expr rhs.now)
+        (entries_of scope.old) global.old.lib (cells_of global.old.cells)) }
+    ensures left_global { result ≡ None → global.new ≡ global.old }
+    ensures left_scope { result ≡ None → scope.new ≡ scope.old }
+    ensures keeps { Keeps global.old global.new scope.old scope.new }
+    ensures runs { (offer : _) (held : _) (restoring : _) → offer.fast_operators ≡ true →
+        IfSome result (λ done. Runs (rules_of limits.now H.name_of offer T.natives)
+        (OpenStmt (layer.Assignment op.now lhs.now rhs.now) restoring)
+        (state_of (T.state _table.now) global.old scope.old held)
+        (came done out.new place.new) (state_of (T.state _table.now) global.new scope.new held)) }
+{
+    match assign_prepared(limits, alloc, global, _table, scope, *op, lhs, rhs) {
+        Some(answer) => Some(settle(place, out, answer)),
+        None => None,
+    }
+}
+
 /// An assignment by a built-in operator, whose value is an operand as it stands, charged at the value
 /// and then at the variable; how it ended stands in the run's places. None for any other assignment: then
 /// nothing is charged. The table is not called.
@@ -214,29 +248,28 @@ pub fn assign_in_place<H: Host, T: NativeTable<H>>(
     scope: &mut Scope<H>,
     out: &mut Dynamic<H>,
     place: &mut Option<EvalAltResult<H>>,
-    op: OpAssignment,
+    op: &OpAssignment,
     lhs: &Expr,
     rhs: &Expr,
 ) -> Option<bool>
     requires resolves_target { IsTrue (target_resolves (tests_of lhs.now) (names_in scope.old)) }
     requires resolves { IsTrue (resolves_expr rhs.now (names_in scope.old)) }
-    ensures found { is_some result ≡ is_some (assigned op.op (out-Expr lhs.now) (out-Expr rhs.now)
+    ensures found { is_some result ≡ is_some (assigned op.now.op (out-Expr lhs.now) (out-Expr rhs.now)
         (entries_of scope.old) global.old.lib (cells_of global.old.cells)) }
     ensures left_global { result ≡ None → global.new ≡ global.old }
     ensures left_scope { result ≡ None → scope.new ≡ scope.old }
     ensures keeps { Keeps global.old global.new scope.old scope.new }
     ensures runs { (offer : _) (held : _) (restoring : _) → offer.fast_operators ≡ true →
         IfSome result (λ done. Runs (rules_of limits.now H.name_of offer T.natives)
-        (OpenStmt (layer.Assignment op lhs.now rhs.now) restoring)
+        (OpenStmt (layer.Assignment op.now lhs.now rhs.now) restoring)
         (state_of (T.state _table.now) global.old scope.old held)
         (came done out.new place.new) (state_of (T.state _table.now) global.new scope.new held)) }
 {
-    if assign_integer(limits, global, _table, scope, op, lhs, rhs) {
+    if assign_integer(limits, global, _table, scope, op, lhs, rhs, 2) {
         put_unit(out);
         return Some(true);
     }
-    match assign_prepared(limits, alloc, global, _table, scope, op, lhs, rhs) {
-        Some(answer) => Some(settle(place, out, answer)),
-        None => None,
-    }
+    assign_others(
+        limits, alloc, global, _table, scope, out, place, op, lhs, rhs,
+    )
 }

@@ -9,6 +9,7 @@ pub mod declaring;
 pub mod focus;
 pub mod in_place;
 pub mod left;
+pub mod lists;
 mod native;
 mod place;
 pub mod this;

@@ -3,7 +3,7 @@
 //! `make_function_call`. The contracts cite the machine's specs/language/Arguments.antt and the crate's own specs/.
 #![tactic(auto)]
 
-ghost use Rattle.std.specs.Prelude.{◌≡◌, ◌<◌, ◌≤◌, ◌∷◌, [], IsTrue, IfSome, None, Some, is_some, length, slice_get};
+ghost use Rattle.std.specs.Prelude.{◌≡◌, ◌<◌, ◌≤◌, ◌∷◌, [], IsTrue, IfErr, IfOk, IfSome, None, Some, is_some, length, slice_get};
 ghost use Rattle.std.specs.Prelude.{false, true, ℤ};
 ghost use Rattle.std.specs.Option.{option_copied, option_map};
 ghost use Rattle.rhai_tree.specs.declared.expr.Expr.TheOpen as layer;
@@ -37,11 +37,9 @@ use rhai_state::limits::Limits;
 use rhai_state::scope::Scope;
 use rhai_state::state::GlobalRuntimeState;
 use rhai_state::table::{Answer, NativeTable};
-use rhai_steps::charges::charge_all;
+use rhai_steps::charges::charge_one;
 use rhai_steps::replies::replied;
-use rhai_steps::values::int_value;
 use rhai_steps::variables::place_of_variable;
-use rhai_tree::Items;
 use rhai_tree::expr::{Expr, FnCallExpr};
 use rhai_tree::position::Position;
 use rhai_values::base::value::{AccessMode, Dynamic, Host, Union};
@@ -112,21 +110,33 @@ fn is_found<H: Host>(offered: &Offered<'_, H>, global: &GlobalRuntimeState<H>, n
     found.is_some()
 }
 
-/// The value that a native answered where that is an integer, None where it answered anything else.
+/// Whether a value is an integer that may be written.
 #[inline(always)]
-fn number_in<H: Host>(answer: &Answer<H>) -> Option<Dynamic<H>>
-    ensures { IfSome result (λ value. (reply_of answer.now ≡ Some (Gives value))
-        × (number : ℤ) × (value ≡ plain (kind.Int number))) }
+fn is_number<H>(value: &Dynamic<H>) -> bool
+    ensures { IsTrue result → (number : ℤ) × (value.now ≡ plain (kind.Int number)) }
 {
-    let Answer::Value(value) = answer else {
-        return None;
-    };
-    let Union::Int(number) = &value.value else {
-        return None;
-    };
-    match value.mode {
-        AccessMode::ReadWrite => Some(int_value(number)),
-        AccessMode::ReadOnly => None,
+    match (&value.value, value.mode) {
+        (Union::Int(_), AccessMode::ReadWrite) => true,
+        _ => false,
+    }
+}
+
+/// The integer that a native answered which may be written, or else its answer as it is.
+#[inline(always)]
+fn number_in<H: Host>(answer: Answer<H>) -> Result<Dynamic<H>, Answer<H>>
+    ensures number { IfOk result (λ value. (reply_of answer ≡ Some (Gives value))
+        × (number : ℤ) × (value ≡ plain (kind.Int number))) }
+    ensures other { IfErr result (λ same. same ≡ answer) }
+{
+    match answer {
+        Answer::Value(value) => {
+            if is_number(&value) {
+                Ok(value)
+            } else {
+                Err(Answer::Value(value))
+            }
+        }
+        answer => Err(answer),
     }
 }
 
@@ -150,11 +160,13 @@ fn settle_answer<H: Host>(
         (record { name = name.now; token = None; at = pos }) false (cells_of cells.now))) }
     ensures memory { HasMemory (came result out.new place.new) → is_some (reply_of answer) ≡ true }
 {
-    if let Some(value) = number_in(&answer) {
-        drop(answer);
-        put_number(out, value);
-        return true;
-    }
+    let answer = match number_in(answer) {
+        Ok(value) => {
+            put_number(out, value);
+            return true;
+        }
+        Err(answer) => answer,
+    };
     let answered = replied(
         alloc, limits, cells, answer, name, false, None, first, rest, pos,
     );
@@ -213,7 +225,7 @@ fn call_entry<H: Host, T: NativeTable<H>>(
     if !charge(limits, global, place, pos) {
         return false;
     }
-    let rest = Items::new(alloc);
+    let rest: [Dynamic<H>; 0] = [];
     let rest = rest.as_slice();
     let cells = &global.cells;
     let first = scope.value_at_mut(index);
@@ -272,7 +284,7 @@ pub fn call_at_once<H: Host, T: NativeTable<H>>(
     if is_found(offered, global, function) {
         return None;
     }
-    if !charge_all(limits, global, 1) {
+    if !charge_one(limits, global) {
         return None;
     }
     Some(call_entry(

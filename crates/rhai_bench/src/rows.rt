@@ -13,6 +13,7 @@ mod chains;
 mod checked;
 mod choices;
 mod data;
+mod exports;
 mod functions;
 mod loops;
 mod operators;
@@ -46,6 +47,7 @@ pub fn scripts_of(list: &str) -> Option<&'static [Sample]> {
         checked::scripts_of(list),
         choices::scripts_of(list),
         data::scripts_of(list),
+        exports::scripts_of(list),
         functions::scripts_of(list),
         loops::scripts_of(list),
         operators::scripts_of(list),

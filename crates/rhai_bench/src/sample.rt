@@ -69,8 +69,8 @@ pub enum MadeStatements {
     ManyItems(u32),
     /// So many integers.
     RangeSummed(i64),
-    /// So many items.
-    ArraySummed(u32),
+    /// A length, and so many times.
+    ArraySummed(u32, i64),
 }
 
 /// Statements with functions beside them that a function of `rhai_samples` makes, with its argument.
@@ -135,7 +135,7 @@ impl MadeStatements {
             MadeStatements::ThrowsInTurn(turns) => throws_in_turn(alloc, turns),
             MadeStatements::ManyItems(count) => many_items(alloc, count),
             MadeStatements::RangeSummed(count) => range_summed(alloc, count),
-            MadeStatements::ArraySummed(count) => array_summed(alloc, count),
+            MadeStatements::ArraySummed(length, times) => array_summed(alloc, length, times),
         }
     }
 }

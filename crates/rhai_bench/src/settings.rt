@@ -2,6 +2,7 @@
 
 ghost use Rattle.std.specs.Prelude.{◌≡◌, []};
 ghost use Rattle.rhai_state.specs.Caches.{depth_of, is_on};
+ghost use Rattle.rhai_state.specs.Limits.{limit_of};
 ghost use Rattle.rhai_eval.specs.States.{limits_of};
 ghost use Rattle.rhai_bench.specs.Settings.{settings_of, usual};
 
@@ -50,7 +51,8 @@ impl Settings {
 
     /// An engine with these limits and switches, without modules.
     pub fn engine(&self, alloc: Global) -> Engine<Pair>
-        ensures limits { limits_of result ≡ self.now.limits }
+        ensures limits { limits_of result ≡ record self.now.limits
+            { max_operations = limit_of self.now.limits.max_operations } }
         ensures fast_operators { result.fast_operators ≡ self.now.fast_operators }
         ensures shadowing { result.allow_shadowing ≡ self.now.allow_shadowing }
         ensures map_property { result.fail_on_invalid_map_property ≡ self.now.fail_on_invalid_map_property }

@@ -164,7 +164,7 @@ pub fn close_function<H: Host>(
 ///
 /// # Errors
 /// Those of `close_function`.
-#[inline(always)]
+#[inline(never)]
 pub fn close_body<H: Host>(
     alloc: Global,
     global: &mut GlobalRuntimeState<H>,

@@ -166,7 +166,7 @@ fn surround<H: Host>(
 
 /// Everything that a call has brought goes again.
 #[inline(always)]
-pub(crate) fn take_back<H: Host>(global: &mut GlobalRuntimeState<H>, exit: CallExit)
+pub fn take_back<H: Host>(global: &mut GlobalRuntimeState<H>, exit: CallExit)
     ensures { global.new ≡ taken_back exit global.old }
 {
     global.lib.truncate(exit.lib_length);

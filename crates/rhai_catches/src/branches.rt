@@ -21,6 +21,9 @@ use rhai_values::cells::CellStore;
 use std::alloc::Global;
 
 /// Adds the catch variable of a branch, if it has one.
+///
+/// # Errors
+/// `ErrorTooManyVariables` at the variable where the scope has no room, and `ErrorOutOfMemory` there.
 fn add_caught<H: Host>(
     limits: &Limits,
     alloc: Global,
@@ -88,7 +91,8 @@ pub fn leave_branch<H: Host>(
     out: &mut Dynamic<H>,
     place: &mut Option<EvalAltResult<H>>,
 ) -> bool
-    ensures left { came result out.new place.new ≡ left_by (cells_of cells.now) caught (came done out.old place.old) }
+    ensures left { came result out.new place.new
+        ≡ left_by (cells_of cells.now) caught (came done out.old place.old) }
     ensures scope { entries_of scope.new ≡ take base (entries_of scope.old) }
 {
     scope.rewind(base);

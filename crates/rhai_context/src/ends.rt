@@ -2,12 +2,14 @@
 //! well: its value stands in `run.value` then, and else its error in `run.error`. A part of a chain's walk answers
 //! in Some whether it may have changed what it worked on, and None where it failed.
 
-ghost use Rattle.std.specs.Prelude.{◌≡◌, IsTrue, OnOk, None, false, true};
+ghost use Rattle.std.specs.Prelude.{◌≡◌, ◌<◌, IsTrue, OnOk, None, false, length, slice_get, true};
+ghost use Rattle.rhai_state.specs.Scope.{entries_of, revalued};
 ghost use Rattle.rhai_state.specs.Errors.{is_catchable};
 ghost use Rattle.rhai_machine.specs.language.Values.{bool_value as truth_of};
 ghost use Rattle.rhai_context.specs.Ends.{came, came_marked, came_turn, error_in, unchanged as unchanged_by, unit};
 
 use rhai_state::error::EvalAltResult;
+use rhai_state::scope::Scope;
 use rhai_tree::position::Position;
 use rhai_values::base::value::{AccessMode, Dynamic, Host, Union};
 use std::mem::replace;
@@ -40,6 +42,16 @@ pub fn put_unit<H: Host>(out: &mut Dynamic<H>)
     put(out, Dynamic::new(Union::Unit));
 }
 
+/// A part came to `()`, which goes into the place of a value.
+#[inline(never)]
+pub fn leave_unit<H: Host>(out: &mut Dynamic<H>) -> bool
+    ensures done { result ≡ true }
+    ensures value { out.new ≡ unit }
+{
+    put_unit(out);
+    true
+}
+
 /// A value goes into the place of another one, where most often both are integers.
 #[inline(always)]
 pub fn put_number<H: Host>(out: &mut Dynamic<H>, value: Dynamic<H>)
@@ -52,10 +64,29 @@ pub fn put_number<H: Host>(out: &mut Dynamic<H>, value: Dynamic<H>)
             return;
         }
     }
+    put_other(out, value);
+}
+
+/// A value is written to the entry at a place, where most often both are integers.
+#[inline(always)]
+pub fn write_number<H: Host>(scope: &mut Scope<H>, index: usize, value: Dynamic<H>)
+    requires { index < length (entries_of scope.old) }
+    ensures { entries_of scope.new ≡ revalued (entries_of scope.old) index
+        (slice_get (entries_of scope.old) index) value }
+{
+    put_number(scope.value_at_mut(index), value);
+}
+
+/// A value goes into the place of another one.
+#[inline(never)]
+fn put_other<H: Host>(out: &mut Dynamic<H>, value: Dynamic<H>)
+    ensures { out.new ≡ value }
+{
     put(out, value);
 }
 
 /// A truth value goes into the place of a value.
+#[inline(never)]
 pub fn put_truth<H: Host>(out: &mut Dynamic<H>, holds: bool)
     ensures { out.new ≡ truth_of holds }
 {

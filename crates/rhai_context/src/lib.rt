@@ -3,7 +3,7 @@
 #![tactic(auto)]
 
 ghost use Rattle.std.specs.Prelude.{◌≡◌, [], None};
-ghost use Rattle.rhai_state.specs.Scope.{entries_of};
+ghost use Rattle.rhai_state.specs.Scope.{entries_of, scope_of};
 ghost use Rattle.rhai_context.specs.Ends.{unit};
 
 pub mod ends;
@@ -13,7 +13,7 @@ pub mod spare;
 use crate::spare::Spare;
 use rhai_state::error::EvalAltResult;
 use rhai_state::room::Room;
-use rhai_state::scope::Scope;
+use rhai_state::scope::{Scope, ScopeEntry};
 use rhai_state::state::GlobalRuntimeState;
 use rhai_tree::Items;
 use rhai_values::base::value::{Dynamic, Host, Union};
@@ -145,38 +145,72 @@ pub fn take_up<H: Host>(run: &mut Context<H>, aside: Aside<H>) -> Option<Dynamic
     replace(&mut run.this, this)
 }
 
-/// A scope without variables: one that a call left, with its room, or else a new one.
-pub fn lend_scope<H: Host>(alloc: Global, run: &mut Context<H>) -> Scope<H>
-    ensures scope { entries_of result ≡ [] }
+/// A list without variables: one that a call left, with its room, or else a new one.
+#[inline(always)]
+pub fn lend_variables<H: Host>(alloc: Global, run: &mut Context<H>) -> Items<ScopeEntry<H>>
+    ensures list { result ≡ [] }
     ensures run { run.new ≡ run.old }
 {
-    run.spare.lend_scope(alloc)
+    run.spare.lend_variables(alloc)
 }
 
-/// Keeps a scope for another call, without its variables.
-pub fn keep_scope<H: Host>(run: &mut Context<H>, scope: Scope<H>)
+/// Keeps a list of variables for another call, without what it holds.
+#[inline(always)]
+pub fn keep_variables<H: Host>(run: &mut Context<H>, variables: Items<ScopeEntry<H>>)
     ensures { run.new ≡ run.old }
 {
-    run.spare.keep_scope(scope);
+    run.spare.keep_variables(variables);
+}
+
+/// The variables and `this` of a caller, while a plain call has its own.
+#[derive(Drop)]
+pub struct Caller<H> {
+    pub variables: Items<ScopeEntry<H>>,
+    pub this: Option<Dynamic<H>>,
+}
+
+/// Takes `this` out of its place, where most often there is none.
+#[inline(always)]
+fn take_this<H: Host>(this: &mut Option<Dynamic<H>>) -> Option<Dynamic<H>>
+    ensures taken { result ≡ this.old }
+    ensures left { this.new ≡ None }
+{
+    if this.is_none() {
+        return None;
+    }
+    replace(this, None)
+}
+
+/// Puts `this` into its place, where most often there is none before and after.
+#[inline(always)]
+fn put_this<H: Host>(place: &mut Option<Dynamic<H>>, this: Option<Dynamic<H>>)
+    ensures { place.new ≡ this }
+{
+    if this.is_none() && place.is_none() {
+        return;
+    }
+    drop(replace(place, this));
 }
 
 /// Puts the variables and `this` of a run aside: it has these variables then, and no `this`.
-pub fn enter_scope<H: Host>(run: &mut Context<H>, scope: Scope<H>) -> Aside<H>
-    ensures aside { result ≡ record { scope = run.old.scope; this = run.old.this } }
-    ensures run { run.new ≡ record run.old { scope = scope; this = None } }
+#[inline(always)]
+pub fn enter_variables<H: Host>(run: &mut Context<H>, variables: Items<ScopeEntry<H>>) -> Caller<H>
+    ensures caller { result ≡ record { variables = entries_of run.old.scope; this = run.old.this } }
+    ensures run { run.new ≡ record run.old { scope = scope_of variables; this = None } }
 {
-    Aside {
-        scope: replace(&mut run.scope, scope),
-        this: replace(&mut run.this, None),
+    Caller {
+        variables: run.scope.exchange(variables),
+        this: take_this(&mut run.this),
     }
 }
 
 /// Gives a run its caller's variables and `this` back. The room of its own variables is kept for another call.
-pub fn leave_scope<H: Host>(run: &mut Context<H>, aside: Aside<H>)
-    ensures { run.new ≡ record run.old { scope = aside.scope; this = aside.this } }
+#[inline(always)]
+pub fn leave_variables<H: Host>(run: &mut Context<H>, caller: Caller<H>)
+    ensures { run.new ≡ record run.old { scope = scope_of caller.variables; this = caller.this } }
 {
-    let Aside { scope, this } = aside;
-    drop(replace(&mut run.this, this));
-    let own = replace(&mut run.scope, scope);
-    run.spare.keep_scope(own);
+    let Caller { variables, this } = caller;
+    put_this(&mut run.this, this);
+    let own = run.scope.exchange(variables);
+    run.spare.keep_variables(own);
 }

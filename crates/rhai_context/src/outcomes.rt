@@ -3,7 +3,6 @@
 ghost use Rattle.std.specs.Prelude.{◌≡◌, ◌<◌, ◌≤◌, ◌+◌, IsTrue, None, false, true};
 ghost use Rattle.rhai_tree.specs.Positions.{position_of, stmt_position_of};
 ghost use Rattle.rhai_values.specs.Cells.{cells_of};
-ghost use Rattle.rhai_state.specs.Limits.{limit_of};
 ghost use Rattle.rhai_state.specs.declared.error.EvalAltResult.TheVariants as error;
 ghost use Rattle.rhai_machine.specs.language.State.{Answers};
 ghost use Rattle.rhai_machine.specs.language.Values.{flat, is_handle, is_truth, through, truth};
@@ -16,7 +15,7 @@ use crate::ends::{put, settle, settle_turn, stop, stopped, take_value};
 use rhai_state::error::EvalAltResult;
 use rhai_state::limits::Limits;
 use rhai_state::state::GlobalRuntimeState;
-use rhai_steps::charges::charge_all;
+use rhai_steps::charges::charge_one;
 use rhai_steps::loops::{BodyEnd, body_end, while_next};
 use rhai_steps::values::{flatten, is_unit, truth_value};
 use rhai_tree::expr::{Expr, Stmt};
@@ -33,14 +32,14 @@ pub fn charge<H: Host>(
     place: &mut Option<EvalAltResult<H>>,
     pos: Position,
 ) -> bool
-    ensures room { IsTrue result → global.old.num_operations < limit_of limits.now.max_operations }
+    ensures room { IsTrue result → global.old.num_operations < limits.now.max_operations }
     ensures charged { IsTrue result → global.new ≡ record global.old
         { num_operations = global.old.num_operations + 1 } }
-    ensures full { result ≡ false → limit_of limits.now.max_operations ≤ global.old.num_operations }
+    ensures full { result ≡ false → limits.now.max_operations ≤ global.old.num_operations }
     ensures refused { result ≡ false → error_in place.new ≡ error.ErrorTooManyOperations pos }
     ensures same { result ≡ false → global.new ≡ global.old }
 {
-    if charge_all(limits, global, 1) {
+    if charge_one(limits, global) {
         return true;
     }
     stop_at(place, pos)
@@ -54,15 +53,15 @@ pub fn charge_stmt<H: Host>(
     place: &mut Option<EvalAltResult<H>>,
     stmt: &Stmt,
 ) -> bool
-    ensures room { IsTrue result → global.old.num_operations < limit_of limits.now.max_operations }
+    ensures room { IsTrue result → global.old.num_operations < limits.now.max_operations }
     ensures charged { IsTrue result → global.new ≡ record global.old
         { num_operations = global.old.num_operations + 1 } }
-    ensures full { result ≡ false → limit_of limits.now.max_operations ≤ global.old.num_operations }
+    ensures full { result ≡ false → limits.now.max_operations ≤ global.old.num_operations }
     ensures refused { result ≡ false → error_in place.new ≡
         error.ErrorTooManyOperations (stmt_position_of stmt.now) }
     ensures same { result ≡ false → global.new ≡ global.old }
 {
-    if charge_all(limits, global, 1) {
+    if charge_one(limits, global) {
         return true;
     }
     stop_at(place, stmt.position())
@@ -76,15 +75,15 @@ pub fn charge_expr<H: Host>(
     place: &mut Option<EvalAltResult<H>>,
     expr: &Expr,
 ) -> bool
-    ensures room { IsTrue result → global.old.num_operations < limit_of limits.now.max_operations }
+    ensures room { IsTrue result → global.old.num_operations < limits.now.max_operations }
     ensures charged { IsTrue result → global.new ≡ record global.old
         { num_operations = global.old.num_operations + 1 } }
-    ensures full { result ≡ false → limit_of limits.now.max_operations ≤ global.old.num_operations }
+    ensures full { result ≡ false → limits.now.max_operations ≤ global.old.num_operations }
     ensures refused { result ≡ false → error_in place.new ≡
         error.ErrorTooManyOperations (position_of expr.now) }
     ensures same { result ≡ false → global.new ≡ global.old }
 {
-    if charge_all(limits, global, 1) {
+    if charge_one(limits, global) {
         return true;
     }
     stop_at(place, expr.position())

@@ -1,28 +1,28 @@
 //! Lists for the arguments of calls.
 
 ghost use Rattle.std.specs.Prelude.{◌≡◌, []};
-ghost use Rattle.rhai_state.specs.Scope.{entries_of};
 
-use rhai_state::scope::Scope;
+use rhai_state::scope::ScopeEntry;
 use rhai_tree::Items;
 use rhai_values::base::value::Dynamic;
 use std::alloc::Global;
 use std::marker::Model;
 use std::mem::replace;
 
-/// How many lists are kept at most besides the first, and how many scopes: as many as there are call levels by
+/// How many lists are kept at most besides the first, and how many of variables: as many as there are call levels by
 /// default.
 const MOST_KEPT: usize = 64;
 
-/// Lists that calls collect their arguments in, and scopes of functions, with the room that they have, so that most
-/// calls take no memory for one: a call that others are nested in keeps its own meanwhile. They hold nothing between
+/// Lists that calls collect their arguments in, and the variables of functions, with the room that they have, so that
+/// most calls take no memory for one: a call that others are nested in keeps its own meanwhile. They hold nothing between
 /// calls, so contracts see nothing of them.
 #[derive(Drop)]
 pub struct Spare<H> {
     /// The one that a run has without asking for memory.
     first: Option<Items<Dynamic<H>>>,
     more: Vec<Items<Dynamic<H>>>,
-    scopes: Vec<Scope<H>>,
+    /// Those of scopes that calls had.
+    variables: Vec<Items<ScopeEntry<H>>>,
 }
 
 impl<H> Model for Spare<H> {
@@ -31,13 +31,14 @@ impl<H> Model for Spare<H> {
     ghost view = { λ spare. tt };
 }
 
-/// A scope without its variables.
-fn emptied<H: Drop>(scope: Scope<H>) -> Scope<H>
-    ensures { entries_of result ≡ [] }
+/// A list without its variables.
+#[inline(always)]
+fn emptied<H: Drop>(variables: Items<ScopeEntry<H>>) -> Items<ScopeEntry<H>>
+    ensures { result ≡ [] }
 {
-    let mut scope = scope;
-    scope.rewind(0);
-    scope
+    let mut variables = variables;
+    variables.truncate(0);
+    variables
 }
 
 impl<H: Drop> Spare<H> {
@@ -46,7 +47,7 @@ impl<H: Drop> Spare<H> {
         Spare {
             first: Some(first),
             more: Vec::new(alloc),
-            scopes: Vec::new(alloc),
+            variables: Vec::new(alloc),
         }
     }
 
@@ -84,27 +85,27 @@ impl<H: Drop> Spare<H> {
         }
     }
 
-    /// A scope without variables: the one that was kept last, or a new one without room.
+    /// A list without variables: the one that was kept last, or a new one without room.
     #[inline(always)]
-    pub fn lend_scope(&mut self, alloc: Global) -> Scope<H>
-        ensures scope { entries_of result ≡ [] }
+    pub fn lend_variables(&mut self, alloc: Global) -> Items<ScopeEntry<H>>
+        ensures list { result ≡ [] }
         ensures same { self.new ≡ self.old }
     {
-        match self.scopes.pop() {
-            Some(scope) => emptied(scope),
-            None => Scope::new(alloc),
+        match self.variables.pop() {
+            Some(variables) => emptied(variables),
+            None => Items::new(alloc),
         }
     }
 
-    /// Keeps a scope with the room that it has, without its variables. It is let go of where enough are kept or there
-    /// is no memory to keep it.
+    /// Keeps a list with the room that it has, without its variables. It is let go of where enough are kept or
+    /// there is no memory to keep it.
     #[inline(always)]
-    pub fn keep_scope(&mut self, scope: Scope<H>)
+    pub fn keep_variables(&mut self, variables: Items<ScopeEntry<H>>)
         ensures { self.new ≡ self.old }
     {
-        let scope = emptied(scope);
-        if self.scopes.len() < MOST_KEPT {
-            drop(self.scopes.push(scope));
+        let variables = emptied(variables);
+        if self.variables.len() < MOST_KEPT {
+            drop(self.variables.push(variables));
         }
     }
 
@@ -113,10 +114,10 @@ impl<H: Drop> Spare<H> {
         let Spare {
             first,
             more,
-            scopes,
+            variables,
         } = self;
         drop(more);
-        drop(scopes);
+        drop(variables);
         first
     }
 }

@@ -1,7 +1,6 @@
 //! A contract of the evaluator.
 
 ghost use Rattle.std.specs.Prelude.{◌≡◌, ◌<◌, ◌≤◌, ◌+◌, IfErr, OnOk};
-ghost use Rattle.rhai_state.specs.Limits.{limit_of};
 ghost use Rattle.rhai_state.specs.declared.error.EvalAltResult.TheVariants as error;
 
 use rhai_state::error::EvalAltResult;
@@ -16,10 +15,10 @@ pub trait Charges<H> {
         global: &mut GlobalRuntimeState<H>,
         pos: Position,
     ) -> Result<(), EvalAltResult<H>>
-        ensures room { OnOk result (global.old.num_operations < limit_of limits.now.max_operations) }
+        ensures room { OnOk result (global.old.num_operations < limits.now.max_operations) }
         ensures charged { OnOk result (global.new ≡ record global.old
             { num_operations = global.old.num_operations + 1 }) }
-        ensures full { IfErr result (λ _. limit_of limits.now.max_operations ≤ global.old.num_operations) }
+        ensures full { IfErr result (λ _. limits.now.max_operations ≤ global.old.num_operations) }
         ensures refused { IfErr result (λ e. e ≡ error.ErrorTooManyOperations pos) }
         ensures same { IfErr result (λ _. global.new ≡ global.old) };
 }

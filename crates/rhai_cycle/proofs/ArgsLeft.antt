@@ -6,7 +6,6 @@ use Rattle.rhai_tree.specs.declared.function.ScriptFuncDef.{ScriptFuncDef}
 use Rattle.rhai_tree.specs.declared.position.Position.{Position}
 use Rattle.rhai_state.specs.declared.error.EvalAltResult.{EvalAltResult}
 use Rattle.rhai_state.specs.declared.limits.Limits.{Limits}
-use Rattle.rhai_state.specs.Limits.{limit_of}
 use Rattle.rhai_machine.specs.machine.Machine.{below}
 use Rattle.rhai_machine.specs.language.Bodies.{statements_of}
 use Rattle.rhai_bodies.specs.Opening.{enterable, entry, is_deep, is_full}
@@ -38,7 +37,7 @@ some_there (stmt ∷ stmts) some = refl
 
 module _ (limits : Limits) (count level variables : ℕ) (def : ScriptFuncDef) where
   abbrev room : Bool
-  room = below (limit_of limits.max_operations) count
+  room = below limits.max_operations count
 
   abbrev full : Bool
   full = is_full limits variables (length def.params)
@@ -47,7 +46,7 @@ module _ (limits : Limits) (count level variables : ℕ) (def : ScriptFuncDef) w
   some = has_statements (statements_of def.body)
 
   -- its call was refused
-  pub entered_never : limit_of limits.max_operations ≤ count → is_entered limits count level variables def ≡ false
+  pub entered_never : limits.max_operations ≤ count → is_entered limits count level variables def ≡ false
   entered_never spent = by_room room (not (is_deep limits level) && (not full && some)) (le-ltb _ _ spent)
 
   -- it was too deep, or there was no room for its parameters
@@ -62,7 +61,7 @@ module _ (limits : Limits) (count level variables : ℕ) (def : ScriptFuncDef) w
       ∙ by_none room (is_deep limits level) full
 
   -- and else it was entered
-  pub entered_so : count < limit_of limits.max_operations → is_deep limits level ≡ false → full ≡ false → statements_of def.body ≢ [] →
+  pub entered_so : count < limits.max_operations → is_deep limits level ≡ false → full ≡ false → statements_of def.body ≢ [] →
       is_entered limits count level variables def ≡ true
   entered_so has_room not_deep not_full has =
       by_all room (is_deep limits level) full some (lt-ltb _ _ has_room) not_deep not_full (some_there (statements_of def.body) has)

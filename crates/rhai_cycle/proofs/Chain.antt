@@ -1,6 +1,6 @@
 -- Pieces of runs, as the functions of the evaluator put them together.
 use Rattle.std.proofs.Common.{◌≡◌, ◌≢◌, ◌<◌, ◌≤◌, ◌+◌, ◌==◌, ℕ, Bool, true, false, List, [], ◌∷◌, length, take, drop, get_or}
-use Rattle.std.proofs.Common.{drop-cons, add-one, Option, Some, None, Result, Ok, Err, refl, sym, ap, is_some, rules}
+use Rattle.std.proofs.Common.{arith, drop-cons, add-one, Option, Some, None, Result, Ok, Err, refl, sym, ap, is_some, rules}
 use Rattle.std.proofs.lemmas.Bool.{lt-ltb, le-ltb, true≢false}
 use Rattle.std.proofs.lemmas.List as Lemmas
 use Rattle.std.specs.Prelude.{IsTrue, OnOk}
@@ -56,6 +56,11 @@ is_empty_list (x ∷ xs) h = search rules
 
 pub is_not_empty : {A : Type 0} (xs : List A) → (length xs == 0) ≡ false → xs ≢ []
 is_not_empty xs h e = absurd (true≢false (rw e at h))
+
+-- a list that is not empty has an item
+pub has_some : {A : Type 0} (xs : List A) → xs ≢ [] → 1 ≤ length xs
+has_some [] some = absurd (some refl)
+has_some (x ∷ xs) some = omega arith
 
 -- the state that a restoring list leaves
 pub left_state : {S H : Type 0} (t : S) (old new : GlobalRuntimeState H) (before after : Scope H) (held : Held H)

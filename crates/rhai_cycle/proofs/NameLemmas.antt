@@ -20,14 +20,13 @@ use Rattle.rhai_tree.specs.declared.expr.Expr.TheOpen as layer
 use Rattle.rhai_tree.specs.declared.flags.ASTFlags.{ASTFlags}
 use Rattle.rhai_tree.specs.declared.position.Position.{Position}
 use Rattle.rhai_tree.specs.Forms.{is_exported}
-use Rattle.rhai_tree.specs.Frame.{resolves_stmt, target_resolves}
+use Rattle.rhai_tree.specs.Frame.{resolves_stmt}
 use Rattle.rhai_tree.specs.Layers.{StmtLayer}
 use Rattle.rhai_tree.proofs.Walk.{resolves-stmt, stmt_tests}
 use Rattle.std.proofs.Common.{Option, None, Some}
 use Rattle.rhai_values.specs.declared.base.value.Dynamic.{Dynamic}
 use Rattle.rhai_pointers.specs.Leading.{all_args, this_lent}
 use Rattle.rhai_tree.specs.declared.expr.Ident.{Ident}
-use Rattle.rhai_tree.specs.declared.expr.OpAssignment.{OpAssignment}
 use Rattle.rhai_operands.proofs.Names.{both, fails_then}
 use Rattle.rhai_cycle.proofs.Chain.{drop_item}
 
@@ -127,13 +126,6 @@ pub plain_var : (stmt : Stmt) (ident : Ident) (value : Expr) (options : ASTFlags
     out-Stmt stmt ≡ layer.Var ident value None options pos → IsTrue (resolves_stmt stmt names).0 → is_exported options ≡ false
 plain_var stmt ident value options pos names is h = (fails_then (is_exported options) _
     (rw (resolves-stmt stmt (layer.Var ident value None options pos) is) at h)).0
-
--- both sides of an assignment that resolves do
-pub sides_resolve : (stmt : Stmt) (op : OpAssignment) (lhs rhs : Expr) (names : List Name) →
-    out-Stmt stmt ≡ layer.Assignment op lhs rhs → IsTrue (resolves_stmt stmt names).0 →
-    IsTrue (target_resolves (tests_of lhs) names) × IsTrue (resolves_expr rhs names)
-sides_resolve stmt op lhs rhs names is h = both (target_resolves (tests_of lhs) names) (resolves_expr rhs names)
-    (rw (resolves-stmt stmt (layer.Assignment op lhs rhs) is) at h)
 
 -- a statement that adds no name leaves the names
 pub names_left : (stmt : Stmt) (l : StmtLayer) (names : List Name) → out-Stmt stmt ≡ l →

@@ -6,7 +6,6 @@ use Rattle.rhai_tree.specs.declared.position.Position.{Position}
 use Rattle.rhai_values.specs.declared.base.value.Dynamic.{Dynamic}
 use Rattle.rhai_values.specs.declared.base.value.EncapsulatedEnviron.{EncapsulatedEnviron}
 use Rattle.rhai_state.specs.declared.limits.Limits.{Limits}
-use Rattle.rhai_state.specs.Limits.{limit_of}
 use Rattle.rhai_machine.specs.machine.Machine.{below}
 use Rattle.rhai_machine.specs.language.State.{Held, Local, State}
 use Rattle.rhai_machine.specs.language.Activations.{Entered, Object}
@@ -21,7 +20,7 @@ has_statements (stmt ∷ stmts) = true
 
 -- a body is entered where its call is let through, it is not too deep, its parameters have room, and it has statements
 abbrev pub is_entered : Limits → (count level variables : ℕ) → ScriptFuncDef → Bool
-is_entered limits count level variables def = below (limit_of limits.max_operations) count
+is_entered limits count level variables def = below limits.max_operations count
     && (not (is_deep limits level) && (not (is_full limits variables (length def.params)) && has_statements (statements_of def.body)))
 
 module _ {H : Type 0} where

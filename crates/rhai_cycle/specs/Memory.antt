@@ -39,3 +39,7 @@ asks_stmt = fold-Stmt Need Bool (Unit {0}) (Unit {0}) (Unit {0}) Bool expr_step 
 -- a list of statements
 abbrev pub may_ask : List Stmt → Bool
 may_ask statements = any_of (map asks_stmt statements)
+
+-- a condition with the two lists that it chooses from
+abbrev pub asks_if : Expr → (body branch : StmtBlock) → Bool
+asks_if test body branch = (asks_expr test).1 || (asks_block body || asks_block branch)

@@ -1,7 +1,7 @@
 //! Calls: operators, keywords and pointers. Ports upstream's `func/call.rs`; the contracts speak of the
 //! machine's runs and of specs/Calls.antt.
 
-ghost use Rattle.std.specs.Prelude.{◌≡◌, ◌<◌, ◌≤◌, ◌∷◌, [], IsTrue, Some, map};
+ghost use Rattle.std.specs.Prelude.{◌≡◌, ◌<◌, ◌≤◌, ◌+◌, ◌∷◌, [], IfOk, IsTrue, Some, length, map};
 ghost use Rattle.std.specs.Prelude.{true, false};
 ghost use Rattle.std.specs.Option.{option_copied};
 ghost use Rattle.rhai_tree.specs.Frame.{all_resolve_exprs, resolves_expr, resolves_call, tests_of};
@@ -9,10 +9,13 @@ ghost use Rattle.rhai_tree.specs.declared.expr.Expr.TheOpen as layer;
 ghost use Rattle.rhai_tree.specs.Positions.{start_of};
 ghost use Rattle.rhai_machine.specs.language.Calls.{call_at};
 ghost use Rattle.rhai_machine.specs.language.Frames.{Argument, KeywordArgument, OpenExpr};
-ghost use Rattle.rhai_machine.specs.language.Arguments.{arguments_core};
+ghost use Rattle.rhai_values.specs.declared.base.value.FnPtr.{out-FnPtr};
+ghost use Rattle.rhai_machine.specs.language.Arguments.{arguments_core, linked_to};
 ghost use Rattle.rhai_machine.specs.language.Runs.{Runs};
 ghost use Rattle.rhai_calls.specs.Operates.{Operates};
+ghost use Rattle.rhai_pointers.specs.Forms.{IsForm};
 ghost use Rattle.rhai_pointers.specs.Keywords.{word_of};
+ghost use Rattle.rhai_pointers.specs.declared.forms.CallForm.TheVariants as form;
 ghost use Rattle.rhai_pointers.specs.Leading.{all_args};
 ghost use Rattle.rhai_dispatch.specs.Going.{GoesOut};
 ghost use Rattle.rhai_context.specs.Ends.{came};
@@ -34,7 +37,7 @@ use rhai_operands::arguments::literal_arg;
 use rhai_operands::operators::{operate_in_place, operate_known};
 use rhai_plain::callee::plain_callee;
 use rhai_pointers::arguments::parted;
-use rhai_pointers::forms::{CallForm, form_of};
+use rhai_pointers::forms::{CallForm, form_of, may_operate};
 use rhai_pointers::keywords::{Keyword, keyword_of};
 use rhai_pointers::linked::function_linked;
 use rhai_pointers::names::natives_alone;
@@ -50,7 +53,7 @@ use rhai_tree::literal::NativeId;
 use rhai_tree::position::Position;
 use rhai_tree::token::Token;
 use rhai_values::base::value::{Dynamic, FnPtr, Host};
-use std::alloc::Global;
+use std::alloc::{AllocError, Global};
 
 /// What a pointer's arguments are for.
 #[derive(Drop)]
@@ -63,8 +66,22 @@ enum PointerUse<H> {
     Number(NativeId, Items<Dynamic<H>>),
 }
 
+/// The function that a pointer is linked to, where it is called with these arguments: its own, or that of the run's
+/// libraries. None for a pointer by its name alone and for a native's.
+fn linked_function<H: Host>(
+    run: &Context<H>,
+    pointer: &FnPtr<H>,
+    args: &[Expr],
+) -> Result<Option<Function<H>>, AllocError>
+    ensures { IfOk result (λ found. found ≡ linked_to pointer.now
+        (length (out-FnPtr H pointer.now).curry + length args.now) run.now.global.lib) }
+{
+    function_linked(pointer, args.len(), run.global.lib.as_slice())
+}
+
 impl<'e, H: Host> Evaluator<'e, H> {
     /// A call: an operator on its operands, or of a function. How it ended stands in the run.
+    #[inline(always)]
     #[cycle(eval)]
     pub fn run_fn_call_expr<T: NativeTable<H>>(
         &self,
@@ -81,17 +98,33 @@ impl<'e, H: Host> Evaluator<'e, H> {
             (state_in (T.state table.old) run.old)
             (came result run.new.value run.new.error) (state_in (T.state table.new) run.new) }
     {
+        if may_operate(self.fast_operators, call) {
+            return self.run_operation(alloc, run, table, call, pos);
+        }
+        self.run_function(alloc, run, table, call, pos)
+    }
+
+    /// A call that may be an operator on its operands. How it ended stands in the run.
+    #[inline(never)]
+    #[cycle(eval)]
+    fn run_operation<T: NativeTable<H>>(
+        &self,
+        alloc: Global,
+        run: &mut Context<H>,
+        table: &mut T,
+        call: &FnCallExpr,
+        pos: Position,
+    ) -> bool
+        requires resolves { IsTrue (resolves_call call.now pos (names run.old)) }
+        ensures counts { IsTrue result → run.old.global.num_operations ≤ run.new.global.num_operations }
+        ensures names { IsTrue result → names run.new ≡ names run.old }
+        ensures runs { Runs (under H.name_of self.now T.natives) (OpenExpr (layer.Expr::FnCall call.now pos))
+            (state_in (T.state table.old) run.old)
+            (came result run.new.value run.new.error) (state_in (T.state table.new) run.new) }
+    {
         match form_of(self.fast_operators, call) {
             CallForm::Unary(token, operand) => {
-                if !self.run_arg(alloc, run, table, operand) {
-                    return false;
-                }
-                let (out, place) = (&mut run.value, &mut run.error);
-                if !flatten_at(alloc, &run.global.cells, out, place, operand) {
-                    return false;
-                }
-                let called = self.operate_on_one(alloc, run, table, call, token, pos);
-                self.run_out(alloc, run, table, called, true, pos)
+                self.run_unary(alloc, run, table, call, token, operand, pos)
             }
             CallForm::Binary(token, left, right) => {
                 let in_place = operate_in_place(
@@ -113,41 +146,95 @@ impl<'e, H: Host> Evaluator<'e, H> {
                 }
                 self.run_operator(alloc, run, table, call, token, left, right, pos)
             }
-            CallForm::Function => {
-                if let Some(function) = plain_callee(&run.global, call) {
-                    return self.run_plain_call(alloc, run, table, call, function, pos);
-                }
-                let offered = self.offered();
-                let at_once = call_at_once(
-                    self.limits,
-                    alloc,
-                    &offered,
-                    &mut run.global,
-                    table,
-                    &mut run.scope,
-                    &mut run.value,
-                    &mut run.error,
-                    call,
-                    pos,
-                );
-                if let Some(done) = at_once {
-                    return done;
-                }
-                let (name, first, rest) = parts_of_call(call);
-                let captures = call.capture_parent_scope;
-                self.run_call(
-                    alloc,
-                    run,
-                    table,
-                    name,
-                    call.op_token,
-                    first,
-                    rest,
-                    captures,
-                    pos,
-                )
-            }
+            CallForm::Function => self.run_function(alloc, run, table, call, pos),
         }
+    }
+
+    /// A call that is no operator on operands. How it ended stands in the run.
+    #[inline(never)]
+    #[cycle(eval)]
+    fn run_function<T: NativeTable<H>>(
+        &self,
+        alloc: Global,
+        run: &mut Context<H>,
+        table: &mut T,
+        call: &FnCallExpr,
+        pos: Position,
+    ) -> bool
+        requires resolves { IsTrue (resolves_call call.now pos (names run.old)) }
+        requires form { IsForm form.Function self.now.fast_operators call.now.op_token call.now.args }
+        ensures counts { IsTrue result → run.old.global.num_operations ≤ run.new.global.num_operations }
+        ensures names { IsTrue result → names run.new ≡ names run.old }
+        ensures runs { Runs (under H.name_of self.now T.natives) (OpenExpr (layer.Expr::FnCall call.now pos))
+            (state_in (T.state table.old) run.old)
+            (came result run.new.value run.new.error) (state_in (T.state table.new) run.new) }
+    {
+        if let Some(function) = plain_callee(&run.global, call) {
+            return self.run_plain_call(alloc, run, table, call, function, pos);
+        }
+        let offered = self.offered();
+        let at_once = call_at_once(
+            self.limits,
+            alloc,
+            &offered,
+            &mut run.global,
+            table,
+            &mut run.scope,
+            &mut run.value,
+            &mut run.error,
+            call,
+            pos,
+        );
+        if let Some(done) = at_once {
+            return done;
+        }
+        let (name, first, rest) = parts_of_call(call);
+        let captures = call.capture_parent_scope;
+        self.run_call(
+            alloc,
+            run,
+            table,
+            name,
+            call.op_token,
+            first,
+            rest,
+            captures,
+            pos,
+        )
+    }
+
+    /// An operator on one operand, which is evaluated. How it ended stands in the run.
+    #[inline(never)]
+    #[cycle(eval)]
+    fn run_unary<T: NativeTable<H>>(
+        &self,
+        alloc: Global,
+        run: &mut Context<H>,
+        table: &mut T,
+        call: &FnCallExpr,
+        token: Token,
+        operand: &Expr,
+        pos: Position,
+    ) -> bool
+        requires token { call.now.op_token ≡ Some token }
+        requires args { call.now.args ≡ operand.now ∷ [] }
+        requires resolves { IsTrue (resolves_expr operand.now (names run.old)) }
+        requires fast { self.now.fast_operators ≡ true }
+        ensures counts { IsTrue result → run.old.global.num_operations ≤ run.new.global.num_operations }
+        ensures names { IsTrue result → names run.new ≡ names run.old }
+        ensures runs { Runs (under H.name_of self.now T.natives) (OpenExpr (layer.Expr::FnCall call.now pos))
+            (state_in (T.state table.old) run.old)
+            (came result run.new.value run.new.error) (state_in (T.state table.new) run.new) }
+    {
+        if !self.run_arg(alloc, run, table, operand) {
+            return false;
+        }
+        let (out, place) = (&mut run.value, &mut run.error);
+        if !flatten_at(alloc, &run.global.cells, out, place, operand) {
+            return false;
+        }
+        let called = self.operate_on_one(alloc, run, table, call, token, pos);
+        self.run_out(alloc, run, table, called, true, pos)
     }
 
     /// A call of a keyword, or of a function by its name. How it ended stands in the run.
@@ -254,7 +341,7 @@ impl<'e, H: Host> Evaluator<'e, H> {
                     Ok(pointer) => pointer,
                     Err(error) => return stop(&mut run.error, error),
                 };
-                match function_linked(&pointer, rest.len(), run.global.lib.as_slice()) {
+                match linked_function(&*run, &pointer, rest) {
                     Ok(Some(function)) => {
                         let (name, curried, _) = parts_of(pointer);
                         drop(name);
@@ -469,6 +556,7 @@ impl<'e, H: Host> Evaluator<'e, H> {
 
     /// The value of an argument. A literal is charged here, anything else as an expression. How it ended stands in
     /// the run.
+    #[inline(always)]
     #[cycle(eval)]
     pub fn run_arg<T: NativeTable<H>>(
         &self,

@@ -134,6 +134,31 @@ impl<'e, H: Host> Evaluator<'e, H> {
         }
     }
 
+    /// A chain that is read. How it ended stands in the run.
+    #[inline(never)]
+    #[cycle(eval)]
+    pub(crate) fn read_chain<T: NativeTable<H>>(
+        &self,
+        alloc: Global,
+        run: &mut Context<H>,
+        table: &mut T,
+        root: &Expr,
+        chain: &Expr,
+    ) -> bool
+        requires root { IsTrue (resolves_expr root.now (names run.old)) }
+        requires behind { IsTrue (behind_resolves (out-Expr chain.now) (names run.old)) }
+        requires walks { MayWalk false (out-Expr chain.now) }
+        requires starts { StartsFrom false (out-Expr root.now) }
+        ensures counts { IsTrue result → run.old.global.num_operations ≤ run.new.global.num_operations }
+        ensures names { IsTrue result → names run.new ≡ names run.old }
+        ensures runs { Runs (under H.name_of self.now T.natives)
+            (OpenChain (chain_on root.now (out-Expr chain.now) None))
+            (state_in (T.state table.old) run.old)
+            (came result run.new.value run.new.error) (state_in (T.state table.new) run.new) }
+    {
+        self.run_chain(alloc, run, table, root, chain, None)
+    }
+
     /// The values that the links of a chain ask for go behind those that are there, from left to right and
     /// flattened. What stands behind each operator is charged first. Whether it went well; an error stands in the run.
     #[cycle(eval)]
@@ -234,14 +259,13 @@ impl<'e, H: Host> Evaluator<'e, H> {
         op: OpAssignment,
         lhs: &Expr,
         rhs: &Expr,
-        restoring: bool,
     ) -> bool
         requires chain { is_some (first_in (out-Expr lhs.now)) ≡ true }
         requires resolves_target { IsTrue (target_resolves (tests_of lhs.now) (names run.old)) }
         requires resolves { IsTrue (resolves_expr rhs.now (names run.old)) }
         ensures counts { IsTrue result → run.old.global.num_operations ≤ run.new.global.num_operations }
         ensures names { IsTrue result → names run.new ≡ names run.old }
-        ensures runs { Runs (under H.name_of self.now T.natives)
+        ensures runs { (restoring : _) → Runs (under H.name_of self.now T.natives)
             (OpenStmt (layer.Assignment op lhs.now rhs.now) restoring)
             (state_in (T.state table.old) run.old)
             (came result run.new.value run.new.error) (state_in (T.state table.new) run.new) }

@@ -104,8 +104,8 @@ impl<'e, H: Host> Evaluator<'e, H> {
             Expr::InterpolatedString(parts, pos) => {
                 self.run_interpolated(alloc, run, table, parts.as_slice(), *pos)
             }
-            Expr::Dot(root, ..) => self.run_chain(alloc, run, table, root.get(), expr, None),
-            Expr::Index(root, ..) => self.run_chain(alloc, run, table, root.get(), expr, None),
+            Expr::Dot(root, ..) => self.read_chain(alloc, run, table, root.get(), expr),
+            Expr::Index(root, ..) => self.read_chain(alloc, run, table, root.get(), expr),
             _ => read_expr(
                 alloc,
                 &run.global,
@@ -120,6 +120,7 @@ impl<'e, H: Host> Evaluator<'e, H> {
 
     /// Whether a condition holds. Under fast operators one that compares operands which stand is answered
     /// in place. None where it stopped the run, whose error stands there.
+    #[inline(always)]
     #[cycle(eval)]
     pub(crate) fn run_condition<T: NativeTable<H>>(
         &self,

@@ -3,7 +3,6 @@
 
 ghost use Rattle.std.specs.Prelude.{◌≡◌, ◌≤◌, [], None, IsTrue, false, length, map};
 ghost use Rattle.rhai_tree.specs.Frame.{all_resolve_exprs, tests_of};
-ghost use Rattle.rhai_state.specs.Scope.{entries_of};
 ghost use Rattle.rhai_machine.specs.language.Arguments.{arguments_core};
 ghost use Rattle.rhai_machine.specs.language.Calls.{plainly};
 ghost use Rattle.rhai_machine.specs.language.Frames.{ToCall};
@@ -15,21 +14,21 @@ ghost use Rattle.rhai_cycle.specs.States.{names, state_in, under};
 use crate::evaluator::Evaluator;
 use rhai_bodies::callers::definition_of;
 use rhai_bodies::opening::statements_of;
-use rhai_context::{Context, keep_scope, lend_scope};
+use rhai_context::{Context, keep_variables, lend_variables};
 use rhai_plain::calls::{ends_before, enter_plain, leave_plain, stops_by_race};
 use rhai_plain::parameters::push_parameter;
-use rhai_state::scope::Scope;
+use rhai_state::scope::ScopeEntry;
 use rhai_state::table::NativeTable;
-use rhai_tree::Shared;
 use rhai_tree::checked::CheckedFn;
 use rhai_tree::expr::{Expr, FnCallExpr};
 use rhai_tree::function::ScriptFuncDef;
 use rhai_tree::position::Position;
+use rhai_tree::{Items, Shared};
 use rhai_values::base::value::Host;
 use std::alloc::Global;
 
 impl<'e, H: Host> Evaluator<'e, H> {
-    /// A call whose function is known before its arguments are evaluated. Its scope keeps its room for another call.
+    /// A call whose function is known before its arguments are evaluated. Its variables keep their room for another call.
     /// How it ended stands in the run.
     #[inline(never)]
     #[cycle(eval)]
@@ -53,47 +52,54 @@ impl<'e, H: Host> Evaluator<'e, H> {
             (came result run.new.value run.new.error) (state_in (T.state table.new) run.new) }
     {
         let def = definition_of(&function);
-        let mut scope = lend_scope(alloc, run);
+        let mut variables = lend_variables(alloc, run);
         let args = call.args.as_slice();
-        if !self.run_parameters(alloc, run, table, &mut scope, def, args) {
-            keep_scope(run, scope);
+        if !self.run_parameters(alloc, run, table, &mut variables, def, args) {
+            keep_variables(run, variables);
             return false;
         }
         let cells = &run.global.cells;
-        if stops_by_race(alloc, cells, &mut run.error, &scope, call, pos) {
-            keep_scope(run, scope);
+        if stops_by_race(
+            alloc,
+            cells,
+            &mut run.error,
+            variables.as_slice(),
+            call,
+            pos,
+        ) {
+            keep_variables(run, variables);
             return false;
         }
         let (global, out, place) = (&mut run.global, &mut run.value, &mut run.error);
         if let Some(done) = ends_before(self.limits, global, out, place, def, pos) {
-            keep_scope(run, scope);
+            keep_variables(run, variables);
             return done;
         }
-        let entered = enter_plain(run, scope);
+        let entered = enter_plain(run, variables);
         let statements = statements_of(def);
         let done = self.run_stmt_block(alloc, run, table, statements, true);
         leave_plain(alloc, run, def, entered, done, pos)
     }
 
     /// The values of arguments become a function's variables, from left to right and flattened. Whether it went well;
-    /// an error stands in the run. Asked: the scope is empty, and there are as many arguments as parameters.
+    /// an error stands in the run. Asked: there is none yet, and there are as many arguments as parameters.
     #[cycle(eval)]
     fn run_parameters<T: NativeTable<H>>(
         &self,
         alloc: Global,
         run: &mut Context<H>,
         table: &mut T,
-        scope: &mut Scope<H>,
+        variables: &mut Items<ScopeEntry<H>>,
         def: &ScriptFuncDef,
         args: &[Expr],
     ) -> bool
         requires resolves { IsTrue (all_resolve_exprs (map tests_of args.now) (names run.old)) }
-        requires empty { entries_of scope.old ≡ [] }
+        requires empty { variables.old ≡ [] }
         requires takes { length def.now.params ≡ length args.now }
         ensures counts { IsTrue result → run.old.global.num_operations ≤ run.new.global.num_operations }
         ensures names { IsTrue result → names run.new ≡ names run.old }
         ensures fills { Fills (under H.name_of self.now T.natives) def.now.params args.now result
-            (entries_of scope.new) (state_in (T.state table.old) run.old) run.new.error
+            variables.new (state_in (T.state table.old) run.old) run.new.error
             (state_in (T.state table.new) run.new) }
     {
         'each_arg: for arg in args {
@@ -102,7 +108,7 @@ impl<'e, H: Host> Evaluator<'e, H> {
             }
             let cells = &run.global.cells;
             let (out, place) = (&mut run.value, &mut run.error);
-            if !push_parameter(alloc, cells, out, place, scope, def, arg) {
+            if !push_parameter(alloc, cells, out, place, variables, def, arg) {
                 return false;
             }
         }

@@ -144,7 +144,8 @@ fn lend_this<H: Host>(
     place: &mut Option<EvalAltResult<H>>,
     pos: Position,
 ) -> Option<Dynamic<H>>
-    ensures lent { IfSome result (λ v. (this.old ≡ Some v) × (is_anothers (cells_of cells.now) v.value ≡ false)) }
+    ensures lent { IfSome result (λ v.
+        (this.old ≡ Some v) × (is_anothers (cells_of cells.now) v.value ≡ false)) }
     ensures kept { result ≡ None → this.new ≡ this.old }
     ensures refused { result ≡ None → RefusesThis (cells_of cells.now) pos this.old (error_in place.new) }
 {

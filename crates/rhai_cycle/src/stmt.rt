@@ -1,10 +1,10 @@
 //! Statements. Ports upstream's `eval/stmt.rs`; the contracts speak of the machine's runs.
 
 ghost use Rattle.std.specs.Prelude.{◌≡◌, ◌<◌, ◌≤◌, ◌++◌, ◌∷◌, [], IfErr, IfSome, IsTrue, true, false};
-ghost use Rattle.std.specs.Prelude.{None, map};
+ghost use Rattle.std.specs.Prelude.{None, length, map};
 ghost use Rattle.rhai_tree.specs.Forms.{is_exported};
 ghost use Rattle.rhai_tree.specs.Frame.{tests_of, target_resolves, resolves_expr, resolves_stmt};
-ghost use Rattle.rhai_tree.specs.Frame.{all_resolve};
+ghost use Rattle.rhai_tree.specs.Frame.{all_resolve, resolves_block};
 ghost use Rattle.rhai_tree.specs.declared.expr.Expr.{out-Expr};
 ghost use Rattle.rhai_tree.specs.declared.expr.Expr.TheOpen as layer;
 ghost use Rattle.rhai_state.specs.Errors.{is_out_of_memory};
@@ -16,18 +16,19 @@ ghost use Rattle.rhai_machine.specs.language.Setting.{rules_of};
 ghost use Rattle.rhai_steps.specs.States.{state_of};
 ghost use Rattle.rhai_assign.specs.Keeps.{Keeps};
 ghost use Rattle.rhai_context.specs.Ends.{came};
-ghost use Rattle.rhai_cycle.specs.Memory.{asks_stmt, may_ask};
+ghost use Rattle.rhai_cycle.specs.Memory.{asks_if, asks_stmt, may_ask};
 ghost use Rattle.rhai_cycle.specs.States.{names, state_in, under};
 
 use crate::evaluator::Evaluator;
 use rhai_assign::declaring::{declare, is_declarable};
 use rhai_assign::in_place::assign_in_place;
 use rhai_assign::left::{assign_left, assign_left_to_this};
-use rhai_choices::SwitchParts;
+use rhai_assign::lists::open_list;
 use rhai_context::Context;
-use rhai_context::ends::{put_unit, stop};
+use rhai_context::ends::{leave_unit, put_unit, stop};
 use rhai_context::outcomes::{charge_stmt, flatten_at};
 use rhai_items::assign_item;
+use rhai_sharing::exporting::export_variable;
 use rhai_sharing::share_variables;
 use rhai_state::error::EvalAltResult;
 use rhai_state::limits::Limits;
@@ -35,12 +36,11 @@ use rhai_state::scope::Scope;
 use rhai_state::state::GlobalRuntimeState;
 use rhai_state::table::NativeTable;
 use rhai_steps::loops::chosen;
-use rhai_steps::variables::{enter_list, leave_list};
-use rhai_tree::expr::{Expr, Ident, OpAssignment, Stmt};
+use rhai_steps::variables::leave_list;
+use rhai_tree::expr::{Expr, Ident, OpAssignment, Stmt, StmtBlock};
 use rhai_tree::flags::ASTFlags;
 use rhai_tree::position::Position;
 use rhai_values::base::value::{Dynamic, Host};
-use rhai_walks::parts::ForParts;
 use std::alloc::Global;
 
 /// An assignment that is done in place: under fast operators, one by an operator to a variable, where its
@@ -58,7 +58,7 @@ fn assign_at_once<H: Host, T: NativeTable<H>>(
     scope: &mut Scope<H>,
     out: &mut Dynamic<H>,
     place: &mut Option<EvalAltResult<H>>,
-    op: OpAssignment,
+    op: &OpAssignment,
     lhs: &Expr,
     rhs: &Expr,
     is_fast: bool,
@@ -70,7 +70,7 @@ fn assign_at_once<H: Host, T: NativeTable<H>>(
     ensures keeps { Keeps global.old global.new scope.old scope.new }
     ensures runs { (offer : _) (held : _) (restoring : _) → offer.fast_operators ≡ is_fast →
         IfSome result (λ done. Runs (rules_of limits.now H.name_of offer T.natives)
-        (OpenStmt (layer.Assignment op lhs.now rhs.now) restoring)
+        (OpenStmt (layer.Assignment op.now lhs.now rhs.now) restoring)
         (state_of (T.state table.now) global.old scope.old held)
         (came done out.new place.new) (state_of (T.state table.now) global.new scope.new held)) }
 {
@@ -113,10 +113,7 @@ impl<'e, H: Host> Evaluator<'e, H> {
             return false;
         }
         match stmt {
-            Stmt::Noop(_) => {
-                put_unit(&mut run.value);
-                true
-            }
+            Stmt::Noop(_) => leave_unit(&mut run.value),
             Stmt::Expr(expr) => {
                 if !self.run_expr(alloc, run, table, expr) {
                     return false;
@@ -134,17 +131,9 @@ impl<'e, H: Host> Evaluator<'e, H> {
                 self.run_stmt_block(alloc, run, table, block.statements.as_slice(), true)
             }
             Stmt::Assignment(op, lhs, rhs) => {
-                self.run_assignment(alloc, run, table, *op, lhs, rhs, restoring)
+                self.run_assignment(alloc, run, table, op, lhs, rhs)
             }
-            Stmt::If(test, body, branch, _) => {
-                match self.run_condition(alloc, run, table, test) {
-                    Some(holds) => {
-                        let statements = chosen(holds, body, branch);
-                        self.run_stmt_block(alloc, run, table, statements, true)
-                    }
-                    None => false,
-                }
-            }
+            Stmt::If(test, body, branch, _) => self.run_if(alloc, run, table, test, body, branch),
             Stmt::Var(ident, value, None, options, pos) => {
                 self.run_var(alloc, run, table, ident, value, *options, *pos, restoring)
             }
@@ -165,31 +154,23 @@ impl<'e, H: Host> Evaluator<'e, H> {
                 ranges,
                 def_case,
                 ..
-            } => {
-                let parts = SwitchParts {
-                    value: expr,
-                    results: expressions.as_slice(),
-                    cases: cases.as_slice(),
-                    ranges: ranges.as_slice(),
-                    default: *def_case,
-                };
-                self.run_switch(alloc, run, table, parts)
-            }
+            } => self.run_switch(
+                alloc,
+                run,
+                table,
+                expr,
+                expressions.as_slice(),
+                cases.as_slice(),
+                ranges.as_slice(),
+                *def_case,
+            ),
             Stmt::For {
                 name,
                 counter,
                 expr,
                 body,
                 ..
-            } => {
-                let parts = ForParts {
-                    variable: name,
-                    counter,
-                    items: expr,
-                    body,
-                };
-                self.run_for(alloc, run, table, parts)
-            }
+            } => self.run_for(alloc, run, table, name, counter, expr, body),
             Stmt::TryCatch(body, variable, branch, _) => {
                 self.run_try(alloc, run, table, body, variable, branch)
             }
@@ -205,29 +186,71 @@ impl<'e, H: Host> Evaluator<'e, H> {
                     names,
                 )
             }
+            Stmt::Export(ident, alias, _) => export_variable(
+                self.limits,
+                &run.global,
+                &*table,
+                &mut run.scope,
+                &mut run.value,
+                &mut run.error,
+                ident,
+                alias,
+            ),
             _ => unreachable!(),
+        }
+    }
+
+    /// A condition, and then the list that it chooses. How it ended stands in the run.
+    #[inline(never)]
+    #[cycle(eval)]
+    fn run_if<T: NativeTable<H>>(
+        &self,
+        alloc: Global,
+        run: &mut Context<H>,
+        table: &mut T,
+        test: &Expr,
+        body: &StmtBlock,
+        branch: &StmtBlock,
+    ) -> bool
+        requires resolves_test { IsTrue (resolves_expr test.now (names run.old)) }
+        requires resolves_body { IsTrue (resolves_block body.now (names run.old)) }
+        requires resolves_branch { IsTrue (resolves_block branch.now (names run.old)) }
+        ensures counts { IsTrue result → run.old.global.num_operations ≤ run.new.global.num_operations }
+        ensures names { IsTrue result → names run.new ≡ names run.old }
+        ensures runs { (pos : _) (restoring : _) → Runs (under H.name_of self.now T.natives)
+            (OpenStmt (layer.If test.now body.now branch.now pos) restoring) (state_in (T.state table.old) run.old)
+            (came result run.new.value run.new.error) (state_in (T.state table.new) run.new) }
+        ensures memory { IfErr (came result run.new.value run.new.error) (λ error.
+            is_out_of_memory error ≡ true → IsTrue (asks_if test.now body.now branch.now)) }
+    {
+        match self.run_condition(alloc, run, table, test) {
+            Some(holds) => {
+                let statements = chosen(holds, body, branch);
+                self.run_stmt_block(alloc, run, table, statements, true)
+            }
+            None => false,
         }
     }
 
     /// An assignment to a variable, to `this`, or to what a chain leads to. Where it is not done at once, its
     /// value is evaluated first. How it ended stands in the run.
+    #[inline(never)]
     #[cycle(eval)]
     fn run_assignment<T: NativeTable<H>>(
         &self,
         alloc: Global,
         run: &mut Context<H>,
         table: &mut T,
-        op: OpAssignment,
+        op: &OpAssignment,
         lhs: &Expr,
         rhs: &Expr,
-        restoring: bool,
     ) -> bool
         requires resolves_target { IsTrue (target_resolves (tests_of lhs.now) (names run.old)) }
         requires resolves { IsTrue (resolves_expr rhs.now (names run.old)) }
         ensures counts { IsTrue result → run.old.global.num_operations ≤ run.new.global.num_operations }
         ensures names { IsTrue result → names run.new ≡ names run.old }
-        ensures runs { Runs (under H.name_of self.now T.natives)
-            (OpenStmt (layer.Assignment op lhs.now rhs.now) restoring) (state_in (T.state table.old) run.old)
+        ensures runs { (restoring : _) → Runs (under H.name_of self.now T.natives)
+            (OpenStmt (layer.Assignment op.now lhs.now rhs.now) restoring) (state_in (T.state table.old) run.old)
             (came result run.new.value run.new.error) (state_in (T.state table.new) run.new) }
     {
         let at_once = assign_at_once(
@@ -246,95 +269,84 @@ impl<'e, H: Host> Evaluator<'e, H> {
         if let Some(done) = at_once {
             return done;
         }
-        if let Expr::ThisPtr(pos) = lhs {
-            return self.assign_to_this(alloc, run, table, op, lhs, *pos, rhs, restoring);
-        }
-        let Expr::Variable {
-            offset,
-            name,
-            pos,
-            ..
-        } = lhs
-        else {
-            return self.assign_chain(alloc, run, table, op, lhs, rhs, restoring);
-        };
-        if !self.run_expr(alloc, run, table, rhs) {
-            return false;
-        }
-        if !flatten_at(
-            alloc,
-            &run.global.cells,
-            &mut run.value,
-            &mut run.error,
-            rhs,
-        ) {
-            return false;
-        }
-        assign_left(
-            self.limits,
-            alloc,
-            &mut run.global,
-            table,
-            &mut run.scope,
-            &mut run.value,
-            &mut run.error,
-            *offset,
-            name,
-            *pos,
-            op,
-            self.fast_operators,
-        )
+        self.assign_evaluated(alloc, run, table, *op, lhs, rhs)
     }
 
-    /// An assignment to `this`, which has to be bound before its value is evaluated. How it ended stands in the
-    /// run.
+    /// An assignment whose value is evaluated: `this` has to be bound before. How it ended stands in the run.
+    #[inline(never)]
     #[cycle(eval)]
-    fn assign_to_this<T: NativeTable<H>>(
+    fn assign_evaluated<T: NativeTable<H>>(
         &self,
         alloc: Global,
         run: &mut Context<H>,
         table: &mut T,
         op: OpAssignment,
         lhs: &Expr,
-        pos: Position,
         rhs: &Expr,
-        restoring: bool,
     ) -> bool
-        requires this { out-Expr lhs.now ≡ layer.ThisPtr pos }
+        requires resolves_target { IsTrue (target_resolves (tests_of lhs.now) (names run.old)) }
         requires resolves { IsTrue (resolves_expr rhs.now (names run.old)) }
         ensures counts { IsTrue result → run.old.global.num_operations ≤ run.new.global.num_operations }
         ensures names { IsTrue result → names run.new ≡ names run.old }
-        ensures runs { Runs (under H.name_of self.now T.natives)
+        ensures runs { (restoring : _) → Runs (under H.name_of self.now T.natives)
             (OpenStmt (layer.Assignment op lhs.now rhs.now) restoring) (state_in (T.state table.old) run.old)
             (came result run.new.value run.new.error) (state_in (T.state table.new) run.new) }
     {
-        if run.this.is_none() {
-            return stop(&mut run.error, EvalAltResult::ErrorUnboundThis(pos));
+        match lhs {
+            Expr::Variable {
+                offset,
+                name,
+                pos,
+                ..
+            } => {
+                if !self.run_expr(alloc, run, table, rhs) {
+                    return false;
+                }
+                let (cells, out, place) = (&run.global.cells, &mut run.value, &mut run.error);
+                if !flatten_at(alloc, cells, out, place, rhs) {
+                    return false;
+                }
+                assign_left(
+                    self.limits,
+                    alloc,
+                    &mut run.global,
+                    table,
+                    &mut run.scope,
+                    &mut run.value,
+                    &mut run.error,
+                    *offset,
+                    name,
+                    *pos,
+                    op,
+                    self.fast_operators,
+                )
+            }
+            Expr::ThisPtr(pos) => {
+                if run.this.is_none() {
+                    return stop(&mut run.error, EvalAltResult::ErrorUnboundThis(*pos));
+                }
+                if !self.run_expr(alloc, run, table, rhs) {
+                    return false;
+                }
+                let (cells, out, place) = (&run.global.cells, &mut run.value, &mut run.error);
+                if !flatten_at(alloc, cells, out, place, rhs) {
+                    return false;
+                }
+                assign_left_to_this(
+                    self.limits,
+                    alloc,
+                    &mut run.global,
+                    table,
+                    &mut run.this,
+                    &mut run.value,
+                    &mut run.error,
+                    *pos,
+                    op,
+                    self.fast_operators,
+                )
+            }
+            _ => self.assign_chain(alloc, run, table, op, lhs, rhs),
         }
-        if !self.run_expr(alloc, run, table, rhs) {
-            return false;
-        }
-        if !flatten_at(
-            alloc,
-            &run.global.cells,
-            &mut run.value,
-            &mut run.error,
-            rhs,
-        ) {
-            return false;
-        }
-        assign_left_to_this(
-            self.limits,
-            alloc,
-            &mut run.global,
-            table,
-            &mut run.this,
-            &mut run.value,
-            &mut run.error,
-            pos,
-            op,
-            self.fast_operators,
-        )
     }
 
     /// A new variable. How it ended stands in the run.
@@ -421,13 +433,23 @@ impl<'e, H: Host> Evaluator<'e, H> {
         if !restoring {
             return self.run_statements(alloc, run, table, statements, restoring);
         }
-        let saved = enter_list(&mut run.global, &run.scope);
+        let Some(saved) = open_list(
+            self.limits,
+            &mut run.global,
+            &*table,
+            &mut run.scope,
+            statements,
+            self.fast_operators,
+        ) else {
+            put_unit(&mut run.value);
+            return true;
+        };
         let done = self.run_statements(alloc, run, table, statements, restoring);
         leave_list(&mut run.global, &mut run.scope, saved);
         done
     }
 
-    /// What statements do, one after the other. How they ended stands in the run.
+    /// What statements do, one after the other. How they ended stands in the run. Asked: there is one.
     #[cycle(eval)]
     fn run_statements<T: NativeTable<H>>(
         &self,
@@ -437,6 +459,7 @@ impl<'e, H: Host> Evaluator<'e, H> {
         statements: &[Stmt],
         restoring: bool,
     ) -> bool
+        requires some { 1 ≤ length statements.now }
         requires resolves { IsTrue (all_resolve (map resolves_stmt statements.now) (names run.old)).0 }
         ensures counts { IsTrue result → run.old.global.num_operations ≤ run.new.global.num_operations }
         ensures runs { Runs (under H.name_of self.now T.natives) (Run statements.now restoring unit)
@@ -445,7 +468,6 @@ impl<'e, H: Host> Evaluator<'e, H> {
         ensures memory { IfErr (came result run.new.value run.new.error) (λ error.
             is_out_of_memory error ≡ true → IsTrue (may_ask statements.now)) }
     {
-        put_unit(&mut run.value);
         'each_stmt: for stmt in statements {
             if !self.run_stmt(alloc, run, table, stmt, restoring) {
                 return false;

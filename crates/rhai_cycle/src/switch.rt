@@ -9,11 +9,12 @@ ghost use Rattle.rhai_context.specs.Ends.{came};
 ghost use Rattle.rhai_cycle.specs.States.{names, state_in, under};
 
 use crate::evaluator::Evaluator;
-use rhai_choices::{SwitchParts, candidates_for, default_result, written_truth};
+use rhai_choices::{candidates_for, default_result, written_truth};
 use rhai_context::Context;
 use rhai_context::ends::put_unit;
 use rhai_context::outcomes::flatten_at;
 use rhai_state::table::NativeTable;
+use rhai_tree::expr::{ConditionalExpr, Expr, RangeCase, SwitchCase};
 use rhai_values::base::value::Host;
 use std::alloc::Global;
 
@@ -27,19 +28,23 @@ impl<'e, H: Host> Evaluator<'e, H> {
         alloc: Global,
         run: &mut Context<H>,
         table: &mut T,
-        parts: SwitchParts<'_>,
+        value: &Expr,
+        results: &[ConditionalExpr],
+        cases: &[SwitchCase],
+        ranges: &[RangeCase],
+        default: Option<usize>,
     ) -> bool
-        requires resolves_value { IsTrue (resolves_expr parts.value.now (names run.old)) }
+        requires resolves_value { IsTrue (resolves_expr value.now (names run.old)) }
         requires resolves_results { IsTrue (conditionals_resolve
-            (map resolves_conditional parts.results.now) (names run.old)) }
+            (map resolves_conditional results.now) (names run.old)) }
         ensures counts { IsTrue result → run.old.global.num_operations ≤ run.new.global.num_operations }
         ensures names { IsTrue result → names run.new ≡ names run.old }
         ensures runs { (pos : _) (restoring : _) → Runs (under H.name_of self.now T.natives)
-            (OpenStmt (layer.Switch parts.entry.value.now parts.entry.results.now parts.entry.cases.now
-            parts.entry.ranges.now parts.entry.default pos) restoring) (state_in (T.state table.old) run.old)
+            (OpenStmt (layer.Switch value.now results.now cases.now ranges.now default pos) restoring)
+            (state_in (T.state table.old) run.old)
             (came result run.new.value run.new.error) (state_in (T.state table.new) run.new) }
     {
-        if !self.run_expr(alloc, run, table, parts.value) {
+        if !self.run_expr(alloc, run, table, value) {
             return false;
         }
         if !flatten_at(
@@ -47,13 +52,13 @@ impl<'e, H: Host> Evaluator<'e, H> {
             &run.global.cells,
             &mut run.value,
             &mut run.error,
-            parts.value,
+            value,
         ) {
             return false;
         }
-        let mut left = candidates_for(&run.value, parts.cases, parts.ranges);
+        let mut left = candidates_for(&run.value, cases, ranges);
         put_unit(&mut run.value);
-        'each_candidate: while let Some(candidate) = left.next(parts.results) {
+        'each_candidate: while let Some(candidate) = left.next(results) {
             let holds = match written_truth(&candidate.condition) {
                 Some(holds) => holds,
                 None => match self.run_condition(alloc, run, table, &candidate.condition) {
@@ -65,7 +70,7 @@ impl<'e, H: Host> Evaluator<'e, H> {
                 return self.run_expr(alloc, run, table, &candidate.expr);
             }
         }
-        match default_result(parts.results, parts.default) {
+        match default_result(results, default) {
             Some(result) => self.run_expr(alloc, run, table, result),
             None => {
                 put_unit(&mut run.value);

@@ -18,6 +18,7 @@ use rhai_context::ends::put_unit;
 use rhai_context::outcomes::{charge, flatten_at, turn_end};
 use rhai_state::table::NativeTable;
 use rhai_steps::values::let_go;
+use rhai_tree::expr::{Expr, Ident, StmtBlock};
 use rhai_values::base::value::Host;
 use rhai_walks::entering::enter_turn;
 use rhai_walks::parts::{ForParts, has_room, start_turns};
@@ -41,22 +42,31 @@ impl<'e, H: Host> Evaluator<'e, H> {
         alloc: Global,
         run: &mut Context<H>,
         table: &mut T,
-        parts: ForParts<'_>,
+        variable: &Ident,
+        counter: &Option<Ident>,
+        items: &Expr,
+        body: &StmtBlock,
     ) -> bool
-        requires resolves_items { IsTrue (resolves_expr parts.items.now (names run.old)) }
-        requires resolves_body { IsTrue (resolves_block parts.body.now
-            (turn_names parts.variable.now parts.counter.now (names run.old))) }
+        requires resolves_items { IsTrue (resolves_expr items.now (names run.old)) }
+        requires resolves_body { IsTrue (resolves_block body.now
+            (turn_names variable.now counter.now (names run.old))) }
         ensures counts { IsTrue result → run.old.global.num_operations ≤ run.new.global.num_operations }
         ensures names { IsTrue result → names run.new ≡ names run.old }
         ensures runs { (pos : _) (restoring : _) → Runs (under H.name_of self.now T.natives)
-            (OpenStmt (layer.For parts.entry.variable.now parts.entry.counter.now parts.entry.items.now
-            parts.entry.body.now pos) restoring) (state_in (T.state table.old) run.old)
+            (OpenStmt (layer.For variable.now counter.now items.now body.now pos) restoring)
+            (state_in (T.state table.old) run.old)
             (came result run.new.value run.new.error) (state_in (T.state table.new) run.new) }
     {
+        let parts = ForParts {
+            variable,
+            counter,
+            items,
+            body,
+        };
         if !has_room(self.limits, &run.scope, &mut run.error, parts) {
             return false;
         }
-        if !self.run_expr(alloc, run, table, parts.items) {
+        if !self.run_expr(alloc, run, table, items) {
             return false;
         }
         if !flatten_at(
@@ -64,7 +74,7 @@ impl<'e, H: Host> Evaluator<'e, H> {
             &run.global.cells,
             &mut run.value,
             &mut run.error,
-            parts.items,
+            items,
         ) {
             return false;
         }

@@ -1,5 +1,6 @@
 -- What a run of the code is to the machine: the engine and the table as its rules.
 use Rattle.std.specs.Prelude.{ℕ, ◌-◌, ◌^◌, List}
+use Rattle.rhai_state.specs.Limits.{limit_of}
 use Rattle.rhai_state.specs.declared.limits.Limits.{Limits}
 use Rattle.rhai_state.specs.Native.{Natives}
 use Rattle.rhai_machine.specs.language.Setting.{Offer, Rules, rules_of}
@@ -8,7 +9,7 @@ use Rattle.rhai_eval.specs.declared.engine.Engine.{Engine}
 -- no limit of operations, of variables, of modules or of data, and calls up to 64 deep
 abbrev pub unlimited : Limits
 unlimited = record {
-  max_operations = 0;
+  max_operations = 2 ^ 64 - 1;
   max_variables = 2 ^ 64 - 1;
   max_modules = 2 ^ 64 - 1;
   max_call_levels = 64;
@@ -18,10 +19,10 @@ unlimited = record {
 }
 
 module _ {H : Type 0} where
-  -- what a run reads of an engine's limits
+  -- what a run reads of an engine's limits, where no limit of operations is the greatest count
   abbrev pub limits_of : Engine H → Limits
   limits_of engine = record {
-    max_operations = engine.max_operations;
+    max_operations = limit_of engine.max_operations;
     max_variables = engine.max_variables;
     max_modules = engine.max_modules;
     max_call_levels = engine.max_call_levels;

@@ -8,7 +8,7 @@ ghost use Rattle.rhai_eval.specs.States.{limits_of, offer_of, unlimited};
 
 use rhai_cycle::evaluator::Evaluator;
 use rhai_state::error::EvalAltResult;
-use rhai_state::limits::Limits;
+use rhai_state::limits::{Limits, operation_limit};
 use rhai_state::state::GlobalRuntimeState;
 use rhai_steps::charges;
 use rhai_tree::position::Position;
@@ -50,6 +50,7 @@ impl<H: Host> Engine<H> {
     /// without modules.
     pub fn new(alloc: Global) -> Engine<H>
         ensures limits { limits_of result ≡ unlimited }
+        ensures max_operations { result.max_operations ≡ 0 }
         ensures fast_operators { result.fast_operators ≡ true }
         ensures allow_shadowing { result.allow_shadowing ≡ true }
         ensures fail_on_invalid_map_property { result.fail_on_invalid_map_property ≡ false }
@@ -81,7 +82,7 @@ impl<H: Host> Engine<H> {
         ensures { result ≡ limits_of self.now }
     {
         Limits {
-            max_operations: self.max_operations,
+            max_operations: operation_limit(self.max_operations),
             max_variables: self.max_variables,
             max_modules: self.max_modules,
             max_call_levels: self.max_call_levels,

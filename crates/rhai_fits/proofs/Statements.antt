@@ -1,5 +1,5 @@
 -- The rules of expressions, of statements and of their lists lead to cores that fit.
-use Rattle.std.proofs.Common.{ℕ, List, [], ◌∷◌, ◌++◌, length, map}
+use Rattle.std.proofs.Common.{◌≡◌, ℕ, zero, suc, List, [], ◌∷◌, ◌++◌, length, map, refl, slice_get}
 use Rattle.std.specs.Prelude.{Bool, true, false, not, ◌&&◌, nat_le, Option, Some, None, Result, Ok, Err, is_some}
 use Rattle.rhai_tree.specs.declared.expr.Expr.TheOpen as layer
 use Rattle.rhai_tree.specs.declared.expr.FnCallExpr.{FnCallExpr}
@@ -13,7 +13,8 @@ use Rattle.rhai_values.specs.declared.base.value.Union.TheVariants as value
 use Rattle.rhai_values.specs.DataSize.{data_sizes}
 use Rattle.rhai_state.specs.declared.error.EvalAltResult.TheVariants as error
 use Rattle.rhai_state.specs.Reach.{Reached}
-use Rattle.rhai_state.specs.Scope.{index_of, new_entry}
+use Rattle.rhai_state.specs.declared.scope.ScopeEntry.{ScopeEntry}
+use Rattle.rhai_state.specs.Scope.{aliased, index_of, new_entry}
 use Rattle.rhai_machine.specs.language.Setting.{Setting}
 use Rattle.rhai_machine.specs.language.State.{Local}
 use Rattle.rhai_machine.specs.language.Values.{copied, unit_value}
@@ -26,8 +27,9 @@ use Rattle.rhai_machine.specs.language.Expressions.{coalesce_seen, coalesce_next
 use Rattle.rhai_machine.specs.language.Loops.{goes_on, while_move, while_core, if_goes_on, do_control, caught}
 use Rattle.rhai_machine.specs.language.Statements.{has_option, mode_of, loop_of, enter_core, run_core, chosen_core, enters, constant_core}
 use Rattle.rhai_machine.specs.language.Statements.{added, defined_core, break_core, return_move, define_core, stmt_move}
+use Rattle.rhai_machine.specs.language.Exports.{alias_or, export_at, exported}
 use Rattle.rhai_machine.specs.language.Walks.{has_no_room}
-use Rattle.rhai_fits.specs.Contents.{of_values}
+use Rattle.rhai_fits.specs.Contents.{of_scope, of_values}
 use Rattle.rhai_fits.proofs.Values.{Fit, fit_unit, fit_bool, fit_int, fit_char, fit_text, fit_array, fit_map}
 use Rattle.rhai_fits.proofs.Copies.{fit_copy, fit_mode}
 use Rattle.rhai_fits.proofs.Literals.{FitsMaybe, fit_literal}
@@ -299,6 +301,36 @@ module _ {H : Type 0} (own : H → List Reached) (P : Reached → Type 0) (least
   return_good false None pos k l b = fail own P least _ k l (fit_error own P _ (fit_unit own P)) b
   return_good false (Some value) pos k l b = to own P least _ _ l tt tt (push own P least _ k l tt tt b.back b)
 
+  -- ---- exported variables
+
+  aliased_fits : (es : List (ScopeEntry H)) (at : ℕ) (there : Option (ScopeEntry H)) (alias : List ℕ) → slice_get es at ≡ there →
+      AllFit own P least (of_scope es) → AllFit own P least (of_scope (aliased es at there alias))
+  aliased_fits es at None alias is h = h
+  aliased_fits [] at (Some entry) alias is h = cc
+  aliased_fits (e ∷ es) zero (Some entry) alias is h = let same : e ≡ entry = cc in (rw (← same) h.0, h.1)
+  aliased_fits (e ∷ es) (suc at) (Some entry) alias is h = (h.0, aliased_fits es at (Some entry) alias is h.1)
+
+  aliased_below : (at : ℕ) (alias : List ℕ) (k : List (Frame H)) (l : Local H) → Below k l → Below k (exported at alias l)
+  aliased_below at alias k l b = record {
+    stack = b.stack;
+    sealed = b.sealed;
+    back = b.back;
+    local = record {
+      scope = aliased_fits l.scope at (slice_get l.scope at) alias refl b.local.scope;
+      this = b.local.this;
+      focus = b.local.focus;
+      cells = b.local.cells;
+      sealed = b.local.sealed;
+      enough = b.local.enough;
+    };
+  }
+
+  export_good : (place : Option ℕ) (ident : Ident) (alias : Option Ident) (k : List (Frame H)) (l : Local H) → Below k l →
+      Good (export_at place ident alias k l)
+  export_good (Some at) ident alias k l b =
+      unit own P least k (exported at (alias_or ident.name alias) l) (aliased_below at (alias_or ident.name alias) k l b)
+  export_good None ident alias k l b = fail own P least _ k l (fit_error own P _ tt) b
+
   module _ (s : Setting H) where
     define_good : (shadows full : Bool) (ident : Ident) (value : Expr) (options : ASTFlags) (restoring : Bool) (pos : Position)
         (k : List (Frame H)) (l : Local H) → Below k l → Good (define_core s shadows full ident value options restoring pos k l)
@@ -327,6 +359,7 @@ module _ {H : Type 0} (own : H → List Reached) (P : Reached → Type 0) (least
     stmt_good (layer.BreakLoop value options pos) restoring k l b = break_good value (has_option 2 options) pos k l b
     stmt_good (layer.TryCatch body variable branch pos) restoring k l b =
         to own P least _ _ l tt tt (push own P least _ k l tt tt b.back b)
+    stmt_good (layer.Export ident alias pos) restoring k l b = export_good (index_of ident.name l.scope) ident alias k l b
     stmt_good (layer.Share variables) restoring k l b = to own P least _ k l tt tt b
     stmt_good (layer.Return value options pos) restoring k l b = return_good (has_option 2 options) value pos k l b
     stmt_good _ restoring k l b = tt

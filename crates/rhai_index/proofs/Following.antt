@@ -7,7 +7,6 @@ use Rattle.rhai_values.specs.declared.base.value.Dynamic.{Dynamic}
 use Rattle.rhai_state.specs.declared.limits.Limits.{Limits}
 use Rattle.rhai_state.specs.declared.state.GlobalRuntimeState.{GlobalRuntimeState}
 use Rattle.rhai_values.specs.Layers.{layer_of}
-use Rattle.rhai_state.specs.Limits.{limit_of}
 use Rattle.rhai_state.specs.Native.{Natives}
 use Rattle.rhai_places.specs.declared.spot.Access.{Access}
 use Rattle.rhai_places.specs.declared.target.Target.{Target}
@@ -37,7 +36,7 @@ module _ {S H T : Type 0} (limits : Limits) (host : H → List ℕ) (natives : N
     (g' : GlobalRuntimeState H) (t' : T) (i' : Dynamic H) (r : Result (Target H) (EvalAltResult H))
     (does : Indexes limits host natives state_of how use_indexers g t x i g' t' i' r) where
   abbrev limit : ℕ
-  limit = limit_of limits.max_operations
+  limit = limits.max_operations
 
   below_limit : (asked : Bool) → asks_indexer use_indexers (layer_of x) ≡ asked → g.num_operations < limit → Counts limit g g'
   below_limit false asked below =

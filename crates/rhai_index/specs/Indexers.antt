@@ -2,7 +2,6 @@
 use Rattle.std.specs.Prelude.{ℕ, ◌+◌, nat_lt, Bool, true, false, not, ◌&&◌, List, [], ◌∷◌, Option, Some, Result, Ok, Err, codes, length}
 use Rattle.rhai_tree.specs.declared.position.Position.{Position}
 use Rattle.rhai_tree.specs.Position.{none}
-use Rattle.rhai_state.specs.Limits.{limit_of}
 use Rattle.rhai_index.specs.Types.{Dynamic, EvalAltResult, GlobalRuntimeState, Limits, Part}
 use Rattle.rhai_state.specs.declared.error.EvalAltResult.TheVariants as error
 use Rattle.rhai_values.specs.declared.base.value.FnPtrKind.TheOpen as layer
@@ -46,7 +45,7 @@ module _ {H : Type 0} where
   -- and it is called where there is room for two charges
   abbrev pub is_called : Limits → GlobalRuntimeState H → (use_indexers : Bool) → UnionLayer H → Bool
   is_called limits global use_indexers object =
-      asks_indexer use_indexers object && nat_lt (global.num_operations + 1) (limit_of limits.max_operations)
+      asks_indexer use_indexers object && nat_lt (global.num_operations + 1) limits.max_operations
 
   -- it gets no constant that is lent to it, unless it is pure
   abbrev pub is_barred : (is_lent is_pure : Bool) → Dynamic H → Bool

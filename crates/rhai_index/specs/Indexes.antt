@@ -6,7 +6,6 @@ use Rattle.rhai_state.specs.declared.error.EvalAltResult.TheVariants as error
 use Rattle.rhai_values.specs.Cells.{cells_of}
 use Rattle.rhai_state.specs.Errors.{is_out_of_memory}
 use Rattle.rhai_values.specs.Layers.{layer_of}
-use Rattle.rhai_state.specs.Limits.{limit_of}
 use Rattle.rhai_state.specs.Native.{Effect, Natives}
 use Rattle.rhai_places.specs.declared.spot.Access.{Access}
 use Rattle.rhai_places.specs.Found.{found as found_by, takes_memory, through, IsFound, IsMissed}
@@ -20,7 +19,7 @@ module _ {S H T : Type 0} (limits : Limits) (host : H → List ℕ) (natives : N
     (how : Access) (use_indexers : Bool) (g : GlobalRuntimeState H) (t : T) (x i : Dynamic H)
     (g' : GlobalRuntimeState H) (t' : T) (i' : Dynamic H) (r : Result (Target H) (EvalAltResult H)) where
   abbrev limit : ℕ
-  limit = limit_of limits.max_operations
+  limit = limits.max_operations
 
   -- the host's indexer is asked
   abbrev asked : Bool

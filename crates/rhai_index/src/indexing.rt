@@ -68,7 +68,8 @@ pub fn get_indexed_mut<'t, H: Host, T: NativeTable<H>>(
         (is_asked use_indexers (layer_of target.entry.now))
         (is_called limits.now global.entry.now use_indexers (layer_of target.entry.now))
         (effect_of T.natives H.name_of (cells_of global.entry.now.cells) (T.state table.entry.now)
-        (reading idx.entry.now how.op_pos) target.entry.now).first target.entry (found how H.name_of (cells_of global.entry.now.cells) target.entry.now idx.entry.now) result) }
+        (reading idx.entry.now how.op_pos) target.entry.now).first target.entry
+        (found how H.name_of (cells_of global.entry.now.cells) target.entry.now idx.entry.now) result) }
     ensures indexes { Indexes limits.now H.name_of T.natives T.state how use_indexers
         global.old table.old target.old idx.old global.new table.new idx.new result }
 {

@@ -155,7 +155,7 @@ pub fn assign_item<H: Host, T: NativeTable<H>>(
     global: &mut GlobalRuntimeState<H>,
     _table: &T,
     scope: &mut Scope<H>,
-    op: OpAssignment,
+    op: &OpAssignment,
     lhs: &Expr,
     rhs: &Expr,
 ) -> bool
@@ -166,7 +166,7 @@ pub fn assign_item<H: Host, T: NativeTable<H>>(
     ensures keeps { Keeps global.old global.new scope.old scope.new }
     ensures runs { result ≡ true → (offer : _) (held : _) (restoring : _) → offer.fast_operators ≡ true →
         Runs (rules_of limits.now H.name_of offer T.natives)
-        (OpenStmt (layer.Assignment op lhs.now rhs.now) restoring)
+        (OpenStmt (layer.Assignment op.now lhs.now rhs.now) restoring)
         (state_of (T.state _table.now) global.old scope.old held)
         (Ok unit) (state_of (T.state _table.now) global.new scope.new held) }
 {
@@ -183,12 +183,21 @@ pub fn assign_item<H: Host, T: NativeTable<H>>(
         return false;
     };
     let position = integer_in_place(global, scope, index);
+    if position.is_none() {
+        return false;
+    }
     let source = scope.value_at(entry);
     let Some(at) = place_in_value(source, position) else {
         return false;
     };
     let target = integer_of_item(source, at);
+    if target.is_none() {
+        return false;
+    }
     let operand = integer_in_place(global, scope, rhs);
+    if operand.is_none() {
+        return false;
+    }
     let Some(value) = assign_known(token, target, operand) else {
         return false;
     };

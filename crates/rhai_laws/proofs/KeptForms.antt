@@ -1,5 +1,7 @@
 -- What the rules of `switch`, `for`, `try` and of shared variables keep.
-use Rattle.std.proofs.Common.{refl, ap, ◌∙◌, arith, subst}
+use Rattle.std.proofs.Common.{refl, ap, ◌∙◌, arith, slice_get, subst, sym}
+use Rattle.std.proofs.lemmas.Option.{get_or_from_slice_get}
+use Rattle.std.proofs.Math.Seq.{map-set_same}
 use Rattle.std.proofs.lemmas.Bool.Decides.{nat_tests}
 use Rattle.std.proofs.lemmas.List.{length-append, length-map, map-append}
 use Rattle.std.specs.Option.{option_map}
@@ -22,7 +24,7 @@ use Rattle.rhai_values.specs.Cells.{value_of_cell}
 use Rattle.rhai_values.specs.Layers.{layer_of}
 use Rattle.rhai_state.specs.declared.error.EvalAltResult.{EvalAltResult}
 use Rattle.rhai_state.specs.declared.scope.ScopeEntry.{ScopeEntry}
-use Rattle.rhai_state.specs.Scope.{name_of, found, index_of, new_entry, value_in}
+use Rattle.rhai_state.specs.Scope.{aliased, name_of, found, index_of, new_entry, value_in, with_alias}
 use Rattle.rhai_machine.specs.language.Setting.{Setting}
 use Rattle.rhai_machine.specs.language.State.{Local}
 use Rattle.rhai_machine.specs.language.Values.{flat, unit_value}
@@ -34,6 +36,7 @@ use Rattle.rhai_machine.specs.language.Walks.{counters, has_no_room, for_core, c
 use Rattle.rhai_machine.specs.language.Walks.{place_of_entry, counted_core, turn_core, for_move, entered_core, item_core}
 use Rattle.rhai_machine.specs.language.Caught.{caught_value, thrown}
 use Rattle.rhai_machine.specs.language.Tries.{branch_with, branch_core, tried_core}
+use Rattle.rhai_machine.specs.language.Exports.{alias_or, export_at}
 use Rattle.rhai_machine.specs.language.Sharing.{handle_of, with_cell, shared, shared_core, share_core}
 use Rattle.rhai_machine.proofs.Places.{put_names}
 use Rattle.rhai_laws.specs.Kept.{forgotten_cell, Stands, names_of}
@@ -218,3 +221,19 @@ module _ {H : Type 0} (a : Asked) where
         (l : Local H) → Keeps a (calm k l) (tried_core s catches variable e branch k l)
     tried_keeps true variable e branch k l = branch_keeps variable e branch k l
     tried_keeps false variable e branch k l = quiet a tt refl (λ t. t)
+
+  -- ---- exported variables
+
+  aliased_by : (entries : List (ScopeEntry H)) (at : ℕ) (there : Option (ScopeEntry H)) (alias : List ℕ) → slice_get entries at ≡ there →
+      map name_of (aliased entries at there alias) ≡ map name_of entries
+  aliased_by entries at None alias is = refl
+  aliased_by entries at (Some entry) alias is =
+      map-set_same name_of entries at (record entry { aliases = with_alias alias entry.aliases }) entry
+      (sym (ap name_of (get_or_from_slice_get entries at entry entry is)))
+
+  -- an alias is no name
+  pub export_keeps : (place : Option ℕ) (ident : Ident) (alias : Option Ident) (k : List (Frame H)) (l : Local H) →
+      Keeps a (calm k l) (export_at place ident alias k l)
+  export_keeps (Some at) ident alias k l =
+      quiet a tt refl (λ t. rw (aliased_by l.scope at (slice_get l.scope at) (alias_or ident.name alias) refl) t)
+  export_keeps None ident alias k l = quiet a tt refl (λ t. t)

@@ -70,7 +70,7 @@ use Rattle.rhai_laws.proofs.KeptAssignments.{there_keeps, assignment_keeps, stor
 use Rattle.rhai_laws.proofs.KeptAssignments.{fire_update_keeps}
 use Rattle.rhai_laws.proofs.KeptCalls.{on_keeps, call_keeps, fire_keeps, question_keeps, operator_keeps, arguments_keep, named_keeps}
 use Rattle.rhai_laws.proofs.KeptCalls.{keyword_keeps}
-use Rattle.rhai_laws.proofs.KeptForms.{choose_keeps, met_keeps, walked_keeps, for_keeps, for_turn_keeps, item_keeps, tried_keeps, share_keeps}
+use Rattle.rhai_laws.proofs.KeptForms.{choose_keeps, met_keeps, walked_keeps, for_keeps, for_turn_keeps, item_keeps, tried_keeps, export_keeps, share_keeps}
 use Rattle.rhai_laws.proofs.KeptForms.{room}
 use Rattle.rhai_laws.proofs.KeptMethods.{focus_keeps}
 use Rattle.rhai_laws.proofs.KeptChains.{open_keeps, asked_keeps, root_keeps, read_root_keeps, walk_keeps, locate_keeps, chain_left}
@@ -460,6 +460,8 @@ module _ {H : Type 0} (a : Asked) where
       stmt_keeps (layer.For variable counter items body pos) restoring k l = after a (calm k l) refl (λ t. t)
           (for_keeps a s grows (has_no_room s.limits (loop_of variable counter items body) l) (loop_of variable counter items body) k l refl)
       stmt_keeps (layer.TryCatch body variable branch pos) restoring k l = quiet a tt refl (λ t. t)
+      stmt_keeps (layer.Export ident alias pos) restoring k l = after a (calm k l) refl (λ t. t)
+          (export_keeps a (index_of ident.name l.scope) ident alias k l)
       stmt_keeps (layer.Share variables) restoring k l = quiet a tt refl (λ t. t)
       stmt_keeps (layer.While test body pos) restoring k l = quiet a tt refl (λ t. t)
       stmt_keeps (layer.Do test body options pos) restoring k l = quiet a tt refl (λ t. t)

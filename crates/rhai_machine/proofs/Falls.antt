@@ -57,6 +57,7 @@ use Rattle.rhai_machine.specs.language.Expressions.{coalesce_core, coalesce_seen
 use Rattle.rhai_machine.specs.language.Calls.{builtin_of, call_of, sized}
 use Rattle.rhai_machine.specs.language.Arguments.{flattens, taken, arguments_core, keyword_of, function_core, function_of}
 use Rattle.rhai_machine.specs.language.Statements.{enter_core, run_core, chosen_core, defined_core, define_core, break_core, return_move}
+use Rattle.rhai_machine.specs.language.Exports.{export_at}
 use Rattle.rhai_machine.specs.language.Statements.{has_option, loop_of, stmt_move}
 use Rattle.rhai_machine.specs.language.Bodies.{returned}
 use Rattle.rhai_machine.specs.language.Unwinding.{up_core, down_core, topped, operated, looked_at, marked_core}
@@ -199,6 +200,11 @@ module _ {H : Type 0} where
     return_falls false None pos form restoring k l = omega arith
     return_falls false (Some value) pos form restoring k l = omega arith
 
+    export_falls : (place : Option ℕ) (ident : Ident) (alias : Option Ident) (k : List (Frame H)) (l : Local H) →
+        size (export_at place ident alias k l) < 50 + stack_size k
+    export_falls (Some at) ident alias k l = omega arith
+    export_falls None ident alias k l = omega arith
+
     stmt_falls : (form : StmtLayer) (restoring : Bool) (k : List (Frame H)) (l : Local H) →
         Falls size (core (OpenStmt form restoring) k l) (stmt_move s form restoring k l)
     stmt_falls (layer.Noop pos) restoring k l = omega arith
@@ -223,6 +229,8 @@ module _ {H : Type 0} where
     stmt_falls (layer.For variable counter items body pos) restoring k l =
         omega (arith, for_falls (has_no_room s.limits (loop_of variable counter items body) l) (loop_of variable counter items body) k l)
     stmt_falls (layer.TryCatch body variable branch pos) restoring k l = omega (arith, enter_size body.statements true k)
+    stmt_falls (layer.Export ident alias pos) restoring k l =
+        omega (arith, export_falls (index_of ident.name l.scope) ident alias k l)
     stmt_falls (layer.Share variables) restoring k l = omega arith
     stmt_falls (layer.BreakLoop value options pos) restoring k l = break_falls value (has_option 2 options) pos k l
     stmt_falls (layer.Return value options pos) restoring k l =

@@ -11,6 +11,7 @@ pub mod Turns
 pub mod Frames
 pub mod Handles
 pub mod Bodies
+pub mod Exports
 pub mod Expressions
 pub mod Calls
 pub mod Arguments

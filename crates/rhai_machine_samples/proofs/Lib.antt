@@ -13,3 +13,4 @@ mod SwitchRuns
 mod WalkRuns
 mod TryRuns
 mod ShareRuns
+mod ExportRuns

@@ -20,3 +20,4 @@ pub mod Switches
 pub mod Walks
 pub mod Tries
 pub mod Shares
+pub mod Exports

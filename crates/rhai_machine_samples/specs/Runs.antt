@@ -1,5 +1,5 @@
 -- What a sample says: how a script that starts with nothing ends, cut at the setting's limit.
-use Rattle.std.specs.Prelude.{◌≡◌, ℕ, Bool, true, false, List, [], Some, None, Result, Ok, Err, pos}
+use Rattle.std.specs.Prelude.{◌≡◌, ℕ, Bool, true, false, List, [], Some, None, Result, Ok, Err, pos, ◌^◌, ◌-◌}
 use Rattle.rhai_machine.specs.Types.{Dynamic, EvalAltResult, Limits, ScopeEntry, Stmt}
 use Rattle.rhai_values.specs.declared.base.value.AccessMode.TheVariants.{ReadWrite, ReadOnly}
 use Rattle.rhai_values.specs.declared.base.value.Union.TheVariants as value
@@ -37,7 +37,7 @@ IsImpure table q = table.natives.pure table.state q ≡ false
 -- no limit of operations or of data, and a thousand variables
 abbrev pub usual_limits : Limits
 usual_limits = record {
-  max_operations = 0;
+  max_operations = 2 ^ 64 - 1;
   max_variables = 1000;
   max_modules = 100;
   max_call_levels = 64;

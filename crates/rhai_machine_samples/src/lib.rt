@@ -29,6 +29,7 @@ ghost use Rattle.rhai_machine_samples.specs.Switches.{Switches, SwitchErrors};
 ghost use Rattle.rhai_machine_samples.specs.Walks.{Walks, WalkEnds};
 ghost use Rattle.rhai_machine_samples.specs.Tries.{Throws, Tries, TryEnds};
 ghost use Rattle.rhai_machine_samples.specs.Shares.{Shares};
+ghost use Rattle.rhai_machine_samples.specs.Exports.{Exports};
 
 use rhai_machine::laws::{Language, always_ends};
 use rhai_state::table::NativeTable;
@@ -244,4 +245,9 @@ pub fn sample_try_ends<H, S>(of: PhantomData<(H, S)>)
 /// Variables that closures share.
 pub fn sample_shares<H, S>(of: PhantomData<(H, S)>)
     ensures { (table : Table S H) (host : H → List ℕ) → Shares table host }
+{}
+
+/// Variables that a script exports.
+pub fn sample_exports<H, S>(of: PhantomData<(H, S)>)
+    ensures { (table : Table S H) (host : H → List ℕ) → Exports table host }
 {}

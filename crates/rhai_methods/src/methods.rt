@@ -334,8 +334,9 @@ fn call_plain<H: Host, T: NativeTable<H>>(
 /// handles; a map's own pointer under the name; and else a call by name with the value before the
 /// arguments, which is lent, and kept from a native that is not pure where it is a constant. The answer
 /// says whether a native that is not pure gave it, and so may have changed the value. `is_shared` is told
-/// whether the value was a handle before it was entered. A function of a script, which a name means or a pointer is linked to, is for the caller to enter. What stands in the
-/// places of the arguments afterwards is not told. Where a native is called by the name no memory is taken.
+/// whether the value was a handle before it was entered. A function of a script, which a name means or a
+/// pointer is linked to, is for the caller to enter. What stands in the places of the arguments afterwards is
+/// not told. Where a native is called by the name no memory is taken.
 /// Ports upstream's `make_method_call`.
 ///
 /// # Errors

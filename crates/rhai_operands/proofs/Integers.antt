@@ -1,6 +1,7 @@
 -- An operator on two integers that stand, charged at once.
 use Rattle.std.proofs.Common.{◌≡◌, ◌≤◌, ◌+◌, ℕ, ℤ, Bool, true, false, IsTrue, List, [], ◌∷◌, Option, Some, None, Ok, Err}
 use Rattle.std.proofs.Common.{ap, arith, is_some, refl, sym, ◌∙◌}
+use Rattle.std.specs.Prelude.{IfSome}
 use Rattle.rhai_tree.specs.declared.position.Position.{Position}
 use Rattle.rhai_tree.specs.declared.token.Token.{Token}
 use Rattle.rhai_tree.specs.declared.expr.Expr.{Expr, out-Expr}
@@ -39,6 +40,11 @@ module _ {H : Type 0} where
   number_given (Some (Err why)) w is = cc
   number_given (Some (Ok u)) w is =
       let given = number_in u w is in (given.0, ap (λ (v : Union H). Some (Ok v)) given.1, given.2)
+
+-- an integer that was found in place is what stands there
+pub is_there : (found stands : Option ℤ) → is_some found ≡ true → IfSome found (λ n. stands ≡ Some n) → stands ≡ found
+is_there (Some n) stands some is = is
+is_there None stands some is = cc
 
 -- nothing is given of one integer alone
 one_known : {A H : Type 0} (token : Token) (x : Option ℤ) (v : Dynamic H) → assigned_known token x None ≡ Some v → A

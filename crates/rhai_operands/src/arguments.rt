@@ -15,7 +15,7 @@ use rhai_state::error::EvalAltResult;
 use rhai_state::limits::Limits;
 use rhai_state::state::GlobalRuntimeState;
 use rhai_state::table::NativeTable;
-use rhai_steps::charges::charge_all;
+use rhai_steps::charges::charge_one;
 use rhai_steps::values::{
     bool_value, char_value, constant_value, int_value, text_value, unit_value,
 };
@@ -58,6 +58,42 @@ fn literal_value<H: Host>(
     }
 }
 
+/// An argument that is a literal, as `literal_arg` has it.
+///
+/// # Errors
+/// `ErrorTooManyOperations` at the literal where the count has reached the limit.
+#[inline(never)]
+fn charge_literal<H: Host, T: NativeTable<H>>(
+    limits: &Limits,
+    alloc: Global,
+    global: &mut GlobalRuntimeState<H>,
+    _table: &T,
+    out: &mut Dynamic<H>,
+    place: &mut Option<EvalAltResult<H>>,
+    arg: &Expr,
+) -> Option<bool>
+    ensures found { is_some result ≡ is_some (literal_of {H = H} (out-Expr arg.now)) }
+    ensures left_alone { result ≡ None → global.new ≡ global.old }
+    ensures charges { IfSome result (λ done. IsTrue done →
+        global.old.num_operations < global.new.num_operations) }
+    ensures runs { (offer : _) (scope : _) (held : _) →
+        IfSome result (λ done. Runs (rules_of limits.now H.name_of offer T.natives) (Argument arg.now)
+        (state_of (T.state _table.now) global.old scope held)
+        (came done out.new place.new) (state_of (T.state _table.now) global.new scope held)) }
+{
+    if !is_literal::<H>(arg) {
+        return None;
+    }
+    if !charge_one(limits, global) {
+        let error = EvalAltResult::ErrorTooManyOperations(arg.start_position());
+        return Some(stop(place, error));
+    }
+    match literal_value(alloc, arg) {
+        Some(answer) => Some(settle(place, out, answer)),
+        None => None,
+    }
+}
+
 /// An argument that is a literal: charged at its start, and then its value. None for any other
 /// expression: then nothing is charged. The table is not called.
 /// How it ended stands in the run's places.
@@ -86,12 +122,5 @@ pub fn literal_arg<H: Host, T: NativeTable<H>>(
     if !is_literal::<H>(arg) {
         return None;
     }
-    if !charge_all(limits, global, 1) {
-        let error = EvalAltResult::ErrorTooManyOperations(arg.start_position());
-        return Some(stop(place, error));
-    }
-    match literal_value(alloc, arg) {
-        Some(answer) => Some(settle(place, out, answer)),
-        None => None,
-    }
+    charge_literal(limits, alloc, global, _table, out, place, arg)
 }

@@ -1,6 +1,6 @@
 //! Operands as they stand.
 
-ghost use Rattle.std.specs.Prelude.{◌≡◌, IsTrue, Some};
+ghost use Rattle.std.specs.Prelude.{◌≡◌, IfSome, IsTrue, Some};
 ghost use Rattle.std.specs.Option.{option_map};
 ghost use Rattle.rhai_tree.specs.declared.expr.Expr.{out-Expr};
 ghost use Rattle.rhai_tree.specs.Frame.{resolves_expr};
@@ -11,7 +11,7 @@ ghost use Rattle.rhai_operands.specs.Standing.{integer_of, standing, two_in, val
 use rhai_state::scope::Scope;
 use rhai_state::state::GlobalRuntimeState;
 use rhai_steps::values::{bool_value, char_value, int_value, is_bare_handle, unit_value};
-use rhai_steps::variables::place_of_variable;
+use rhai_steps::variables::{place_by_offset, place_of_variable};
 use rhai_tree::expr::{Expr, FnCallExpr};
 use rhai_values::base::value::{Dynamic, Host, Union};
 
@@ -74,20 +74,21 @@ pub fn integer_at<H>(value: &Dynamic<H>) -> Option<i64>
     }
 }
 
-/// The integer that an operand as it stands is, None where it is of another type or has to be evaluated.
-/// Asked: the expression resolves to the variables of the scope.
+/// The integer that an operand as it stands is. None where it is of another type, has to be evaluated, or is a variable
+/// that is to be searched for. Asked: the expression resolves to the variables of the scope.
+#[inline(always)]
 pub fn integer_in_place<H: Host>(
     global: &GlobalRuntimeState<H>,
     scope: &Scope<H>,
     expr: &Expr,
 ) -> Option<i64>
     requires { IsTrue (resolves_expr expr.now (names_in scope.now)) }
-    ensures { result ≡ integer_of (standing (out-Expr expr.now) (entries_of scope.now)) }
+    ensures { IfSome result (λ number. integer_of (standing (out-Expr expr.now) (entries_of scope.now)) ≡ Some number) }
 {
     match expr {
         Expr::IntegerConstant(value, _) => Some(*value),
         Expr::Variable { offset, name, .. } => {
-            let index = place_of_variable(global, scope, *offset, name)?;
+            let index = place_by_offset(global, scope, *offset, name)?;
             integer_at(scope.value_at(index))
         }
         _ => None,

@@ -7,7 +7,6 @@ ghost use Rattle.rhai_tree.specs.declared.expr.Expr.{out-Expr};
 ghost use Rattle.rhai_tree.specs.declared.expr.Expr.TheOpen as layer;
 ghost use Rattle.rhai_tree.specs.Frame.{resolves_expr};
 ghost use Rattle.rhai_state.specs.Errors.{is_out_of_memory};
-ghost use Rattle.rhai_state.specs.Limits.{limit_of};
 ghost use Rattle.rhai_state.specs.Scope.{entries_of, names_in};
 ghost use Rattle.rhai_machine.specs.language.Frames.{OpenExpr};
 ghost use Rattle.rhai_machine.specs.language.Runs.{Runs};
@@ -162,13 +161,19 @@ fn operate_integers<H: Host>(
     ensures known { IsTrue result → assigned_known token
         (integer_of (standing (out-Expr left.now) (entries_of scope.now)))
         (integer_of (standing (out-Expr right.now) (entries_of scope.now))) ≡ Some out.new }
-    ensures room { IsTrue result → global.old.num_operations + 2 ≤ limit_of limits.now.max_operations }
+    ensures room { IsTrue result → global.old.num_operations + 2 ≤ limits.now.max_operations }
     ensures charged { IsTrue result → global.new ≡ record global.old
         { num_operations = global.old.num_operations + 2 } }
     ensures left_alone { result ≡ false → global.new ≡ global.old }
 {
     let first = integer_in_place(global, scope, left);
+    if first.is_none() {
+        return false;
+    }
     let second = integer_in_place(global, scope, right);
+    if second.is_none() {
+        return false;
+    }
     let Some(value) = assign_known(token, first, second) else {
         return false;
     };
@@ -261,12 +266,25 @@ fn truth_given<H: Host>(outcome: &Result<Dynamic<H>, EvalAltResult<H>>) -> Optio
     }
 }
 
-/// What an operator says of two integers, None where one of them is none or the operator gives no truth
-/// value.
-fn compare_known<H: Host>(token: Token, left: Option<i64>, right: Option<i64>) -> Option<bool>
-    ensures { result ≡ compared_known H token left right }
+/// What an operator says of two operands that are integers as they stand and need not be searched for. None for others,
+/// and where the operator gives no truth value.
+#[inline(always)]
+fn compare_known<H: Host>(
+    global: &GlobalRuntimeState<H>,
+    scope: &Scope<H>,
+    token: Token,
+    left: &Expr,
+    right: &Expr,
+) -> Option<bool>
+    requires resolves_left { IsTrue (resolves_expr left.now (names_in scope.now)) }
+    requires resolves_right { IsTrue (resolves_expr right.now (names_in scope.now)) }
+    ensures { IfSome result (λ holds. compared_known H token
+        (integer_of (standing (out-Expr left.now) (entries_of scope.now)))
+        (integer_of (standing (out-Expr right.now) (entries_of scope.now))) ≡ Some holds) }
 {
-    compare_integers::<H>(token, left?, right?)
+    let x = integer_in_place(global, scope, left)?;
+    let y = integer_in_place(global, scope, right)?;
+    compare_integers::<H>(token, x, y)
 }
 
 /// What an operator says of two operands as they stand, None where one of them has to be evaluated
@@ -294,6 +312,7 @@ fn compare_values<H: Host>(
 }
 
 /// The same, which tries first whether both are integers: then no value is made.
+#[inline(always)]
 fn compare_in_place<H: Host>(
     alloc: Global,
     global: &GlobalRuntimeState<H>,
@@ -307,9 +326,7 @@ fn compare_in_place<H: Host>(
     ensures { result ≡ compared token (standing (out-Expr left.now) (entries_of scope.now))
         (standing (out-Expr right.now) (entries_of scope.now)) }
 {
-    let first = integer_in_place(global, scope, left);
-    let second = integer_in_place(global, scope, right);
-    if let Some(holds) = compare_known::<H>(token, first, second) {
+    if let Some(holds) = compare_known(global, scope, token, left, right) {
         return Some(holds);
     }
     compare_values(alloc, global, scope, token, left, right)
@@ -320,6 +337,7 @@ fn compare_in_place<H: Host>(
 ///
 /// # Errors
 /// `ErrorTooManyOperations` at the operator or an operand where the count has reached the limit.
+#[inline(always)]
 pub fn holds_in_place<H: Host, T: NativeTable<H>>(
     limits: &Limits,
     alloc: Global,

@@ -13,7 +13,7 @@ ghost use Rattle.rhai_context.specs.Ends.{came};
 ghost use Rattle.rhai_operands.specs.Reading.{asks_read, read_as};
 
 use crate::operands::integer_in_place;
-use rhai_context::ends::{put, put_truth, put_unit, settle, stop};
+use rhai_context::ends::{put, put_number, put_truth, put_unit, settle, stop};
 use rhai_state::error::EvalAltResult;
 use rhai_state::scope::Scope;
 use rhai_state::state::GlobalRuntimeState;
@@ -90,7 +90,7 @@ fn read_any<H: Host>(
 /// # Errors
 /// At a variable: `ErrorVariableNotFound`, and `ErrorDataRace` where it is the handle of a cell that is held. At
 /// `this`: `ErrorUnboundThis`.
-#[inline(always)]
+#[inline(never)]
 pub fn read_expr<H: Host>(
     alloc: Global,
     global: &GlobalRuntimeState<H>,
@@ -113,12 +113,12 @@ pub fn read_expr<H: Host>(
 {
     match expr {
         Expr::IntegerConstant(value, _) => {
-            put(out, int_value(value));
+            put_number(out, int_value(value));
             true
         }
         Expr::Variable { .. } => match integer_in_place(global, scope, expr) {
             Some(number) => {
-                put(out, int_value(&number));
+                put_number(out, int_value(&number));
                 true
             }
             None => read_any(alloc, global, scope, this, out, place, expr),

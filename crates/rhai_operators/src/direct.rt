@@ -4,16 +4,15 @@
 ghost use Rattle.std.specs.Prelude.{◌≡◌};
 ghost use Rattle.rhai_values.specs.declared.base.value.Union.TheVariants as value;
 ghost use Rattle.rhai_operators.specs.Direct.{truth_given, integer_given};
+ghost use Rattle.rhai_operators.specs.Integers as exact;
 ghost use Rattle.rhai_operators.specs.Operators as spec;
 
-use crate::integers::{
-    ArithmeticFault, difference, power, product, quotient, remainder, shifted_left, shifted_right,
-    sum,
-};
+use crate::integers::{ArithmeticFault, power, quotient, remainder, shifted_left, shifted_right};
 use rhai_tree::token::Token;
 use rhai_values::base::value::Host;
 
 /// The truth value that an operator gives for two integers, None where it gives none.
+#[inline(always)]
 pub fn compare_integers<H: Host>(op: Token, x: i64, y: i64) -> Option<bool>
     ensures { result ≡ truth_given {H = H} (spec.of_integers op x y) }
 {
@@ -35,9 +34,9 @@ pub fn assign_integers<H: Host>(op: Token, x: i64, y: i64) -> Option<i64>
     ensures { result ≡ integer_given {H = H} (spec.op_assign_at op (value.Int x) (value.Int y)) }
 {
     match op {
-        Token::Plus => fitting::<H>(sum(x, y)),
-        Token::Minus => fitting::<H>(difference(x, y)),
-        Token::Multiply => fitting::<H>(product(x, y)),
+        Token::Plus => added::<H>(x, y),
+        Token::Minus => subtracted::<H>(x, y),
+        Token::Multiply => multiplied::<H>(x, y),
         Token::Divide => fitting::<H>(quotient(x, y)),
         Token::Modulo => fitting::<H>(remainder(x, y)),
         Token::PowerOf => fitting::<H>(power(x, y)),
@@ -48,6 +47,30 @@ pub fn assign_integers<H: Host>(op: Token, x: i64, y: i64) -> Option<i64>
         Token::XOr => Some(x ^ y),
         _ => None,
     }
+}
+
+/// The sum, None where it does not fit.
+#[inline(always)]
+fn added<H: Host>(x: i64, y: i64) -> Option<i64>
+    ensures { result ≡ integer_given {H = H} (spec.number (exact.sum x y)) }
+{
+    x.checked_add(y)
+}
+
+/// The difference, None where it does not fit.
+#[inline(always)]
+fn subtracted<H: Host>(x: i64, y: i64) -> Option<i64>
+    ensures { result ≡ integer_given {H = H} (spec.number (exact.difference x y)) }
+{
+    x.checked_sub(y)
+}
+
+/// The product, None where it does not fit.
+#[inline(always)]
+fn multiplied<H: Host>(x: i64, y: i64) -> Option<i64>
+    ensures { result ≡ integer_given {H = H} (spec.number (exact.product x y)) }
+{
+    x.checked_mul(y)
 }
 
 /// An integer, None where there is none.

@@ -4,8 +4,7 @@ ghost use Rattle.std.specs.Prelude.{◌≡◌, ◌≢◌, ◌<◌, ◌≤◌, �
 ghost use Rattle.std.specs.Option.{option_copied};
 ghost use Rattle.rhai_values.specs.Cells.{cells_of};
 ghost use Rattle.rhai_state.specs.Errors.{is_out_of_memory};
-ghost use Rattle.rhai_state.specs.Limits.{limit_of};
-ghost use Rattle.rhai_state.specs.Scope.{entries_of, value_of};
+ghost use Rattle.rhai_state.specs.Scope.{entries_of, scope_of, value_of};
 ghost use Rattle.rhai_state.specs.declared.error.EvalAltResult.TheVariants as error;
 ghost use Rattle.rhai_machine.specs.language.Activations as machine;
 ghost use Rattle.rhai_machine.specs.language.Bodies.{statements_of as statements_in};
@@ -18,14 +17,15 @@ ghost use Rattle.rhai_bodies.specs.Opening.{entered_global, entry, exit_seen, is
 use crate::parameters::{stop_race, variables_race};
 use rhai_bodies::callers::level_below;
 use rhai_bodies::closing::close_body;
-use rhai_bodies::opening::{CallExit, enter_level, may_run, statements_of};
+use rhai_bodies::opening::{CallExit, enter_level, may_run, statements_of, take_back};
 use rhai_context::ends::put_unit;
 use rhai_context::outcomes::charge;
-use rhai_context::{Aside, Context, enter_scope, leave_scope};
+use rhai_context::{Caller, Context, enter_variables, leave_variables};
 use rhai_state::error::EvalAltResult;
 use rhai_state::limits::Limits;
-use rhai_state::scope::Scope;
+use rhai_state::scope::ScopeEntry;
 use rhai_state::state::GlobalRuntimeState;
+use rhai_tree::Items;
 use rhai_tree::expr::FnCallExpr;
 use rhai_tree::function::ScriptFuncDef;
 use rhai_tree::position::Position;
@@ -42,15 +42,15 @@ pub fn stops_by_race<H: Host>(
     alloc: Global,
     cells: &CellStore<H>,
     place: &mut Option<EvalAltResult<H>>,
-    scope: &Scope<H>,
+    variables: &[ScopeEntry<H>],
     call: &FnCallExpr,
     pos: Position,
 ) -> bool
-    ensures races { result ≡ races (cells_of cells.now) (map value_of (entries_of scope.now)) }
+    ensures races { result ≡ races (cells_of cells.now) (map value_of variables.now) }
     ensures told { IsTrue result → is_out_of_memory (error_in place.new) ≡ false →
         error_in place.new ≡ error.ErrorDataRace call.now.name pos }
 {
-    if variables_race(cells, scope) {
+    if variables_race(cells, variables) {
         stop_race(alloc, place, call, pos);
         return true;
     }
@@ -71,12 +71,12 @@ pub fn ends_before<H: Host>(
     def: &ScriptFuncDef,
     pos: Position,
 ) -> Option<bool>
-    ensures spent { limit_of limits.now.max_operations ≤ global.old.num_operations →
+    ensures spent { limits.now.max_operations ≤ global.old.num_operations →
         (result ≡ Some false) × (error_in place.new ≡ error.ErrorTooManyOperations pos)
         × (global.new ≡ global.old) }
-    ensures charged { global.old.num_operations < limit_of limits.now.max_operations →
+    ensures charged { global.old.num_operations < limits.now.max_operations →
         global.new ≡ record global.old { num_operations = global.old.num_operations + 1 } }
-    ensures refused { global.old.num_operations < limit_of limits.now.max_operations → result ≡ Some false →
+    ensures refused { global.old.num_operations < limits.now.max_operations → result ≡ Some false →
         (entry limits.now (deeper global.old.level) 0 (length def.now.params) pos ≡ Err (error_in place.new))
         × (is_out_of_memory (error_in place.new) ≡ false) }
     ensures passed { result ≡ Some true → (is_deep limits.now (deeper global.old.level) ≡ false)
@@ -103,21 +103,24 @@ pub fn ends_before<H: Host>(
 #[derive(Drop)]
 pub struct PlainCall<H> {
     pub exit: CallExit,
-    pub aside: Aside<H>,
+    pub caller: Caller<H>,
 }
 
 /// A plain call's body is entered, one level deeper: its parameters are its only variables, and there is no `this`.
 #[inline(always)]
-pub fn enter_plain<H: Host>(run: &mut Context<H>, scope: Scope<H>) -> PlainCall<H>
+pub fn enter_plain<H: Host>(run: &mut Context<H>, variables: Items<ScopeEntry<H>>) -> PlainCall<H>
     ensures exit { (any : _) → result.exit ≡ record (exit_seen run.old.global any) { scope_length = 0 } }
-    ensures aside { result.aside ≡ record { scope = run.old.scope; this = run.old.this } }
-    ensures run { run.new ≡ record run.old
-        { global = entered_global None (deeper run.old.global.level) run.old.global; scope = scope; this = None } }
+    ensures caller { result.caller ≡ record { variables = entries_of run.old.scope; this = run.old.this } }
+    ensures run { run.new ≡ record run.old {
+      global = entered_global None (deeper run.old.global.level) run.old.global;
+      scope = scope_of variables;
+      this = None;
+    } }
 {
     let level = level_below(run.global.level);
     let exit = enter_level(&mut run.global, level);
-    let aside = enter_scope(run, scope);
-    PlainCall { exit, aside }
+    let caller = enter_variables(run, variables);
+    PlainCall { exit, caller }
 }
 
 /// The environment of a function that has none. A `None` that is handed on as it is written, as an `Option<&T>`, has no
@@ -144,18 +147,24 @@ pub fn leave_plain<H: Host>(
     pos: Position,
 ) -> bool
     ensures state { run.new.global ≡ taken_back entered.exit run.old.global }
-    ensures scope { run.new.scope ≡ entered.aside.scope }
-    ensures this { run.new.this ≡ entered.aside.this }
+    ensures scope { run.new.scope ≡ scope_of entered.caller.variables }
+    ensures this { run.new.this ≡ entered.caller.this }
     ensures outcome { (end : machine.CallExit H) → Ends def.now.name None run.old.global.source pos end →
         Answers (came result run.new.value run.new.error) (outcome_of end (came done run.old.value run.old.error)) }
-    ensures value { IsTrue done → came result run.new.value run.new.error ≡ came done run.old.value run.old.error }
+    ensures value { IsTrue done →
+        came result run.new.value run.new.error ≡ came done run.old.value run.old.error }
     ensures wanting { result ≡ false → is_out_of_memory (error_in run.new.error) ≡ true →
         error_in run.new.error ≡ error.ErrorOutOfMemory pos }
 {
-    let PlainCall { exit, aside } = entered;
+    let PlainCall { exit, caller } = entered;
+    if done {
+        take_back(&mut run.global, exit);
+        leave_variables(run, caller);
+        return true;
+    }
     let (global, out, place) = (&mut run.global, &mut run.value, &mut run.error);
     let environ = no_environ(def);
     let done = close_body(alloc, global, out, place, def, environ, exit, done, pos);
-    leave_scope(run, aside);
+    leave_variables(run, caller);
     done
 }

@@ -1,7 +1,8 @@
 //! Whether a call is an operator's on its operands.
 
-ghost use Rattle.std.specs.Prelude.{Some, true};
+ghost use Rattle.std.specs.Prelude.{◌≡◌, Some, true, false};
 ghost use Rattle.rhai_pointers.specs.Forms.{IsForm};
+ghost use Rattle.rhai_pointers.specs.declared.forms.CallForm.TheVariants as form;
 
 use rhai_tree::expr::{Expr, FnCallExpr};
 use rhai_tree::token::Token;
@@ -40,4 +41,12 @@ pub fn form_of(fast_operators: bool, call: &FnCallExpr) -> CallForm<'_>
         Some(token) => operator_form(token, call.args.as_slice()),
         None => CallForm::Function,
     }
+}
+
+/// Whether a call may be an operator on operands: under fast operators, one that was written as an operator.
+#[inline(always)]
+pub fn may_operate(fast_operators: bool, call: &FnCallExpr) -> bool
+    ensures { result ≡ false → IsForm form.Function fast_operators call.now.op_token call.now.args }
+{
+    fast_operators && call.op_token.is_some()
 }

@@ -10,6 +10,7 @@ pub mod chains;
 pub mod checked;
 pub mod choices;
 pub mod data;
+pub mod exports;
 pub mod functions;
 pub mod loops;
 mod making;

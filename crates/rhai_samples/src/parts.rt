@@ -77,6 +77,10 @@ pub enum Part<'a> {
     Switch(usize, &'a [Case<'a>], &'a [RangeCase], Option<usize>, u16),
     /// What closures share: names, each with its offset from the end of the scope, zero for none.
     Share(&'a [(&'a str, usize, u16)]),
+    /// A variable that is exported under its own name.
+    Export(&'a str, u16, u16),
+    /// A variable that is exported under an alias.
+    ExportAs(&'a str, u16, &'a str, u16, u16),
     /// A function with a block.
     Function(&'a str, &'a [&'a str]),
 }

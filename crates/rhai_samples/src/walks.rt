@@ -154,8 +154,9 @@ pub fn range_summed(alloc: Global, turns: i64) -> Result<Items<Stmt>, AllocError
     )
 }
 
-/// `let a = [1, 1, 1]; let x = 0; for i in a { x += i; }`, with so many literals, which all stand at one place.
-pub fn array_summed(alloc: Global, length: u32) -> Result<Items<Stmt>, AllocError> {
+/// `let a = [1, 1, 1]; let x = 0; for t in 0..1000 { for i in a { x += i; } }`, with so many literals, which all
+/// stand at one place, and as many turns in the place of the thousand.
+pub fn array_summed(alloc: Global, length: u32, times: i64) -> Result<Items<Stmt>, AllocError> {
     statements_of(
         alloc,
         &[
@@ -163,12 +164,17 @@ pub fn array_summed(alloc: Global, length: u32) -> Result<Items<Stmt>, AllocErro
             Let("a", 5, 1),
             Int(0, 28),
             Let("x", 24, 20),
-            Variable("a", 2, 40),
-            Variable("x", 2, 44),
-            Variable("i", 1, 49),
-            AssignBy(Token::Plus, 46),
-            Block(1, 42, 52),
-            For("i", 35, 31),
+            Int(0, 40),
+            Int(times, 43),
+            Operator(Token::ExclusiveRange, 41),
+            Variable("a", 3, 59),
+            Variable("x", 3, 63),
+            Variable("i", 1, 68),
+            AssignBy(Token::Plus, 65),
+            Block(1, 61, 71),
+            For("i", 54, 50),
+            Block(1, 48, 73),
+            For("t", 35, 31),
         ],
     )
 }

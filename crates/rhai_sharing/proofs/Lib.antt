@@ -1,2 +1,3 @@
+mod ExportSteps
 mod Cells
 mod Steps

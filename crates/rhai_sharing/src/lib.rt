@@ -15,6 +15,8 @@ ghost use Rattle.rhai_machine.specs.language.Values.{is_handle as leads_to_cell}
 ghost use Rattle.rhai_steps.specs.States.{local_of, state_of};
 ghost use Rattle.rhai_context.specs.Ends.{came};
 
+pub mod exporting;
+
 use rhai_context::ends::settle;
 use rhai_state::error::EvalAltResult;
 use rhai_state::limits::Limits;
@@ -110,6 +112,7 @@ fn share_each<H: Host, T: NativeTable<H>>(
 /// # Errors
 /// `ErrorVariableNotFound` at a variable that is not there, and `ErrorOutOfMemory`. Those before it stay
 /// shared.
+#[inline(never)]
 pub fn share_variables<H: Host, T: NativeTable<H>>(
     limits: &Limits,
     global: &mut GlobalRuntimeState<H>,

@@ -1,5 +1,6 @@
+mod Aliases
 pub mod Held
 pub mod Newest
+mod Ranges
 pub mod Reached
 mod Tables
-mod Ranges

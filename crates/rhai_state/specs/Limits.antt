@@ -1,4 +1,4 @@
--- The limit of operations, as a plain number.
+-- How many operations a run may charge, by the number that an engine is given.
 use Rattle.std.specs.Prelude.{ℕ, ◌-◌, ◌^◌, nat_eq, if◌then◌else◌}
 
 -- zero means the greatest count

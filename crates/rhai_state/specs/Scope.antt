@@ -1,6 +1,8 @@
 -- Scopes as plain lists of entries, the newest last.
-use Rattle.std.specs.Prelude.{ℕ, ◌-◌, ◌≤◌, Bool, true, false, List, [], length, Option, Some, None, map, slice_get, slice_set, IfSome}
+use Rattle.std.specs.Prelude.{ℕ, ◌-◌, ◌≤◌, Bool, true, false, List, [], ◌∷◌, ◌++◌, if◌then◌else◌, length, Option, Some, None, map, slice_get, slice_set, IfSome}
+use Rattle.std.specs.List.{list_any}
 use Rattle.std.specs.Option.{option_map}
+use Rattle.std.specs.Str.{bytes_eq}
 use Rattle.std.specs.Int.NonZero.{non_zero_usize_get}
 use Rattle.std.specs.declared.num.NonZeroUsize.{NonZeroUsize}
 use Rattle.std.specs.Borrow.{Bor}
@@ -20,9 +22,17 @@ in_use false offset = offset
 abbrev pub Fits : Option NonZeroUsize → ℕ → Type 0
 Fits offset length = IfSome offset (λ k. non_zero_usize_get k ≤ length)
 
+-- an alias among others, where each stands once
+abbrev pub with_alias : List ℕ → List (List ℕ) → List (List ℕ)
+with_alias alias others = if list_any (λ other. bytes_eq other alias) others then others else others ++ alias ∷ []
+
 module _ {H : Type 0} where
   abbrev pub entries_of : Scope H → List (ScopeEntry H)
   entries_of scope = scope.entries
+
+  -- the scope of these entries
+  abbrev pub scope_of : List (ScopeEntry H) → Scope H
+  scope_of entries = record { entries = entries; spare = tt }
 
   abbrev pub name_of : ScopeEntry H → List ℕ
   name_of entry = entry.name
@@ -64,6 +74,11 @@ module _ {H : Type 0} where
   abbrev pub revalued : List (ScopeEntry H) → (at : ℕ) → (there : Option (ScopeEntry H)) → Dynamic H → List (ScopeEntry H)
   revalued entries at (Some entry) value = slice_set entries at (record entry { value = value })
   revalued entries at None value = entries
+
+  -- the entry at a place with an alias more, where each stands once
+  abbrev pub aliased : List (ScopeEntry H) → (at : ℕ) → (there : Option (ScopeEntry H)) → (alias : List ℕ) → List (ScopeEntry H)
+  aliased entries at (Some entry) alias = slice_set entries at (record entry { aliases = with_alias alias entry.aliases })
+  aliased entries at None alias = entries
 
   -- the entry that a name, a value and aliases show
   abbrev pub shown : Bor (List ℕ) × Bor (Dynamic H) × Bor (List (List ℕ)) → ScopeEntry H

@@ -1,9 +1,12 @@
 //! The limits of a run.
 
+ghost use Rattle.std.specs.Prelude.{◌≡◌};
+ghost use Rattle.rhai_state.specs.Limits.{limit_of};
+
 /// The limits of a run. Ports upstream's `Limits`.
 #[derive(Clone, Copy, Debug, PartialEq, Eq)]
 pub struct Limits {
-    /// How many operations a run may charge; zero is the greatest count.
+    /// How many operations a run may charge: without a limit the greatest count.
     pub max_operations: u64,
     /// How many variables a scope may hold.
     pub max_variables: usize,
@@ -17,4 +20,15 @@ pub struct Limits {
     pub max_map_size: usize,
     /// How many bytes a value's texts may hold; zero is no limit.
     pub max_string_size: usize,
+}
+
+/// How many operations a run may charge where an engine is given this number: zero is no limit.
+pub fn operation_limit(max_operations: u64) -> u64
+    ensures { result ≡ limit_of max_operations }
+{
+    if max_operations == 0 {
+        u64::MAX
+    } else {
+        max_operations
+    }
 }

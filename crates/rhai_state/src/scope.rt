@@ -2,17 +2,21 @@
 
 ghost use Rattle.std.specs.Prelude.{◌≡◌, ◌<◌, ◌↔◌, [], ◌∷◌, ◌++◌, take, length, slice_get, is_some, Some};
 ghost use Rattle.std.specs.Prelude.{string_bytes, IsTrue, IfSome, OnOk, OnErr, drop, nat_lt, ◌+◌, ◌&&◌};
+ghost use Rattle.std.specs.List.{list_any};
 ghost use Rattle.std.specs.Option.{option_map};
+ghost use Rattle.std.specs.Str.{bytes_eq};
 ghost use Rattle.std.specs.Borrow.{sem};
 ghost use Rattle.rhai_values.specs.Copy.{plain};
+ghost use Rattle.rhai_values.specs.declared.base.value.AccessMode.TheVariants.{ReadWrite};
 ghost use Rattle.rhai_values.specs.declared.base.value.Union.TheVariants as value;
 ghost use Rattle.rhai_state.specs.Lends.{lends_spare, lends_value};
-ghost use Rattle.rhai_state.specs.Scope.{entries_of, index_of, new_entry, place_of, revalued, shown, value_of};
+ghost use Rattle.rhai_state.specs.Scope.{aliased, entries_of, index_of, new_entry, place_of, revalued, scope_of};
+ghost use Rattle.rhai_state.specs.Scope.{shown, value_of};
 ghost use Rattle.rhai_state.specs.Scope.{Fits};
 
 use crate::slot::Slot;
 use rhai_tree::{Items, Shared, Text};
-use rhai_values::base::value::{AccessMode, Dynamic};
+use rhai_values::base::value::{AccessMode, Dynamic, Union};
 use std::alloc::{AllocError, Global};
 use std::mem::replace;
 use std::num::NonZeroUsize;
@@ -155,6 +159,54 @@ impl<H> Scope<H> {
         let entry = self.entries.at_mut(index);
         replace(&mut entry.value, value)
     }
+
+    /// Gives the scope other entries, and hands out those that it had.
+    #[inline(always)]
+    pub fn exchange(&mut self, entries: Items<ScopeEntry<H>>) -> Items<ScopeEntry<H>>
+        ensures before { result ≡ entries_of self.old }
+        ensures after { self.new ≡ scope_of entries }
+    {
+        replace(&mut self.entries, entries)
+    }
+}
+
+/// Adds a variable that may be written behind others. Where there is no memory they stay.
+#[inline(always)]
+pub fn push_variable<H: Drop>(
+    entries: &mut Items<ScopeEntry<H>>,
+    name: Shared<Text>,
+    mut value: Dynamic<H>,
+) -> Result<(), AllocError>
+    ensures ok { OnOk result (entries.new ≡ entries.old ++ new_entry name ReadWrite value ∷ []) }
+    ensures err { OnErr result (entries.new ≡ entries.old) }
+{
+    value.set_access_mode(AccessMode::ReadWrite);
+    let aliases = Items::new(entries.allocator());
+    entries.push(ScopeEntry {
+        name,
+        value,
+        aliases,
+    })
+}
+
+/// Adds a variable that is an integer and may be written behind others. Where there is no memory they stay.
+#[inline(always)]
+pub fn push_integer<H: Drop>(
+    entries: &mut Items<ScopeEntry<H>>,
+    name: Shared<Text>,
+    number: i64,
+) -> Result<(), AllocError>
+    ensures ok { OnOk result
+        (entries.new ≡ entries.old ++ new_entry name ReadWrite (plain (value.Int number)) ∷ []) }
+    ensures err { OnErr result (entries.new ≡ entries.old) }
+{
+    let aliases = Items::new(entries.allocator());
+    let value = Dynamic::new(Union::Int(number));
+    entries.push(ScopeEntry {
+        name,
+        value,
+        aliases,
+    })
 }
 
 impl<H: Drop> Scope<H> {
@@ -204,6 +256,21 @@ impl<H: Drop> Scope<H> {
         self.spare.lend()
     }
 
+    /// Gives the entry at a place an alias, unless it has it already. Where there is no memory the scope stays. Ports
+    /// upstream's `Scope::add_alias_by_index`.
+    pub fn add_alias(&mut self, index: usize, alias: Shared<Text>) -> Result<(), AllocError>
+        requires { index < length (entries_of self.old) }
+        ensures ok { OnOk result (entries_of self.new ≡ aliased (entries_of self.old) index
+            (slice_get (entries_of self.old) index) alias) }
+        ensures err { OnErr result (entries_of self.new ≡ entries_of self.old) }
+    {
+        let entry = self.entries.at_mut(index);
+        if is_among(alias.get().as_str(), entry.aliases.as_slice()) {
+            return Ok(());
+        }
+        entry.aliases.push(alias)
+    }
+
     /// Lets go of all entries from `len` on, if there are any. Ports upstream's `Scope::rewind`.
     pub fn rewind(&mut self, len: usize)
         ensures { entries_of self.new ≡ take len (entries_of self.old) }
@@ -223,6 +290,13 @@ impl<H: Drop> Scope<H> {
             left -= 1;
         }
     }
+}
+
+/// Whether a name is among aliases.
+fn is_among(alias: &str, others: &[Shared<Text>]) -> bool
+    ensures { result ≡ list_any (λ other. bytes_eq other alias.now) others.now }
+{
+    others.iter().any(|other| other.get().as_str() == alias)
 }
 
 /// Whether there is an entry left to let go of.

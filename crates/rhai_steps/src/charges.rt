@@ -1,7 +1,6 @@
 //! Charges of operations. Ports upstream's `track_operation`.
 
 ghost use Rattle.std.specs.Prelude.{◌≡◌, ◌<◌, ◌≤◌, ◌+◌, OnOk, IfErr, true, false};
-ghost use Rattle.rhai_state.specs.Limits.{limit_of};
 ghost use Rattle.rhai_state.specs.declared.error.EvalAltResult.TheVariants as error;
 
 use rhai_state::error::EvalAltResult;
@@ -10,17 +9,6 @@ use rhai_state::state::GlobalRuntimeState;
 use rhai_tree::position::Position;
 use rhai_values::base::value::Host;
 
-/// How many operations a run may charge.
-fn limit(limits: &Limits) -> u64
-    ensures { result ≡ limit_of limits.now.max_operations }
-{
-    if limits.max_operations == 0 {
-        u64::MAX
-    } else {
-        limits.max_operations
-    }
-}
-
 /// Charges one operation, or refuses it where the count has reached the limit; the count then
 /// stays.
 pub fn track_operation<H: Host>(
@@ -28,14 +16,14 @@ pub fn track_operation<H: Host>(
     global: &mut GlobalRuntimeState<H>,
     pos: Position,
 ) -> Result<(), EvalAltResult<H>>
-    ensures room { OnOk result (global.old.num_operations < limit_of limits.now.max_operations) }
+    ensures room { OnOk result (global.old.num_operations < limits.now.max_operations) }
     ensures charged { OnOk result (global.new ≡ record global.old
         { num_operations = global.old.num_operations + 1 }) }
-    ensures full { IfErr result (λ _. limit_of limits.now.max_operations ≤ global.old.num_operations) }
+    ensures full { IfErr result (λ _. limits.now.max_operations ≤ global.old.num_operations) }
     ensures refused { IfErr result (λ e. e ≡ error.ErrorTooManyOperations pos) }
     ensures same { IfErr result (λ _. global.new ≡ global.old) }
 {
-    let is_spent = global.num_operations >= limit(limits);
+    let is_spent = global.num_operations >= limits.max_operations;
     if is_spent {
         return Err(EvalAltResult::ErrorTooManyOperations(pos));
     }
@@ -43,24 +31,43 @@ pub fn track_operation<H: Host>(
     Ok(())
 }
 
-/// Charges several operations at once where the limit has room for all of them. Else it charges none
-/// and answers false.
-pub fn charge_all<H: Host>(limits: &Limits, global: &mut GlobalRuntimeState<H>, count: u64) -> bool
-    ensures room { result ≡ true →
-        global.old.num_operations + count ≤ limit_of limits.now.max_operations }
+/// Charges one operation. Where the count has reached the limit it charges none and answers false.
+#[inline(always)]
+pub fn charge_one<H: Host>(limits: &Limits, global: &mut GlobalRuntimeState<H>) -> bool
+    ensures room { result ≡ true → global.old.num_operations < limits.now.max_operations }
     ensures charged { result ≡ true → global.new ≡ record global.old
-        { num_operations = global.old.num_operations + count } }
-    ensures full { result ≡ false →
-        limit_of limits.now.max_operations < global.old.num_operations + count }
+        { num_operations = global.old.num_operations + 1 } }
+    ensures full { result ≡ false → limits.now.max_operations ≤ global.old.num_operations }
     ensures same { result ≡ false → global.new ≡ global.old }
 {
-    let Some(left) = limit(limits).checked_sub(global.num_operations) else {
-        return false;
-    };
-    let has_room = count <= left;
+    let has_room = global.num_operations < limits.max_operations;
     if !has_room {
         return false;
     }
-    global.num_operations += count;
+    global.num_operations += 1;
+    true
+}
+
+/// Charges several operations at once where the limit has room for all of them. Else it charges none
+/// and answers false.
+#[inline(always)]
+pub fn charge_all<H: Host>(limits: &Limits, global: &mut GlobalRuntimeState<H>, count: u64) -> bool
+    ensures room { result ≡ true →
+        global.old.num_operations + count ≤ limits.now.max_operations }
+    ensures charged { result ≡ true → global.new ≡ record global.old
+        { num_operations = global.old.num_operations + count } }
+    ensures full { result ≡ false →
+        limits.now.max_operations < global.old.num_operations + count }
+    ensures same { result ≡ false → global.new ≡ global.old }
+{
+    let Some(sum) = global.num_operations.checked_add(count) else {
+        let _limit = limits.max_operations;
+        return false;
+    };
+    let has_room = sum <= limits.max_operations;
+    if !has_room {
+        return false;
+    }
+    global.num_operations = sum;
     true
 }

@@ -52,6 +52,23 @@ pub fn place_of_variable<H: Host>(
     scope.place_of(offset, name.get().as_str())
 }
 
+/// The place of the newest variable of a name by its offset. None where none is given, or variables are searched for.
+/// Asked: the offset leads to the newest variable of the name.
+#[inline(always)]
+pub fn place_by_offset<H: Host>(
+    global: &GlobalRuntimeState<H>,
+    scope: &Scope<H>,
+    offset: Option<NonZeroUsize>,
+    name: &Shared<Text>,
+) -> Option<usize>
+    requires { IsTrue (is_good offset name.now (names_in scope.now)) }
+    ensures exact { IfSome result (λ at. index_of name.now (entries_of scope.now) ≡ Some at) }
+    ensures within { IfSome result (λ at. at < length (entries_of scope.now)) }
+{
+    let offset = global.offset_in_use(offset)?;
+    scope.place_of(Some(offset), name.get().as_str())
+}
+
 /// The place that an expression's offset leads to in a scope of so many variables: None where it is no
 /// variable, or has no offset, or variables are searched for. Asked: the offset is at most the count.
 pub fn scope_index<H: Host>(

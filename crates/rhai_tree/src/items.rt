@@ -134,6 +134,7 @@ impl<T> Items<T> {
 
 impl<T: Drop> Items<T> {
     /// Adds an item at the end. Where there is no memory the list stays and the item is let go.
+    #[inline(always)]
     pub fn push(&mut self, item: T) -> Result<(), AllocError>
         ensures ok { OnOk result (self.new ≡ self.old ++ item ∷ []) }
         ensures err { OnErr result (self.new ≡ self.old) }

@@ -8,7 +8,6 @@ use Rattle.rhai_state.specs.declared.error.EvalAltResult.{EvalAltResult}
 use Rattle.rhai_state.specs.declared.limits.Limits.{Limits}
 use Rattle.rhai_state.specs.declared.state.GlobalRuntimeState.{GlobalRuntimeState}
 use Rattle.rhai_state.specs.Errors.{is_out_of_memory}
-use Rattle.rhai_state.specs.Limits.{limit_of}
 use Rattle.rhai_state.specs.Native.{Effect, Natives}
 use Rattle.rhai_values.specs.Cells.{cells_of}
 use Rattle.rhai_values.specs.Layers.{layer_of}
@@ -101,7 +100,7 @@ module _ {S H T : Type 0} (limits : Limits) (host : H → List ℕ) (natives : N
       (r s : Result (Target H) (EvalAltResult H)) (same : state_of t ≡ state_of u) (one : IndexesTo g t x i g1 t' i1 r)
       (other : IndexesTo g u x i g2 u' i2 s) where
     abbrev limit : ℕ
-    limit = limit_of limits.max_operations
+    limit = limits.max_operations
 
     abbrev effect_at : S → Effect S H
     effect_at state = effect_of natives host (cells_of g.cells) state (reading i how.op_pos) x

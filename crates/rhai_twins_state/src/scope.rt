@@ -4,9 +4,10 @@ ghost use Rattle.std.specs.Prelude.{◌≡◌, ◌<◌, is_ok, length, string_by
 ghost use Rattle.std.specs.Option.{option_map};
 ghost use Rattle.rhai_state.specs.Scope.{entries_of, shown, Fits};
 
+use rhai_state::scope;
 use rhai_state::scope::{Scope, ScopeEntry};
 use rhai_state::slot::Slot;
-use rhai_tree::{Shared, Text};
+use rhai_tree::{Items, Shared, Text};
 use rhai_values::base::value::{AccessMode, Dynamic};
 use std::alloc::{AllocError, Global};
 use std::num::NonZeroUsize;
@@ -103,6 +104,59 @@ pub fn value_at<'a, H>(
     (one.value_at(index), other.value_at(index))
 }
 
+/// Of `Scope::exchange`.
+pub fn exchange<H: Drop>(
+    one: &mut Scope<H>,
+    other: &mut Scope<H>,
+    entries: Items<ScopeEntry<H>>,
+    also_entries: Items<ScopeEntry<H>>,
+) -> (Items<ScopeEntry<H>>, Items<ScopeEntry<H>>)
+    requires same { entries_of one.old ≡ entries_of other.old }
+    requires entries { entries ≡ also_entries }
+    ensures result { result.0 ≡ result.1 }
+    ensures scope { one.new ≡ other.new }
+{
+    (one.exchange(entries), other.exchange(also_entries))
+}
+
+/// Of `scope::push_variable`.
+pub fn push_variable<H: Drop>(
+    one: &mut Items<ScopeEntry<H>>,
+    other: &mut Items<ScopeEntry<H>>,
+    name: Shared<Text>,
+    also_name: Shared<Text>,
+    value: Dynamic<H>,
+    also_value: Dynamic<H>,
+) -> (Result<(), AllocError>, Result<(), AllocError>)
+    requires same { one.old ≡ other.old }
+    requires name { name ≡ also_name }
+    requires value { value ≡ also_value }
+    ensures { is_ok result.0 ≡ is_ok result.1 → one.new ≡ other.new }
+{
+    (
+        scope::push_variable(one, name, value),
+        scope::push_variable(other, also_name, also_value),
+    )
+}
+
+/// Of `scope::push_integer`.
+pub fn push_integer<H: Drop>(
+    one: &mut Items<ScopeEntry<H>>,
+    other: &mut Items<ScopeEntry<H>>,
+    name: Shared<Text>,
+    also_name: Shared<Text>,
+    number: i64,
+) -> (Result<(), AllocError>, Result<(), AllocError>)
+    requires same { one.old ≡ other.old }
+    requires name { name ≡ also_name }
+    ensures { is_ok result.0 ≡ is_ok result.1 → one.new ≡ other.new }
+{
+    (
+        scope::push_integer(one, name, number),
+        scope::push_integer(other, also_name, number),
+    )
+}
+
 /// Of `Scope::value_at_mut`, whatever is written.
 pub fn value_at_mut<H: Drop>(
     one: &mut Scope<H>,
@@ -179,6 +233,26 @@ pub fn push_shared<H: Drop>(
     (
         one.push_shared(name, mode, value),
         other.push_shared(also_name, mode, also_value),
+    )
+}
+
+/// Of `Scope::add_alias`.
+pub fn add_alias<H: Drop>(
+    one: &mut Scope<H>,
+    other: &mut Scope<H>,
+    index: usize,
+    alias: Shared<Text>,
+    also_alias: Shared<Text>,
+) -> (Result<(), AllocError>, Result<(), AllocError>)
+    requires same { entries_of one.old ≡ entries_of other.old }
+    requires known { index < length (entries_of one.old) }
+    requires also_known { index < length (entries_of other.old) }
+    requires alias { alias ≡ also_alias }
+    ensures { is_ok result.0 ≡ is_ok result.1 → entries_of one.new ≡ entries_of other.new }
+{
+    (
+        one.add_alias(index, alias),
+        other.add_alias(index, also_alias),
     )
 }
 

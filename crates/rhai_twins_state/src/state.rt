@@ -2,12 +2,23 @@
 
 ghost use Rattle.std.specs.Prelude.{◌≡◌, is_ok, string_bytes};
 
+use rhai_state::limits;
 use rhai_state::room::Room;
 use rhai_state::state::GlobalRuntimeState;
 use rhai_tree::{Items, Shared};
 use rhai_values::base::value::{Dynamic, Module};
 use std::alloc::{AllocError, Global};
 use std::num::NonZeroUsize;
+
+/// Of `limits::operation_limit`.
+pub fn operation_limit(max_operations: u64) -> (u64, u64)
+    ensures { result.0 ≡ result.1 }
+{
+    (
+        limits::operation_limit(max_operations),
+        limits::operation_limit(max_operations),
+    )
+}
 
 /// Of `GlobalRuntimeState::new`.
 pub fn new<H: Drop>(

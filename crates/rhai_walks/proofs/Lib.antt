@@ -1,3 +1,4 @@
+mod CellLemmas
 mod ItemLemmas
 mod Plain
 mod TurnLemmas

@@ -1,6 +1,6 @@
 -- What a variable that was written, or was not, leads a turn to.
-use Rattle.std.proofs.Common.{◌≡◌, ◌≢◌, ◌+◌, ◌^◌, ◌∷◌, ◌∙◌, ℕ, [], false, true, List, map, Option, Some, Result, Ok, Err, refl, sym, ap}
-use Rattle.std.specs.Prelude.{IfErr, OnErr, OnOk, nat_le}
+use Rattle.std.proofs.Common.{◌≡◌, ◌≢◌, ◌+◌, ◌^◌, ◌∷◌, ◌∙◌, ℕ, [], Bool, false, true, List, map, Option, Some, Result, Ok, Err, refl, sym, ap}
+use Rattle.std.specs.Prelude.{nat_le}
 use Rattle.rhai_tree.specs.declared.expr.Stmt.{Stmt}
 use Rattle.rhai_values.specs.declared.base.value.Dynamic.{Dynamic}
 use Rattle.rhai_state.specs.declared.error.EvalAltResult.{EvalAltResult}
@@ -20,56 +20,54 @@ use Rattle.rhai_machine.specs.language.Frames.{Core, Enter, Fail, ForBody, ForIt
 use Rattle.rhai_machine.specs.language.Runs.{at, Goes}
 use Rattle.rhai_machine.proofs.Places.{put_names}
 use Rattle.rhai_steps.proofs.Pieces.{or_wants, step_by}
+use Rattle.rhai_context.specs.Ends.{came, error_in}
 use Rattle.rhai_walks.specs.Loops.{entered_at}
 use Rattle.rhai_walks.specs.Variables.{Wrote, seen_as}
 
-pub went : {E P : Type 0} (r : Result (Unit {0}) E) → ((x : E) → r ≡ Err x → ⊥) → OnOk r P → P
-went (Ok done) not p = p
-went (Err e) not p = absurd (not e refl)
-
 module _ {H : Type 0} (v : Dynamic H) (l : Local H) (entries : List (ScopeEntry H)) (cells : List (Option (Dynamic H))) where
-  pub wrote_on : (r : Result (Unit {0}) (EvalAltResult H)) (place : Result Place (EvalAltResult H)) → Wrote r place v l entries cells →
-      (go : Local H → Core H) (k : List (Frame H)) → OnOk r (on_value place (λ p. go (put p v l)) k l ≡ go (seen_as entries cells l))
-  wrote_on (Ok done) (Ok p) wrote go k = ap go wrote
-  wrote_on (Ok done) (Err e) wrote go k = absurd wrote
-  wrote_on (Err e) place wrote go k = tt
+  pub wrote_on : (done : Bool) (e : Option (EvalAltResult H)) (place : Result Place (EvalAltResult H)) →
+      Wrote (came done tt e) place v l entries cells → (go : Local H → Core H) (k : List (Frame H)) → done ≡ true →
+      on_value place (λ p. go (put p v l)) k l ≡ go (seen_as entries cells l)
+  wrote_on true e (Ok p) wrote go k is = ap go wrote
+  wrote_on true e (Err x) wrote go k is = absurd wrote
+  wrote_on false e place wrote go k is = cc
 
-  pub wrote_not : (r : Result (Unit {0}) (EvalAltResult H)) (place : Result Place (EvalAltResult H)) → Wrote r place v l entries cells →
-      (go : Place → Core H) (k : List (Frame H)) →
-      IfErr r (λ e. is_out_of_memory e ≡ false → on_value place go k l ≡ core (Fail e) k l)
-  wrote_not (Ok done) place wrote go k = tt
-  wrote_not (Err e) (Ok p) wrote go k = absurd wrote
-  wrote_not (Err e) (Err x) wrote go k = λ memory. ap (λ (y : EvalAltResult H). core (Fail y) k l) (sym (wrote memory))
+  pub wrote_not : (done : Bool) (e : Option (EvalAltResult H)) (place : Result Place (EvalAltResult H)) →
+      Wrote (came done tt e) place v l entries cells → (go : Place → Core H) (k : List (Frame H)) → done ≡ false →
+      is_out_of_memory (error_in e) ≡ false → on_value place go k l ≡ core (Fail (error_in e)) k l
+  wrote_not true e place wrote go k is = cc
+  wrote_not false e (Ok p) wrote go k is = absurd wrote
+  wrote_not false e (Err x) wrote go k is = λ memory. ap (λ (y : EvalAltResult H). core (Fail y) k l) (sym (wrote memory))
 
   -- an item whose variable was not written
-  pub item_not : (r : Result (Unit {0}) (EvalAltResult H)) (loop : ForLoop) (item : Dynamic H) (rest : Turns H) (turn base index : ℕ)
+  pub item_not : (done : Bool) (e : Option (EvalAltResult H)) (loop : ForLoop) (item : Dynamic H) (rest : Turns H) (turn base index : ℕ)
       (k : List (Frame H)) → Ok v ≡ flat l.around.cells item (position_of loop.items) → index ≡ base + counters loop.counter →
-      Wrote r (place_of_entry loop.variable.name loop.variable.pos index l) v l entries cells →
-      IfErr r (λ e. is_out_of_memory e ≡ false → item_core loop item rest turn base k l ≡ core (Fail e) k l)
-  item_not r loop item rest turn base index k flattened there wrote =
-      rw (← flattened) (wrote_not r _ (rw there at wrote) _ k)
+      Wrote (came done tt e) (place_of_entry loop.variable.name loop.variable.pos index l) v l entries cells → done ≡ false →
+      is_out_of_memory (error_in e) ≡ false → item_core loop item rest turn base k l ≡ core (Fail (error_in e)) k l
+  item_not done e loop item rest turn base index k flattened there wrote =
+      rw (← flattened) (wrote_not done e _ (rw there at wrote) _ k)
 
   -- an item whose variable was written
-  pub item_written : (r : Result (Unit {0}) (EvalAltResult H)) (loop : ForLoop) (item : Dynamic H) (rest : Turns H)
+  pub item_written : (done : Bool) (e : Option (EvalAltResult H)) (loop : ForLoop) (item : Dynamic H) (rest : Turns H)
       (turn base index : ℕ) (k : List (Frame H)) → Ok v ≡ flat l.around.cells item (position_of loop.items) →
-      index ≡ base + counters loop.counter → Wrote r (place_of_entry loop.variable.name loop.variable.pos index l) v l entries cells →
-      OnOk r (item_core loop item rest turn base k l
-      ≡ core (Enter loop.body.statements true) (ForBody loop rest turn base ∷ k) (seen_as entries cells l))
-  item_written r loop item rest turn base index k flattened there wrote = rw (← flattened) (wrote_on r _ (rw there at wrote)
+      index ≡ base + counters loop.counter →
+      Wrote (came done tt e) (place_of_entry loop.variable.name loop.variable.pos index l) v l entries cells → done ≡ true →
+      item_core loop item rest turn base k l
+      ≡ core (Enter loop.body.statements true) (ForBody loop rest turn base ∷ k) (seen_as entries cells l)
+  item_written done e loop item rest turn base index k flattened there wrote = rw (← flattened) (wrote_on done e _ (rw there at wrote)
       (λ m. core (Enter loop.body.statements true) (ForBody loop rest turn base ∷ k) m) k)
 
-  pub same_seen : (r : Result (Unit {0}) (EvalAltResult H)) → OnErr r (entries ≡ l.scope) → OnErr r (cells ≡ l.around.cells) →
-      OnErr r (seen_as entries cells l ≡ l)
-  same_seen (Ok done) scope store = tt
-  same_seen (Err e) scope store = rw (scope, store) refl
+  pub same_seen : (done : Bool) → (done ≡ false → entries ≡ l.scope) → (done ≡ false → cells ≡ l.around.cells) → done ≡ false →
+      seen_as entries cells l ≡ l
+  same_seen done scope store not = rw (scope not, store not) refl
 
   -- the names stay
-  pub names_kept : (r : Result (Unit {0}) (EvalAltResult H)) (place : Result Place (EvalAltResult H)) → Wrote r place v l entries cells →
-      OnErr r (entries ≡ l.scope) → map name_of entries ≡ map name_of l.scope
-  names_kept (Ok done) (Ok p) wrote same =
+  pub names_kept : (done : Bool) (e : Option (EvalAltResult H)) (place : Result Place (EvalAltResult H)) →
+      Wrote (came done tt e) place v l entries cells → (done ≡ false → entries ≡ l.scope) → map name_of entries ≡ map name_of l.scope
+  names_kept true e (Ok p) wrote same =
       ap (λ (m : Local H). map name_of m.scope) (sym wrote) ∙ put_names p v l
-  names_kept (Ok done) (Err e) wrote same = absurd wrote
-  names_kept (Err e) place wrote same = ap (λ (es : List (ScopeEntry H)). map name_of es) same
+  names_kept true e (Err x) wrote same = absurd wrote
+  names_kept false e place wrote same = ap (λ (es : List (ScopeEntry H)). map name_of es) (same refl)
 
 module _ {S H : Type 0} (rules : Rules S H) (loop : ForLoop) (item : Dynamic H) (rest : Turns H) (turn base : ℕ) (k : List (Frame H))
     (t : S) (count : ℕ) where
@@ -96,12 +94,13 @@ module _ {S H : Type 0} (rules : Rules S H) (loop : ForLoop) (item : Dynamic H) 
         step_by rules _ _ (Go (core (Fail e) k l)) (rw is (turned loop.body.statements l some ∙ ap Go (refused m))) here)
 
   -- its item stands in the variable, or does not
-  pub enters : (r : Result (Unit {0}) (EvalAltResult H)) (l m : Local H) →
-      OnOk r (item_core loop item rest turn base k l ≡ core (Enter loop.body.statements true) (ForBody loop rest turn base ∷ k) m) →
-      IfErr r (λ e. is_out_of_memory e ≡ false → item_core loop item rest turn base k l ≡ core (Fail e) k l) →
-      OnErr r (m ≡ l) →
-      Goes rules (at (ForItem loop item rest turn base) k (state l)) (entered_at r loop rest turn base k (state m))
-  enters (Ok done) l m entered refused same =
-      step_by rules _ _ (Go (core (Enter loop.body.statements true) (ForBody loop rest turn base ∷ k) m)) (ap Go entered) here
-  enters (Err e) l m entered refused same = rw same (or_wants rules (ForItem loop item rest turn base) k (state l) e (λ memory.
-      step_by rules _ _ (Go (core (Fail e) k l)) (ap Go (refused memory)) here))
+  pub enters : (done : Bool) (e : Option (EvalAltResult H)) (l m : Local H) →
+      (done ≡ true → item_core loop item rest turn base k l
+      ≡ core (Enter loop.body.statements true) (ForBody loop rest turn base ∷ k) m) →
+      (done ≡ false → is_out_of_memory (error_in e) ≡ false → item_core loop item rest turn base k l ≡ core (Fail (error_in e)) k l) →
+      (done ≡ false → m ≡ l) →
+      Goes rules (at (ForItem loop item rest turn base) k (state l)) (entered_at (came done tt e) loop rest turn base k (state m))
+  enters true e l m entered refused same =
+      step_by rules _ _ (Go (core (Enter loop.body.statements true) (ForBody loop rest turn base ∷ k) m)) (ap Go (entered refl)) here
+  enters false e l m entered refused same = rw (same refl) (or_wants rules (ForItem loop item rest turn base) k (state l) (error_in e)
+      (λ memory. step_by rules _ _ (Go (core (Fail (error_in e)) k l)) (ap Go (refused refl memory)) here))

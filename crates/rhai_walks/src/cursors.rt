@@ -18,6 +18,19 @@ pub struct ItemsLeft<H> {
     at: usize,
 }
 
+/// An integer as it stands, None for any other value.
+fn number_at<H>(value: &Dynamic<H>) -> Option<Dynamic<H>>
+    ensures { IfSome result (λ number. number ≡ value.now) }
+{
+    match &value.value {
+        Union::Int(number) => Some(Dynamic {
+            value: Union::Int(*number),
+            mode: value.mode,
+        }),
+        _ => None,
+    }
+}
+
 impl<H> ItemsLeft<H> {
     /// All items of an array.
     pub fn new(items: Items<Dynamic<H>>) -> ItemsLeft<H>
@@ -34,9 +47,12 @@ impl<H> ItemsLeft<H> {
         if self.at >= self.items.len() {
             return None;
         }
-        let item = replace(self.items.at_mut(self.at), Dynamic::new(Union::Unit));
+        let place = self.items.at_mut(self.at);
         self.at += 1;
-        Some(item)
+        if let Some(number) = number_at(place) {
+            return Some(number);
+        }
+        Some(replace(place, Dynamic::new(Union::Unit)))
     }
 }
 

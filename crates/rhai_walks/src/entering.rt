@@ -1,6 +1,6 @@
 //! How a turn of a `for` is entered: its variables are written.
 
-ghost use Rattle.std.specs.Prelude.{◌≡◌, ◌≢◌, ◌+◌, ◌^◌, ◌∷◌, [], IfErr, IfSome, None, OnErr, OnOk, Some};
+ghost use Rattle.std.specs.Prelude.{◌≡◌, ◌≢◌, ◌+◌, ◌^◌, ◌∷◌, [], IfSome, None, Some};
 ghost use Rattle.std.specs.Prelude.{false, length, nat_le, pos, true};
 ghost use Rattle.rhai_values.specs.Cells.{cells_of};
 ghost use Rattle.rhai_state.specs.declared.error.EvalAltResult.TheVariants as error;
@@ -13,7 +13,7 @@ ghost use Rattle.rhai_machine.specs.language.Turns.{next_turn};
 ghost use Rattle.rhai_machine.specs.language.Walks.{counter_overflow as text_of_overflow, counters, item_core};
 ghost use Rattle.rhai_machine.specs.language.Walks.{turn_core};
 ghost use Rattle.rhai_steps.specs.States.{state_of};
-ghost use Rattle.rhai_context.specs.Ends.{came};
+ghost use Rattle.rhai_context.specs.Ends.{came, error_in};
 ghost use Rattle.rhai_walks.specs.Loops.{entered_at, loop_in};
 ghost use Rattle.rhai_walks.specs.Variables.{seen_as};
 
@@ -32,8 +32,6 @@ use rhai_values::base::value::{Dynamic, Host, Union};
 use std::alloc::Global;
 
 /// A counter that no integer counts on.
-#[cold]
-#[inline(never)]
 fn counter_overflow<H>(alloc: Global, pos: Position) -> EvalAltResult<H>
     ensures { is_out_of_memory result ≡ false → result ≡ error.ErrorArithmetic text_of_overflow pos }
 {
@@ -41,6 +39,21 @@ fn counter_overflow<H>(alloc: Global, pos: Position) -> EvalAltResult<H>
         Ok(text) => EvalAltResult::ErrorArithmetic(text, pos),
         Err(_) => EvalAltResult::ErrorOutOfMemory(pos),
     }
+}
+
+/// The run stops by a counter that no integer counts on.
+#[cold]
+#[inline(never)]
+fn stop_counting<H: Host>(
+    alloc: Global,
+    place: &mut Option<EvalAltResult<H>>,
+    pos: Position,
+) -> bool
+    ensures stopped { result ≡ false }
+    ensures told { is_out_of_memory (error_in place.new) ≡ false →
+        error_in place.new ≡ error.ErrorArithmetic text_of_overflow pos }
+{
+    stop(place, counter_overflow(alloc, pos))
 }
 
 /// The integer that a turn's number is, if there is one.
@@ -65,34 +78,44 @@ fn count_turn<H: Host>(
     alloc: Global,
     global: &mut GlobalRuntimeState<H>,
     scope: &mut Scope<H>,
+    place: &mut Option<EvalAltResult<H>>,
     parts: ForParts<'_>,
     turn: u64,
     base: usize,
-) -> Result<(), EvalAltResult<H>>
+) -> bool
     requires { base + counters parts.counter.now + 1 ≡ length (entries_of scope.old) }
     ensures rest { global.new ≡ record global.old { cells = global.new.cells } }
     ensures names { names_in scope.new ≡ names_in scope.old }
     ensures counted { (item : _) (rest : _) (k : _) (l : _) →
         seen_as (entries_of scope.old) (cells_of global.old.cells) l ≡ l →
-        OnOk result (turn_core (nat_le (2 ^ 63) turn) (loop_in parts.entry) item rest turn base k l
+        result ≡ true → turn_core (nat_le (2 ^ 63) turn) (loop_in parts.entry) item rest turn base k l
         ≡ core (ForItem (loop_in parts.entry) item rest turn base) k
-        (seen_as (entries_of scope.new) (cells_of global.new.cells) l)) }
+        (seen_as (entries_of scope.new) (cells_of global.new.cells) l) }
     ensures refused { (item : _) (rest : _) (k : _) (l : _) →
         seen_as (entries_of scope.old) (cells_of global.old.cells) l ≡ l →
-        IfErr result (λ e. is_out_of_memory e ≡ false →
-        turn_core (nat_le (2 ^ 63) turn) (loop_in parts.entry) item rest turn base k l ≡ core (Fail e) k l) }
-    ensures same_scope { OnErr result (entries_of scope.new ≡ entries_of scope.old) }
-    ensures same_cells { OnErr result (cells_of global.new.cells ≡ cells_of global.old.cells) }
+        result ≡ false → is_out_of_memory (error_in place.new) ≡ false →
+        turn_core (nat_le (2 ^ 63) turn) (loop_in parts.entry) item rest turn base k l
+        ≡ core (Fail (error_in place.new)) k l }
+    ensures same_scope { result ≡ false → entries_of scope.new ≡ entries_of scope.old }
+    ensures same_cells { result ≡ false → cells_of global.new.cells ≡ cells_of global.old.cells }
 {
     let pos = parts.variable.pos;
     let Some(number) = integer_of(turn) else {
-        return Err(counter_overflow(alloc, pos));
+        return stop_counting(alloc, place, pos);
     };
     let Some(counter) = parts.counter else {
-        return Ok(());
+        return true;
     };
     let number = Dynamic::new(Union::Int(number));
-    write_variable(scope, &mut global.cells, base, number, &counter.name, pos)
+    write_variable(
+        scope,
+        &mut global.cells,
+        place,
+        base,
+        number,
+        &counter.name,
+        pos,
+    )
 }
 
 /// Writes an item that may be a handle into the variable, as `enter_item` does it.
@@ -104,31 +127,36 @@ fn enter_handle<H: Host>(
     alloc: Global,
     global: &mut GlobalRuntimeState<H>,
     scope: &mut Scope<H>,
+    place: &mut Option<EvalAltResult<H>>,
     parts: ForParts<'_>,
     item: Dynamic<H>,
     base: usize,
-) -> Result<(), EvalAltResult<H>>
+) -> bool
     requires { base + counters parts.counter.now + 1 ≡ length (entries_of scope.old) }
     ensures rest { global.new ≡ record global.old { cells = global.new.cells } }
     ensures names { names_in scope.new ≡ names_in scope.old }
     ensures entered { (rest : _) (turn : _) (k : _) (l : _) →
         seen_as (entries_of scope.old) (cells_of global.old.cells) l ≡ l →
-        OnOk result (item_core (loop_in parts.entry) item rest turn base k l
+        result ≡ true → item_core (loop_in parts.entry) item rest turn base k l
         ≡ core (Enter parts.entry.body.now.statements true) (ForBody (loop_in parts.entry) rest turn base ∷ k)
-        (seen_as (entries_of scope.new) (cells_of global.new.cells) l)) }
+        (seen_as (entries_of scope.new) (cells_of global.new.cells) l) }
     ensures refused { (rest : _) (turn : _) (k : _) (l : _) →
         seen_as (entries_of scope.old) (cells_of global.old.cells) l ≡ l →
-        IfErr result (λ e. is_out_of_memory e ≡ false →
-        item_core (loop_in parts.entry) item rest turn base k l ≡ core (Fail e) k l) }
-    ensures same_scope { OnErr result (entries_of scope.new ≡ entries_of scope.old) }
-    ensures same_cells { OnErr result (cells_of global.new.cells ≡ cells_of global.old.cells) }
+        result ≡ false → is_out_of_memory (error_in place.new) ≡ false →
+        item_core (loop_in parts.entry) item rest turn base k l ≡ core (Fail (error_in place.new)) k l }
+    ensures same_scope { result ≡ false → entries_of scope.new ≡ entries_of scope.old }
+    ensures same_cells { result ≡ false → cells_of global.new.cells ≡ cells_of global.old.cells }
 {
-    let value = flatten(alloc, &global.cells, item, parts.items.position())?;
+    let value = match flatten(alloc, &global.cells, item, parts.items.position()) {
+        Ok(value) => value,
+        Err(error) => return stop(place, error),
+    };
     let index = scope.len() - 1;
     let variable = parts.variable;
     write_variable(
         scope,
         &mut global.cells,
+        place,
         index,
         value,
         &variable.name,
@@ -144,52 +172,40 @@ fn enter_item<H: Host>(
     alloc: Global,
     global: &mut GlobalRuntimeState<H>,
     scope: &mut Scope<H>,
+    place: &mut Option<EvalAltResult<H>>,
     parts: ForParts<'_>,
     item: Dynamic<H>,
     base: usize,
-) -> Result<(), EvalAltResult<H>>
+) -> bool
     requires { base + counters parts.counter.now + 1 ≡ length (entries_of scope.old) }
     ensures rest { global.new ≡ record global.old { cells = global.new.cells } }
     ensures names { names_in scope.new ≡ names_in scope.old }
     ensures entered { (rest : _) (turn : _) (k : _) (l : _) →
         seen_as (entries_of scope.old) (cells_of global.old.cells) l ≡ l →
-        OnOk result (item_core (loop_in parts.entry) item rest turn base k l
+        result ≡ true → item_core (loop_in parts.entry) item rest turn base k l
         ≡ core (Enter parts.entry.body.now.statements true) (ForBody (loop_in parts.entry) rest turn base ∷ k)
-        (seen_as (entries_of scope.new) (cells_of global.new.cells) l)) }
+        (seen_as (entries_of scope.new) (cells_of global.new.cells) l) }
     ensures refused { (rest : _) (turn : _) (k : _) (l : _) →
         seen_as (entries_of scope.old) (cells_of global.old.cells) l ≡ l →
-        IfErr result (λ e. is_out_of_memory e ≡ false →
-        item_core (loop_in parts.entry) item rest turn base k l ≡ core (Fail e) k l) }
-    ensures same_scope { OnErr result (entries_of scope.new ≡ entries_of scope.old) }
-    ensures same_cells { OnErr result (cells_of global.new.cells ≡ cells_of global.old.cells) }
+        result ≡ false → is_out_of_memory (error_in place.new) ≡ false →
+        item_core (loop_in parts.entry) item rest turn base k l ≡ core (Fail (error_in place.new)) k l }
+    ensures same_scope { result ≡ false → entries_of scope.new ≡ entries_of scope.old }
+    ensures same_cells { result ≡ false → cells_of global.new.cells ≡ cells_of global.old.cells }
 {
     if is_bare_handle(&item) {
-        return enter_handle(alloc, global, scope, parts, item, base);
+        return enter_handle(alloc, global, scope, place, parts, item, base);
     }
     let index = scope.len() - 1;
     let variable = parts.variable;
     write_variable(
         scope,
         &mut global.cells,
+        place,
         index,
         item,
         &variable.name,
         variable.pos,
     )
-}
-
-/// Whether the variables are written. Where they are not, the run stops.
-#[inline(always)]
-fn settled<H: Host>(
-    place: &mut Option<EvalAltResult<H>>,
-    entered: Result<(), EvalAltResult<H>>,
-) -> bool
-    ensures { came result tt place.new ≡ entered }
-{
-    match entered {
-        Ok(()) => true,
-        Err(error) => stop(place, error),
-    }
 }
 
 /// Enters a turn whose body is not empty: its counter and then its variable are written. Where that fails the
@@ -219,10 +235,9 @@ pub fn enter_turn<H: Host, T: NativeTable<H>>(
         (entered_at (came result tt place.new) (loop_in parts.entry) rest turn base k
         (state_of (T.state table.now) global.new scope.new held)) }
 {
-    if let Err(error) = count_turn(alloc, global, scope, parts, turn, base) {
+    if !count_turn(alloc, global, scope, place, parts, turn, base) {
         let_go(item);
-        return stop(place, error);
+        return false;
     }
-    let entered = enter_item(alloc, global, scope, parts, item, base);
-    settled(place, entered)
+    enter_item(alloc, global, scope, place, parts, item, base)
 }

@@ -63,7 +63,8 @@ pub fn has_room<H: Host>(
         (length (entries_of scope.now) + counters parts.entry.counter.now) ≡ false }
     ensures full { result ≡ false → nat_le limits.now.max_variables
         (length (entries_of scope.now) + counters parts.entry.counter.now) ≡ true }
-    ensures told { result ≡ false → error_in place.new ≡ error.ErrorTooManyVariables parts.entry.variable.now.pos }
+    ensures told { result ≡ false →
+        error_in place.new ≡ error.ErrorTooManyVariables parts.entry.variable.now.pos }
 {
     if has_no_room(limits, scope, parts.counter) {
         return stop(
@@ -102,7 +103,8 @@ fn push_variables<H: Host>(
     scope: &mut Scope<H>,
     parts: ForParts<'_>,
 ) -> Result<(), EvalAltResult<H>>
-    ensures pushed { OnOk result (entries_of scope.new ≡ entries_of scope.old ++ loop_entries (loop_in parts.entry)) }
+    ensures pushed { OnOk result (entries_of scope.new
+        ≡ entries_of scope.old ++ loop_entries (loop_in parts.entry)) }
     ensures refused { IfErr result (λ e. is_out_of_memory e ≡ true) }
     ensures same { OnErr result (entries_of scope.new ≡ entries_of scope.old) }
 {

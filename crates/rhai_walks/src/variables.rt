@@ -1,11 +1,15 @@
 //! The counter and the variable of a `for`, as its turns write them.
 
-ghost use Rattle.std.specs.Prelude.{◌≡◌, ◌<◌, OnErr, length};
-ghost use Rattle.rhai_values.specs.Cells.{cells_of};
+ghost use Rattle.std.specs.Prelude.{◌≡◌, ◌<◌, None, false, is_some, length, true};
+ghost use Rattle.rhai_values.specs.Cells.{cells_of, value_of_cell, with_value};
+ghost use Rattle.rhai_state.specs.declared.error.EvalAltResult.TheVariants as error;
+ghost use Rattle.rhai_state.specs.Errors.{is_out_of_memory};
 ghost use Rattle.rhai_state.specs.Scope.{entries_of};
 ghost use Rattle.rhai_machine.specs.language.Walks.{place_of_entry};
+ghost use Rattle.rhai_context.specs.Ends.{came, error_in};
 ghost use Rattle.rhai_walks.specs.Variables.{Wrote, cell_in, seen_as};
 
+use rhai_context::ends::{stop, write_number};
 use rhai_state::error::EvalAltResult;
 use rhai_state::scope::Scope;
 use rhai_steps::errors::data_race_of;
@@ -25,6 +29,34 @@ fn cell_of<H: Host>(value: &Dynamic<H>) -> Option<CellId>
     }
 }
 
+/// Writes a value into a cell.
+///
+/// # Errors
+/// `ErrorDataRace` at the place where the cell is held. Then nothing was written.
+#[inline(never)]
+fn write_cell<H: Host>(
+    cells: &mut CellStore<H>,
+    place: &mut Option<EvalAltResult<H>>,
+    id: CellId,
+    value: Dynamic<H>,
+    name: &Shared<Text>,
+    pos: Position,
+) -> bool
+    ensures known { result ≡ true → is_some (value_of_cell (cells_of cells.old) id.number) ≡ true }
+    ensures wrote { result ≡ true → cells_of cells.new ≡ with_value (cells_of cells.old) id.number value }
+    ensures held { result ≡ false → value_of_cell (cells_of cells.old) id.number ≡ None }
+    ensures told { result ≡ false → is_out_of_memory (error_in place.new) ≡ false →
+        error_in place.new ≡ error.ErrorDataRace name.now pos }
+    ensures same { result ≡ false → cells_of cells.new ≡ cells_of cells.old }
+{
+    if cells.get(id).is_none() {
+        let_go(value);
+        return stop(place, data_race_of(name, pos));
+    }
+    put_back(cells, id, value);
+    true
+}
+
 /// Writes a variable of a `for`, as it is: the entry, or the cell that the entry is the handle of.
 ///
 /// # Errors
@@ -33,25 +65,22 @@ fn cell_of<H: Host>(value: &Dynamic<H>) -> Option<CellId>
 pub fn write_variable<H: Host>(
     scope: &mut Scope<H>,
     cells: &mut CellStore<H>,
+    place: &mut Option<EvalAltResult<H>>,
     index: usize,
     value: Dynamic<H>,
     name: &Shared<Text>,
     pos: Position,
-) -> Result<(), EvalAltResult<H>>
+) -> bool
     requires { index < length (entries_of scope.old) }
     ensures wrote { (l : _) → seen_as (entries_of scope.old) (cells_of cells.old) l ≡ l →
-        Wrote result (place_of_entry name.now pos index l) value l (entries_of scope.new) (cells_of cells.new) }
-    ensures scope { OnErr result (entries_of scope.new ≡ entries_of scope.old) }
-    ensures cells { OnErr result (cells_of cells.new ≡ cells_of cells.old) }
+        Wrote (came result tt place.new) (place_of_entry name.now pos index l) value l
+        (entries_of scope.new) (cells_of cells.new) }
+    ensures scope { result ≡ false → entries_of scope.new ≡ entries_of scope.old }
+    ensures cells { result ≡ false → cells_of cells.new ≡ cells_of cells.old }
 {
     let Some(id) = cell_of(scope.value_at(index)) else {
-        let_go(scope.replace_value(index, value));
-        return Ok(());
+        write_number(scope, index, value);
+        return true;
     };
-    if cells.get(id).is_none() {
-        let_go(value);
-        return Err(data_race_of(name, pos));
-    }
-    put_back(cells, id, value);
-    Ok(())
+    write_cell(cells, place, id, value, name, pos)
 }

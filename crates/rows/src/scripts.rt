@@ -7,7 +7,7 @@ use rhai_bench::print::{write_ending, write_value};
 use rhai_bench::rows::{scope_for, scripts_of};
 use rhai_bench::script::Script;
 use rhai_bench::settings::Way;
-use rhai_eval::base::{AccessMode, CellId, Dynamic, EvalAltResult, Scope, Union};
+use rhai_eval::base::{AccessMode, CellId, Dynamic, EvalAltResult, Scope, Shared, Text, Union};
 use rhai_eval::cells::CellStore;
 use rhai_tables::host::Pair;
 use std::alloc::{AllocError, Global};
@@ -109,6 +109,7 @@ fn write_outcome(
         "leaves" => write_variables(others, &outcome.scope, out),
         "fixes" => write_constants(&outcome.scope, out),
         "shares" => write_cells(&outcome.cells, out),
+        "exports" => write_aliases(&outcome.scope, out),
         "says" => write_said(&outcome.ending, out),
         "reads" => write_read(alloc, &outcome.ending, out),
         _ => write!(out, "no form"),
@@ -147,6 +148,32 @@ fn write_constants(scope: &Scope<Pair>, out: &mut Vec<u8>) -> io::Result<()> {
         write!(out, "nothing")?;
     }
     Ok(())
+}
+
+/// Writes the variables that have aliases with them, as `x as y, z;`, or `nothing`.
+fn write_aliases(scope: &Scope<Pair>, out: &mut Vec<u8>) -> io::Result<()> {
+    let mut separator = "";
+    for entry in scope.entries() {
+        if !entry.aliases.as_slice().is_empty() {
+            write!(out, "{separator}{} as", entry.name.get().as_str())?;
+            write_names(entry.aliases.as_slice(), out)?;
+            separator = " ";
+        }
+    }
+    if separator == "" {
+        write!(out, "nothing")?;
+    }
+    Ok(())
+}
+
+/// Writes names behind a space each, with commas between them and a `;` behind them.
+fn write_names(names: &[Shared<Text>], out: &mut Vec<u8>) -> io::Result<()> {
+    let mut separator = "";
+    for name in names {
+        write!(out, "{separator} {}", name.get().as_str())?;
+        separator = ",";
+    }
+    write!(out, ";")
 }
 
 /// Writes the values of the cells, as `1; [2];`, or `nothing`.

@@ -28,8 +28,8 @@ returns-clause-runs g c offer held offers =
     c.in-Variable.namespace c.in-Variable.pos form
     (plain_name c.in-Some.arg.now c.in-Variable.offset c.in-Variable.name c.in-Variable.namespace c.in-Variable.pos
     (names_in c.args.scope.now) form resolves)
-    (g.T.NativeTable.state c.args.table.now) c.args.global.now c.charge_all.new.global c.args.scope.now held
-    (omega (arith, c.if-not-charge_all.ensures.room refl)) (c.if-not-charge_all.ensures.charged refl)
+    (g.T.NativeTable.state c.args.table.now) c.args.global.now c.charge_one.new.global c.args.scope.now held
+    (omega (arith, c.if-not-charge_one.ensures.room refl)) (c.if-not-charge_one.ensures.charged refl)
     c.in-Some-place_of_variable.index c.value_at-value.result.now
     (sym c.place_of_variable.ensures.exact ∙ c.in-Some-place_of_variable.is) c.value_at-value.ensures
     (sym c.is_lendable.ensures ∙ c.if-not-is_lendable.false)

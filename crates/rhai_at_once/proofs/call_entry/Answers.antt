@@ -24,7 +24,7 @@ returns-clause-runs g c offer held v stands =
     let rules : Rules _ _ = rules_of c.args.limits.now g.H.Host.name_of offer g.T.NativeTable.natives in
     let operation : Operation = record { name = c.args.name.now; token = None; at = c.args.pos } in
     let same : v ≡ c.value_at_mut-first.result.now = let there = c.value_at_mut-first.ensures.value in cc in
-    let none : c.as_slice-rest.result.now ≡ [] = c.as_slice-rest.ensures ∙ c.new-rest.ensures in
+    let none : c.as_slice-rest.result.now ≡ [] = c.as_slice-rest.ensures in
     rw same
     (asks_native rules operation c.args.index c.value_at_mut-first.result.now
     (rw c.value_at_mut-first.ensures.value at c.requires.lendable) (g.T.NativeTable.state c.args.table.now)

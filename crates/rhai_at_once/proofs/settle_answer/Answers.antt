@@ -3,13 +3,13 @@ use Rattle.rhai_values.specs.Cells.{cells_of}
 use Rattle.rhai_at_once.proofs.Steps.{number_told}
 use Rattle.rhai_at_once.proofs.settle_answer.Goals as goal
 
-pub returns-in-Some-clause-told : goal.returns-in-Some-clause-told
-returns-in-Some-clause-told g c =
-    let (given, number, is) = c.in-Some.ensures in
+pub returns-in-Ok-clause-told : goal.returns-in-Ok-clause-told
+returns-in-Ok-clause-told g c =
+    let (given, number, is) = c.in-Ok.ensures.number in
     rw (given, is)
     (λ memory. ap Ok (c.put_number.ensures ∙ is)
     ∙ sym (number_told g.row.H.Denot c.args.limits.now g.H.Host.name_of number (Some c.args.first.now) c.args.rest.now
     (record { name = c.args.name.now; token = None; at = c.args.pos }) (cells_of c.args.cells.now)))
 
 pub returns-clause-told : goal.returns-clause-told
-returns-clause-told g c = rw c.settle.ensures c.replied-answered.ensures.told
+returns-clause-told g c = rw c.settle.ensures (rw c.in-Err.ensures.other at c.replied-answered.ensures.told)

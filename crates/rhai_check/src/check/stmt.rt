@@ -269,8 +269,9 @@ fn check_stmt(names: &mut Items<Shared<Text>>, place: Place, stmt: &Stmt) -> Res
             check_branch(names, place, branch, variable)
         }
         Stmt::Share(variables) => check_shared(names.as_slice(), variables.as_slice()),
-        Stmt::Var(_, _, Some(_), _, pos) | Stmt::Import(_, _, pos) | Stmt::Export(_, _, pos) => Err(
-            CheckFault::NotYet(*pos),
-        ),
+        Stmt::Export(_, _, _) => Ok(()),
+        Stmt::Var(_, _, Some(_), _, pos) | Stmt::Import(_, _, pos) => {
+            Err(CheckFault::NotYet(*pos))
+        }
     }
 }

@@ -1,16 +1,18 @@
-use Rattle.std.proofs.Common.{◌≡◌, ◌≤◌, ◌+◌, ℕ, sym, refl, subst, ◌∙◌, Some}
+use Rattle.std.proofs.Common.{◌≡◌, ◌≤◌, ◌+◌, ℕ, ap, not, sym, refl, subst, ◌∙◌, Some}
 use Rattle.rhai_tree.specs.declared.expr.Expr.{out-Expr}
 use Rattle.rhai_tree.specs.declared.expr.Expr.TheVariants as exprs
 use Rattle.rhai_tree.specs.declared.expr.Expr.TheOpen as layer
-use Rattle.rhai_state.specs.Limits.{limit_of}
-use Rattle.rhai_state.specs.Scope.{names_in}
+use Rattle.rhai_values.specs.Layers.{layer_of}
+use Rattle.rhai_state.specs.Scope.{entries_of, names_in}
 use Rattle.rhai_places.specs.declared.spot.Spot.TheVariants as spot
-use Rattle.rhai_places.specs.Parts.{with_value}
+use Rattle.rhai_places.specs.Parts.{value_at, with_value}
 use Rattle.rhai_machine.specs.language.Setting.{rules_of}
+use Rattle.rhai_operands.specs.Standing.{assigned_known, integer_of, standing}
+use Rattle.rhai_operands.proofs.Integers.{is_there}
 use Rattle.rhai_operands.proofs.Names.{plain_name}
 use Rattle.rhai_items.proofs.Parts.{item_resolves, parts_shown}
 use Rattle.rhai_items.proofs.Path.{item_assigned, item_keeps}
-use Rattle.rhai_items.specs.Items.{parts_in}
+use Rattle.rhai_items.specs.Items.{parts_in, place_in_array, writable_at}
 use Rattle.rhai_items.proofs.assign_item.Goals as goal
 
 pub returns-clause-keeps : goal.returns-clause-keeps
@@ -30,17 +32,23 @@ returns-clause-runs g c is offer held restoring fast =
     c.in-Variable.pos = rw (c.in-Variable.is, exprs.outs-Variable) refl in
     let plain = plain_name c.in-Some.root.now c.in-Variable.offset c.in-Variable.name c.in-Variable.namespace c.in-Variable.pos
     (names_in c.args.scope.now) form resolve.0 in
+    let at_index = is_there c.integer_in_place-position.result
+    (integer_of (standing (out-Expr c.in-Some.index.now) (entries_of c.args.scope.now)))
+    (c.is_none.ensures ∙ ap not c.if-is_none.false) c.integer_in_place-position.ensures in
+    let operand = is_there c.integer_in_place-operand.result
+    (integer_of (standing (out-Expr c.args.rhs.now) (entries_of c.args.scope.now)))
+    (c.is_none-3.ensures ∙ ap not c.if-is_none-3.false) c.integer_in_place-operand.ensures in
     item_assigned (rules_of c.args.limits.now g.H.Host.name_of offer g.T.NativeTable.natives)
-    (g.T.NativeTable.state c.args._table.now) c.args.scope.now held c.args.op c.args.lhs.now c.in-Some.root.now c.in-Some.index.now
+    (g.T.NativeTable.state c.args._table.now) c.args.scope.now held c.args.op.now c.args.lhs.now c.in-Some.root.now c.in-Some.index.now
     c.args.rhs.now shown.0 shown.1 restoring shown.2 shown.3 c.requires.resolves resolve.1 c.in-Variable.offset c.in-Variable.name
     c.in-Variable.namespace c.in-Variable.pos form plain c.in-Some-op.token c.in-Some-op.is fast c.in-Some-place_of_variable.entry
     c.value_at-source.result.now (sym c.place_of_variable.ensures.exact ∙ c.in-Some-place_of_variable.is) c.value_at-source.ensures
     c.args.global.now c.charge_all.new.global c.write_item.new.scope
-    (subst (λ (n : ℕ). c.args.global.now.num_operations + n ≤ limit_of c.args.limits.now.max_operations) c.charges-count.ensures
+    (subst (λ (n : ℕ). c.args.global.now.num_operations + n ≤ c.args.limits.now.max_operations) c.charges-count.ensures
     (c.charge_all.ensures.room c.if-not-charge_all.false))
     (subst (λ (n : ℕ). c.charge_all.new.global ≡ record c.args.global.now { num_operations = c.args.global.now.num_operations + n })
     c.charges-count.ensures (c.charge_all.ensures.charged c.if-not-charge_all.false))
     c.in-Some-place_in_value.at c.in-Some-assign_known.value (c.write_item.ensures c.value_at-source.result.now c.value_at-source.ensures)
-    (sym (rw c.integer_in_place-position.ensures at c.place_in_value.ensures.at) ∙ c.in-Some-place_in_value.is)
-    (sym (rw (c.integer_of_item-target.ensures, c.integer_in_place-operand.ensures) at c.assign_known.ensures)
-    ∙ c.in-Some-assign_known.is)
+    (ap (place_in_array (layer_of c.value_at-source.result.now)) at_index ∙ sym c.place_in_value.ensures.at ∙ c.in-Some-place_in_value.is)
+    (ap (assigned_known c.in-Some-op.token (writable_at (value_at c.value_at-source.result.now (spot.Item c.in-Some-place_in_value.at)))) operand
+    ∙ sym (rw c.integer_of_item-target.ensures at c.assign_known.ensures) ∙ c.in-Some-assign_known.is)

@@ -1,7 +1,6 @@
 -- What is fixed while a script runs: the limits, what the engine offers, and the table of natives.
 use Rattle.std.specs.Prelude.{ℕ, Bool, List}
 use Rattle.rhai_machine.specs.Types.{Limits, Module}
-use Rattle.rhai_state.specs.Limits.{limit_of}
 use Rattle.rhai_state.specs.Native.{Natives}
 use Rattle.rhai_machine.specs.machine.Machine.{below}
 
@@ -35,7 +34,7 @@ module _ {S H : Type 0} where
 
   -- the limit of operations
   abbrev pub limit_under : Rules S H → ℕ
-  limit_under rules = limit_of rules.setting.limits.max_operations
+  limit_under rules = rules.setting.limits.max_operations
 
   -- at which counts a charge is let through
   abbrev pub cut : Rules S H → ℕ → Bool

@@ -21,6 +21,7 @@ use Rattle.rhai_machine.specs.language.Turns.{ForLoop}
 use Rattle.rhai_machine.specs.language.Frames.{Saved, Frame, Core, core, where_there, Eval, Exec, OpenExpr, Enter, Run, WhileTurn}
 use Rattle.rhai_machine.specs.language.Frames.{DoTurn, Back, Fail, StatementValue, DefineValue, IfCondition, RestOfList, RestoreList}
 use Rattle.rhai_machine.specs.language.Frames.{Share, SwitchValue, TryBody, BreakValue, ReturnValue, ThrowValue}
+use Rattle.rhai_machine.specs.language.Exports.{export_core}
 use Rattle.rhai_machine.specs.language.Walks.{for_core, has_no_room}
 use Rattle.rhai_machine.specs.language.Assignment.{assignment_move}
 
@@ -142,6 +143,7 @@ module _ {H : Type 0} where
         Go (for_core (has_no_room s.limits (loop_of variable counter items body) l) (loop_of variable counter items body) k l)
     stmt_move (layer.BreakLoop value options pos) restoring k l = Go (break_core value (has_option 2 options) pos k l)
     stmt_move (layer.TryCatch body variable branch pos) restoring k l = Go (core (Enter body.statements true) (TryBody variable branch ∷ k) l)
+    stmt_move (layer.Export ident alias pos) restoring k l = Go (export_core ident alias k l)
     stmt_move (layer.Share variables) restoring k l = Go (core (Share variables) k l)
     stmt_move (layer.Return value options pos) restoring k l = return_move (has_option 2 options) value pos k l
     stmt_move _ restoring k l = Halt

@@ -84,7 +84,7 @@ impl Making {
         Ok(results)
     }
 
-    /// Adds a `try`, what closures share, or a function.
+    /// Adds a `try`, what closures share, an `export`, or a function.
     fn add_catch(&mut self, part: Part<'_>) -> Result<(), AllocError> {
         let made = match part {
             Part::Try(column) => {
@@ -98,6 +98,14 @@ impl Making {
                 Stmt::TryCatch(self.block(), caught, branch, place(column))
             }
             Part::Share(names) => Stmt::Share(variables(self.alloc, names)?),
+            Part::Export(name, at_name, column) => {
+                Stmt::Export(ident(self.alloc, name, at_name)?, None, place(column))
+            }
+            Part::ExportAs(name, at_name, alias, at_alias, column) => {
+                let name = ident(self.alloc, name, at_name)?;
+                let alias = ident(self.alloc, alias, at_alias)?;
+                Stmt::Export(name, Some(alias), place(column))
+            }
             Part::Function(name, params) => {
                 let body = self.block();
                 let access = FnAccess::Public;

@@ -1,6 +1,6 @@
 //! Copies of values.
 
-ghost use Rattle.std.specs.Prelude.{◌≡◌, IfOk, map};
+ghost use Rattle.std.specs.Prelude.{◌≡◌, ◌++◌, ◌∷◌, [], IfOk, OnOk, map};
 ghost use Rattle.rhai_values.specs.Copy.{copy_of, copy_union as copy_of_union};
 ghost use Rattle.rhai_values.specs.Copy.{copy_pointer as copy_of_pointer};
 
@@ -12,7 +12,6 @@ impl<H: Host> Dynamic<H> {
     /// A copy, read-write throughout. Texts, functions and environments are shared, and a copied
     /// handle names the same cell. Stands for upstream's `Dynamic::clone`.
     #[inline(always)]
-    #[cycle(copy)]
     pub fn try_clone(&self, alloc: Global) -> Result<Dynamic<H>, AllocError>
         ensures { IfOk result (λ c. c ≡ copy_of self.now) }
     {
@@ -61,11 +60,30 @@ fn copy_union<H: Host>(alloc: Global, value: &Union<H>) -> Result<Union<H>, Allo
 fn copy_items<H: Host>(alloc: Global, items: &[Dynamic<H>]) -> Result<Items<Dynamic<H>>, AllocError>
     ensures { IfOk result (λ c. c ≡ map copy_of items.now) }
 {
-    let mut copied = Items::new(alloc);
+    let mut copied = Items::from_vec(Vec::with_capacity(alloc, items.len())?);
     for item in items {
-        copied.push(item.try_clone(alloc)?)?;
+        push_copy(alloc, item, &mut copied)?;
     }
     Ok(copied)
+}
+
+/// Adds a copy of an item, which most often is an integer.
+#[inline(always)]
+#[cycle(copy)]
+fn push_copy<H: Host>(
+    alloc: Global,
+    item: &Dynamic<H>,
+    copied: &mut Items<Dynamic<H>>,
+) -> Result<(), AllocError>
+    ensures { OnOk result (copied.new ≡ copied.old ++ copy_of item.now ∷ []) }
+{
+    match &item.value {
+        Union::Int(number) => copied.push(Dynamic::new(Union::Int(*number))),
+        value => {
+            let copy = copy_union(alloc, value)?;
+            copied.push(Dynamic::new(copy))
+        }
+    }
 }
 
 #[cycle(copy)]

@@ -8,6 +8,7 @@ use rhai_tree::checked::CheckedFn;
 use rhai_tree::literal::NativeId;
 use rhai_tree::{Boxed, Items, Shared, Table, Text};
 use std::alloc::{AllocError, Global};
+use std::default::MadeWith;
 
 /// Whether a value may be written.
 #[derive(Clone, Copy, Debug, PartialEq, Eq)]
@@ -60,6 +61,13 @@ impl<H: Drop> Drop for Dynamic<H> {
             | Union::Cell(_) => {}
             value => drop(value),
         }
+    }
+}
+
+/// What stands in the unused places of a short list: `()`.
+impl<H: Drop> MadeWith<Global> for Dynamic<H> {
+    fn made_with(_alloc: Global) -> Dynamic<H> {
+        Dynamic::new(Union::Unit)
     }
 }
 

@@ -1,39 +1,55 @@
-use Rattle.std.proofs.Common.{◌≡◌, sym, refl, ◌∙◌}
+use Rattle.std.proofs.Common.{◌≡◌, ◌-◌, ap, not, sym, refl, ◌∙◌, arith}
 use Rattle.rhai_tree.specs.declared.expr.Expr.{out-Expr}
 use Rattle.rhai_tree.specs.declared.expr.Expr.TheVariants as exprs
 use Rattle.rhai_tree.specs.declared.expr.Expr.TheOpen as layer
 use Rattle.rhai_values.specs.Cells.{cells_of}
-use Rattle.rhai_state.specs.Scope.{names_in}
+use Rattle.rhai_state.specs.Scope.{entries_of, names_in}
 use Rattle.rhai_machine.specs.language.Setting.{rules_of}
+use Rattle.rhai_operands.specs.Standing.{assigned_known, integer_of, standing}
+use Rattle.rhai_operands.proofs.Integers.{is_there}
 use Rattle.rhai_operands.proofs.Names.{plain_target}
-use Rattle.rhai_assign.proofs.Integers.{integer_assigned, integer_found, integer_keeps}
+use Rattle.rhai_assign.specs.InPlace.{charged_at, writable_in}
+use Rattle.rhai_assign.proofs.Integers.{both_charged, integer_assigned, integer_found, integer_keeps}
 use Rattle.rhai_assign.proofs.in_place.assign_integer.Goals as goal
 
 pub returns-clause-keeps : goal.returns-clause-keeps
 returns-clause-keeps g c = integer_keeps c.args.global.now c.charge_all.new.global c.args.scope.now c.write_number.new.scope
-    c.in-Some-place_of_variable.index c.in-Some-assign_known.value (c.charge_all.ensures.charged c.if-not-charge_all.false)
+    c.args.charges c.in-Some-place_by_offset.index c.in-Some-assign_known.value (c.charge_all.ensures.charged c.if-not-charge_all.false)
     c.write_number.ensures
 
 pub returns-clause-found : goal.returns-clause-found
-returns-clause-found g c is = integer_found c.args.scope.now c.args.global.now.lib (cells_of c.args.global.now.cells) c.args.op c.args.lhs.now c.args.rhs.now
+returns-clause-found g c is =
+    let stands = ap (assigned_known c.in-Some.token (writable_in c.value_at.result.now)) (is_there c.integer_in_place-operand.result
+    (integer_of (standing (out-Expr c.args.rhs.now) (entries_of c.args.scope.now)))
+    (c.is_none-2.ensures ∙ ap not c.if-is_none-2.false) c.integer_in_place-operand.ensures) in
+    integer_found c.args.scope.now c.args.global.now.lib (cells_of c.args.global.now.cells) c.args.op.now c.args.lhs.now c.args.rhs.now
     c.in-Variable.offset c.in-Variable.name c.in-Variable.namespace c.in-Variable.pos (rw (c.in-Variable.is, exprs.outs-Variable) refl)
-    c.in-Some.token c.in-Some.is c.in-Some-place_of_variable.index c.value_at.result.now c.in-Some-assign_known.value
-    (sym c.place_of_variable.ensures.exact ∙ c.in-Some-place_of_variable.is) c.value_at.ensures
-    (sym (rw (c.writable_integer-target.ensures, c.integer_in_place-operand.ensures) at c.assign_known.ensures)
-    ∙ c.in-Some-assign_known.is)
+    c.in-Some.token c.in-Some.is c.in-Some-place_by_offset.index c.value_at.result.now c.in-Some-assign_known.value
+    c.in-Some-place_by_offset.ensures.exact c.value_at.ensures
+    (stands ∙ sym (rw c.writable_integer-target.ensures at c.assign_known.ensures) ∙ c.in-Some-assign_known.is)
 
 pub returns-clause-runs : goal.returns-clause-runs
-returns-clause-runs g c is offer held restoring fast =
+returns-clause-runs g c is offer held restoring level fast =
+    let stands = ap (assigned_known c.in-Some.token (writable_in c.value_at.result.now)) (is_there c.integer_in_place-operand.result
+    (integer_of (standing (out-Expr c.args.rhs.now) (entries_of c.args.scope.now)))
+    (c.is_none-2.ensures ∙ ap not c.if-is_none-2.false) c.integer_in_place-operand.ensures) in
     let form : out-Expr c.args.lhs.now ≡ layer.Variable c.in-Variable.offset c.in-Variable.name c.in-Variable.namespace
     c.in-Variable.pos =
     rw (c.in-Variable.is, exprs.outs-Variable) refl in
     let plain = plain_target c.args.lhs.now c.in-Variable.offset c.in-Variable.name c.in-Variable.namespace c.in-Variable.pos
     (names_in c.args.scope.now) form c.requires.resolves_target in
     integer_assigned (rules_of c.args.limits.now g.H.Host.name_of offer g.T.NativeTable.natives)
-    (g.T.NativeTable.state c.args._table.now) c.args.scope.now held c.args.op c.args.lhs.now c.args.rhs.now c.in-Variable.offset
-    c.in-Variable.name c.in-Variable.namespace c.in-Variable.pos restoring form plain c.requires.resolves c.args.global.now
-    c.charge_all.new.global c.write_number.new.scope (c.charge_all.ensures.room c.if-not-charge_all.false)
-    (c.charge_all.ensures.charged c.if-not-charge_all.false) c.in-Some.token c.in-Some.is fast c.in-Some-place_of_variable.index
-    c.value_at.result.now c.in-Some-assign_known.value (sym c.place_of_variable.ensures.exact ∙ c.in-Some-place_of_variable.is)
-    c.value_at.ensures (sym (rw (c.writable_integer-target.ensures, c.integer_in_place-operand.ensures) at c.assign_known.ensures)
-    ∙ c.in-Some-assign_known.is) c.write_number.ensures
+    (g.T.NativeTable.state c.args._table.now) c.args.scope.now held c.args.op.now c.args.lhs.now c.args.rhs.now c.in-Variable.offset
+    c.in-Variable.name c.in-Variable.namespace c.in-Variable.pos restoring form plain c.requires.resolves
+    (charged_at (c.args.charges - 2) level c.args.global.now) (record c.charge_all.new.global { scope_level = level })
+    c.write_number.new.scope (omega (arith, c.requires.both, c.charge_all.ensures.room c.if-not-charge_all.false))
+    (both_charged c.args.global.now c.charge_all.new.global c.args.charges level c.requires.both
+    (c.charge_all.ensures.charged c.if-not-charge_all.false)) c.in-Some.token c.in-Some.is fast c.in-Some-place_by_offset.index
+    c.value_at.result.now c.in-Some-assign_known.value c.in-Some-place_by_offset.ensures.exact
+    c.value_at.ensures (stands ∙ sym (rw c.writable_integer-target.ensures at c.assign_known.ensures) ∙ c.in-Some-assign_known.is) c.write_number.ensures
+
+pub returns-clause-room : goal.returns-clause-room
+returns-clause-room g c is = c.charge_all.ensures.room c.if-not-charge_all.false
+
+pub returns-clause-charged : goal.returns-clause-charged
+returns-clause-charged g c is = c.charge_all.ensures.charged c.if-not-charge_all.false

@@ -3,7 +3,7 @@ use Rattle.rhai_tree.specs.declared.expr.Expr.TheOpen as layer
 use Rattle.rhai_tree.specs.declared.expr.Expr.TheVariants.{outs-Variable, outs-Or, outs-Dot, outs-Index, outs-DynamicConstant}
 use Rattle.rhai_tree.specs.declared.expr.Expr.TheVariants.{outs-BoolConstant, outs-IntegerConstant, outs-CharConstant}
 use Rattle.rhai_tree.specs.declared.expr.Expr.TheVariants.{outs-StringConstant, outs-Unit, outs-ThisPtr}
-use Rattle.rhai_tree.specs.declared.expr.Stmt.TheVariants.{outs-If, outs-Noop, outs-While, outs-Assignment, outs-Switch, outs-For}
+use Rattle.rhai_tree.specs.declared.expr.Stmt.TheVariants.{outs-If, outs-Noop, outs-Export, outs-While, outs-Assignment, outs-Switch, outs-For}
 use Rattle.rhai_tree.specs.declared.expr.Stmt.TheVariants.{outs-TryCatch}
 use Rattle.rhai_check.specs.Around.{around}
 use Rattle.rhai_tree.specs.Frame.{tests_of, resolves_expr, dot_resolves, name_resolves, bracket_resolves}
@@ -60,6 +60,11 @@ pub stmt::check_stmt-returns-in-Noop-clause-resolved : goal.stmt::check_stmt-ret
 stmt::check_stmt-returns-in-Noop-clause-resolved t c base =
     ap (λ v. v (base ++ c.args.names.now)) (resolves-stmt c.args.stmt.now (layer.Noop c.in-Noop.field-0)
     (rw (c.in-Noop.is, outs-Noop) refl))
+
+pub stmt::check_stmt-returns-in-Export-clause-resolved : goal.stmt::check_stmt-returns-in-Export-clause-resolved
+stmt::check_stmt-returns-in-Export-clause-resolved t c base =
+    ap (λ v. v (base ++ c.args.names.now)) (resolves-stmt c.args.stmt.now
+    (layer.Export c.in-Export.field-0 c.in-Export.field-1 c.in-Export.field-2) (rw (c.in-Export.is, outs-Export) refl))
 
 pub stmt::check_stmt-returns-in_err-check_block-in-If-clause-refused : goal.stmt::check_stmt-returns-in_err-check_block-in-If-clause-refused
 stmt::check_stmt-returns-in_err-check_block-in-If-clause-refused t c =

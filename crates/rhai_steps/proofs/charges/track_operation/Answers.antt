@@ -2,7 +2,7 @@ use Rattle.std.proofs.Common.{refl, rules, arith}
 use Rattle.rhai_steps.proofs.charges.track_operation.Goals as goal
 
 pub returns-then-is_spent-clause-full : goal.returns-then-is_spent-clause-full
-returns-then-is_spent-clause-full g c = omega (arith, c.limit.ensures)
+returns-then-is_spent-clause-full g c = omega arith
 
 pub returns-then-is_spent-clause-same : goal.returns-then-is_spent-clause-same
 returns-then-is_spent-clause-same g c = refl

@@ -112,41 +112,47 @@ run_method-returns-in-OnTarget-clause-runs = bodies.run_method-returns-in-OnTarg
 pub run_method-returns-in-Alone-clause-runs : goal.run_method-returns-in-Alone-clause-runs
 run_method-returns-in-Alone-clause-runs = bodies.run_method-returns-in-Alone-clause-runs
 
-pub run_fn_call_expr-run_arg-requires : goal.run_fn_call_expr-run_arg-requires
-run_fn_call_expr-run_arg-requires = calls.run_fn_call_expr-run_arg-requires
+pub run_fn_call_expr-run_function-requires : goal.run_fn_call_expr-run_function-requires
+run_fn_call_expr-run_function-requires = calls.run_fn_call_expr-run_function-requires
 
-pub run_fn_call_expr-run_operator-requires : goal.run_fn_call_expr-run_operator-requires
-run_fn_call_expr-run_operator-requires = calls.run_fn_call_expr-run_operator-requires
+pub run_operation-run_unary-requires : goal.run_operation-run_unary-requires
+run_operation-run_unary-requires = calls.run_operation-run_unary-requires
 
-pub run_fn_call_expr-returns-then-not-run_arg-clause-runs : goal.run_fn_call_expr-returns-then-not-run_arg-clause-runs
-run_fn_call_expr-returns-then-not-run_arg-clause-runs = calls.run_fn_call_expr-returns-then-not-run_arg-clause-runs
+pub run_operation-run_operator-requires : goal.run_operation-run_operator-requires
+run_operation-run_operator-requires = calls.run_operation-run_operator-requires
 
-pub run_fn_call_expr-returns-then-not-flatten_at-clause-runs : goal.run_fn_call_expr-returns-then-not-flatten_at-clause-runs
-run_fn_call_expr-returns-then-not-flatten_at-clause-runs = calls.run_fn_call_expr-returns-then-not-flatten_at-clause-runs
+pub run_operation-returns-in-Some-clause-runs : goal.run_operation-returns-in-Some-clause-runs
+run_operation-returns-in-Some-clause-runs = calls.run_operation-returns-in-Some-clause-runs
 
-pub run_fn_call_expr-returns-else-not-flatten_at-clause-runs : goal.run_fn_call_expr-returns-else-not-flatten_at-clause-runs
-run_fn_call_expr-returns-else-not-flatten_at-clause-runs = calls.run_fn_call_expr-returns-else-not-flatten_at-clause-runs
+pub run_operation-returns-in_default-clause-runs : goal.run_operation-returns-in_default-clause-runs
+run_operation-returns-in_default-clause-runs = calls.run_operation-returns-in_default-clause-runs
 
-pub run_fn_call_expr-returns-in-Some-clause-runs : goal.run_fn_call_expr-returns-in-Some-clause-runs
-run_fn_call_expr-returns-in-Some-clause-runs = calls.run_fn_call_expr-returns-in-Some-clause-runs
+pub run_operation-run_function-requires : goal.run_operation-run_function-requires
+run_operation-run_function-requires = calls.run_operation-run_function-requires
 
-pub run_fn_call_expr-returns-in_default-clause-runs : goal.run_fn_call_expr-returns-in_default-clause-runs
-run_fn_call_expr-returns-in_default-clause-runs = calls.run_fn_call_expr-returns-in_default-clause-runs
+pub run_unary-returns-then-not-run_arg-clause-runs : goal.run_unary-returns-then-not-run_arg-clause-runs
+run_unary-returns-then-not-run_arg-clause-runs = calls.run_unary-returns-then-not-run_arg-clause-runs
 
-pub run_fn_call_expr-run_plain_call-requires : goal.run_fn_call_expr-run_plain_call-requires
-run_fn_call_expr-run_plain_call-requires = calls.run_fn_call_expr-run_plain_call-requires
+pub run_unary-returns-then-not-flatten_at-clause-runs : goal.run_unary-returns-then-not-flatten_at-clause-runs
+run_unary-returns-then-not-flatten_at-clause-runs = calls.run_unary-returns-then-not-flatten_at-clause-runs
 
-pub run_fn_call_expr-returns-in-Some-plain_callee-clause-runs : goal.run_fn_call_expr-returns-in-Some-plain_callee-clause-runs
-run_fn_call_expr-returns-in-Some-plain_callee-clause-runs = calls.run_fn_call_expr-returns-in-Some-plain_callee-clause-runs
+pub run_unary-returns-clause-runs : goal.run_unary-returns-clause-runs
+run_unary-returns-clause-runs = calls.run_unary-returns-clause-runs
 
-pub run_fn_call_expr-returns-in-Some-at_once-clause-runs : goal.run_fn_call_expr-returns-in-Some-at_once-clause-runs
-run_fn_call_expr-returns-in-Some-at_once-clause-runs = calls.run_fn_call_expr-returns-in-Some-at_once-clause-runs
+pub run_function-run_plain_call-requires : goal.run_function-run_plain_call-requires
+run_function-run_plain_call-requires = calls.run_function-run_plain_call-requires
 
-pub run_fn_call_expr-run_call-requires : goal.run_fn_call_expr-run_call-requires
-run_fn_call_expr-run_call-requires = calls.run_fn_call_expr-run_call-requires
+pub run_function-returns-in-Some-clause-runs : goal.run_function-returns-in-Some-clause-runs
+run_function-returns-in-Some-clause-runs = calls.run_function-returns-in-Some-clause-runs
 
-pub run_fn_call_expr-returns-in_default-at_once-clause-runs : goal.run_fn_call_expr-returns-in_default-at_once-clause-runs
-run_fn_call_expr-returns-in_default-at_once-clause-runs = calls.run_fn_call_expr-returns-in_default-at_once-clause-runs
+pub run_function-returns-in-Some-at_once-clause-runs : goal.run_function-returns-in-Some-at_once-clause-runs
+run_function-returns-in-Some-at_once-clause-runs = calls.run_function-returns-in-Some-at_once-clause-runs
+
+pub run_function-run_call-requires : goal.run_function-run_call-requires
+run_function-run_call-requires = calls.run_function-run_call-requires
+
+pub run_function-returns-clause-runs : goal.run_function-returns-clause-runs
+run_function-returns-clause-runs = calls.run_function-returns-clause-runs
 
 pub run_operator-run_arg-requires : goal.run_operator-run_arg-requires
 run_operator-run_arg-requires = calls.run_operator-run_arg-requires
@@ -277,11 +283,11 @@ assign_chain-returns-then-not-run_chain-clause-runs = chains.assign_chain-return
 pub assign_chain-returns-clause-runs : goal.assign_chain-returns-clause-runs
 assign_chain-returns-clause-runs = chains.assign_chain-returns-clause-runs
 
-pub run_expr-run_chain-requires : goal.run_expr-run_chain-requires
-run_expr-run_chain-requires = chains.run_expr-run_chain-requires
+pub run_expr-read_chain-requires : goal.run_expr-read_chain-requires
+run_expr-read_chain-requires = chains.run_expr-read_chain-requires
 
-pub run_expr-run_chain-requires-in-Index : goal.run_expr-run_chain-requires-in-Index
-run_expr-run_chain-requires-in-Index = chains.run_expr-run_chain-requires-in-Index
+pub run_expr-read_chain-requires-in-Index : goal.run_expr-read_chain-requires-in-Index
+run_expr-read_chain-requires-in-Index = chains.run_expr-read_chain-requires-in-Index
 
 pub run_expr-returns-in-Dot-clause-runs : goal.run_expr-returns-in-Dot-clause-runs
 run_expr-returns-in-Dot-clause-runs = chains.run_expr-returns-in-Dot-clause-runs
@@ -289,8 +295,8 @@ run_expr-returns-in-Dot-clause-runs = chains.run_expr-returns-in-Dot-clause-runs
 pub run_expr-returns-in-Index-clause-runs : goal.run_expr-returns-in-Index-clause-runs
 run_expr-returns-in-Index-clause-runs = chains.run_expr-returns-in-Index-clause-runs
 
-pub run_assignment-assign_chain-requires : goal.run_assignment-assign_chain-requires
-run_assignment-assign_chain-requires = chains.run_assignment-assign_chain-requires
+pub assign_evaluated-assign_chain-requires : goal.assign_evaluated-assign_chain-requires
+assign_evaluated-assign_chain-requires = chains.assign_evaluated-assign_chain-requires
 
 pub run_until-run_condition-requires : goal.run_until-run_condition-requires
 run_until-run_condition-requires = choices.run_until-run_condition-requires
@@ -508,8 +514,8 @@ run_keyword-returns-in-Some-clause-runs = functions.run_keyword-returns-in-Some-
 pub run_keyword-returns-in-None-clause-runs : goal.run_keyword-returns-in-None-clause-runs
 run_keyword-returns-in-None-clause-runs = functions.run_keyword-returns-in-None-clause-runs
 
-pub run_keyword-returns-in-Err-function_linked-clause-runs : goal.run_keyword-returns-in-Err-function_linked-clause-runs
-run_keyword-returns-in-Err-function_linked-clause-runs = functions.run_keyword-returns-in-Err-function_linked-clause-runs
+pub run_keyword-returns-in-Err-linked_function-clause-runs : goal.run_keyword-returns-in-Err-linked_function-clause-runs
+run_keyword-returns-in-Err-linked_function-clause-runs = functions.run_keyword-returns-in-Err-linked_function-clause-runs
 
 pub run_pointer-run_more_args-requires : goal.run_pointer-run_more_args-requires
 run_pointer-run_more_args-requires = functions.run_pointer-run_more_args-requires
@@ -931,11 +937,8 @@ run_stmt-returns-in-FnCall-clause-runs = statements.run_stmt-returns-in-FnCall-c
 pub run_stmt-returns-in-Block-clause-runs : goal.run_stmt-returns-in-Block-clause-runs
 run_stmt-returns-in-Block-clause-runs = statements.run_stmt-returns-in-Block-clause-runs
 
-pub run_stmt-returns-in-None-clause-runs : goal.run_stmt-returns-in-None-clause-runs
-run_stmt-returns-in-None-clause-runs = statements.run_stmt-returns-in-None-clause-runs
-
-pub run_stmt-returns-in-Some-clause-runs : goal.run_stmt-returns-in-Some-clause-runs
-run_stmt-returns-in-Some-clause-runs = statements.run_stmt-returns-in-Some-clause-runs
+pub run_stmt-returns-in-If-clause-runs : goal.run_stmt-returns-in-If-clause-runs
+run_stmt-returns-in-If-clause-runs = statements.run_stmt-returns-in-If-clause-runs
 
 pub run_stmt-run_assignment-requires : goal.run_stmt-run_assignment-requires
 run_stmt-run_assignment-requires = statements.run_stmt-run_assignment-requires
@@ -979,38 +982,47 @@ run_stmt-share_variables-requires = statements.run_stmt-share_variables-requires
 pub run_stmt-returns-in-Share-clause-runs : goal.run_stmt-returns-in-Share-clause-runs
 run_stmt-returns-in-Share-clause-runs = statements.run_stmt-returns-in-Share-clause-runs
 
+pub run_stmt-returns-in-Export-clause-runs : goal.run_stmt-returns-in-Export-clause-runs
+run_stmt-returns-in-Export-clause-runs = statements.run_stmt-returns-in-Export-clause-runs
+
 pub run_stmt-returns-in-Var-default-default-None-default-default-clause-runs : goal.run_stmt-returns-in-Var-default-default-None-default-default-clause-runs
 run_stmt-returns-in-Var-default-default-None-default-default-clause-runs = statements.run_stmt-returns-in-Var-default-default-None-default-default-clause-runs
+
+pub run_if-returns-in-None-clause-runs : goal.run_if-returns-in-None-clause-runs
+run_if-returns-in-None-clause-runs = statements.run_if-returns-in-None-clause-runs
+
+pub run_if-returns-in-Some-clause-runs : goal.run_if-returns-in-Some-clause-runs
+run_if-returns-in-Some-clause-runs = statements.run_if-returns-in-Some-clause-runs
 
 pub run_assignment-returns-in-Some-clause-runs : goal.run_assignment-returns-in-Some-clause-runs
 run_assignment-returns-in-Some-clause-runs = statements.run_assignment-returns-in-Some-clause-runs
 
-pub run_assignment-returns-then-not-run_expr-clause-runs : goal.run_assignment-returns-then-not-run_expr-clause-runs
-run_assignment-returns-then-not-run_expr-clause-runs = statements.run_assignment-returns-then-not-run_expr-clause-runs
+pub run_assignment-assign_evaluated-requires : goal.run_assignment-assign_evaluated-requires
+run_assignment-assign_evaluated-requires = statements.run_assignment-assign_evaluated-requires
 
-pub run_assignment-returns-then-not-flatten_at-clause-runs : goal.run_assignment-returns-then-not-flatten_at-clause-runs
-run_assignment-returns-then-not-flatten_at-clause-runs = statements.run_assignment-returns-then-not-flatten_at-clause-runs
+pub assign_evaluated-returns-then-not-run_expr-clause-runs : goal.assign_evaluated-returns-then-not-run_expr-clause-runs
+assign_evaluated-returns-then-not-run_expr-clause-runs = statements.assign_evaluated-returns-then-not-run_expr-clause-runs
 
-pub run_assignment-assign_left-requires : goal.run_assignment-assign_left-requires
-run_assignment-assign_left-requires = statements.run_assignment-assign_left-requires
+pub assign_evaluated-returns-then-not-flatten_at-clause-runs : goal.assign_evaluated-returns-then-not-flatten_at-clause-runs
+assign_evaluated-returns-then-not-flatten_at-clause-runs = statements.assign_evaluated-returns-then-not-flatten_at-clause-runs
 
-pub run_assignment-returns-clause-runs : goal.run_assignment-returns-clause-runs
-run_assignment-returns-clause-runs = statements.run_assignment-returns-clause-runs
+pub assign_evaluated-assign_left-requires : goal.assign_evaluated-assign_left-requires
+assign_evaluated-assign_left-requires = statements.assign_evaluated-assign_left-requires
 
-pub run_assignment-assign_to_this-requires : goal.run_assignment-assign_to_this-requires
-run_assignment-assign_to_this-requires = statements.run_assignment-assign_to_this-requires
+pub assign_evaluated-returns-else-not-flatten_at-clause-runs : goal.assign_evaluated-returns-else-not-flatten_at-clause-runs
+assign_evaluated-returns-else-not-flatten_at-clause-runs = statements.assign_evaluated-returns-else-not-flatten_at-clause-runs
 
-pub assign_to_this-returns-then-is_none-clause-runs : goal.assign_to_this-returns-then-is_none-clause-runs
-assign_to_this-returns-then-is_none-clause-runs = statements.assign_to_this-returns-then-is_none-clause-runs
+pub assign_evaluated-returns-then-is_none-clause-runs : goal.assign_evaluated-returns-then-is_none-clause-runs
+assign_evaluated-returns-then-is_none-clause-runs = statements.assign_evaluated-returns-then-is_none-clause-runs
 
-pub assign_to_this-returns-then-not-run_expr-clause-runs : goal.assign_to_this-returns-then-not-run_expr-clause-runs
-assign_to_this-returns-then-not-run_expr-clause-runs = statements.assign_to_this-returns-then-not-run_expr-clause-runs
+pub assign_evaluated-returns-then-not-run_expr-2-clause-runs : goal.assign_evaluated-returns-then-not-run_expr-2-clause-runs
+assign_evaluated-returns-then-not-run_expr-2-clause-runs = statements.assign_evaluated-returns-then-not-run_expr-2-clause-runs
 
-pub assign_to_this-returns-then-not-flatten_at-clause-runs : goal.assign_to_this-returns-then-not-flatten_at-clause-runs
-assign_to_this-returns-then-not-flatten_at-clause-runs = statements.assign_to_this-returns-then-not-flatten_at-clause-runs
+pub assign_evaluated-returns-then-not-flatten_at-2-clause-runs : goal.assign_evaluated-returns-then-not-flatten_at-2-clause-runs
+assign_evaluated-returns-then-not-flatten_at-2-clause-runs = statements.assign_evaluated-returns-then-not-flatten_at-2-clause-runs
 
-pub assign_to_this-returns-clause-runs : goal.assign_to_this-returns-clause-runs
-assign_to_this-returns-clause-runs = statements.assign_to_this-returns-clause-runs
+pub assign_evaluated-returns-else-not-flatten_at-2-clause-runs : goal.assign_evaluated-returns-else-not-flatten_at-2-clause-runs
+assign_evaluated-returns-else-not-flatten_at-2-clause-runs = statements.assign_evaluated-returns-else-not-flatten_at-2-clause-runs
 
 pub run_var-returns-then-not-is_declarable-clause-runs : goal.run_var-returns-then-not-is_declarable-clause-runs
 run_var-returns-then-not-is_declarable-clause-runs = statements.run_var-returns-then-not-is_declarable-clause-runs
@@ -1030,11 +1042,26 @@ run_stmt_block-returns-then-is_empty-clause-runs = statements.run_stmt_block-ret
 pub run_stmt_block-returns-then-not-restoring-clause-runs : goal.run_stmt_block-returns-then-not-restoring-clause-runs
 run_stmt_block-returns-then-not-restoring-clause-runs = statements.run_stmt_block-returns-then-not-restoring-clause-runs
 
+pub run_stmt_block-open_list-requires : goal.run_stmt_block-open_list-requires
+run_stmt_block-open_list-requires = statements.run_stmt_block-open_list-requires
+
+pub run_stmt_block-returns-in_default-clause-runs : goal.run_stmt_block-returns-in_default-clause-runs
+run_stmt_block-returns-in_default-clause-runs = statements.run_stmt_block-returns-in_default-clause-runs
+
+pub run_stmt_block-returns-in_default-clause-restores : goal.run_stmt_block-returns-in_default-clause-restores
+run_stmt_block-returns-in_default-clause-restores = statements.run_stmt_block-returns-in_default-clause-restores
+
 pub run_stmt_block-returns-clause-runs : goal.run_stmt_block-returns-clause-runs
 run_stmt_block-returns-clause-runs = statements.run_stmt_block-returns-clause-runs
 
 pub run_stmt_block-returns-clause-restores : goal.run_stmt_block-returns-clause-restores
 run_stmt_block-returns-clause-restores = statements.run_stmt_block-returns-clause-restores
+
+pub run_stmt_block-run_statements-requires : goal.run_stmt_block-run_statements-requires
+run_stmt_block-run_statements-requires = statements.run_stmt_block-run_statements-requires
+
+pub run_stmt_block-run_statements-done-requires : goal.run_stmt_block-run_statements-done-requires
+run_stmt_block-run_statements-done-requires = statements.run_stmt_block-run_statements-done-requires
 
 pub run_statements-each_stmt-init : goal.run_statements-each_stmt-init
 run_statements-each_stmt-init = statements.run_statements-each_stmt-init

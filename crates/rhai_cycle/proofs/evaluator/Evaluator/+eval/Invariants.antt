@@ -1,4 +1,4 @@
-use Rattle.std.specs.Prelude.{Bool, ◌∷◌, ◌≡◌, ◌≤◌, ◌+◌, ◌*◌, ◌-◌, ◌^◌, ℕ, List, [], drop, length, map, Option, Some}
+use Rattle.std.specs.Prelude.{zero, suc, Bool, ◌∷◌, ◌≡◌, ◌≤◌, ◌+◌, ◌*◌, ◌-◌, ◌^◌, ℕ, List, [], drop, length, map, Option, Some}
 use Rattle.std.specs.Option.{option_copied, option_map}
 use Rattle.std.specs.String.{string_bytes}
 use Rattle.rhai_tree.specs.Frame.{all_resolve, resolves_stmt, turn_names}
@@ -7,8 +7,7 @@ use Rattle.rhai_tree.specs.Links.{left_by}
 use Rattle.rhai_chains.specs.declared.links.Link.{Link}
 use Rattle.rhai_tree.specs.Layers.{ExprLayer}
 use Rattle.rhai_tree.specs.declared.expr.Expr.{out-Expr}
-use Rattle.rhai_state.specs.Limits.{limit_of}
-use Rattle.rhai_state.specs.Scope.{entries_of}
+use Rattle.rhai_values.specs.declared.base.value.Dynamic.{Dynamic}
 use Rattle.rhai_machine.specs.language.Values.{unit_value}
 use Rattle.rhai_machine.specs.language.Cases.{default_of, results_of}
 use Rattle.rhai_machine.specs.language.Frames.{Choose, DoTurn, ForTurn, Frame, OpenStmt, Purpose, RestoreScope, Run, WhileTurn}
@@ -36,11 +35,16 @@ behind_of link = option_map out-Expr (option_copied link.behind)
 
 -- how many operations may still be charged
 abbrev left : {H : Type 0} → Evaluator H → Context H → ℕ
-left evaluator run = limit_of evaluator.limits.now.max_operations - run.global.num_operations
+left evaluator run = evaluator.limits.now.max_operations - run.global.num_operations
 
 -- an operation counts more than all links of a chain, and a link more than any rank
 abbrev measured : {H : Type 0} → Evaluator H → Context H → (links rank : ℕ) → ℕ
 measured evaluator run links rank = 2 ^ 72 * left evaluator run + (64 * links + rank)
+
+-- the value that a list of statements has by then: `()` before the first
+abbrev pub last_of : {H : Type 0} → (index : ℕ) → Dynamic H → Dynamic H
+last_of zero value = unit_value
+last_of (suc index) value = value
 
 abbrev pub decreases-run_expr : goal.decreases-run_expr
 decreases-run_expr g l = measured l.self.now l.run.now 0 0
@@ -63,8 +67,17 @@ decreases-run_var g l = measured l.self.now l.run.now 0 1
 abbrev pub decreases-run_operator : goal.decreases-run_operator
 decreases-run_operator g l = measured l.self.now l.run.now 0 6
 
+abbrev pub decreases-run_unary : goal.decreases-run_unary
+decreases-run_unary g l = measured l.self.now l.run.now 0 6
+
+abbrev pub decreases-run_function : goal.decreases-run_function
+decreases-run_function g l = measured l.self.now l.run.now 0 13
+
+abbrev pub decreases-run_operation : goal.decreases-run_operation
+decreases-run_operation g l = measured l.self.now l.run.now 0 14
+
 abbrev pub decreases-run_fn_call_expr : goal.decreases-run_fn_call_expr
-decreases-run_fn_call_expr g l = measured l.self.now l.run.now 0 14
+decreases-run_fn_call_expr g l = measured l.self.now l.run.now 0 15
 
 abbrev pub decreases-run_keyword : goal.decreases-run_keyword
 decreases-run_keyword g l = measured l.self.now l.run.now 0 10
@@ -93,8 +106,14 @@ decreases-run_parameters g l = measured l.self.now l.run.now 0 3
 abbrev pub decreases-run_condition : goal.decreases-run_condition
 decreases-run_condition g l = measured l.self.now l.run.now 0 2
 
+abbrev pub decreases-run_if : goal.decreases-run_if
+decreases-run_if g l = measured l.self.now l.run.now 0 3
+
 abbrev pub decreases-assign_chain : goal.decreases-assign_chain
 decreases-assign_chain g l = measured l.self.now l.run.now (left_by (Some (out-Expr l.lhs.now))) 13
+
+abbrev pub decreases-read_chain : goal.decreases-read_chain
+decreases-read_chain g l = measured l.self.now l.run.now (left_by (Some (out-Expr l.chain.now))) 13
 
 abbrev pub decreases-run_chain : goal.decreases-run_chain
 decreases-run_chain g l = measured l.self.now l.run.now (left_by (Some (out-Expr l.chain.now))) 12
@@ -171,8 +190,8 @@ decreases-enter_captured g l = measured l.self.now l.run.now 0 3
 abbrev pub decreases-run_on_values : goal.decreases-run_on_values
 decreases-run_on_values g l = measured l.self.now l.run.now 0 5
 
-abbrev pub decreases-assign_to_this : goal.decreases-assign_to_this
-decreases-assign_to_this g l = measured l.self.now l.run.now 0 3
+abbrev pub decreases-assign_evaluated : goal.decreases-assign_evaluated
+decreases-assign_evaluated g l = measured l.self.now l.run.now (left_by (Some (out-Expr l.lhs.now))) 14
 
 abbrev pub decreases-run_method : goal.decreases-run_method
 decreases-run_method g l = measured l.self.now l.run.now 0 5
@@ -214,7 +233,7 @@ invariant-run_statements-each_stmt g l = record {
       (map resolves_stmt l.statements) (names l.fn.run);
   steps : Steps (under g.H.Host.name_of l.self g.T.NativeTable.natives)
       (Run l.statements l.restoring unit_value) (state_in (g.T.NativeTable.state l.fn.table) l.fn.run)
-      (Run (drop l.stmt-index l.statements) l.restoring l.run.value) (state_in (g.T.NativeTable.state l.table) l.run);
+      (Run (drop l.stmt-index l.statements) l.restoring (last_of l.stmt-index l.run.value)) (state_in (g.T.NativeTable.state l.table) l.run);
 }
 
 abbrev pub invariant-run_until-each_part : goal.invariant-run_until-each_part
@@ -259,7 +278,7 @@ invariant-run_parameters-each_arg g l = record {
   counts : l.fn.run.global.num_operations ≤ l.run.global.num_operations;
   names : names l.run ≡ names l.fn.run;
   fills : Filling (under g.H.Host.name_of l.self g.T.NativeTable.natives) l.def.params l.args (drop l.arg-index l.args)
-      (entries_of l.scope) (state_in (g.T.NativeTable.state l.fn.table) l.fn.run) (state_in (g.T.NativeTable.state l.table) l.run);
+      l.variables (state_in (g.T.NativeTable.state l.fn.table) l.fn.run) (state_in (g.T.NativeTable.state l.table) l.run);
 }
 
 abbrev pub invariant-run_array-each_item : goal.invariant-run_array-each_item
@@ -327,19 +346,19 @@ invariant-run_switch-each_candidate g l = record {
   counts : l.fn.run.global.num_operations ≤ l.run.global.num_operations;
   names : names l.run ≡ names l.fn.run;
   steps : (pos : Position) (restoring : Bool) → Steps (under g.H.Host.name_of l.self g.T.NativeTable.natives)
-      (OpenStmt (layer.Switch l.parts.value.now l.parts.results.now l.parts.cases.now l.parts.ranges.now l.parts.default pos) restoring)
+      (OpenStmt (layer.Switch l.value l.results l.cases l.ranges l.default pos) restoring)
       (state_in (g.T.NativeTable.state l.fn.table) l.fn.run)
-      (Choose (results_of l.parts.results.now (numbers_left l.left)) (default_of (record {
-        results = l.parts.results.now;
-        cases = l.parts.cases.now;
-        ranges = l.parts.ranges.now;
-        default = l.parts.default;
+      (Choose (results_of l.results (numbers_left l.left)) (default_of (record {
+        results = l.results;
+        cases = l.cases;
+        ranges = l.ranges;
+        default = l.default;
       })))
       (state_in (g.T.NativeTable.state l.table) l.run);
 }
 
 abbrev pub decreases-run_switch-each_candidate : goal.decreases-run_switch-each_candidate
-decreases-run_switch-each_candidate g l = length (results_of l.parts.results.now (numbers_left l.left))
+decreases-run_switch-each_candidate g l = length (results_of l.results (numbers_left l.left))
 
 -- the turns that are left, from the room for the variables on
 abbrev pub invariant-run_for-turns : goal.invariant-run_for-turns

@@ -16,15 +16,19 @@ use Rattle.rhai_cycle.proofs.Chain.{flat_fails, opens_unary, still_none}
 use Rattle.rhai_cycle.proofs.PlainLemmas.{known_goes, plain_begins}
 use Rattle.rhai_cycle.proofs.evaluator.Evaluator.+eval.Goals as goal
 
-pub run_fn_call_expr-run_arg-requires : goal.run_fn_call_expr-run_arg-requires
-run_fn_call_expr-run_arg-requires g t c =
+pub run_fn_call_expr-run_function-requires : goal.run_fn_call_expr-run_function-requires
+run_fn_call_expr-run_function-requires g t c =
+    λ κs lives. (omega arith, (lives.0, (lives.1, (c.requires.resolves, c.may_operate.ensures c.if-may_operate.false))))
+
+pub run_operation-run_unary-requires : goal.run_operation-run_unary-requires
+run_operation-run_unary-requires g t c =
     let form = rw c.in-Unary.is at c.form_of.ensures in
     let resolved = first_resolves c.args.call.now.args c.in-Unary.operand.now [] (names c.args.run.now) form.2
     (operands_of_call c.args.call.now c.args.pos (names c.args.run.now) c.requires.resolves) in
-    λ κs lives. (omega arith, (lives.0, (lives.1, resolved.0)))
+    λ κs lives. (omega arith, (lives.0, (lives.1, (form.1, (form.2, (resolved.0, form.0))))))
 
-pub run_fn_call_expr-run_operator-requires : goal.run_fn_call_expr-run_operator-requires
-run_fn_call_expr-run_operator-requires g t c =
+pub run_operation-run_operator-requires : goal.run_operation-run_operator-requires
+run_operation-run_operator-requires g t c =
     let form = rw c.in-Binary.is at c.form_of.ensures in
     let resolved = operands_resolve c.args.call.now c.args.pos c.in-Binary.left.now c.in-Binary.right.now (names c.args.run.now) form.2
     c.requires.resolves in
@@ -33,63 +37,63 @@ run_fn_call_expr-run_operator-requires g t c =
       (lives.0, (lives.1, (form.1, (form.2, (resolved.0, (resolved.1, form.0)))))),
     )
 
-pub run_fn_call_expr-returns-then-not-run_arg-clause-runs : goal.run_fn_call_expr-returns-then-not-run_arg-clause-runs
+pub run_operation-returns-in-Some-clause-runs : goal.run_operation-returns-in-Some-clause-runs
+run_operation-returns-in-Some-clause-runs g t c =
+    let form = rw c.in-Binary.is at c.form_of.ensures in
+    c.in-Some.ensures.runs (offer_of c.args.self.now) (holding c.args.run.now.this) form.0
+
+pub run_operation-returns-in_default-clause-runs : goal.run_operation-returns-in_default-clause-runs
+run_operation-returns-in_default-clause-runs g t c =
+    rw (c.operate_in_place-in_place.ensures.left_alone c.in_default.is) at c.run_operator.ensures.runs
+
+pub run_operation-run_function-requires : goal.run_operation-run_function-requires
+run_operation-run_function-requires g t c =
+    λ κs lives. (omega arith, (lives.0, (lives.1, (c.requires.resolves, rw c.in-Function.is at c.form_of.ensures))))
+
+pub run_unary-returns-then-not-run_arg-clause-runs : goal.run_unary-returns-then-not-run_arg-clause-runs
 unfolding after Steps
-run_fn_call_expr-returns-then-not-run_arg-clause-runs g t c k =
+run_unary-returns-then-not-run_arg-clause-runs g t c k =
     let rules = under g.H.Host.name_of c.args.self.now g.T.NativeTable.natives in
-    let form = rw c.in-Unary.is at c.form_of.ensures in
-    opens_unary rules c.args.call.now c.in-Unary.token c.in-Unary.operand.now c.args.pos k _ form.0 form.1 form.2
+    opens_unary rules c.args.call.now c.args.token c.args.operand.now c.args.pos k _ c.requires.fast c.requires.token c.requires.args
     ⨾ c.if-not-run_arg.ensures.runs (UnaryOperand _ _ ∷ k) ⨾ next here
 
-pub run_fn_call_expr-returns-then-not-flatten_at-clause-runs : goal.run_fn_call_expr-returns-then-not-flatten_at-clause-runs
+pub run_unary-returns-then-not-flatten_at-clause-runs : goal.run_unary-returns-then-not-flatten_at-clause-runs
 unfolding after Steps
-run_fn_call_expr-returns-then-not-flatten_at-clause-runs g t c k =
+run_unary-returns-then-not-flatten_at-clause-runs g t c k =
     let rules = under g.H.Host.name_of c.args.self.now g.T.NativeTable.natives in
-    let form = rw c.in-Unary.is at c.form_of.ensures in
-    opens_unary rules c.args.call.now c.in-Unary.token c.in-Unary.operand.now c.args.pos k _ form.0 form.1 form.2
+    opens_unary rules c.args.call.now c.args.token c.args.operand.now c.args.pos k _ c.requires.fast c.requires.token c.requires.args
     ⨾ c.if-not-run_arg.ensures.runs (UnaryOperand _ _ ∷ k)
     ⨾ flat_fails rules _ _ k _ _ (UnaryOperand _ _) refl c.if-not-flatten_at.ensures.exact
 
-pub run_fn_call_expr-returns-else-not-flatten_at-clause-runs : goal.run_fn_call_expr-returns-else-not-flatten_at-clause-runs
+pub run_unary-returns-clause-runs : goal.run_unary-returns-clause-runs
 unfolding after Steps StartsAs
-run_fn_call_expr-returns-else-not-flatten_at-clause-runs g t c k =
+run_unary-returns-clause-runs g t c k =
     let rules = under g.H.Host.name_of c.args.self.now g.T.NativeTable.natives in
-    let form = rw c.in-Unary.is at c.form_of.ensures in
-    opens_unary rules c.args.call.now c.in-Unary.token c.in-Unary.operand.now c.args.pos k _ form.0 form.1 form.2
+    opens_unary rules c.args.call.now c.args.token c.args.operand.now c.args.pos k _ c.requires.fast c.requires.token c.requires.args
     ⨾ c.if-not-run_arg.ensures.runs (UnaryOperand _ _ ∷ k)
     ⨾ next (rw (← (c.if-not-flatten_at.ensures.exact tt)) (c.operate_on_one-called.ensures.runs k))
     ⨾ c.run_out.ensures.runs k
 
-pub run_fn_call_expr-returns-in-Some-clause-runs : goal.run_fn_call_expr-returns-in-Some-clause-runs
-run_fn_call_expr-returns-in-Some-clause-runs g t c =
-    let form = rw c.in-Binary.is at c.form_of.ensures in
-    c.in-Some.ensures.runs (offer_of c.args.self.now) (holding c.args.run.now.this) form.0
-
-pub run_fn_call_expr-returns-in_default-clause-runs : goal.run_fn_call_expr-returns-in_default-clause-runs
-run_fn_call_expr-returns-in_default-clause-runs g t c =
-    rw (c.operate_in_place-in_place.ensures.left_alone c.in_default.is) at c.run_operator.ensures.runs
-
-pub run_fn_call_expr-run_plain_call-requires : goal.run_fn_call_expr-run_plain_call-requires
-run_fn_call_expr-run_plain_call-requires g t c =
+pub run_function-run_plain_call-requires : goal.run_function-run_plain_call-requires
+run_function-run_plain_call-requires g t c =
     let resolved = operands_of_call c.args.call.now c.args.pos (names c.args.run.now) c.requires.resolves in
-    λ κs lives. (omega arith, (lives.0, (lives.1, (resolved, c.in-Some-plain_callee.ensures))))
+    λ κs lives. (omega arith, (lives.0, (lives.1, (resolved, c.in-Some.ensures))))
 
-pub run_fn_call_expr-returns-in-Some-plain_callee-clause-runs : goal.run_fn_call_expr-returns-in-Some-plain_callee-clause-runs
+pub run_function-returns-in-Some-clause-runs : goal.run_function-returns-in-Some-clause-runs
 unfolding Steps StartsAs
-run_fn_call_expr-returns-in-Some-plain_callee-clause-runs g t c k =
+run_function-returns-in-Some-clause-runs g t c k =
     let rules = under g.H.Host.name_of c.args.self.now g.T.NativeTable.natives in
-    let form = rw c.in-Function.is at c.form_of.ensures in
-    plain_begins rules c.args.call.now c.args.run.now.global.lib c.in-Some-plain_callee.function
-    c.in-Some-plain_callee.ensures c.args.pos k _
-    (call_is_plain c.args.call.now c.args.pos _ c.requires.resolves) form
+    plain_begins rules c.args.call.now c.args.run.now.global.lib c.in-Some.function
+    c.in-Some.ensures c.args.pos k _
+    (call_is_plain c.args.call.now c.args.pos _ c.requires.resolves) c.requires.form
     ⨾ c.run_plain_call.ensures.runs k
 
-pub run_fn_call_expr-returns-in-Some-at_once-clause-runs : goal.run_fn_call_expr-returns-in-Some-at_once-clause-runs
-run_fn_call_expr-returns-in-Some-at_once-clause-runs g t c =
+pub run_function-returns-in-Some-at_once-clause-runs : goal.run_function-returns-in-Some-at_once-clause-runs
+run_function-returns-in-Some-at_once-clause-runs g t c =
     c.in-Some-at_once.ensures.runs (offer_of c.args.self.now) (holding c.args.run.now.this) c.offered-offered.ensures
 
-pub run_fn_call_expr-run_call-requires : goal.run_fn_call_expr-run_call-requires
-run_fn_call_expr-run_call-requires g t c =
+pub run_function-run_call-requires : goal.run_function-run_call-requires
+run_function-run_call-requires g t c =
     λ κs lives. (
       omega (arith, c.call_at_once-at_once.ensures.counts),
       (
@@ -102,12 +106,11 @@ run_fn_call_expr-run_call-requires g t c =
       ),
     )
 
-pub run_fn_call_expr-returns-in_default-at_once-clause-runs : goal.run_fn_call_expr-returns-in_default-at_once-clause-runs
+pub run_function-returns-clause-runs : goal.run_function-returns-clause-runs
 unfolding Steps StartsAs
-run_fn_call_expr-returns-in_default-at_once-clause-runs g t c k =
+run_function-returns-clause-runs g t c k =
     let rules = under g.H.Host.name_of c.args.self.now g.T.NativeTable.natives in
-    let form = rw c.in-Function.is at c.form_of.ensures in
-    begins_call rules c.args.call.now c.args.pos k _ (call_is_plain c.args.call.now c.args.pos _ c.requires.resolves) form
+    begins_call rules c.args.call.now c.args.pos k _ (call_is_plain c.args.call.now c.args.pos _ c.requires.resolves) c.requires.form
     ⨾ (rw (
       c.call_at_once-at_once.ensures.left_global c.in_default-at_once.is,
       c.call_at_once-at_once.ensures.left_scope c.in_default-at_once.is,

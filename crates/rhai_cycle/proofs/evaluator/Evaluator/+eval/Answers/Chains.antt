@@ -404,37 +404,37 @@ assign_chain-run_chain-requires g t c =
 
 pub assign_chain-returns-then-not-run_expr-clause-runs : goal.assign_chain-returns-then-not-run_expr-clause-runs
 unfolding after Steps
-assign_chain-returns-then-not-run_expr-clause-runs g t c k =
+assign_chain-returns-then-not-run_expr-clause-runs g t c restoring k =
     let rules = under g.H.Host.name_of c.args.self.now g.T.NativeTable.natives in
     let found = sym c.first_of.ensures ∙ ap option_copied c.in-Some.is in
-    begins_chain rules c.args.op c.args.lhs.now c.args.rhs.now c.in-Some.root.now c.args.restoring found k _
+    begins_chain rules c.args.op c.args.lhs.now c.args.rhs.now c.in-Some.root.now restoring found k _
     ⨾ c.if-not-run_expr.ensures.runs (AssignChain _ _ _ _ ∷ k) ⨾ next here
 
 pub assign_chain-returns-in_default-take_flat-clause-runs : goal.assign_chain-returns-in_default-take_flat-clause-runs
 unfolding Steps
-assign_chain-returns-in_default-take_flat-clause-runs g t c k =
+assign_chain-returns-in_default-take_flat-clause-runs g t c restoring k =
     let rules = under g.H.Host.name_of c.args.self.now g.T.NativeTable.natives in
     let found = sym c.first_of.ensures ∙ ap option_copied c.in-Some.is in
-    begins_chain rules c.args.op c.args.lhs.now c.args.rhs.now c.in-Some.root.now c.args.restoring found k _
+    begins_chain rules c.args.op c.args.lhs.now c.args.rhs.now c.in-Some.root.now restoring found k _
     ⨾ c.if-not-run_expr.ensures.runs (AssignChain _ _ _ _ ∷ k)
     ⨾ flat_fails rules _ _ k _ _ (AssignChain _ _ _ _) refl c.in_default-take_flat.ensures
 
 pub assign_chain-returns-then-not-run_chain-clause-runs : goal.assign_chain-returns-then-not-run_chain-clause-runs
 unfolding after Steps
-assign_chain-returns-then-not-run_chain-clause-runs g t c k =
+assign_chain-returns-then-not-run_chain-clause-runs g t c restoring k =
     let rules = under g.H.Host.name_of c.args.self.now g.T.NativeTable.natives in
     let found = sym c.first_of.ensures ∙ ap option_copied c.in-Some.is in
-    begins_chain rules c.args.op c.args.lhs.now c.args.rhs.now c.in-Some.root.now c.args.restoring found k _
+    begins_chain rules c.args.op c.args.lhs.now c.args.rhs.now c.in-Some.root.now restoring found k _
     ⨾ c.if-not-run_expr.ensures.runs (AssignChain _ _ _ _ ∷ k)
     ⨾ next (rw (← (c.in-Some-take_flat.ensures tt))
     (c.if-not-run_chain.ensures.runs (AssignedChain ∷ k) ⨾ next here))
 
 pub assign_chain-returns-clause-runs : goal.assign_chain-returns-clause-runs
 unfolding after Steps
-assign_chain-returns-clause-runs g t c k =
+assign_chain-returns-clause-runs g t c restoring k =
     let rules = under g.H.Host.name_of c.args.self.now g.T.NativeTable.natives in
     let found = sym c.first_of.ensures ∙ ap option_copied c.in-Some.is in
-    begins_chain rules c.args.op c.args.lhs.now c.args.rhs.now c.in-Some.root.now c.args.restoring found k _
+    begins_chain rules c.args.op c.args.lhs.now c.args.rhs.now c.in-Some.root.now restoring found k _
     ⨾ c.if-not-run_expr.ensures.runs (AssignChain _ _ _ _ ∷ k)
     ⨾ next (rw (← (c.in-Some-take_flat.ensures tt))
     (c.if-not-run_chain.ensures.runs (AssignedChain ∷ k)
@@ -442,8 +442,8 @@ assign_chain-returns-clause-runs g t c k =
 
 -- where a chain is read, and where it is assigned to
 
-pub run_expr-run_chain-requires : goal.run_expr-run_chain-requires
-run_expr-run_chain-requires g t c =
+pub run_expr-read_chain-requires : goal.run_expr-read_chain-requires
+run_expr-read_chain-requires g t c =
     let few = few_links c.args.expr.now (names c.args.run.now) c.requires.resolves in
     let parts = root_resolves c.args.expr.now c.in-Dot.root (names c.args.run.now) (rw (c.in-Dot.is, exprs.outs-Dot) refl)
     c.requires.resolves in
@@ -466,8 +466,8 @@ run_expr-run_chain-requires g t c =
       ),
     )
 
-pub run_expr-run_chain-requires-in-Index : goal.run_expr-run_chain-requires-in-Index
-run_expr-run_chain-requires-in-Index g t c =
+pub run_expr-read_chain-requires-in-Index : goal.run_expr-read_chain-requires-in-Index
+run_expr-read_chain-requires-in-Index g t c =
     let few = few_links c.args.expr.now (names c.args.run.now) c.requires.resolves in
     let parts = root_resolves c.args.expr.now c.in-Index.root (names c.args.run.now) (rw (c.in-Index.is, exprs.outs-Index) refl)
     c.requires.resolves in
@@ -497,7 +497,7 @@ run_expr-returns-in-Dot-clause-runs g t c k =
     begins rules _ c.args.run.now.global c.charge_expr.new.global _ _ (c.if-not-charge_expr.ensures.room refl)
     (c.if-not-charge_expr.ensures.charged refl) _ (layer.Dot c.in-Dot.root c.in-Dot.field-1 c.in-Dot.field-2 c.in-Dot.field-3)
     (rw (c.in-Dot.is, exprs.outs-Dot) refl) k
-    ⨾ next ((rw (c.get.ensures, c.in-Dot.is, exprs.outs-Dot) at c.run_chain.ensures.runs) k)
+    ⨾ next ((rw (c.get.ensures, c.in-Dot.is, exprs.outs-Dot) at c.read_chain.ensures.runs) k)
 
 pub run_expr-returns-in-Index-clause-runs : goal.run_expr-returns-in-Index-clause-runs
 unfolding after Steps
@@ -506,15 +506,14 @@ run_expr-returns-in-Index-clause-runs g t c k =
     begins rules _ c.args.run.now.global c.charge_expr.new.global _ _ (c.if-not-charge_expr.ensures.room refl)
     (c.if-not-charge_expr.ensures.charged refl) _ (layer.Index c.in-Index.root c.in-Index.field-1 c.in-Index.field-2 c.in-Index.field-3)
     (rw (c.in-Index.is, exprs.outs-Index) refl) k
-    ⨾ next ((rw (c.get-in-Index.ensures, c.in-Index.is, exprs.outs-Index) at c.run_chain-in-Index.ensures.runs) k)
+    ⨾ next ((rw (c.get-in-Index.ensures, c.in-Index.is, exprs.outs-Index) at c.read_chain-in-Index.ensures.runs) k)
 
-pub run_assignment-assign_chain-requires : goal.run_assignment-assign_chain-requires
-run_assignment-assign_chain-requires g t c =
+pub assign_evaluated-assign_chain-requires : goal.assign_evaluated-assign_chain-requires
+assign_evaluated-assign_chain-requires g t c =
     let chain = left_chain c.args.lhs.now (names c.args.run.now)
-    (no_name c.args.lhs.now c.in_default-lhs-2.not-Variable c.in_default-lhs.not-ThisPtr)
+    (no_name c.args.lhs.now c.in_default.not-Variable c.in_default.not-ThisPtr)
     c.requires.resolves_target in
-    let scope = c.assign_at_once-at_once.ensures.left_scope c.in_default.is in
     λ κs lives. (
-      omega (arith, c.assign_at_once-at_once.ensures.keeps.counts),
-      (lives.0, (lives.1, (chain, (rw scope c.requires.resolves_target, rw scope c.requires.resolves)))),
+      omega arith,
+      (lives.0, (lives.1, (chain, (c.requires.resolves_target, c.requires.resolves)))),
     )

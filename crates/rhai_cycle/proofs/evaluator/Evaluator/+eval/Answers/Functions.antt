@@ -189,7 +189,7 @@ unfolding Steps RunsUnder StartsAs
 run_keyword-returns-in-Ok-Some-clause-runs g t c k =
     let rules = under g.H.Host.name_of c.args.self.now g.T.NativeTable.natives in
     let pointer = c.in-Ok-pointer_of-2.pointer in
-    let linked = sym (rw c.as_slice.ensures at c.in-Ok-Some.ensures) ∙ c.in-Ok-Some.field-0-is in
+    let linked = sym c.in-Ok-Some.ensures ∙ c.in-Ok-Some.field-0-is in
     rw c.in-CallPointer.is
     (c.if-not-run_arg.ensures.runs (KeywordArgument _ _ _ _ _ ∷ k)
     ⨾ calls_goes rules _ c.args.pos _ c.args.rest.now c.args.captures k _ pointer
@@ -202,7 +202,7 @@ unfolding Steps RunsUnder StartsAs
 run_keyword-returns-in-Some-clause-runs g t c k =
     let rules = under g.H.Host.name_of c.args.self.now g.T.NativeTable.natives in
     let pointer = c.in-Ok-pointer_of-2.pointer in
-    let unlinked = sym (rw c.as_slice.ensures at c.in-Ok-None.ensures) ∙ c.in-Ok-None.field-0-is in
+    let unlinked = sym c.in-Ok-None.ensures ∙ c.in-Ok-None.field-0-is in
     let numbered = sym c.parts_of-name-in-Ok-None.ensures.number ∙ c.in-Some.is in
     rw c.in-CallPointer.is
     (c.if-not-run_arg.ensures.runs (KeywordArgument _ _ _ _ _ ∷ k)
@@ -217,7 +217,7 @@ unfolding Steps RunsUnder StartsAs
 run_keyword-returns-in-None-clause-runs g t c k =
     let rules = under g.H.Host.name_of c.args.self.now g.T.NativeTable.natives in
     let pointer = c.in-Ok-pointer_of-2.pointer in
-    let unlinked = sym (rw c.as_slice.ensures at c.in-Ok-None.ensures) ∙ c.in-Ok-None.field-0-is in
+    let unlinked = sym c.in-Ok-None.ensures ∙ c.in-Ok-None.field-0-is in
     let unnumbered = sym c.parts_of-name-in-Ok-None.ensures.number ∙ c.in-None.is in
     rw c.in-CallPointer.is
     (c.if-not-run_arg.ensures.runs (KeywordArgument _ _ _ _ _ ∷ k)
@@ -235,10 +235,10 @@ run_keyword-returns-in-None-clause-runs g t c k =
     ) at c.run_named.ensures.runs) k))))
 
 -- memory is wanted at the keyword's own frame
-pub run_keyword-returns-in-Err-function_linked-clause-runs : goal.run_keyword-returns-in-Err-function_linked-clause-runs
+pub run_keyword-returns-in-Err-linked_function-clause-runs : goal.run_keyword-returns-in-Err-linked_function-clause-runs
 unfolding after Steps RunsUnder
-run_keyword-returns-in-Err-function_linked-clause-runs g t c k =
-    rw (c.stop-in-Err-function_linked.ensures.stopped, c.stop-in-Err-function_linked.ensures.told)
+run_keyword-returns-in-Err-linked_function-clause-runs g t c k =
+    rw (c.stop-in-Err-linked_function.ensures.stopped, c.stop-in-Err-linked_function.ensures.told)
     (c.if-not-run_arg.ensures.runs (KeywordArgument _ _ _ _ _ ∷ k) ⨾ wanting {at = c.args.pos} (next here))
 
 -- a pointer that is called

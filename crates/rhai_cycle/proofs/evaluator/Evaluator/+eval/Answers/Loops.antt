@@ -1,6 +1,5 @@
 use Rattle.std.proofs.Common.{true, ◌≡◌, ◌≤◌, ◌<◌, ◌∷◌, [], refl, sym, ◌∙◌, arith}
 use Rattle.std.proofs.lemmas.Bool.{true≢false}
-use Rattle.rhai_state.specs.Limits.{limit_of}
 use Rattle.rhai_machine.specs.machine.Point.{after}
 use Rattle.rhai_machine.specs.machine.Memory.{here, next, ◌⨾◌}
 use Rattle.rhai_machine.specs.language.Frames.{ended, Enter, WhileCondition, WhileBody, DoCondition, DoBody}
@@ -26,7 +25,7 @@ run_while-turns-init g t c =
 pub run_while-turns-smaller : goal.run_while-turns-smaller
 unfolding after Steps
 run_while-turns-smaller g t c =
-    let full : limit_of c.args.self.now.limits.now.max_operations ≤ c.turns.run.global.num_operations →
+    let full : c.args.self.now.limits.now.max_operations ≤ c.turns.run.global.num_operations →
     c.while_turn.new.run.global.num_operations ≡ c.turns.run.global.num_operations = λ le. stays_full _ _ (c.while_turn.ensures.runs [])
     le in
     grind (arith, full, rw c.in_default.is at c.while_turn.ensures.charges)
@@ -60,7 +59,7 @@ run_do-turns-init g t c =
 pub run_do-turns-smaller : goal.run_do-turns-smaller
 unfolding after Steps
 run_do-turns-smaller g t c =
-    let full : limit_of c.args.self.now.limits.now.max_operations ≤ c.turns.run.global.num_operations →
+    let full : c.args.self.now.limits.now.max_operations ≤ c.turns.run.global.num_operations →
     c.do_turn.new.run.global.num_operations ≡ c.turns.run.global.num_operations = λ le. stays_full _ _ (c.do_turn.ensures.runs []) le in
     grind (arith, full, rw c.in_default.is at c.do_turn.ensures.charges)
 

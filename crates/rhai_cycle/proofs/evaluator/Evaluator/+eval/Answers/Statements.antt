@@ -1,4 +1,5 @@
-use Rattle.std.proofs.Common.{◌≡◌, ◌+◌, ◌∷◌, drop, map, not, None, Err, refl, sym, ap, ◌∙◌, arith, rules as common_rules}
+use Rattle.std.proofs.Common.{◌≡◌, ◌≤◌, ◌+◌, ◌∷◌, ℕ, zero, suc, add-one, drop, map, not, None, Err, refl, sym, ap, ◌∙◌, arith, rules as common_rules}
+use Rattle.rhai_values.specs.declared.base.value.Dynamic.{Dynamic}
 use Rattle.rhai_steps.specs.States.{holding}
 use Rattle.rhai_tree.specs.declared.expr.Stmt.{out-Stmt}
 use Rattle.rhai_tree.specs.declared.expr.Expr.TheOpen as layer
@@ -20,14 +21,16 @@ use Rattle.rhai_cycle.specs.Memory.{asks_stmt}
 use Rattle.rhai_cycle.specs.States.{names, offer_of, state_in, under}
 use Rattle.rhai_operands.specs.Tests.{Tests}
 use Rattle.rhai_operands.proofs.Names.{good_target, plain_target}
+use Rattle.rhai_assign.proofs.Alone.{sides_resolve}
 use Rattle.rhai_assign.proofs.Prepared.{begins_assignment}
 use Rattle.rhai_tree.proofs.Links.{few_in_target}
 use Rattle.rhai_cycle.proofs.Conditions.{chooses}
-use Rattle.rhai_cycle.proofs.NameLemmas.{plain_var, names_restored, rest_resolves, sides_resolve, any_item}
+use Rattle.rhai_cycle.proofs.NameLemmas.{plain_var, names_restored, rest_resolves, any_item}
 use Rattle.rhai_cycle.proofs.Chain.{flat_fails, drop_item, drop_all, begins_stmt, opens_stmt, refuses_stmt, restores, enters_empty}
-use Rattle.rhai_cycle.proofs.Chain.{enters_plain, enters_restoring, is_empty_list, is_not_empty, left_state, not_declared, begins_value}
+use Rattle.rhai_cycle.proofs.Chain.{enters_plain, enters_restoring, has_some, is_empty_list, is_not_empty, left_state, not_declared, begins_value}
 use Rattle.rhai_cycle.proofs.ThisSteps.{this_begins, this_unbound}
 use Rattle.rhai_cycle.proofs.VariableSteps.{declared}
+use Rattle.rhai_cycle.proofs.evaluator.Evaluator.+eval.Invariants.{last_of}
 use Rattle.rhai_cycle.proofs.evaluator.Evaluator.+eval.Goals as goal
 
 pub run_stmt-returns-then-not-charge_stmt-clause-runs : goal.run_stmt-returns-then-not-charge_stmt-clause-runs
@@ -45,7 +48,7 @@ run_stmt-returns-in-Noop-clause-runs g t c k =
     let rules = under g.H.Host.name_of c.args.self.now g.T.NativeTable.natives in
     begins_stmt rules _ c.args.run.now.global c.charge_stmt.new.global _ _ (c.if-not-charge_stmt.ensures.room refl)
     (c.if-not-charge_stmt.ensures.charged refl) _ _ (layer.Noop c.in-Noop.field-0) (rw (c.in-Noop.is, stmts.outs-Noop) refl) k
-    ⨾ next (rw c.put_unit.ensures here)
+    ⨾ next (rw (c.leave_unit.ensures.done, c.leave_unit.ensures.value) here)
 
 pub run_stmt-returns-then-not-run_expr-clause-runs : goal.run_stmt-returns-then-not-run_expr-clause-runs
 unfolding after Steps
@@ -82,25 +85,12 @@ run_stmt-returns-in-Block-clause-runs g t c k =
     (c.if-not-charge_stmt.ensures.charged refl) _ _ (layer.Block c.in-Block.block) (rw (c.in-Block.is, stmts.outs-Block) refl) k
     ⨾ next ((rw c.as_slice.ensures at c.run_stmt_block.ensures.runs) k)
 
-pub run_stmt-returns-in-None-clause-runs : goal.run_stmt-returns-in-None-clause-runs
-unfolding after Steps Tests
-run_stmt-returns-in-None-clause-runs g t c =
-    let rules = under g.H.Host.name_of c.args.self.now g.T.NativeTable.natives in
-    opens_stmt rules _ c.args.run.now.global c.charge_stmt.new.global _ _ (c.if-not-charge_stmt.ensures.room refl)
-    (c.if-not-charge_stmt.ensures.charged refl) _ (Err (error_in c.run_condition.new.run.error)) _ _
-    (layer.If c.in-If.test c.in-If.body c.in-If.branch c.in-If.field-3)
-    (λ k. next (c.in-None.ensures.runs (IfCondition _ _ _) k refl))
-    (rw (c.in-If.is, stmts.outs-If) refl)
-
-pub run_stmt-returns-in-Some-clause-runs : goal.run_stmt-returns-in-Some-clause-runs
-unfolding after Steps Tests
-run_stmt-returns-in-Some-clause-runs g t c =
+pub run_stmt-returns-in-If-clause-runs : goal.run_stmt-returns-in-If-clause-runs
+run_stmt-returns-in-If-clause-runs g t c =
     let rules = under g.H.Host.name_of c.args.self.now g.T.NativeTable.natives in
     opens_stmt rules _ c.args.run.now.global c.charge_stmt.new.global _ _ (c.if-not-charge_stmt.ensures.room refl)
     (c.if-not-charge_stmt.ensures.charged refl) _ _ _ _ (layer.If c.in-If.test c.in-If.body c.in-If.branch c.in-If.field-3)
-    (λ k. next (c.in-Some.ensures.runs (IfCondition _ _ _) k refl
-    ⨾ chooses rules c.in-Some.holds c.in-If.body c.in-If.branch k _
-    ((rw c.chosen-statements.ensures at c.run_stmt_block-in-Some.ensures.runs) k))) (rw (c.in-If.is, stmts.outs-If) refl)
+    (c.run_if.ensures.runs c.in-If.field-3 c.args.restoring) (rw (c.in-If.is, stmts.outs-If) refl)
 
 pub run_stmt-run_assignment-requires : goal.run_stmt-run_assignment-requires
 run_stmt-run_assignment-requires g t c =
@@ -121,8 +111,8 @@ pub run_stmt-returns-in-Assignment-clause-runs : goal.run_stmt-returns-in-Assign
 run_stmt-returns-in-Assignment-clause-runs g t c =
     let rules = under g.H.Host.name_of c.args.self.now g.T.NativeTable.natives in
     opens_stmt rules _ c.args.run.now.global c.charge_stmt.new.global _ _ (c.if-not-charge_stmt.ensures.room refl)
-    (c.if-not-charge_stmt.ensures.charged refl) _ _ _ _ _ c.run_assignment.ensures.runs (rw (c.in-Assignment.is, stmts.outs-Assignment)
-    refl)
+    (c.if-not-charge_stmt.ensures.charged refl) _ _ _ _ _ (c.run_assignment.ensures.runs c.args.restoring)
+    (rw (c.in-Assignment.is, stmts.outs-Assignment) refl)
 
 pub run_stmt-returns-in-While-clause-runs : goal.run_stmt-returns-in-While-clause-runs
 unfolding after Steps
@@ -246,6 +236,14 @@ run_stmt-returns-in-Share-clause-runs g t c k =
     ⨾ next ((rw c.as_slice-names.ensures at c.share_variables.ensures.runs (offer_of c.args.self.now)
     (holding c.args.run.now.this)) k)
 
+pub run_stmt-returns-in-Export-clause-runs : goal.run_stmt-returns-in-Export-clause-runs
+run_stmt-returns-in-Export-clause-runs g t c =
+    let rules = under g.H.Host.name_of c.args.self.now g.T.NativeTable.natives in
+    opens_stmt rules _ c.args.run.now.global c.charge_stmt.new.global _ _ (c.if-not-charge_stmt.ensures.room refl)
+    (c.if-not-charge_stmt.ensures.charged refl) _ _ _ _ (layer.Export c.in-Export.ident c.in-Export.alias c.in-Export.field-2)
+    (c.export_variable.ensures.runs (offer_of c.args.self.now) (holding c.args.run.now.this) c.in-Export.field-2 c.args.restoring)
+    (rw (c.in-Export.is, stmts.outs-Export) refl)
+
 pub run_stmt-returns-in-Var-default-default-None-default-default-clause-runs :
     goal.run_stmt-returns-in-Var-default-default-None-default-default-clause-runs
 run_stmt-returns-in-Var-default-default-None-default-default-clause-runs g t c =
@@ -260,106 +258,114 @@ run_stmt-returns-in-Var-default-default-None-default-default-clause-runs g t c =
     opens_stmt rules _ c.args.run.now.global c.charge_stmt.new.global _ _ (c.if-not-charge_stmt.ensures.room refl)
     (c.if-not-charge_stmt.ensures.charged refl) _ _ _ _ _ (c.run_var.ensures.runs (plain_var _ _ _ _ _ _ form c.requires.resolves)) form
 
+-- a condition, and the list that it chooses
+
+pub run_if-returns-in-None-clause-runs : goal.run_if-returns-in-None-clause-runs
+unfolding after Steps Tests
+run_if-returns-in-None-clause-runs g t c pos restoring k = next (c.in-None.ensures.runs (IfCondition _ _ _) k refl)
+
+pub run_if-returns-in-Some-clause-runs : goal.run_if-returns-in-Some-clause-runs
+unfolding after Steps Tests
+run_if-returns-in-Some-clause-runs g t c pos restoring k =
+    let rules = under g.H.Host.name_of c.args.self.now g.T.NativeTable.natives in
+    next (c.in-Some.ensures.runs (IfCondition _ _ _) k refl
+    ⨾ chooses rules c.in-Some.holds c.args.body.now c.args.branch.now k _
+    ((rw c.chosen-statements.ensures at c.run_stmt_block.ensures.runs) k))
+
+-- an assignment
+
 pub run_assignment-returns-in-Some-clause-runs : goal.run_assignment-returns-in-Some-clause-runs
-run_assignment-returns-in-Some-clause-runs g t c =
-    c.in-Some.ensures.runs (offer_of c.args.self.now) (holding c.args.run.now.this) c.args.restoring refl
+run_assignment-returns-in-Some-clause-runs g t c restoring =
+    c.in-Some.ensures.runs (offer_of c.args.self.now) (holding c.args.run.now.this) restoring refl
 
-pub run_assignment-returns-then-not-run_expr-clause-runs : goal.run_assignment-returns-then-not-run_expr-clause-runs
-unfolding after Steps
-run_assignment-returns-then-not-run_expr-clause-runs g t c k =
-    let rules = under g.H.Host.name_of c.args.self.now g.T.NativeTable.natives in
-    begins_assignment rules c.args.op c.args.lhs.now c.args.rhs.now c.in-Variable.offset c.in-Variable.name c.in-Variable.namespace
-    c.in-Variable.pos
-    c.args.restoring k _ (rw (c.in-Variable.is, exprs.outs-Variable) refl)
-    (plain_target c.args.lhs.now c.in-Variable.offset c.in-Variable.name c.in-Variable.namespace c.in-Variable.pos _
-    (rw (c.in-Variable.is, exprs.outs-Variable) refl) c.requires.resolves_target)
-    ⨾ (rw (
-      c.assign_at_once-at_once.ensures.left_global c.in_default.is,
-      c.assign_at_once-at_once.ensures.left_scope c.in_default.is,
-    ) at c.if-not-run_expr.ensures.runs) (AssignValue _ _ ∷ k) ⨾ next here
-
-pub run_assignment-returns-then-not-flatten_at-clause-runs : goal.run_assignment-returns-then-not-flatten_at-clause-runs
-unfolding after Steps
-run_assignment-returns-then-not-flatten_at-clause-runs g t c k =
-    let rules = under g.H.Host.name_of c.args.self.now g.T.NativeTable.natives in
-    begins_assignment rules c.args.op c.args.lhs.now c.args.rhs.now c.in-Variable.offset c.in-Variable.name c.in-Variable.namespace
-    c.in-Variable.pos
-    c.args.restoring k _ (rw (c.in-Variable.is, exprs.outs-Variable) refl)
-    (plain_target c.args.lhs.now c.in-Variable.offset c.in-Variable.name c.in-Variable.namespace c.in-Variable.pos _
-    (rw (c.in-Variable.is, exprs.outs-Variable) refl) c.requires.resolves_target)
-    ⨾ (rw (
-      c.assign_at_once-at_once.ensures.left_global c.in_default.is,
-      c.assign_at_once-at_once.ensures.left_scope c.in_default.is,
-    ) at c.if-not-run_expr.ensures.runs) (AssignValue _ _ ∷ k)
-    ⨾ flat_fails rules _ _ k _ _ (AssignValue _ _) refl c.if-not-flatten_at.ensures.exact
-
-pub run_assignment-assign_left-requires : goal.run_assignment-assign_left-requires
-run_assignment-assign_left-requires g t c =
-    let rules = under g.H.Host.name_of c.args.self.now g.T.NativeTable.natives in
-    rw (c.if-not-run_expr.ensures.names refl, c.assign_at_once-at_once.ensures.left_scope c.in_default.is)
-    (good_target c.args.lhs.now c.in-Variable.offset c.in-Variable.name c.in-Variable.namespace c.in-Variable.pos _
-    (rw (c.in-Variable.is, exprs.outs-Variable) refl) c.requires.resolves_target)
-
-pub run_assignment-returns-clause-runs : goal.run_assignment-returns-clause-runs
-unfolding after Steps
-run_assignment-returns-clause-runs g t c k =
-    let rules = under g.H.Host.name_of c.args.self.now g.T.NativeTable.natives in
-    begins_assignment rules c.args.op c.args.lhs.now c.args.rhs.now c.in-Variable.offset c.in-Variable.name c.in-Variable.namespace
-    c.in-Variable.pos
-    c.args.restoring k _ (rw (c.in-Variable.is, exprs.outs-Variable) refl)
-    (plain_target c.args.lhs.now c.in-Variable.offset c.in-Variable.name c.in-Variable.namespace c.in-Variable.pos _
-    (rw (c.in-Variable.is, exprs.outs-Variable) refl) c.requires.resolves_target)
-    ⨾ (rw (
-      c.assign_at_once-at_once.ensures.left_global c.in_default.is,
-      c.assign_at_once-at_once.ensures.left_scope c.in_default.is,
-    ) at c.if-not-run_expr.ensures.runs) (AssignValue _ _ ∷ k)
-    ⨾ next (rw (← (c.if-not-flatten_at.ensures.exact tt))
-    (c.assign_left.ensures.runs (offer_of c.args.self.now) (holding c.run_expr.new.run.this) refl k))
-
-pub run_assignment-assign_to_this-requires : goal.run_assignment-assign_to_this-requires
-run_assignment-assign_to_this-requires g t c =
+pub run_assignment-assign_evaluated-requires : goal.run_assignment-assign_evaluated-requires
+run_assignment-assign_evaluated-requires g t c =
     let scope = c.assign_at_once-at_once.ensures.left_scope c.in_default.is in
     λ κs lives. (
       omega (arith, c.assign_at_once-at_once.ensures.keeps.counts),
-      (lives.0, (lives.1, (rw (c.in-ThisPtr.is, exprs.outs-ThisPtr) refl, rw scope c.requires.resolves))),
+      (lives.0, (lives.1, (rw scope c.requires.resolves_target, rw scope c.requires.resolves))),
     )
 
--- an assignment to `this`
+-- whose value is evaluated, to a variable
 
-pub assign_to_this-returns-then-is_none-clause-runs : goal.assign_to_this-returns-then-is_none-clause-runs
+pub assign_evaluated-returns-then-not-run_expr-clause-runs : goal.assign_evaluated-returns-then-not-run_expr-clause-runs
+unfolding after Steps
+assign_evaluated-returns-then-not-run_expr-clause-runs g t c restoring k =
+    let rules = under g.H.Host.name_of c.args.self.now g.T.NativeTable.natives in
+    begins_assignment rules c.args.op c.args.lhs.now c.args.rhs.now c.in-Variable.offset c.in-Variable.name c.in-Variable.namespace
+    c.in-Variable.pos
+    restoring k _ (rw (c.in-Variable.is, exprs.outs-Variable) refl)
+    (plain_target c.args.lhs.now c.in-Variable.offset c.in-Variable.name c.in-Variable.namespace c.in-Variable.pos _
+    (rw (c.in-Variable.is, exprs.outs-Variable) refl) c.requires.resolves_target)
+    ⨾ c.if-not-run_expr.ensures.runs (AssignValue _ _ ∷ k) ⨾ next here
+
+pub assign_evaluated-returns-then-not-flatten_at-clause-runs : goal.assign_evaluated-returns-then-not-flatten_at-clause-runs
+unfolding after Steps
+assign_evaluated-returns-then-not-flatten_at-clause-runs g t c restoring k =
+    let rules = under g.H.Host.name_of c.args.self.now g.T.NativeTable.natives in
+    begins_assignment rules c.args.op c.args.lhs.now c.args.rhs.now c.in-Variable.offset c.in-Variable.name c.in-Variable.namespace
+    c.in-Variable.pos
+    restoring k _ (rw (c.in-Variable.is, exprs.outs-Variable) refl)
+    (plain_target c.args.lhs.now c.in-Variable.offset c.in-Variable.name c.in-Variable.namespace c.in-Variable.pos _
+    (rw (c.in-Variable.is, exprs.outs-Variable) refl) c.requires.resolves_target)
+    ⨾ c.if-not-run_expr.ensures.runs (AssignValue _ _ ∷ k)
+    ⨾ flat_fails rules _ _ k _ _ (AssignValue _ _) refl c.if-not-flatten_at.ensures.exact
+
+pub assign_evaluated-assign_left-requires : goal.assign_evaluated-assign_left-requires
+assign_evaluated-assign_left-requires g t c =
+    rw (c.if-not-run_expr.ensures.names refl)
+    (good_target c.args.lhs.now c.in-Variable.offset c.in-Variable.name c.in-Variable.namespace c.in-Variable.pos _
+    (rw (c.in-Variable.is, exprs.outs-Variable) refl) c.requires.resolves_target)
+
+pub assign_evaluated-returns-else-not-flatten_at-clause-runs : goal.assign_evaluated-returns-else-not-flatten_at-clause-runs
+unfolding after Steps
+assign_evaluated-returns-else-not-flatten_at-clause-runs g t c restoring k =
+    let rules = under g.H.Host.name_of c.args.self.now g.T.NativeTable.natives in
+    begins_assignment rules c.args.op c.args.lhs.now c.args.rhs.now c.in-Variable.offset c.in-Variable.name c.in-Variable.namespace
+    c.in-Variable.pos
+    restoring k _ (rw (c.in-Variable.is, exprs.outs-Variable) refl)
+    (plain_target c.args.lhs.now c.in-Variable.offset c.in-Variable.name c.in-Variable.namespace c.in-Variable.pos _
+    (rw (c.in-Variable.is, exprs.outs-Variable) refl) c.requires.resolves_target)
+    ⨾ c.if-not-run_expr.ensures.runs (AssignValue _ _ ∷ k)
+    ⨾ next (rw (← (c.if-not-flatten_at.ensures.exact tt))
+    (c.assign_left.ensures.runs (offer_of c.args.self.now) (holding c.run_expr.new.run.this) refl k))
+
+-- to `this`
+
+pub assign_evaluated-returns-then-is_none-clause-runs : goal.assign_evaluated-returns-then-is_none-clause-runs
 unfolding Steps
-assign_to_this-returns-then-is_none-clause-runs g t c k =
+assign_evaluated-returns-then-is_none-clause-runs g t c restoring k =
     let rules = under g.H.Host.name_of c.args.self.now g.T.NativeTable.natives in
     rw (c.stop.ensures.stopped, c.stop.ensures.told)
-    (this_unbound rules c.args.op c.args.lhs.now c.args.rhs.now c.args.pos c.args.restoring c.requires.this k _
-    (c.is_none.ensures ∙ ap not c.if-is_none.true))
+    (this_unbound rules c.args.op c.args.lhs.now c.args.rhs.now c.in-ThisPtr.pos restoring
+    (rw (c.in-ThisPtr.is, exprs.outs-ThisPtr) refl) k _ (c.is_none.ensures ∙ ap not c.if-is_none.true))
 
-pub assign_to_this-returns-then-not-run_expr-clause-runs : goal.assign_to_this-returns-then-not-run_expr-clause-runs
+pub assign_evaluated-returns-then-not-run_expr-2-clause-runs : goal.assign_evaluated-returns-then-not-run_expr-2-clause-runs
 unfolding after Steps
-assign_to_this-returns-then-not-run_expr-clause-runs g t c k =
+assign_evaluated-returns-then-not-run_expr-2-clause-runs g t c restoring k =
     let rules = under g.H.Host.name_of c.args.self.now g.T.NativeTable.natives in
-    this_begins rules c.args.op c.args.lhs.now c.args.rhs.now c.args.pos c.args.restoring c.requires.this k _
-    (c.is_none.ensures ∙ ap not c.if-is_none.false)
-    ⨾ c.if-not-run_expr.ensures.runs (AssignThisValue _ _ _ ∷ k) ⨾ next here
+    this_begins rules c.args.op c.args.lhs.now c.args.rhs.now c.in-ThisPtr.pos restoring
+    (rw (c.in-ThisPtr.is, exprs.outs-ThisPtr) refl) k _ (c.is_none.ensures ∙ ap not c.if-is_none.false)
+    ⨾ c.if-not-run_expr-2.ensures.runs (AssignThisValue _ _ _ ∷ k) ⨾ next here
 
-pub assign_to_this-returns-then-not-flatten_at-clause-runs : goal.assign_to_this-returns-then-not-flatten_at-clause-runs
+pub assign_evaluated-returns-then-not-flatten_at-2-clause-runs : goal.assign_evaluated-returns-then-not-flatten_at-2-clause-runs
 unfolding Steps
-assign_to_this-returns-then-not-flatten_at-clause-runs g t c k =
+assign_evaluated-returns-then-not-flatten_at-2-clause-runs g t c restoring k =
     let rules = under g.H.Host.name_of c.args.self.now g.T.NativeTable.natives in
-    this_begins rules c.args.op c.args.lhs.now c.args.rhs.now c.args.pos c.args.restoring c.requires.this k _
-    (c.is_none.ensures ∙ ap not c.if-is_none.false)
-    ⨾ c.if-not-run_expr.ensures.runs (AssignThisValue _ _ _ ∷ k)
-    ⨾ flat_fails rules _ _ k _ _ (AssignThisValue _ _ _) refl c.if-not-flatten_at.ensures.exact
+    this_begins rules c.args.op c.args.lhs.now c.args.rhs.now c.in-ThisPtr.pos restoring
+    (rw (c.in-ThisPtr.is, exprs.outs-ThisPtr) refl) k _ (c.is_none.ensures ∙ ap not c.if-is_none.false)
+    ⨾ c.if-not-run_expr-2.ensures.runs (AssignThisValue _ _ _ ∷ k)
+    ⨾ flat_fails rules _ _ k _ _ (AssignThisValue _ _ _) refl c.if-not-flatten_at-2.ensures.exact
 
-pub assign_to_this-returns-clause-runs : goal.assign_to_this-returns-clause-runs
+pub assign_evaluated-returns-else-not-flatten_at-2-clause-runs : goal.assign_evaluated-returns-else-not-flatten_at-2-clause-runs
 unfolding after Steps
-assign_to_this-returns-clause-runs g t c k =
+assign_evaluated-returns-else-not-flatten_at-2-clause-runs g t c restoring k =
     let rules = under g.H.Host.name_of c.args.self.now g.T.NativeTable.natives in
-    this_begins rules c.args.op c.args.lhs.now c.args.rhs.now c.args.pos c.args.restoring c.requires.this k _
-    (c.is_none.ensures ∙ ap not c.if-is_none.false)
-    ⨾ c.if-not-run_expr.ensures.runs (AssignThisValue _ _ _ ∷ k)
-    ⨾ next (rw (← (c.if-not-flatten_at.ensures.exact tt))
-    (c.assign_left_to_this.ensures.runs (offer_of c.args.self.now) c.run_expr.new.run.scope refl k))
+    this_begins rules c.args.op c.args.lhs.now c.args.rhs.now c.in-ThisPtr.pos restoring
+    (rw (c.in-ThisPtr.is, exprs.outs-ThisPtr) refl) k _ (c.is_none.ensures ∙ ap not c.if-is_none.false)
+    ⨾ c.if-not-run_expr-2.ensures.runs (AssignThisValue _ _ _ ∷ k)
+    ⨾ next (rw (← (c.if-not-flatten_at-2.ensures.exact tt))
+    (c.assign_left_to_this.ensures.runs (offer_of c.args.self.now) c.run_expr-in-ThisPtr.new.run.scope refl k))
 
 -- a new variable
 
@@ -413,6 +419,17 @@ run_stmt_block-returns-then-not-restoring-clause-runs g t c k =
     (enters_plain rules c.args.statements.now k _ (is_not_empty _ (sym c.is_empty.ensures ∙ c.if-is_empty.false))
     ⨾ (rw c.if-not-restoring.true at c.run_statements.ensures.runs) k)
 
+pub run_stmt_block-open_list-requires : goal.run_stmt_block-open_list-requires
+run_stmt_block-open_list-requires g t c = record { resolves = c.requires.resolves }
+
+pub run_stmt_block-returns-in_default-clause-runs : goal.run_stmt_block-returns-in_default-clause-runs
+run_stmt_block-returns-in_default-clause-runs g t c =
+    rw (c.if-not-restoring.false, c.put_unit-in_default.ensures)
+    (c.open_list.ensures.done c.in_default.is (offer_of c.args.self.now) (holding c.args.run.now.this) refl)
+
+pub run_stmt_block-returns-in_default-clause-restores : goal.run_stmt_block-returns-in_default-clause-restores
+run_stmt_block-returns-in_default-clause-restores g t c done restoring = c.open_list.ensures.names
+
 pub run_stmt_block-returns-clause-runs : goal.run_stmt_block-returns-clause-runs
 unfolding after Steps
 run_stmt_block-returns-clause-runs g t c k =
@@ -420,20 +437,44 @@ run_stmt_block-returns-clause-runs g t c k =
     let new = c.run_statements-done.new.run in
     rw c.if-not-restoring.false
     (enters_restoring rules c.args.statements.now k _ (is_not_empty _ (sym c.is_empty.ensures ∙ c.if-is_empty.false))
-    ⨾ (rw (c.if-not-restoring.false, c.enter_list-saved.ensures.deeper) at c.run_statements-done.ensures.runs) (RestoreList _ ∷ k)
+    ⨾ (rw (c.if-not-restoring.false, c.in-Some.ensures.deeper, c.in-Some.ensures.scope) at c.run_statements-done.ensures.runs)
+    (RestoreList _ ∷ k)
     ⨾ restores rules (came c.run_statements-done.result new.value new.error) _ k _ _
     (left_state _ new.global c.leave_list.new.global new.scope c.leave_list.new.scope _
-    c.enter_list-saved.result _ c.enter_list-saved.ensures.saved c.leave_list.ensures.scope c.leave_list.ensures.global))
+    c.in-Some.saved _ c.in-Some.ensures.saved c.leave_list.ensures.scope c.leave_list.ensures.global))
 
 pub run_stmt_block-returns-clause-restores : goal.run_stmt_block-returns-clause-restores
 run_stmt_block-returns-clause-restores g t c done restoring =
     let rules = under g.H.Host.name_of c.args.self.now g.T.NativeTable.natives in
     names_restored c.args.run.now.scope.entries c.run_statements-done.new.run.scope.entries _ _ c.leave_list.ensures.scope
-    (ap (λ s. s.scope_length) c.enter_list-saved.ensures.saved) (names_begin rules _ _ _ _ tt c.run_statements-done.ensures.runs)
+    (ap (λ s. s.scope_length) c.in-Some.ensures.saved)
+    (names_begin rules _ _ _ _ tt (rw c.in-Some.ensures.scope at c.run_statements-done.ensures.runs))
+
+last_after : {H : Type 0} (index : ℕ) (value : Dynamic H) → last_of (index + 1) value ≡ value
+last_after index value = rw add-one refl
+
+last_at : {H : Type 0} (index : ℕ) (value : Dynamic H) → 1 ≤ index → last_of index value ≡ value
+last_at zero value some = absurd (omega (arith, some))
+last_at (suc index) value some = refl
+
+pub run_stmt_block-run_statements-requires : goal.run_stmt_block-run_statements-requires
+run_stmt_block-run_statements-requires g t c =
+    λ κs lives. (
+      omega arith,
+      (lives.0, (lives.1, (has_some c.args.statements.now (is_not_empty _ (sym c.is_empty.ensures ∙ c.if-is_empty.false)), c.requires.resolves))),
+    )
+
+pub run_stmt_block-run_statements-done-requires : goal.run_stmt_block-run_statements-done-requires
+run_stmt_block-run_statements-done-requires g t c =
+    let some = has_some c.args.statements.now (is_not_empty _ (sym c.is_empty.ensures ∙ c.if-is_empty.false)) in
+    λ κs lives. (
+      omega (arith, ap (λ (global : GlobalRuntimeState _). global.num_operations) c.in-Some.ensures.deeper),
+      (lives.0, (lives.1, (some, rw c.in-Some.ensures.scope c.requires.resolves))),
+    )
 
 pub run_statements-each_stmt-init : goal.run_statements-each_stmt-init
 unfolding after Steps
-run_statements-each_stmt-init g t c = record { counts = omega arith; resolves = refl; steps = λ k. rw c.put_unit.ensures here }
+run_statements-each_stmt-init g t c = record { counts = omega arith; resolves = refl; steps = λ k. here }
 
 pub run_statements-each_stmt-preserved : goal.run_statements-each_stmt-preserved
 unfolding after Steps
@@ -444,8 +485,10 @@ run_statements-each_stmt-preserved g t c =
           c.args.statements.now)) (names c.each_stmt.run) _ _
           (rw (drop_item _ _ _ c.each_stmt-test.true c.stmt-item.is) at c.each_stmt.invariant.resolves) c.requires.resolves
           (c.if-not-run_stmt.ensures.names refl);
-      steps = λ k. c.each_stmt.invariant.steps k ⨾ rw (drop_item _ _ _ c.each_stmt-test.true c.stmt-item.is)
-          (next (c.if-not-run_stmt.ensures.runs (RestOfList _ _ ∷ k) ⨾ next here));
+      steps = λ k. c.each_stmt.invariant.steps k ⨾ rw (
+        drop_item _ _ _ c.each_stmt-test.true c.stmt-item.is,
+        last_after c.each_stmt.stmt-index c.run_stmt.new.run.value,
+      ) (next (c.if-not-run_stmt.ensures.runs (RestOfList _ _ ∷ k) ⨾ next here));
     }
 
 pub run_statements-returns-then-not-run_stmt-clause-runs : goal.run_statements-returns-then-not-run_stmt-clause-runs
@@ -457,7 +500,9 @@ run_statements-returns-then-not-run_stmt-clause-runs g t c k =
 pub run_statements-returns-clause-runs : goal.run_statements-returns-clause-runs
 unfolding after Steps
 run_statements-returns-clause-runs g t c k =
-    c.each_stmt.invariant.steps k ⨾ rw (drop_all _ _ c.each_stmt-test.false) (next here)
+    let passed : 1 ≤ c.each_stmt.stmt-index = omega (arith, c.requires.some, c.each_stmt-test.false) in
+    c.each_stmt.invariant.steps k ⨾ rw (drop_all _ _ c.each_stmt-test.false, last_at c.each_stmt.stmt-index c.each_stmt.run.value passed)
+    (next here)
 
 pub run_statements-returns-then-not-run_stmt-clause-memory : goal.run_statements-returns-then-not-run_stmt-clause-memory
 run_statements-returns-then-not-run_stmt-clause-memory g t c full =

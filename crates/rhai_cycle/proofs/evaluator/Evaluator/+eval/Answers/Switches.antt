@@ -22,24 +22,22 @@ is_none (Some x) not = absurd (not x refl)
 pub run_switch-returns-then-not-run_expr-clause-runs : goal.run_switch-returns-then-not-run_expr-clause-runs
 unfolding after Steps
 run_switch-returns-then-not-run_expr-clause-runs g t c pos restoring k =
-    let parts = c.args.parts in
     let choice : Cases =
-    record { results = parts.results.now; cases = parts.cases.now; ranges = parts.ranges.now; default = parts.default } in
+    record { results = c.args.results.now; cases = c.args.cases.now; ranges = c.args.ranges.now; default = c.args.default } in
     next (c.if-not-run_expr.ensures.runs (SwitchValue _ choice ∷ k) ⨾ next here)
 
 pub run_switch-returns-then-not-flatten_at-clause-runs : goal.run_switch-returns-then-not-flatten_at-clause-runs
 unfolding after Steps
 run_switch-returns-then-not-flatten_at-clause-runs g t c pos restoring k =
     let rules = under g.H.Host.name_of c.args.self.now g.T.NativeTable.natives in
-    let parts = c.args.parts in
     let choice : Cases =
-    record { results = parts.results.now; cases = parts.cases.now; ranges = parts.ranges.now; default = parts.default } in
+    record { results = c.args.results.now; cases = c.args.cases.now; ranges = c.args.ranges.now; default = c.args.default } in
     next (c.if-not-run_expr.ensures.runs (SwitchValue _ choice ∷ k)
     ⨾ flat_fails rules _ _ k _ _ (SwitchValue _ choice) refl c.if-not-flatten_at.ensures.exact)
 
 pub run_switch-run_condition-requires : goal.run_switch-run_condition-requires
 run_switch-run_condition-requires g t c =
-    let runs = candidate_runs (names c.args.run.now) c.args.parts.results.now c.requires.resolves_results _ c.in-Some.candidate.now _
+    let runs = candidate_runs (names c.args.run.now) c.args.results.now c.requires.resolves_results _ c.in-Some.candidate.now _
     c.in-Some.ensures.some in
     λ κs lives. (
       omega (arith, c.each_candidate.invariant.counts),
@@ -50,13 +48,12 @@ pub run_switch-each_candidate-init : goal.run_switch-each_candidate-init
 unfolding after Steps
 run_switch-each_candidate-init g t c =
     let rules = under g.H.Host.name_of c.args.self.now g.T.NativeTable.natives in
-    let parts = c.args.parts in
     let choice : Cases =
-    record { results = parts.results.now; cases = parts.cases.now; ranges = parts.ranges.now; default = parts.default } in
+    record { results = c.args.results.now; cases = c.args.cases.now; ranges = c.args.ranges.now; default = c.args.default } in
     record {
       counts = omega (arith, c.if-not-run_expr.ensures.charges refl);
       names = c.if-not-run_expr.ensures.names refl;
-      steps = λ pos restoring k. rw (c.candidates_for-left.ensures parts.results.now parts.default)
+      steps = λ pos restoring k. rw (c.candidates_for-left.ensures c.args.results.now c.args.default)
           (next (c.if-not-run_expr.ensures.runs (SwitchValue _ choice ∷ k)
           ⨾ value_on rules k choice _ _ c.flatten_at.new.out _ (c.if-not-flatten_at.ensures.exact tt)));
     }
@@ -69,7 +66,7 @@ run_switch-returns-in-None-default_result-clause-runs g t c pos restoring k =
       c.next.ensures.none (is_none c.next.result c.in_default.not-Some),
       c.put_unit-in-None-default_result.ensures,
     )
-    (default_not rules k _ _ (sym (c.in-None-default_result.ensures c.args.parts.cases.now c.args.parts.ranges.now)))
+    (default_not rules k _ _ (sym (c.in-None-default_result.ensures c.args.cases.now c.args.ranges.now)))
 
 pub run_switch-returns-in-None-run_condition-clause-runs : goal.run_switch-returns-in-None-run_condition-clause-runs
 unfolding after Steps
@@ -80,8 +77,8 @@ run_switch-returns-in-None-run_condition-clause-runs g t c pos restoring k =
 
 pub run_switch-run_expr-requires-in-Some-default_result : goal.run_switch-run_expr-requires-in-Some-default_result
 run_switch-run_expr-requires-in-Some-default_result g t c =
-    let runs = default_runs (names c.args.run.now) c.args.parts.results.now c.requires.resolves_results c.args.parts.default _
-    (sym (c.in-Some-default_result.ensures c.args.parts.cases.now c.args.parts.ranges.now)) in
+    let runs = default_runs (names c.args.run.now) c.args.results.now c.requires.resolves_results c.args.default _
+    (sym (c.in-Some-default_result.ensures c.args.cases.now c.args.ranges.now)) in
     λ κs lives. (
       omega (arith, c.each_candidate.invariant.counts),
       (lives.0, (lives.1, rw c.each_candidate.invariant.names runs)),
@@ -92,7 +89,7 @@ unfolding after Steps
 run_switch-returns-in-Some-default_result-clause-runs g t c pos restoring k =
     let rules = under g.H.Host.name_of c.args.self.now g.T.NativeTable.natives in
     c.each_candidate.invariant.steps pos restoring k ⨾ rw (c.next.ensures.none (is_none c.next.result c.in_default.not-Some))
-    (default_on rules k _ _ _ (sym (c.in-Some-default_result.ensures c.args.parts.cases.now c.args.parts.ranges.now))
+    (default_on rules k _ _ _ (sym (c.in-Some-default_result.ensures c.args.cases.now c.args.ranges.now))
     ⨾ c.run_expr-in-Some-default_result.ensures.runs k)
 
 pub run_switch-run_expr-requires-then-holds : goal.run_switch-run_expr-requires-then-holds
@@ -111,7 +108,7 @@ run_switch-run_expr-requires-then-holds g t c =
         w.in-Some-run_condition.ensures.charges,
       ))
     ] in
-    let runs = candidate_runs (names c.args.run.now) c.args.parts.results.now c.requires.resolves_results _ c.in-Some.candidate.now _
+    let runs = candidate_runs (names c.args.run.now) c.args.results.now c.requires.resolves_results _ c.in-Some.candidate.now _
     c.in-Some.ensures.some in
     λ κs lives. (omega (arith, counts), (lives.0, (lives.1, rw stays runs.1)))
 
@@ -120,12 +117,12 @@ unfolding after Steps
 run_switch-returns-then-holds-clause-runs g t c pos restoring k =
     let rules = under g.H.Host.name_of c.args.self.now g.T.NativeTable.natives in
     let candidate = c.in-Some.candidate.now in
-    let rest = results_of c.args.parts.results.now (numbers_left c.next.new.self) in
+    let rest = results_of c.args.results.now (numbers_left c.next.new.self) in
     let default = default_of (record {
-      results = c.args.parts.results.now;
-      cases = c.args.parts.cases.now;
-      ranges = c.args.parts.ranges.now;
-      default = c.args.parts.default;
+      results = c.args.results.now;
+      cases = c.args.cases.now;
+      ranges = c.args.ranges.now;
+      default = c.args.default;
     }) in
     let old = state_in (g.T.NativeTable.state c.each_candidate.table) c.each_candidate.run in
     let new = state_in (g.T.NativeTable.state c.match-written_truth.table) c.match-written_truth.run in
@@ -145,12 +142,12 @@ unfolding after Steps
 run_switch-each_candidate-preserved g t c =
     let rules = under g.H.Host.name_of c.args.self.now g.T.NativeTable.natives in
     let candidate = c.in-Some.candidate.now in
-    let rest = results_of c.args.parts.results.now (numbers_left c.next.new.self) in
+    let rest = results_of c.args.results.now (numbers_left c.next.new.self) in
     let default = default_of (record {
-      results = c.args.parts.results.now;
-      cases = c.args.parts.cases.now;
-      ranges = c.args.parts.ranges.now;
-      default = c.args.parts.default;
+      results = c.args.results.now;
+      cases = c.args.cases.now;
+      ranges = c.args.ranges.now;
+      default = c.args.default;
     }) in
     let old = state_in (g.T.NativeTable.state c.each_candidate.table) c.each_candidate.run in
     let new = state_in (g.T.NativeTable.state c.match-written_truth.table) c.match-written_truth.run in

@@ -3,7 +3,6 @@ use Rattle.std.proofs.lemmas.Bool.{true≢false}
 use Rattle.std.proofs.lemmas.List.{length-map}
 use Rattle.rhai_tree.specs.Frame.{turn_names}
 use Rattle.rhai_state.specs.declared.state.GlobalRuntimeState.{GlobalRuntimeState}
-use Rattle.rhai_state.specs.Limits.{limit_of}
 use Rattle.rhai_state.specs.Scope.{entries_of, name_of}
 use Rattle.rhai_machine.specs.machine.Point.{after}
 use Rattle.rhai_machine.specs.machine.Memory.{next, ◌⨾◌, here}
@@ -13,6 +12,7 @@ use Rattle.rhai_laws.proofs.KeptLaws.{counted, names_stay}
 use Rattle.rhai_steps.specs.States.{holding}
 use Rattle.rhai_walks.specs.Left.{turns_in}
 use Rattle.rhai_walks.specs.Loops.{loop_in}
+use Rattle.rhai_walks.specs.declared.parts.ForParts.{ForParts}
 use Rattle.rhai_context.specs.Ends.{came}
 use Rattle.rhai_cycle.specs.States.{names, offer_of, under}
 use Rattle.rhai_cycle.proofs.Turns.{body_charges}
@@ -28,14 +28,18 @@ pub run_for-returns-then-not-has_room-clause-runs : goal.run_for-returns-then-no
 unfolding after Steps
 run_for-returns-then-not-has_room-clause-runs g t c pos restoring k =
     let rules = under g.H.Host.name_of c.args.self.now g.T.NativeTable.natives in
+    let parts : ForParts =
+    record { variable = c.args.variable; counter = c.args.counter; items = c.args.items; body = c.args.body } in
     rw (c.if-not-has_room.ensures.told refl)
-    (has_none rules (loop_in c.args.parts) k pos restoring _ (c.if-not-has_room.ensures.full refl))
+    (has_none rules (loop_in parts) k pos restoring _ (c.if-not-has_room.ensures.full refl))
 
 pub run_for-returns-then-not-run_expr-clause-runs : goal.run_for-returns-then-not-run_expr-clause-runs
 unfolding after Steps
 run_for-returns-then-not-run_expr-clause-runs g t c pos restoring k =
     let rules = under g.H.Host.name_of c.args.self.now g.T.NativeTable.natives in
-    let loop = loop_in c.args.parts in
+    let parts : ForParts =
+    record { variable = c.args.variable; counter = c.args.counter; items = c.args.items; body = c.args.body } in
+    let loop = loop_in parts in
     has_room rules loop k pos restoring _ (c.if-not-has_room.ensures.room refl)
     ⨾ c.if-not-run_expr.ensures.runs (ForItems loop ∷ k) ⨾ next here
 
@@ -43,7 +47,9 @@ pub run_for-returns-then-not-flatten_at-clause-runs : goal.run_for-returns-then-
 unfolding after Steps
 run_for-returns-then-not-flatten_at-clause-runs g t c pos restoring k =
     let rules = under g.H.Host.name_of c.args.self.now g.T.NativeTable.natives in
-    let loop = loop_in c.args.parts in
+    let parts : ForParts =
+    record { variable = c.args.variable; counter = c.args.counter; items = c.args.items; body = c.args.body } in
+    let loop = loop_in parts in
     has_room rules loop k pos restoring _ (c.if-not-has_room.ensures.room refl)
     ⨾ c.if-not-run_expr.ensures.runs (ForItems loop ∷ k)
     ⨾ flat_fails rules _ _ k _ _ (ForItems loop) refl c.if-not-flatten_at.ensures.exact
@@ -52,7 +58,9 @@ pub run_for-returns-in_default-clause-runs : goal.run_for-returns-in_default-cla
 unfolding after Steps
 run_for-returns-in_default-clause-runs g t c pos restoring k =
     let rules = under g.H.Host.name_of c.args.self.now g.T.NativeTable.natives in
-    let loop = loop_in c.args.parts in
+    let parts : ForParts =
+    record { variable = c.args.variable; counter = c.args.counter; items = c.args.items; body = c.args.body } in
+    let loop = loop_in parts in
     has_room rules loop k pos restoring _ (c.if-not-has_room.ensures.room refl)
     ⨾ c.if-not-run_expr.ensures.runs (ForItems loop ∷ k)
     ⨾ rw (c.start_turns.ensures.same c.in_default.is)
@@ -63,14 +71,16 @@ pub run_for-turns-init : goal.run_for-turns-init
 unfolding after Steps
 run_for-turns-init g t c =
     let rules = under g.H.Host.name_of c.args.self.now g.T.NativeTable.natives in
-    let loop = loop_in c.args.parts in
+    let parts : ForParts =
+    record { variable = c.args.variable; counter = c.args.counter; items = c.args.items; body = c.args.body } in
+    let loop = loop_in parts in
     let old = c.run_expr.new.run in
     let stay = c.if-not-run_expr.ensures.names refl in
     record {
       counts = omega (arith, c.if-not-run_expr.ensures.charges refl);
       base = c.len-base.ensures ∙ sym (length-map (entries_of old.scope) name_of) ∙ ap length stay;
       names = loop_names loop (entries_of old.scope) _ c.in-Some.ensures.variables
-          ∙ ap (λ names. turn_names c.args.parts.variable.now c.args.parts.counter.now names) stay;
+          ∙ ap (λ names. turn_names parts.variable.now parts.counter.now names) stay;
       steps = λ pos restoring k.
           has_room rules loop k pos restoring _ (c.if-not-has_room.ensures.room refl)
           ⨾ c.if-not-run_expr.ensures.runs (ForItems loop ∷ k)
@@ -81,7 +91,8 @@ run_for-turns-init g t c =
 
 pub run_for-run_for_turn-requires : goal.run_for-run_for_turn-requires
 run_for-run_for_turn-requires g t c =
-    let parts = c.args.parts in
+    let parts : ForParts =
+    record { variable = c.args.variable; counter = c.args.counter; items = c.args.items; body = c.args.body } in
     let counted = ap length c.turns.invariant.names ∙ turn_count parts.variable.now parts.counter.now (names c.args.run.now) in
     λ κs lives. (
       omega (arith, c.turns.invariant.counts),
@@ -94,7 +105,7 @@ run_for-next_number-turn-requires g t c = omega (arith, c.turns.invariant.counts
 pub run_for-turns-smaller : goal.run_for-turns-smaller
 unfolding after Steps
 run_for-turns-smaller g t c =
-    let full : limit_of c.args.self.now.limits.now.max_operations ≤ c.turns.run.global.num_operations →
+    let full : c.args.self.now.limits.now.max_operations ≤ c.turns.run.global.num_operations →
     c.run_for_turn.new.run.global.num_operations ≡ c.turns.run.global.num_operations = λ le. stays_full _ _ (c.run_for_turn.ensures.runs [])
     le in
     grind (arith, full, c.run_for_turn.ensures.charges)
@@ -115,7 +126,9 @@ pub run_for-returns-in-Some-run_for_turn-clause-runs : goal.run_for-returns-in-S
 unfolding after Steps
 run_for-returns-in-Some-run_for_turn-clause-runs g t c pos restoring k =
     let rules = under g.H.Host.name_of c.args.self.now g.T.NativeTable.natives in
-    let loop = loop_in c.args.parts in
+    let parts : ForParts =
+    record { variable = c.args.variable; counter = c.args.counter; items = c.args.items; body = c.args.body } in
+    let loop = loop_in parts in
     let new = c.run_for_turn.new.run in
     c.turns.invariant.steps pos restoring k
     ⨾ (rw (turn_ended c.in-Some-run_for_turn.done _ _ _) at c.in-Some-run_for_turn.ensures.runs) (RestoreScope c.len-base.result ∷ k)
@@ -126,7 +139,8 @@ run_for-returns-in-Some-run_for_turn-clause-counts g t c done = omega (arith, c.
 
 pub run_for-returns-in-Some-run_for_turn-clause-names : goal.run_for-returns-in-Some-run_for_turn-clause-names
 run_for-returns-in-Some-run_for_turn-clause-names g t c done =
-    let parts = c.args.parts in
+    let parts : ForParts =
+    record { variable = c.args.variable; counter = c.args.counter; items = c.args.items; body = c.args.body } in
     names_restored c.args.run.now.scope.entries c.run_for_turn.new.run.scope.entries c.rewind.new.self.entries c.len-base.result
     c.rewind.ensures
     (c.turns.invariant.base ∙ length-map (entries_of c.args.run.now.scope) name_of)

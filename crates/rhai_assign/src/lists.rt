@@ -1,0 +1,82 @@
+//! Restoring lists as they are entered. One whose only statement is an assignment between integers is done at once.
+
+ghost use Rattle.std.specs.Prelude.{◌≡◌, ◌≤◌, IfSome, IsTrue, None, Ok, map, true, false};
+ghost use Rattle.rhai_tree.specs.Frame.{all_resolve, resolves_stmt};
+ghost use Rattle.rhai_state.specs.Scope.{names_in};
+ghost use Rattle.rhai_machine.specs.language.Frames.{Enter};
+ghost use Rattle.rhai_machine.specs.language.Runs.{Runs};
+ghost use Rattle.rhai_machine.specs.language.Setting.{rules_of};
+ghost use Rattle.rhai_machine.specs.language.Statements.{deeper};
+ghost use Rattle.rhai_machine.specs.language.Values.{unit_value as unit};
+ghost use Rattle.rhai_steps.specs.Saves.{saved_in, saved_now};
+ghost use Rattle.rhai_steps.specs.States.{state_of};
+
+use crate::in_place::assign_integer;
+use rhai_state::limits::Limits;
+use rhai_state::scope::Scope;
+use rhai_state::state::GlobalRuntimeState;
+use rhai_state::table::NativeTable;
+use rhai_steps::variables::{Saved, enter_list};
+use rhai_tree::expr::Stmt;
+use rhai_values::base::value::Host;
+
+/// Does a restoring list whose only statement is an assignment as `assign_integer` does it, under fast operators. False
+/// for any other list, and where the limit has no room for its charges: then nothing is changed.
+#[inline(always)]
+fn assign_alone<H: Host, T: NativeTable<H>>(
+    limits: &Limits,
+    global: &mut GlobalRuntimeState<H>,
+    table: &T,
+    scope: &mut Scope<H>,
+    statements: &[Stmt],
+    is_fast: bool,
+) -> bool
+    requires resolves { IsTrue (all_resolve (map resolves_stmt statements.now) (names_in scope.old)).0 }
+    ensures left_global { result ≡ false → global.new ≡ global.old }
+    ensures left_scope { result ≡ false → scope.new ≡ scope.old }
+    ensures counts { global.old.num_operations ≤ global.new.num_operations }
+    ensures names { names_in scope.new ≡ names_in scope.old }
+    ensures runs { result ≡ true → (offer : _) (held : _) → offer.fast_operators ≡ is_fast →
+        Runs (rules_of limits.now H.name_of offer T.natives) (Enter statements.now true)
+        (state_of (T.state table.now) global.old scope.old held)
+        (Ok unit) (state_of (T.state table.now) global.new scope.new held) }
+{
+    if !is_fast {
+        return false;
+    }
+    let [only] = statements else {
+        return false;
+    };
+    let Stmt::Assignment(op, lhs, rhs) = only else {
+        return false;
+    };
+    assign_integer(limits, global, table, scope, op, lhs, rhs, 3)
+}
+
+/// Enters a restoring list, one level deeper. None where it was done at once: then its value is `()`. Asked: it is
+/// not empty. The table is not called.
+pub fn open_list<H: Host, T: NativeTable<H>>(
+    limits: &Limits,
+    global: &mut GlobalRuntimeState<H>,
+    table: &T,
+    scope: &mut Scope<H>,
+    statements: &[Stmt],
+    is_fast: bool,
+) -> Option<Saved>
+    requires resolves { IsTrue (all_resolve (map resolves_stmt statements.now) (names_in scope.old)).0 }
+    ensures saved { IfSome result (λ saved. saved_in saved ≡ saved_now global.old scope.old) }
+    ensures deeper { IfSome result (λ _. global.new
+        ≡ record global.old { scope_level = deeper global.old.scope_level }) }
+    ensures scope { IfSome result (λ _. scope.new ≡ scope.old) }
+    ensures counts { global.old.num_operations ≤ global.new.num_operations }
+    ensures names { names_in scope.new ≡ names_in scope.old }
+    ensures done { result ≡ None → (offer : _) (held : _) → offer.fast_operators ≡ is_fast →
+        Runs (rules_of limits.now H.name_of offer T.natives) (Enter statements.now true)
+        (state_of (T.state table.now) global.old scope.old held)
+        (Ok unit) (state_of (T.state table.now) global.new scope.new held) }
+{
+    if assign_alone(limits, global, table, scope, statements, is_fast) {
+        return None;
+    }
+    Some(enter_list(global, scope))
+}

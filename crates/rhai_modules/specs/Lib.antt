@@ -1,0 +1,2 @@
+pub mod Namespaces
+pub mod Qualified

@@ -1,6 +1,0 @@
-use Rattle.std.proofs.Common.{◌≡◌, map, take}
-use Rattle.rhai_values.specs.Copy.{copy_of}
-use Rattle.rhai_values.proofs.base.+copy.Given as goal
-
-abbrev pub invariant-copy::copy_items-loop-item : goal.invariant-copy::copy_items-loop-item
-invariant-copy::copy_items-loop-item g l = l.copied ≡ map copy_of (take l.item-index l.items)
