@@ -5,8 +5,8 @@ mod money;
 
 use crate::money::{Money, MoneyNatives};
 use rhai::{
-    AccessMode, Builder, Caches, CheckedTree, Dynamic, Engine, GlobalRuntimeState, Items, Natives,
-    Scope, Stmt, Token, Union, assign, check_tree,
+    AccessMode, Boxed, Builder, Caches, CheckedTree, Dynamic, Engine, GlobalRuntimeState, Items,
+    Natives, Scope, Stmt, Token, Union, assign, check_tree,
 };
 use std::alloc::{AllocError, Global};
 use std::io;
@@ -41,7 +41,7 @@ fn run(rt: &HostRuntime, tree: &CheckedTree, limit: u64) -> io::Result<()> {
     engine.max_operations = limit;
     let mut global = GlobalRuntimeState::new(alloc)?;
     let mut scope = Scope::new(alloc);
-    let price = Dynamic::new(Union::Host(Money(250)));
+    let price = Dynamic::new(Union::Host(Boxed::new(alloc, Money(250))?));
     let name = String::from_str(alloc, "price")?;
     scope.push_entry(name, AccessMode::ReadOnly, price)?;
     let mut natives = Natives::new(alloc, MoneyNatives);
@@ -55,7 +55,7 @@ fn run(rt: &HostRuntime, tree: &CheckedTree, limit: u64) -> io::Result<()> {
         false,
     );
     match outcome.as_ref().map(|value| &value.value) {
-        Ok(Union::Host(Money(cents))) => println!(rt; "{cents} cents")?,
+        Ok(Union::Host(money)) => println!(rt; "{} cents", money.get().0)?,
         Ok(value) => println!(rt; "{value:?}")?,
         Err(error) => println!(rt; "{error}")?,
     }

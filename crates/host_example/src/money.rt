@@ -1,6 +1,6 @@
 //! Amounts of money, and the natives over them.
 
-use rhai::{Arguments, Datum, Host, Listed, ListedNatives, Response};
+use rhai::{Arguments, Host, Listed, ListedNatives, Response};
 use std::alloc::{AllocError, Global};
 
 /// An amount of money in cents.
@@ -57,16 +57,16 @@ impl ListedNatives<Money> for MoneyNatives {
 
     fn call(
         &mut self,
-        _alloc: Global,
+        alloc: Global,
         native: MoneyNative,
         arguments: &Arguments<'_, Money>,
     ) -> Option<Response<Money>> {
         let (Money(a), Money(b)) = arguments.hosts()?;
-        let sum = Datum::Host(Money(a.saturating_add(*b)));
+        let sum = Money(a.saturating_add(*b));
         Some(match native {
-            MoneyNative::Sum => Response::Gives(sum),
-            MoneyNative::Difference => Response::Gives(Datum::Host(Money(a.saturating_sub(*b)))),
-            MoneyNative::Growth => Response::changing(sum),
+            MoneyNative::Sum => Response::host(alloc, sum),
+            MoneyNative::Difference => Response::host(alloc, Money(a.saturating_sub(*b))),
+            MoneyNative::Growth => Response::changing_host(alloc, sum),
         })
     }
 }

@@ -42,9 +42,9 @@ use Rattle.rhai_steps.specs.States.{local_of, state_of, surroundings_of}
 use Rattle.rhai_steps.proofs.Pieces.{step_by}
 use Rattle.rhai_operands.proofs.InPlace.{integer_sized}
 use Rattle.rhai_operands.proofs.Names.{both, operands_of_call}
-use Rattle.rhai_calls.specs.declared.dispatch.Called.TheVariants as called
 use Rattle.rhai_calls.specs.declared.dispatch.Dispatched.TheVariants.{Ended}
 use Rattle.rhai_calls.specs.declared.dispatch.Seeks.{Seeks}
+use Rattle.rhai_calls.specs.Called as called
 use Rattle.rhai_calls.specs.Called.{Calls}
 use Rattle.rhai_calls.specs.Dispatch.{Dispatches, IfEnded, Means, meant, plain_found}
 use Rattle.rhai_calls.specs.Lending.{back_in, lent_call, passed_call}

@@ -55,7 +55,7 @@ pub fn write_value<W: Write>(out: &mut W, value: &Dynamic<Pair>) -> io::Result<(
         Union::Blob(bytes) => write_bytes(out, bytes.get().as_slice()),
         Union::Map(entries) => write_entries(out, entries.get()),
         Union::FnPtr(pointer) => write!(out, "Fn({})", pointer.get().name.get().as_str()),
-        Union::Host(pair) => write!(out, "{pair:?}"),
+        Union::Host(pair) => write!(out, "{:?}", pair.get()),
         Union::Cell(id) => write!(out, "cell {}", id.number),
     }
 }

@@ -7,7 +7,7 @@ ghost use Rattle.rhai_tree.specs.Frame.{ResolvesFunction};
 ghost use Rattle.rhai_state.specs.Scope.{entries_of};
 ghost use Rattle.rhai_machine.specs.language.State.{deeper};
 
-use rhai_context::{Aside, Context, keep_list, take_up};
+use rhai_context::{Aside, Context, take_up};
 use rhai_functions::function::Function;
 use rhai_tree::checked::CheckedFn;
 use rhai_tree::function::ScriptFuncDef;
@@ -55,27 +55,14 @@ pub fn definition_of(function: &Shared<CheckedFn>) -> &ScriptFuncDef
     function.get().def()
 }
 
-/// A call of a function has ended: its list of arguments is kept for another call, and the function is let go of.
+/// A call of a function with variables of its own has ended: the caller's variables and `this` are there again, and
+/// the function is let go of.
 #[inline(always)]
-pub fn end_call<H: Host>(run: &mut Context<H>, args: Items<Dynamic<H>>, function: Function<H>)
-    ensures { run.new ≡ run.old }
-{
-    keep_list(run, args);
-    drop(function);
-}
-
-/// The same of a function with variables of its own: the caller's variables and `this` are there again.
-#[inline(always)]
-pub fn end_fresh<H: Host>(
-    run: &mut Context<H>,
-    aside: Aside<H>,
-    args: Items<Dynamic<H>>,
-    function: Function<H>,
-)
+pub fn end_fresh<H: Host>(run: &mut Context<H>, aside: Aside<H>, function: Function<H>)
     ensures { run.new ≡ record run.old { scope = aside.scope; this = aside.this } }
 {
     drop(take_up(run, aside));
-    end_call(run, args, function);
+    drop(function);
 }
 
 /// What a function that runs on its caller's variables gives back: how many variables there were, and the caller's
@@ -99,19 +86,14 @@ pub fn capture<H: Host>(run: &mut Context<H>) -> Captured<H>
 }
 
 /// A call of a function that ran on its caller's variables has ended: its own go, and its caller's `this` is there
-/// again. The list of arguments is kept for another call, and the function is let go of.
+/// again. The function is let go of.
 #[inline(always)]
-pub fn release<H: Host>(
-    run: &mut Context<H>,
-    captured: Captured<H>,
-    args: Items<Dynamic<H>>,
-    function: Function<H>,
-)
+pub fn release<H: Host>(run: &mut Context<H>, captured: Captured<H>, function: Function<H>)
     ensures scope { entries_of run.new.scope ≡ take captured.length (entries_of run.old.scope) }
     ensures run { run.new ≡ record run.old { scope = run.new.scope; this = captured.this } }
 {
     let Captured { length, this } = captured;
     run.scope.rewind(length);
     drop(replace(&mut run.this, this));
-    end_call(run, args, function);
+    drop(function);
 }

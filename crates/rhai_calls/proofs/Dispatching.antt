@@ -20,12 +20,10 @@ use Rattle.rhai_machine.specs.language.Calls.{knows_asked, knows_function, named
 use Rattle.rhai_machine.specs.language.Runs.{at, with_core, Goes, Steps}
 use Rattle.rhai_steps.proofs.Operating.{dispatch_wants}
 use Rattle.rhai_steps.proofs.Pieces.{faulted, told}
-use Rattle.rhai_calls.specs.declared.dispatch.Called.TheVariants.{Enters}
-use Rattle.rhai_calls.specs.declared.dispatch.Called.TheVariants as called
-use Rattle.rhai_calls.specs.declared.dispatch.Dispatched.{Dispatched}
 use Rattle.rhai_calls.specs.declared.dispatch.Dispatched.TheVariants.{Ended, Found}
 use Rattle.rhai_calls.specs.declared.dispatch.Seeks.{Seeks}
-use Rattle.rhai_calls.specs.Called.{Calls}
+use Rattle.rhai_calls.specs.Called as called
+use Rattle.rhai_calls.specs.Called.{Calls, Enters}
 use Rattle.rhai_calls.specs.Dispatch.{how_of, knows, meant, number_of, script_function, seen_number, seen_text, text_of, told_of, Dispatches, IfEnded}
 use Rattle.rhai_calls.specs.Dispatch.{Means}
 use Rattle.rhai_calls.specs.Marks.{with_mark, without_mark, MarkedRuns}

@@ -15,7 +15,7 @@ ghost use Rattle.rhai_machine.specs.language.Setting.{rules_of};
 ghost use Rattle.rhai_machine.specs.language.State.{Answers};
 ghost use Rattle.rhai_machine.specs.language.Values.{through};
 ghost use Rattle.rhai_steps.specs.States.{local_of, state_of, surroundings_of};
-ghost use Rattle.rhai_calls.specs.Called.{Calls};
+ghost use Rattle.rhai_calls.specs.Called.{Calls, with_args};
 ghost use Rattle.rhai_calls.specs.Dispatch.{knows, meant, meant_of, meant_of_two, method_found, plain_found};
 ghost use Rattle.rhai_calls.specs.Dispatch.{script_function, seen_number, seen_text, how_of};
 ghost use Rattle.rhai_calls.specs.Dispatch.{Dispatches, IfEnded, IfFound};
@@ -24,6 +24,7 @@ ghost use Rattle.rhai_calls.specs.Marks.{MarkedRuns};
 ghost use Rattle.rhai_calls.specs.Lending.{back_in, passed_call, Stands};
 
 use crate::native::{Passing, marked, pass_native, pass_native_alone, unmarked};
+use rhai_few::Few;
 use rhai_functions::function::{Function, Offered, called_function};
 use rhai_functions::key::FnKey;
 use rhai_functions::lookup::find_function;
@@ -40,7 +41,6 @@ use rhai_tree::token::Token;
 use rhai_values::base::value::{Dynamic, Host, Union};
 use rhai_values::cells::CellStore;
 use std::alloc::{AllocError, Global};
-use std::mem::replace;
 
 /// Which functions of scripts a call by name looks for.
 #[derive(Clone, Copy)]
@@ -77,8 +77,8 @@ enum Resolved<H> {
 #[derive(Drop)]
 pub enum Called<H> {
     Ended(Result<Dynamic<H>, EvalAltResult<H>>),
-    /// A function of a script is to be entered with these arguments.
-    Enters(Function<H>, Items<Dynamic<H>>),
+    /// A function of a script is to be entered with the arguments that the list of the call has then.
+    Enters(Function<H>),
 }
 
 /// Whether a value is the handle of a cell that is held.
@@ -557,8 +557,8 @@ pub fn pass_all<H: Host, T: NativeTable<H>>(
     }
 }
 
-/// A call by name whose arguments are there, none of which is lent. The list of arguments is taken where a
-/// function of a script gets it, and is else the caller's to use again. Ports upstream's `exec_fn_call`.
+/// A call by name whose arguments are there, none of which is lent. They stay for a function of a script. Ports
+/// upstream's `exec_fn_call`.
 ///
 /// # Errors
 /// Those of `pass_call`.
@@ -571,7 +571,7 @@ pub fn call_all<H: Host, T: NativeTable<H>>(
     natives_alone: bool,
     name: &str,
     token: Option<Token>,
-    args: &mut Items<Dynamic<H>>,
+    args: &mut Few<Dynamic<H>>,
     pos: Position,
 ) -> Called<H>
     ensures counts { global.old.num_operations ≤ global.new.num_operations }
@@ -579,7 +579,7 @@ pub fn call_all<H: Host, T: NativeTable<H>>(
         Calls (rules_of limits.now H.name_of offer T.natives) (plainly natives_alone on_scope)
         (call_of (record { name = name.now; token = token; at = pos }) args.old)
         (state_of (T.state table.old) global.old scope held)
-        result (state_of (T.state table.new) global.new scope held) }
+        (with_args result args.new) (state_of (T.state table.new) global.new scope held) }
 {
     let values = args.as_mut_slice();
     match pass_all(
@@ -596,6 +596,6 @@ pub fn call_all<H: Host, T: NativeTable<H>>(
         pos,
     ) {
         Dispatched::Ended(result) => Called::Ended(unmarked(result)),
-        Dispatched::Found(function) => Called::Enters(function, replace(args, Items::new(alloc))),
+        Dispatched::Found(function) => Called::Enters(function),
     }
 }

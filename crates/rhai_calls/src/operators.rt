@@ -1,16 +1,17 @@
 //! Operators whose operands are there: the built-in, or else a call of the operator's name. Ports what
 //! upstream's `func/call.rs` does for operators. The contracts cite specs/Operates.antt and specs/Called.antt.
 
-ghost use Rattle.std.specs.Prelude.{◌≡◌, ◌≤◌, ◌∷◌, [], IfOk, false};
+ghost use Rattle.std.specs.Prelude.{◌≡◌, ◌≤◌, ◌∷◌, [], IsTrue, false};
 ghost use Rattle.rhai_machine.specs.language.Calls.{call_at, plainly};
 ghost use Rattle.rhai_machine.specs.language.Setting.{rules_of};
 ghost use Rattle.rhai_steps.specs.States.{state_of};
-ghost use Rattle.rhai_calls.specs.Called.{Calls};
+ghost use Rattle.rhai_calls.specs.Called.{Calls, with_args};
 ghost use Rattle.rhai_calls.specs.Dispatch.{Offers};
 ghost use Rattle.rhai_calls.specs.Operates.{Operates};
 
 use crate::dispatch::{Called, call_all};
 use rhai_context::ends::take_value;
+use rhai_few::Few;
 use rhai_functions::function::Offered;
 use rhai_operators::{builtin_binary, builtin_unary};
 use rhai_state::error::EvalAltResult;
@@ -19,33 +20,30 @@ use rhai_state::state::GlobalRuntimeState;
 use rhai_state::table::NativeTable;
 use rhai_steps::replies::applied;
 use rhai_steps::values::let_go;
-use rhai_tree::Items;
 use rhai_tree::expr::FnCallExpr;
 use rhai_tree::position::Position;
 use rhai_tree::token::Token;
 use rhai_values::base::value::{Dynamic, Host};
-use std::alloc::{AllocError, Global};
+use std::alloc::Global;
 
-/// A list of one value.
-fn one<H: Host>(alloc: Global, value: Dynamic<H>) -> Result<Items<Dynamic<H>>, AllocError>
-    ensures { IfOk result (λ list. list ≡ value ∷ []) }
+/// A list without items gets one.
+fn one<H: Host>(list: &mut Few<Dynamic<H>>, value: Dynamic<H>) -> bool
+    requires { list.old ≡ [] }
+    ensures { IsTrue result → list.new ≡ value ∷ [] }
 {
-    let mut list = Items::new(alloc);
-    list.push(value)?;
-    Ok(list)
+    list.push(value).is_ok()
 }
 
-/// A list of two.
-fn two<H: Host>(
-    alloc: Global,
-    left: Dynamic<H>,
-    right: Dynamic<H>,
-) -> Result<Items<Dynamic<H>>, AllocError>
-    ensures { IfOk result (λ list. list ≡ left ∷ right ∷ []) }
+/// A list without items gets two.
+fn two<H: Host>(list: &mut Few<Dynamic<H>>, left: Dynamic<H>, right: Dynamic<H>) -> bool
+    requires { list.old ≡ [] }
+    ensures { IsTrue result → list.new ≡ left ∷ right ∷ [] }
 {
-    let mut list = one(alloc, left)?;
-    list.push(right)?;
-    Ok(list)
+    if !one(list, left) {
+        let_go(right);
+        return false;
+    }
+    list.push(right).is_ok()
 }
 
 /// An operator that is no built-in of its operands, if there was memory for their list.
@@ -57,42 +55,29 @@ fn call_listed<H: Host, T: NativeTable<H>>(
     table: &mut T,
     name: &str,
     token: Token,
-    operands: Result<Items<Dynamic<H>>, AllocError>,
+    operands: &mut Few<Dynamic<H>>,
+    are_there: bool,
     pos: Position,
 ) -> Called<H>
     ensures counts { global.old.num_operations ≤ global.new.num_operations }
     ensures runs { (offer : _) (scope : _) (held : _) (values : _) → Offers offer offered.now →
-        IfOk operands (λ list. list ≡ values) →
+        (IsTrue are_there → operands.old ≡ values) →
         Calls (rules_of limits.now H.name_of offer T.natives) (plainly false false)
         (call_at name.now token pos values)
         (state_of (T.state table.old) global.old scope held)
-        result (state_of (T.state table.new) global.new scope held) }
+        (with_args result operands.new) (state_of (T.state table.new) global.new scope held) }
 {
-    match operands {
-        Ok(operands) => {
-            let mut operands = operands;
-            let token = Some(token);
-            let called = call_all(
-                limits,
-                alloc,
-                offered,
-                global,
-                table,
-                false,
-                name,
-                token,
-                &mut operands,
-                pos,
-            );
-            drop(operands);
-            called
-        }
-        Err(_) => Called::Ended(Err(EvalAltResult::ErrorOutOfMemory(pos))),
+    if !are_there {
+        return Called::Ended(Err(EvalAltResult::ErrorOutOfMemory(pos)));
     }
+    let token = Some(token);
+    call_all(
+        limits, alloc, offered, global, table, false, name, token, operands, pos,
+    )
 }
 
 /// A unary operator whose operand is the value of a run: the built-in, or else a call of its name. A function of a
-/// script that has it is for the caller to enter.
+/// script that has it is for the caller to enter, with the operand in the list, which is empty before.
 ///
 /// # Errors
 /// The built-in's at the operator. `ErrorDataTooLarge` for a value above a limit. Of the call those
@@ -106,22 +91,24 @@ pub fn operate_one<H: Host, T: NativeTable<H>>(
     call: &FnCallExpr,
     token: Token,
     out: &mut Dynamic<H>,
+    operands: &mut Few<Dynamic<H>>,
     pos: Position,
 ) -> Called<H>
+    requires { operands.old ≡ [] }
     ensures counts { global.old.num_operations ≤ global.new.num_operations }
     ensures runs { (offer : _) (scope : _) (held : _) → Offers offer offered.now → Operates
         (rules_of limits.now H.name_of offer T.natives)
         (call_at call.now.name token pos (out.old ∷ []))
         (state_of (T.state table.old) global.old scope held)
-        result (state_of (T.state table.new) global.new scope held) }
+        (with_args result operands.new) (state_of (T.state table.new) global.new scope held) }
 {
     match builtin_unary(alloc, token, &*out) {
         Some(outcome) => Called::Ended(applied(alloc, limits, outcome, pos)),
         None => {
-            let operands = one(alloc, take_value(out));
+            let is_there = one(operands, take_value(out));
             let name = call.name.get().as_str();
             call_listed(
-                limits, alloc, offered, global, table, name, token, operands, pos,
+                limits, alloc, offered, global, table, name, token, operands, is_there, pos,
             )
         }
     }
@@ -142,14 +129,16 @@ pub fn operate_two<H: Host, T: NativeTable<H>>(
     token: Token,
     left: Dynamic<H>,
     out: &mut Dynamic<H>,
+    operands: &mut Few<Dynamic<H>>,
     pos: Position,
 ) -> Called<H>
+    requires { operands.old ≡ [] }
     ensures counts { global.old.num_operations ≤ global.new.num_operations }
     ensures runs { (offer : _) (scope : _) (held : _) → Offers offer offered.now → Operates
         (rules_of limits.now H.name_of offer T.natives)
         (call_at call.now.name token pos (left ∷ out.old ∷ []))
         (state_of (T.state table.old) global.old scope held)
-        result (state_of (T.state table.new) global.new scope held) }
+        (with_args result operands.new) (state_of (T.state table.new) global.new scope held) }
 {
     match builtin_binary(alloc, token, &left, &*out) {
         Some(outcome) => {
@@ -157,10 +146,10 @@ pub fn operate_two<H: Host, T: NativeTable<H>>(
             Called::Ended(applied(alloc, limits, outcome, pos))
         }
         None => {
-            let operands = two(alloc, left, take_value(out));
+            let are_there = two(operands, left, take_value(out));
             let name = call.name.get().as_str();
             call_listed(
-                limits, alloc, offered, global, table, name, token, operands, pos,
+                limits, alloc, offered, global, table, name, token, operands, are_there, pos,
             )
         }
     }

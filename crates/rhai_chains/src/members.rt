@@ -18,6 +18,7 @@ ghost use Rattle.rhai_steps.specs.Marked.{lending, RunsFrom};
 ghost use Rattle.rhai_chains.specs.Members.{access_of, tried};
 
 use rhai_calls::native::{Passing, marked, pass_native};
+use rhai_few::Few;
 use rhai_state::error::EvalAltResult;
 use rhai_state::limits::Limits;
 use rhai_state::state::GlobalRuntimeState;
@@ -76,21 +77,20 @@ fn list_of_both<H: Host>(
     alloc: Global,
     first: Dynamic<H>,
     second: Dynamic<H>,
-) -> Result<Items<Dynamic<H>>, AllocError>
+) -> Result<Few<Dynamic<H>>, AllocError>
     ensures { IfOk result (λ items. items ≡ first ∷ second ∷ []) }
 {
-    let mut items = Items::new(alloc);
+    let mut items = Few::new(alloc);
     items.push(first)?;
     items.push(second)?;
     Ok(items)
 }
 
 /// The first value of a list.
-fn first_of<H: Host>(items: Items<Dynamic<H>>) -> Dynamic<H>
-    requires { 0 < length items }
-    ensures { slice_get items 0 ≡ Some result }
+fn first_of<H: Host>(items: &mut Few<Dynamic<H>>) -> Dynamic<H>
+    requires { 0 < length items.old }
+    ensures { slice_get items.old 0 ≡ Some result }
 {
-    let mut items = items;
     items.remove(0)
 }
 
@@ -149,6 +149,7 @@ fn ask_item<H: Host, T: NativeTable<H>>(
     };
     match list_of(alloc, replace(index, unit_value())) {
         Ok(items) => {
+            let mut items = items;
             let rest = items.as_slice();
             let result = pass_native(
                 limits,
@@ -162,7 +163,8 @@ fn ask_item<H: Host, T: NativeTable<H>>(
                 passing,
                 at,
             );
-            let_go(replace(index, first_of(items)));
+            let_go(replace(index, first_of(&mut items)));
+            drop(items);
             result
         }
         Err(value) => {
@@ -198,11 +200,13 @@ fn ask_setter<H: Host, T: NativeTable<H>>(
     };
     match list_of(alloc, replace(value, unit_value())) {
         Ok(items) => {
+            let mut items = items;
             let rest = items.as_slice();
             let result = ask_property(
                 limits, alloc, global, table, focus, "set$", name, rest, passing, pos,
             );
-            let_go(replace(value, first_of(items)));
+            let_go(replace(value, first_of(&mut items)));
+            drop(items);
             result
         }
         Err(back) => {
@@ -239,7 +243,7 @@ fn ask_to_set<H: Host, T: NativeTable<H>>(
         return Err(EvalAltResult::ErrorOutOfMemory(at));
     };
     let rest = items.as_slice();
-    pass_native(
+    let answer = pass_native(
         limits,
         alloc,
         global,
@@ -250,7 +254,9 @@ fn ask_to_set<H: Host, T: NativeTable<H>>(
         rest,
         passing,
         at,
-    )
+    );
+    drop(items);
+    answer
 }
 
 /// What comes of the indexer: where it is missing, something stands for it.

@@ -12,7 +12,6 @@ pub mod spare;
 
 use crate::spare::Spare;
 use rhai_state::error::EvalAltResult;
-use rhai_state::room::Room;
 use rhai_state::scope::{Scope, ScopeEntry};
 use rhai_state::state::GlobalRuntimeState;
 use rhai_tree::Items;
@@ -22,7 +21,7 @@ use std::alloc::Global;
 use std::mem::replace;
 
 /// The state of a run: what stays beside the variables, the variables and `this`. Besides it has what the
-/// last part came to or stopped with, and lists that hold arguments while calls collect them.
+/// last part came to or stopped with, and lists of variables that calls left.
 #[derive(Drop)]
 pub struct Context<H> {
     pub global: GlobalRuntimeState<H>,
@@ -51,7 +50,6 @@ fn nothing<H: Host>(alloc: Global, always_search_scope: bool) -> GlobalRuntimeSt
         always_search_scope,
         cells: CellStore::new(alloc),
         constant_tables: Items::new(alloc),
-        room: Room::new(alloc),
     }
 }
 
@@ -66,38 +64,13 @@ pub fn take<H: Host>(
     ensures search { global.new.always_search_scope ≡ global.old.always_search_scope }
 {
     let empty = nothing(alloc, global.always_search_scope);
-    let spare = Spare::new(alloc, global.room.lend(alloc));
     Context {
         global: replace(global, empty),
         scope: replace(scope, Scope::new(alloc)),
         this: None,
         value: Dynamic::new(Union::Unit),
         error: None,
-        spare,
-    }
-}
-
-/// An empty list for arguments: one that a call left, with its room, or else a new one.
-pub fn lend_list<H: Host>(alloc: Global, run: &mut Context<H>) -> Items<Dynamic<H>>
-    ensures list { result ≡ [] }
-    ensures run { run.new ≡ run.old }
-{
-    run.spare.lend(alloc)
-}
-
-/// Keeps a list of arguments for another call, without what it holds.
-pub fn keep_list<H: Host>(run: &mut Context<H>, list: Items<Dynamic<H>>)
-    ensures { run.new ≡ run.old }
-{
-    run.spare.keep(list);
-}
-
-/// Keeps one of the lists of a run for the next.
-fn keep_room<H: Host>(room: &mut Room<H>, spare: Spare<H>)
-    ensures { room.new ≡ room.old }
-{
-    if let Some(list) = spare.into_first() {
-        room.keep(list);
+        spare: Spare::new(alloc),
     }
 }
 
@@ -110,7 +83,6 @@ pub fn give_back<H: Host>(run: Context<H>, global: &mut GlobalRuntimeState<H>, s
 {
     let mut left = run.global;
     left.always_search_scope = global.always_search_scope;
-    keep_room(&mut left.room, run.spare);
     drop(replace(global, left));
     drop(replace(scope, run.scope));
 }

@@ -40,9 +40,7 @@ use Rattle.rhai_steps.specs.States.{local_of, state_of}
 use Rattle.rhai_steps.proofs.Pieces.{step_by}
 use Rattle.rhai_pointers.specs.Forms.{is_operator_form}
 use Rattle.rhai_pointers.proofs.FormLemmas.{function_goes}
-use Rattle.rhai_calls.specs.Called.{came_out}
-use Rattle.rhai_calls.specs.declared.dispatch.Called.{Called}
-use Rattle.rhai_calls.specs.declared.dispatch.Called.TheVariants.{Ended, Enters}
+use Rattle.rhai_calls.specs.Called.{came_out, Ended, Enters, Outcome}
 use Rattle.rhai_machine.specs.language.Activations.{NoObject}
 use Rattle.rhai_machine.specs.language.Calls.{entry_of, races}
 use Rattle.rhai_dispatch.specs.Kept.{HasKept}
@@ -166,17 +164,17 @@ module _ {S H : Type 0} (rules : Rules S H) where
 
   -- a function that a pointer is linked to, unless memory was wanting
   module _ (function : Function H) (all : List (Dynamic H)) (pos : Position) (k : List (Frame H)) (s : State S H) where
-    abbrev outcome_of : (raced : Bool) → Called H
+    abbrev outcome_of : (raced : Bool) → Outcome H
     outcome_of raced = if raced then Ended (Err (error.ErrorDataRace function.def.name pos)) else Enters function all
 
     abbrev entered_by : (raced : Bool) → Core H
     entered_by raced = if raced then core (Fail (error.ErrorDataRace function.def.name pos)) k s.local
         else core (EnterFunction (entry_of function NoObject true all pos s.local)) k s.local
 
-    abbrev out_of : Called H → Point S (Core H)
+    abbrev out_of : Outcome H → Point S (Core H)
     out_of called = with_core (came_out true pos called k s.local) s
 
-    linked_as : (raced : Bool) (called : Called H) → called ≡ outcome_of raced →
+    linked_as : (raced : Bool) (called : Outcome H) → called ≡ outcome_of raced →
         Goes rules (with_core (entered_by raced) s) (out_of called)
     linked_as true called is = rw is here
     linked_as false called is = rw is here
@@ -185,14 +183,14 @@ module _ {S H : Type 0} (rules : Rules S H) where
     linked_wants true p = wanting {at = p} here
     linked_wants false p = wanting {at = p} here
 
-    linked_by : (raced : Bool) (called : Called H) → Comes called (outcome_of raced) →
+    linked_by : (raced : Bool) (called : Outcome H) → Comes called (outcome_of raced) →
         Goes rules (with_core (entered_by raced) s) (out_of called)
     linked_by raced (Ended (Err (error.ErrorOutOfMemory p))) is = linked_wants raced p
     linked_by raced (Ended (Err e)) is = linked_as raced (Ended (Err e)) (is refl)
     linked_by raced (Ended (Ok v)) is = linked_as raced (Ended (Ok v)) (is tt)
     linked_by raced (Enters found args) is = linked_as raced (Enters found args) (is tt)
 
-    pub linked_goes : (called : Called H) → Comes called (linked_call s.local.around.cells function all pos) →
+    pub linked_goes : (called : Outcome H) → Comes called (linked_call s.local.around.cells function all pos) →
         Goes rules (with_core (linked_core function pos all k s.local) s) (with_core (came_out true pos called k s.local) s)
     linked_goes called is = linked_by (races s.local.around.cells all) called is
 

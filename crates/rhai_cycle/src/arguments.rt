@@ -11,6 +11,7 @@ ghost use Rattle.rhai_machine.specs.language.Arguments.{arguments_core, is_captu
 ghost use Rattle.rhai_machine.specs.language.Calls.{plainly};
 ghost use Rattle.rhai_machine.specs.language.Frames.{CallNamed, ToCall, ToCallOn, ToCallOnThis};
 ghost use Rattle.rhai_machine.specs.language.Runs.{Runs};
+ghost use Rattle.rhai_calls.specs.Called.{with_args};
 ghost use Rattle.rhai_pointers.specs.Leading.{all_args};
 ghost use Rattle.rhai_dispatch.specs.Going.{GoesOut};
 ghost use Rattle.rhai_context.specs.Ends.{came};
@@ -19,12 +20,13 @@ ghost use Rattle.rhai_cycle.specs.States.{names, state_in, under};
 
 use crate::evaluator::Evaluator;
 use rhai_calls::dispatch::Called;
+use rhai_context::Context;
 use rhai_context::outcomes::charge;
-use rhai_context::{Context, keep_list, lend_list};
 use rhai_dispatch::arguments::push_argument;
 use rhai_dispatch::call_values;
 use rhai_dispatch::this::call_on_this;
 use rhai_dispatch::variable::call_on_variable;
+use rhai_few::Few;
 use rhai_pointers::arguments::{FirstVariable, first_variable, this_first};
 use rhai_state::scope::Scope;
 use rhai_state::table::NativeTable;
@@ -83,9 +85,9 @@ impl<'e, H: Host> Evaluator<'e, H> {
             if !charge(self.limits, &mut run.global, &mut run.error, this_at) {
                 return false;
             }
-            let mut values = lend_list(alloc, run);
+            let mut values = Few::new(alloc);
             if !self.run_more_args(alloc, run, table, &mut values, rest, true) {
-                keep_list(run, values);
+                drop(values);
                 return false;
             }
             let called = self.call_with_this(
@@ -95,11 +97,13 @@ impl<'e, H: Host> Evaluator<'e, H> {
                 name,
                 token,
                 this_at,
-                values,
+                &mut values,
                 natives_alone,
                 pos,
             );
-            return self.run_out(alloc, run, table, called, true, pos);
+            let done = self.run_out(alloc, run, table, called, &mut values, true, pos);
+            drop(values);
+            return done;
         }
         match first_variable(&run.scope, curried.as_slice(), first, rest, captures) {
             Some(variable) => {
@@ -107,9 +111,9 @@ impl<'e, H: Host> Evaluator<'e, H> {
                 if !charge(self.limits, &mut run.global, &mut run.error, variable.pos) {
                     return false;
                 }
-                let mut values = lend_list(alloc, run);
+                let mut values = Few::new(alloc);
                 if !self.run_more_args(alloc, run, table, &mut values, variable.rest, true) {
-                    keep_list(run, values);
+                    drop(values);
                     return false;
                 }
                 let called = self.call_with_variable(
@@ -119,11 +123,13 @@ impl<'e, H: Host> Evaluator<'e, H> {
                     name,
                     token,
                     variable,
-                    values,
+                    &mut values,
                     natives_alone,
                     pos,
                 );
-                self.run_out(alloc, run, table, called, true, pos)
+                let done = self.run_out(alloc, run, table, called, &mut values, true, pos);
+                drop(values);
+                done
             }
             None => self.run_on_values(
                 alloc,
@@ -141,7 +147,7 @@ impl<'e, H: Host> Evaluator<'e, H> {
         }
     }
 
-    /// A call by name of a variable and of values behind it. The list is kept for the next call.
+    /// A call by name of a variable and of values behind it.
     fn call_with_variable<T: NativeTable<H>>(
         &self,
         alloc: Global,
@@ -150,7 +156,7 @@ impl<'e, H: Host> Evaluator<'e, H> {
         name: &str,
         token: Option<Token>,
         variable: FirstVariable<'_>,
-        values: Items<Dynamic<H>>,
+        values: &mut Few<Dynamic<H>>,
         natives_alone: bool,
         pos: Position,
     ) -> Called<H>
@@ -160,12 +166,11 @@ impl<'e, H: Host> Evaluator<'e, H> {
         ensures runs { GoesOut (under H.name_of self.now T.natives)
             (ToCallOn (record { name = name.now; token = token; at = pos })
             variable.entry.name.now variable.entry.pos
-            (plainly natives_alone false)) values true pos (state_in (T.state table.old) run.old)
-            result (state_in (T.state table.new) run.new) }
+            (plainly natives_alone false)) values.old true pos (state_in (T.state table.old) run.old)
+            (with_args result values.new) (state_in (T.state table.new) run.new) }
     {
-        let mut values = values;
         let offered = self.offered();
-        let called = call_on_variable(
+        call_on_variable(
             self.limits,
             alloc,
             &offered,
@@ -178,14 +183,12 @@ impl<'e, H: Host> Evaluator<'e, H> {
             variable.offset,
             variable.name,
             variable.pos,
-            &mut values,
+            values,
             pos,
-        );
-        keep_list(run, values);
-        called
+        )
     }
 
-    /// A call by name of `this` and of values behind it. The list is kept for the next call.
+    /// A call by name of `this` and of values behind it.
     fn call_with_this<T: NativeTable<H>>(
         &self,
         alloc: Global,
@@ -194,7 +197,7 @@ impl<'e, H: Host> Evaluator<'e, H> {
         name: &str,
         token: Option<Token>,
         this_at: Position,
-        values: Items<Dynamic<H>>,
+        values: &mut Few<Dynamic<H>>,
         natives_alone: bool,
         pos: Position,
     ) -> Called<H>
@@ -202,12 +205,11 @@ impl<'e, H: Host> Evaluator<'e, H> {
         ensures scope { run.new.scope ≡ run.old.scope }
         ensures runs { GoesOut (under H.name_of self.now T.natives)
             (ToCallOnThis (record { name = name.now; token = token; at = pos }) this_at
-            (plainly natives_alone false)) values true pos (state_in (T.state table.old) run.old)
-            result (state_in (T.state table.new) run.new) }
+            (plainly natives_alone false)) values.old true pos (state_in (T.state table.old) run.old)
+            (with_args result values.new) (state_in (T.state table.new) run.new) }
     {
-        let mut values = values;
         let offered = self.offered();
-        let called = call_on_this(
+        call_on_this(
             self.limits,
             alloc,
             &offered,
@@ -218,14 +220,12 @@ impl<'e, H: Host> Evaluator<'e, H> {
             name,
             token,
             this_at,
-            &mut values,
+            values,
             pos,
-        );
-        keep_list(run, values);
-        called
+        )
     }
 
-    /// A call by name of values, behind those that a pointer has. The list is kept for the next call.
+    /// A call by name of values, behind those that a pointer has.
     fn call_with<T: NativeTable<H>>(
         &self,
         alloc: Global,
@@ -234,7 +234,7 @@ impl<'e, H: Host> Evaluator<'e, H> {
         name: &str,
         token: Option<Token>,
         curried: Items<Dynamic<H>>,
-        values: Items<Dynamic<H>>,
+        values: &mut Few<Dynamic<H>>,
         natives_alone: bool,
         pos: Position,
     ) -> Called<H>
@@ -242,12 +242,11 @@ impl<'e, H: Host> Evaluator<'e, H> {
         ensures scope { run.new.scope ≡ run.old.scope }
         ensures runs { (on_scope : _) → GoesOut (under H.name_of self.now T.natives)
             (ToCall (record { name = name.now; token = token; at = pos }) curried
-            (plainly natives_alone on_scope)) values (not on_scope) pos (state_in (T.state table.old) run.old)
-            result (state_in (T.state table.new) run.new) }
+            (plainly natives_alone on_scope)) values.old (not on_scope) pos (state_in (T.state table.old) run.old)
+            (with_args result values.new) (state_in (T.state table.new) run.new) }
     {
-        let mut values = values;
         let offered = self.offered();
-        let called = call_values(
+        call_values(
             self.limits,
             alloc,
             &offered,
@@ -257,11 +256,9 @@ impl<'e, H: Host> Evaluator<'e, H> {
             name,
             token,
             curried,
-            &mut values,
+            values,
             pos,
-        );
-        keep_list(run, values);
-        called
+        )
     }
 
     /// A call by name whose arguments are all passed by their values, behind those that a pointer has. How it ended
@@ -294,10 +291,10 @@ impl<'e, H: Host> Evaluator<'e, H> {
             (came result run.new.value run.new.error) (state_in (T.state table.new) run.new) }
     {
         let on_scope = is_on_scope(&run.scope, captures);
-        let mut values = lend_list(alloc, run);
+        let mut values = Few::new(alloc);
         if !self.run_all_args(alloc, run, table, &mut values, first, rest) {
             drop(curried);
-            keep_list(run, values);
+            drop(values);
             return false;
         }
         let called = self.call_with(
@@ -307,11 +304,13 @@ impl<'e, H: Host> Evaluator<'e, H> {
             name,
             token,
             curried,
-            values,
+            &mut values,
             natives_alone,
             pos,
         );
-        self.run_out(alloc, run, table, called, !on_scope, pos)
+        let done = self.run_out(alloc, run, table, called, &mut values, !on_scope, pos);
+        drop(values);
+        done
     }
 
     /// The values of all arguments of a function go behind those that are there, from left to right and flattened.
@@ -322,7 +321,7 @@ impl<'e, H: Host> Evaluator<'e, H> {
         alloc: Global,
         run: &mut Context<H>,
         table: &mut T,
-        values: &mut Items<Dynamic<H>>,
+        values: &mut Few<Dynamic<H>>,
         first: Option<&Expr>,
         rest: &[Expr],
     ) -> bool
@@ -356,7 +355,7 @@ impl<'e, H: Host> Evaluator<'e, H> {
         alloc: Global,
         run: &mut Context<H>,
         table: &mut T,
-        values: &mut Items<Dynamic<H>>,
+        values: &mut Few<Dynamic<H>>,
         args: &[Expr],
         flattened: bool,
     ) -> bool

@@ -12,7 +12,7 @@ ghost use Rattle.rhai_machine.specs.language.Methods.{method_core};
 ghost use Rattle.rhai_machine.specs.language.Runs.{Runs};
 ghost use Rattle.rhai_machine.specs.language.State.{HasMemory};
 ghost use Rattle.rhai_steps.specs.States.{local_of, state_of};
-ghost use Rattle.rhai_calls.specs.Called.{came_out};
+ghost use Rattle.rhai_calls.specs.Called.{came_out, with_args};
 ghost use Rattle.rhai_calls.specs.Dispatch.{Offers};
 ghost use Rattle.rhai_context.specs.Ends.{came, came_marked};
 ghost use Rattle.rhai_steps.specs.Marked.{lending, RunsFrom};
@@ -21,18 +21,18 @@ ghost use Rattle.rhai_cycle.specs.Calls.{StartsAs};
 ghost use Rattle.rhai_cycle.specs.States.{names, offer_of, state_in, under};
 
 use crate::evaluator::Evaluator;
-use rhai_bodies::callers::{body_of, capture, end_call, end_fresh, release};
+use rhai_bodies::callers::{body_of, capture, end_fresh, release};
 use rhai_bodies::closing::close_body;
 use rhai_bodies::opening::{open_function, statements_of};
 use rhai_calls::dispatch::Called;
 use rhai_context::ends::{put_unit, settle, settle_marked, stop, unchanged};
 use rhai_context::outcomes::charge;
 use rhai_context::{Context, put_aside};
+use rhai_few::Few;
 use rhai_functions::function::{Function, Offered};
 use rhai_methods::calls::MethodCall;
 use rhai_methods::methods::call_method;
 use rhai_state::table::NativeTable;
-use rhai_tree::Items;
 use rhai_tree::checked::CheckedFn;
 use rhai_tree::position::Position;
 use rhai_values::base::value::{Dynamic, EncapsulatedEnviron, Host};
@@ -111,7 +111,7 @@ impl<'e, H: Host> Evaluator<'e, H> {
         run: &mut Context<H>,
         table: &mut T,
         function: Function<H>,
-        args: Items<Dynamic<H>>,
+        args: &mut [Dynamic<H>],
         pos: Position,
     ) -> bool
         ensures counts { run.old.global.num_operations ≤ run.new.global.num_operations }
@@ -119,17 +119,15 @@ impl<'e, H: Host> Evaluator<'e, H> {
         ensures this { run.new.this ≡ run.old.this }
         ensures runs { (scope : _) (held : _) → let caller = local_of run.old.global scope held in
             Runs (under H.name_of self.now T.natives)
-            (EnterFunction (entry_of function NoObject true args pos caller))
+            (EnterFunction (entry_of function NoObject true args.old pos caller))
             (state_of (T.state table.old) run.old.global scope held)
             (came result run.new.value run.new.error)
             (state_of (T.state table.new) run.new.global scope held) }
     {
-        let mut args = args;
         let aside = put_aside(alloc, run, None);
         let (def, environ, level) = body_of(&function, run.global.level);
-        let values = args.as_mut_slice();
-        let done = self.run_body(alloc, run, table, def, environ, values, true, level, pos);
-        end_fresh(run, aside, args, function);
+        let done = self.run_body(alloc, run, table, def, environ, args, true, level, pos);
+        end_fresh(run, aside, function);
         done
     }
 
@@ -141,7 +139,7 @@ impl<'e, H: Host> Evaluator<'e, H> {
         run: &mut Context<H>,
         table: &mut T,
         function: Function<H>,
-        args: Items<Dynamic<H>>,
+        args: &mut [Dynamic<H>],
         pos: Position,
     ) -> bool
         ensures counts { run.old.global.num_operations ≤ run.new.global.num_operations }
@@ -149,22 +147,20 @@ impl<'e, H: Host> Evaluator<'e, H> {
         ensures this { run.new.this ≡ run.old.this }
         ensures runs { (held : _) → let caller = local_of run.old.global run.old.scope held in
             Runs (under H.name_of self.now T.natives)
-            (EnterFunction (entry_of function NoObject false args pos caller))
+            (EnterFunction (entry_of function NoObject false args.old pos caller))
             (state_of (T.state table.old) run.old.global run.old.scope held)
             (came result run.new.value run.new.error)
             (state_of (T.state table.new) run.new.global run.new.scope held) }
     {
-        let mut args = args;
         let captured = capture(run);
         let (def, environ, level) = body_of(&function, run.global.level);
-        let values = args.as_mut_slice();
-        let done = self.run_body(alloc, run, table, def, environ, values, true, level, pos);
-        release(run, captured, args, function);
+        let done = self.run_body(alloc, run, table, def, environ, args, true, level, pos);
+        release(run, captured, function);
         done
     }
 
-    /// What becomes of a call that lends nothing: it has ended, or enters a function, which has variables of its
-    /// own or runs on the caller's.
+    /// What becomes of a call that lends nothing: it has ended, or enters a function with the arguments in the list,
+    /// which has variables of its own or runs on the caller's.
     #[inline(never)]
     #[cycle(eval)]
     pub(crate) fn run_out<T: NativeTable<H>>(
@@ -173,22 +169,24 @@ impl<'e, H: Host> Evaluator<'e, H> {
         run: &mut Context<H>,
         table: &mut T,
         called: Called<H>,
+        args: &mut Few<Dynamic<H>>,
         is_fresh: bool,
         pos: Position,
     ) -> bool
         ensures counts { run.old.global.num_operations ≤ run.new.global.num_operations }
         ensures names { IsTrue result → names run.new ≡ names run.old }
-        ensures runs { StartsAs (under H.name_of self.now T.natives) (came_out is_fresh pos called)
+        ensures runs { StartsAs (under H.name_of self.now T.natives) (came_out is_fresh pos (with_args called args.old))
             (state_in (T.state table.old) run.old)
             (came result run.new.value run.new.error) (state_in (T.state table.new) run.new) }
     {
         match called {
             Called::Ended(result) => settle(&mut run.error, &mut run.value, result),
-            Called::Enters(function, args) => {
+            Called::Enters(function) => {
+                let values = args.as_mut_slice();
                 if is_fresh {
-                    self.enter_fresh(alloc, run, table, function, args, pos)
+                    self.enter_fresh(alloc, run, table, function, values, pos)
                 } else {
-                    self.enter_captured(alloc, run, table, function, args, pos)
+                    self.enter_captured(alloc, run, table, function, values, pos)
                 }
             }
         }
@@ -204,31 +202,28 @@ impl<'e, H: Host> Evaluator<'e, H> {
         table: &mut T,
         function: Function<H>,
         focus: &mut Dynamic<H>,
-        args: Items<Dynamic<H>>,
+        args: &mut [Dynamic<H>],
         pos: Position,
     ) -> bool
         ensures counts { run.old.global.num_operations ≤ run.new.global.num_operations }
         ensures scope { run.new.scope ≡ run.old.scope }
         ensures this { run.new.this ≡ run.old.this }
         ensures runs { (scope : _) (held : _) → Runs (under H.name_of self.now T.natives)
-            (EnterOnFocus function true args pos)
+            (EnterOnFocus function true args.old pos)
             (state_of (T.state table.old) run.old.global scope (lending held focus.old))
             (came result run.new.value run.new.error)
             (state_of (T.state table.new) run.new.global scope (lending held focus.new)) }
     {
         let (cells, place) = (&mut run.global.cells, &mut run.error);
-        let values = args.as_slice();
-        let Some(above) = enter_focus(alloc, cells, place, focus, &function, values, pos) else {
-            end_call(run, args, function);
+        let Some(above) = enter_focus(alloc, cells, place, focus, &function, &*args, pos) else {
+            drop(function);
             return false;
         };
-        let mut args = args;
         let aside = lend_focus(alloc, run, focus);
         let (def, environ, level) = body_of(&function, run.global.level);
-        let values = args.as_mut_slice();
-        let done = self.run_body(alloc, run, table, def, environ, values, true, level, pos);
+        let done = self.run_body(alloc, run, table, def, environ, args, true, level, pos);
         leave_focus(run, focus, aside, above);
-        end_call(run, args, function);
+        drop(function);
         done
     }
 
@@ -275,11 +270,17 @@ impl<'e, H: Host> Evaluator<'e, H> {
         ) {
             MethodCall::Ended(result) => settle_marked(&mut run.error, &mut run.value, result),
             MethodCall::OnTarget(function, args) => {
-                let done = self.enter_on_focus(alloc, run, table, function, focus, args, pos);
+                let mut args = args;
+                let values = args.as_mut_slice();
+                let done = self.enter_on_focus(alloc, run, table, function, focus, values, pos);
+                drop(args);
                 unchanged(done)
             }
             MethodCall::Alone(function, args) => {
-                let done = self.enter_fresh(alloc, run, table, function, args, pos);
+                let mut args = args;
+                let values = args.as_mut_slice();
+                let done = self.enter_fresh(alloc, run, table, function, values, pos);
+                drop(args);
                 unchanged(done)
             }
         }

@@ -12,6 +12,7 @@ ghost use Rattle.rhai_machine.specs.language.Frames.{Argument, KeywordArgument, 
 ghost use Rattle.rhai_values.specs.declared.base.value.FnPtr.{out-FnPtr};
 ghost use Rattle.rhai_machine.specs.language.Arguments.{arguments_core, linked_to};
 ghost use Rattle.rhai_machine.specs.language.Runs.{Runs};
+ghost use Rattle.rhai_calls.specs.Called.{with_args};
 ghost use Rattle.rhai_calls.specs.Operates.{Operates};
 ghost use Rattle.rhai_pointers.specs.Forms.{IsForm};
 ghost use Rattle.rhai_pointers.specs.Keywords.{word_of};
@@ -26,12 +27,13 @@ use crate::evaluator::Evaluator;
 use rhai_at_once::call_at_once;
 use rhai_calls::dispatch::Called;
 use rhai_calls::operators::{operate_one, operate_two};
+use rhai_context::Context;
 use rhai_context::ends::{put, settle, stop, take_value};
 use rhai_context::outcomes::flatten_at;
-use rhai_context::{Context, keep_list, lend_list};
 use rhai_dispatch::arguments::parts_of_call;
 use rhai_dispatch::pointer::parts_of;
 use rhai_dispatch::{call_function, call_number};
+use rhai_few::Few;
 use rhai_functions::function::Function;
 use rhai_operands::arguments::literal_arg;
 use rhai_operands::operators::{operate_in_place, operate_known};
@@ -233,8 +235,11 @@ impl<'e, H: Host> Evaluator<'e, H> {
         if !flatten_at(alloc, &run.global.cells, out, place, operand) {
             return false;
         }
-        let called = self.operate_on_one(alloc, run, table, call, token, pos);
-        self.run_out(alloc, run, table, called, true, pos)
+        let mut operands = Few::new(alloc);
+        let called = self.operate_on_one(alloc, run, table, call, token, &mut operands, pos);
+        let done = self.run_out(alloc, run, table, called, &mut operands, true, pos);
+        drop(operands);
+        done
     }
 
     /// A call of a keyword, or of a function by its name. How it ended stands in the run.
@@ -383,13 +388,14 @@ impl<'e, H: Host> Evaluator<'e, H> {
         run: &mut Context<H>,
         table: &mut T,
         pointer: PointerUse<H>,
-        values: Items<Dynamic<H>>,
+        values: &mut Few<Dynamic<H>>,
         pos: Position,
     ) -> Called<H>
         ensures counts { run.old.global.num_operations ≤ run.new.global.num_operations }
         ensures scope { run.new.scope ≡ run.old.scope }
-        ensures runs { GoesOut (under H.name_of self.now T.natives) (purpose_of pointer pos) values true pos
-            (state_in (T.state table.old) run.old) result (state_in (T.state table.new) run.new) }
+        ensures runs { GoesOut (under H.name_of self.now T.natives) (purpose_of pointer pos) values.old true pos
+            (state_in (T.state table.old) run.old) (with_args result values.new)
+            (state_in (T.state table.new) run.new) }
     {
         match pointer {
             PointerUse::Curry(pointer) => {
@@ -429,17 +435,20 @@ impl<'e, H: Host> Evaluator<'e, H> {
             (state_in (T.state table.old) run.old)
             (came result run.new.value run.new.error) (state_in (T.state table.new) run.new) }
     {
-        let mut values = lend_list(alloc, run);
+        let mut values = Few::new(alloc);
         if !self.run_more_args(alloc, run, table, &mut values, args, false) {
             drop(pointer);
-            keep_list(run, values);
+            drop(values);
             return false;
         }
-        let called = self.use_pointer(alloc, run, table, pointer, values, pos);
-        self.run_out(alloc, run, table, called, true, pos)
+        let called = self.use_pointer(alloc, run, table, pointer, &mut values, pos);
+        let done = self.run_out(alloc, run, table, called, &mut values, true, pos);
+        drop(values);
+        done
     }
 
-    /// A unary operator on the value of a run. A function of a script that has it is for the caller to enter.
+    /// A unary operator on the value of a run. A function of a script that has it is for the caller to enter, with the
+    /// operand in the list, which is empty before.
     #[inline(always)]
     fn operate_on_one<T: NativeTable<H>>(
         &self,
@@ -448,13 +457,15 @@ impl<'e, H: Host> Evaluator<'e, H> {
         table: &mut T,
         call: &FnCallExpr,
         token: Token,
+        operands: &mut Few<Dynamic<H>>,
         pos: Position,
     ) -> Called<H>
+        requires { operands.old ≡ [] }
         ensures counts { run.old.global.num_operations ≤ run.new.global.num_operations }
         ensures scope { run.new.scope ≡ run.old.scope }
         ensures runs { Operates (under H.name_of self.now T.natives)
             (call_at call.now.name token pos (run.old.value ∷ [])) (state_in (T.state table.old) run.old)
-            result (state_in (T.state table.new) run.new) }
+            (with_args result operands.new) (state_in (T.state table.new) run.new) }
     {
         let offered = self.offered();
         let (global, out) = (&mut run.global, &mut run.value);
@@ -467,11 +478,13 @@ impl<'e, H: Host> Evaluator<'e, H> {
             call,
             token,
             out,
+            operands,
             pos,
         )
     }
 
-    /// A binary operator on a value and that of a run. A function of a script that has it is for the caller to enter.
+    /// A binary operator on a value and that of a run. A function of a script that has it is for the caller to enter,
+    /// with the operands in the list, which is empty before.
     #[inline(always)]
     fn operate_on_two<T: NativeTable<H>>(
         &self,
@@ -481,13 +494,15 @@ impl<'e, H: Host> Evaluator<'e, H> {
         call: &FnCallExpr,
         token: Token,
         left: Dynamic<H>,
+        operands: &mut Few<Dynamic<H>>,
         pos: Position,
     ) -> Called<H>
+        requires { operands.old ≡ [] }
         ensures counts { run.old.global.num_operations ≤ run.new.global.num_operations }
         ensures scope { run.new.scope ≡ run.old.scope }
         ensures runs { Operates (under H.name_of self.now T.natives)
             (call_at call.now.name token pos (left ∷ run.old.value ∷ [])) (state_in (T.state table.old) run.old)
-            result (state_in (T.state table.new) run.new) }
+            (with_args result operands.new) (state_in (T.state table.new) run.new) }
     {
         let offered = self.offered();
         let (global, out) = (&mut run.global, &mut run.value);
@@ -501,6 +516,7 @@ impl<'e, H: Host> Evaluator<'e, H> {
             token,
             left,
             out,
+            operands,
             pos,
         )
     }
@@ -550,8 +566,11 @@ impl<'e, H: Host> Evaluator<'e, H> {
         if operate_known(token, &first, &mut run.value) {
             return true;
         }
-        let called = self.operate_on_two(alloc, run, table, call, token, first, pos);
-        self.run_out(alloc, run, table, called, true, pos)
+        let mut operands = Few::new(alloc);
+        let called = self.operate_on_two(alloc, run, table, call, token, first, &mut operands, pos);
+        let done = self.run_out(alloc, run, table, called, &mut operands, true, pos);
+        drop(operands);
+        done
     }
 
     /// The value of an argument. A literal is charged here, anything else as an expression. How it ended stands in

@@ -2,7 +2,7 @@
 //! `eval_dot_index_chain`, up to the walk; the contracts speak of the machine's runs and of
 //! specs/Chains.antt.
 
-ghost use Rattle.std.specs.Prelude.{◌≡◌, ◌≤◌, IsTrue, IfOk, IfErr, IfSome, Some, None, [], true, false, is_some, length};
+ghost use Rattle.std.specs.Prelude.{◌≡◌, ◌≤◌, IsTrue, OnOk, IfErr, IfSome, Some, None, [], true, false, is_some, length};
 ghost use Rattle.rhai_tree.specs.declared.expr.Expr.{out-Expr};
 ghost use Rattle.rhai_tree.specs.declared.expr.Expr.TheOpen as layer;
 ghost use Rattle.rhai_tree.specs.Frame.{resolves_expr, target_resolves, tests_of};
@@ -22,64 +22,68 @@ use crate::roots::take_flat;
 use rhai_chains::arguments::{Ready, asked, needs_no_step, ready_value};
 use rhai_chains::chain::NewValue;
 use rhai_chains::links::{first_of, link_of};
+use rhai_context::Context;
 use rhai_context::ends::{put_unit, stop};
 use rhai_context::outcomes::charge;
-use rhai_context::{Context, keep_list, lend_list};
+use rhai_few::Few;
 use rhai_pointers::arguments::keep_argument;
 use rhai_state::error::EvalAltResult;
 use rhai_state::table::NativeTable;
-use rhai_tree::Items;
 use rhai_tree::expr::{Expr, OpAssignment};
 use rhai_values::base::value::{Dynamic, Host};
 use std::alloc::Global;
 
-/// What a chain is given at once, in the list that calls use again.
+/// What a chain is given at once goes into a list that is empty.
+///
+/// # Errors
+/// `ErrorOutOfMemory` alone.
 fn ready_args<H: Host>(
     alloc: Global,
-    run: &mut Context<H>,
+    made: &mut Few<Dynamic<H>>,
     ready: Ready<'_>,
-) -> Result<Items<Dynamic<H>>, EvalAltResult<H>>
-    requires { IsGiven H ready }
-    ensures given { IfOk result (λ args. IsReady (Some ready.entry) (Some args)) }
+) -> Result<(), EvalAltResult<H>>
+    requires ready { IsGiven H ready }
+    requires empty { made.old ≡ [] }
+    ensures given { OnOk result (IsReady (Some ready.entry) (Some made.new)) }
     ensures refused { IfErr result (λ error. is_out_of_memory error ≡ true) }
-    ensures run { run.new ≡ run.old }
 {
-    let mut made = lend_list(alloc, run);
     match ready {
-        Ready::Nothing => Ok(made),
+        Ready::Nothing => Ok(()),
         Ready::Literal(literal) => {
             let value = ready_value(alloc, literal)?;
-            keep_argument(&mut made, value, literal.position())?;
-            Ok(made)
+            keep_argument(made, value, literal.position())?;
+            Ok(())
         }
     }
 }
 
-/// The list of what the links of a chain ask for, and whether they are to be asked: what needs no step is there.
+/// Whether what the links of a chain ask for is to be asked: what needs no step goes into the list, which is empty
+/// before. None where there is no memory for it: then the run stops.
 ///
 /// # Errors
 /// `ErrorOutOfMemory` alone. It goes into its place.
 fn given_args<H: Host>(
     alloc: Global,
-    run: &mut Context<H>,
+    made: &mut Few<Dynamic<H>>,
+    place: &mut Option<EvalAltResult<H>>,
     chain: &Expr,
-) -> Option<(Items<Dynamic<H>>, bool)>
-    ensures given { IfSome result (λ given. given.1 ≡ false →
-        at_once (link_in (out-Expr chain.now)) ≡ Some given.0) }
-    ensures asks { IfSome result (λ given. given.1 ≡ true → (given.0 ≡ [])
+) -> Option<bool>
+    requires { made.old ≡ [] }
+    ensures given { IfSome result (λ asks. asks ≡ false →
+        at_once (link_in (out-Expr chain.now)) ≡ Some made.new) }
+    ensures asks { IfSome result (λ asks. asks ≡ true → (made.new ≡ [])
         × (at_once {H = H} (link_in (out-Expr chain.now)) ≡ None)) }
-    ensures refused { result ≡ None → is_out_of_memory (error_in run.new.error) ≡ true }
-    ensures run { run.new ≡ record run.old { error = run.new.error } }
+    ensures refused { result ≡ None → is_out_of_memory (error_in place.new) ≡ true }
 {
     match needs_no_step::<H>(chain) {
-        Some(ready) => match ready_args(alloc, run, ready) {
-            Ok(values) => Some((values, false)),
+        Some(ready) => match ready_args(alloc, made, ready) {
+            Ok(()) => Some(false),
             Err(error) => {
-                stop(&mut run.error, error);
+                stop(place, error);
                 None
             }
         },
-        None => Some((lend_list(alloc, run), true)),
+        None => Some(true),
     }
 }
 
@@ -111,25 +115,26 @@ impl<'e, H: Host> Evaluator<'e, H> {
             (chain_on root.now (out-Expr chain.now) (new_of new))
             (state_in (T.state table.old) run.old) }
     {
-        let Some((values, asks)) = given_args(alloc, run, chain) else {
+        let mut values = Few::new(alloc);
+        let Some(asks) = given_args(alloc, &mut values, &mut run.error, chain) else {
             drop(new);
+            drop(values);
             return false;
         };
-        let mut values = values;
         if asks {
             if !self.run_link_args(alloc, run, table, &mut values, chain) {
                 drop(new);
-                keep_list(run, values);
+                drop(values);
                 return false;
             }
             let args = values.as_mut_slice();
             let done = self.run_root(alloc, run, table, root, chain, args, new);
-            keep_list(run, values);
+            drop(values);
             done
         } else {
             let args = values.as_mut_slice();
             let done = self.run_root(alloc, run, table, root, chain, args, new);
-            keep_list(run, values);
+            drop(values);
             done
         }
     }
@@ -167,7 +172,7 @@ impl<'e, H: Host> Evaluator<'e, H> {
         alloc: Global,
         run: &mut Context<H>,
         table: &mut T,
-        values: &mut Items<Dynamic<H>>,
+        values: &mut Few<Dynamic<H>>,
         chain: &Expr,
     ) -> bool
         requires { IsTrue (behind_resolves (out-Expr chain.now) (names run.old)) }

@@ -218,7 +218,8 @@ impl<'e, H: Host> Evaluator<'e, H> {
         ensures counts { IsTrue result → run.old.global.num_operations ≤ run.new.global.num_operations }
         ensures names { IsTrue result → names run.new ≡ names run.old }
         ensures runs { (pos : _) (restoring : _) → Runs (under H.name_of self.now T.natives)
-            (OpenStmt (layer.If test.now body.now branch.now pos) restoring) (state_in (T.state table.old) run.old)
+            (OpenStmt (layer.If test.now body.now branch.now pos) restoring)
+            (state_in (T.state table.old) run.old)
             (came result run.new.value run.new.error) (state_in (T.state table.new) run.new) }
         ensures memory { IfErr (came result run.new.value run.new.error) (λ error.
             is_out_of_memory error ≡ true → IsTrue (asks_if test.now body.now branch.now)) }
@@ -250,7 +251,8 @@ impl<'e, H: Host> Evaluator<'e, H> {
         ensures counts { IsTrue result → run.old.global.num_operations ≤ run.new.global.num_operations }
         ensures names { IsTrue result → names run.new ≡ names run.old }
         ensures runs { (restoring : _) → Runs (under H.name_of self.now T.natives)
-            (OpenStmt (layer.Assignment op.now lhs.now rhs.now) restoring) (state_in (T.state table.old) run.old)
+            (OpenStmt (layer.Assignment op.now lhs.now rhs.now) restoring)
+            (state_in (T.state table.old) run.old)
             (came result run.new.value run.new.error) (state_in (T.state table.new) run.new) }
     {
         let at_once = assign_at_once(

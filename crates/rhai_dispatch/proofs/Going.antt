@@ -19,10 +19,8 @@ use Rattle.rhai_machine.specs.language.Arguments.{arguments_there, call_on, link
 use Rattle.rhai_machine.specs.language.Language.{want}
 use Rattle.rhai_machine.specs.language.Runs.{at, with_core, Goes, Runs, Steps}
 use Rattle.rhai_steps.proofs.Pieces.{faulted}
-use Rattle.rhai_calls.specs.declared.dispatch.Called.{Called}
-use Rattle.rhai_calls.specs.declared.dispatch.Called.TheVariants.{Ended, Enters}
 use Rattle.rhai_calls.specs.declared.dispatch.Dispatched.TheVariants.{Found}
-use Rattle.rhai_calls.specs.Called.{came_out, Calls}
+use Rattle.rhai_calls.specs.Called.{came_out, Calls, Ended, Enters, Outcome}
 use Rattle.rhai_calls.specs.Dispatch.{Dispatches}
 use Rattle.rhai_calls.specs.Lending.{lent_call}
 use Rattle.rhai_dispatch.specs.Going.{GoesOn, GoesOut}
@@ -46,12 +44,12 @@ module _ {S H : Type 0} (rules : Rules S H) where
   -- ---- what came of a call, unless memory was wanting
 
   module _ (is_fresh : Bool) (pos : Position) (k : List (Frame H)) (s : State S H) where
-    wants_came : (called : Called H) (where_ : Position) →
+    wants_came : (called : Outcome H) (where_ : Position) →
         want where_ (came_out is_fresh pos called k s.local) ≡ core (Fail (error.ErrorOutOfMemory where_)) k s.local
     wants_came (Ended r) where_ = refl
     wants_came (Enters f args) where_ = refl
 
-    pub came_told : (called wanted : Called H) → Comes called wanted →
+    pub came_told : (called wanted : Outcome H) → Comes called wanted →
         Goes rules (with_core (came_out is_fresh pos wanted k s.local) s) (with_core (came_out is_fresh pos called k s.local) s)
     came_told (Ended (Ok v)) wanted comes = rw (← comes tt) here
     came_told (Ended (Err (error.ErrorOutOfMemory there))) wanted comes = wanting {at = there} (rw (wants_came wanted there) here)
@@ -66,7 +64,7 @@ module _ {S H : Type 0} (rules : Rules S H) where
   linked_is f all pos k l true = refl
   linked_is f all pos k l false = refl
 
-  pub linked_goes : (f : Function H) (pos : Position) (curried args : List (Dynamic H)) (s : State S H) (called : Called H) →
+  pub linked_goes : (f : Function H) (pos : Position) (curried args : List (Dynamic H)) (s : State S H) (called : Outcome H) →
       Comes called (linked_call s.local.around.cells f (curried ++ args) pos) →
       GoesOut rules (ToCallFunction f pos curried) args true pos s called s
   unfolding GoesOut
@@ -76,7 +74,7 @@ module _ {S H : Type 0} (rules : Rules S H) where
 
   -- a function of a script gets the first argument before the others
   pub calls_given : (alone on_scope guarded : Bool) (operation : Operation) (lender : Option Lender) (v : Dynamic H)
-      (args : List (Dynamic H)) (f : Function H) (old new : State S H) (called : Called H) →
+      (args : List (Dynamic H)) (f : Function H) (old new : State S H) (called : Outcome H) →
       Dispatches rules (plainly alone on_scope) (lent_call operation lender guarded (v ∷ args)) old (Found f) new →
       Comes called (Enters f (args_given lender (v ∷ args))) →
       Calls rules (plainly alone on_scope) (lent_call operation lender guarded (v ∷ args)) old called new
@@ -88,7 +86,7 @@ module _ {S H : Type 0} (rules : Rules S H) where
 
   module _ (operation : Operation) (curried args all : List (Dynamic H)) (is : all ≡ curried ++ args) (old new : State S H) where
     -- behind what a pointer has already
-    pub calls_joined : (how : Dispatch) (called : Called H) → Calls rules how (call_of operation all) old called new →
+    pub calls_joined : (how : Dispatch) (called : Outcome H) → Calls rules how (call_of operation all) old called new →
         GoesOut rules (ToCall operation curried how) args (not how.on_scope) operation.at old called new
     unfolding GoesOut Calls
     calls_joined how called goes k =
@@ -137,7 +135,7 @@ module _ {S H : Type 0} (rules : Rules S H) where
     abbrev asked : Result (Call H) (EvalAltResult H)
     asked = call_on old.local.around.cells old.local.around.lib old.local.scope operation variable variable_at args
 
-    pub on_called : (call : Call H) → asked ≡ Ok call → (called : Called H) (new : State S H) → Calls rules how call old called new →
+    pub on_called : (call : Call H) → asked ≡ Ok call → (called : Outcome H) (new : State S H) → Calls rules how call old called new →
         GoesOut rules (ToCallOn operation variable variable_at how) args (not how.on_scope) call.operation.at old called new
     unfolding GoesOut Calls
     on_called call is called new runs k =

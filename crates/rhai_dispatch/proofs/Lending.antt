@@ -14,8 +14,7 @@ use Rattle.rhai_machine.specs.language.Setting.{Rules}
 use Rattle.rhai_machine.specs.language.State.{Held, State}
 use Rattle.rhai_machine.specs.language.Frames.{FromEntry, Dispatch, Call}
 use Rattle.rhai_calls.specs.Lending.{back_in}
-use Rattle.rhai_calls.specs.declared.dispatch.Called.{Called}
-use Rattle.rhai_calls.specs.Called.{Calls}
+use Rattle.rhai_calls.specs.Called.{Calls, Outcome}
 
 get_set : {A : Type 0} (xs : List A) (i : ℕ) (x y : A) → slice_get xs i ≡ Some x → slice_get (slice_set xs i y) i ≡ Some y
 get_set [] i x y is = cc
@@ -60,7 +59,7 @@ module _ {H : Type 0} where
           local = record (local_of global old held) { scope = entries };
         }) (sym lent_entries)
 
-    pub lent_runs : {S : Type 0} (rules : Rules S H) (how : Dispatch) (call : Call H) (start : State S H) (called : Called H) (t : S)
+    pub lent_runs : {S : Type 0} (rules : Rules S H) (how : Dispatch) (call : Call H) (start : State S H) (called : Outcome H) (t : S)
         (global : GlobalRuntimeState H) (held : Held H) →
         Calls rules how call start called (back_in (Some (FromEntry i)) v (state_of t global old held)) →
         Calls rules how call start called (state_of t global new held)

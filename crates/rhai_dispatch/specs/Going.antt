@@ -8,8 +8,7 @@ use Rattle.rhai_machine.specs.language.State.{State}
 use Rattle.rhai_machine.specs.language.Frames.{Purpose, Frame, ended}
 use Rattle.rhai_machine.specs.language.Arguments.{arguments_there}
 use Rattle.rhai_machine.specs.language.Runs.{at, with_core, Goes}
-use Rattle.rhai_calls.specs.declared.dispatch.Called.{Called}
-use Rattle.rhai_calls.specs.Called.{came_out}
+use Rattle.rhai_calls.specs.Called.{came_out, Outcome}
 
 module _ {S H : Type 0} (rules : Rules S H) (purpose : Purpose H) (args : List (Dynamic H)) where
   -- from where all arguments are there, over any stack, to how the call ended
@@ -18,7 +17,7 @@ module _ {S H : Type 0} (rules : Rules S H) (purpose : Purpose H) (args : List (
       Goes rules (with_core (arguments_there rules.setting purpose args k old.local) old) (at (ended result) k new)
 
   -- or to what came of it, which may be a function of a script that is entered, with variables of its own or not
-  unfoldable pub GoesOut : (is_fresh : Bool) → Position → State S H → Called H → State S H → Type 0
-  GoesOut is_fresh pos old called new = (k : List (Frame H)) →
+  unfoldable pub GoesOut : (is_fresh : Bool) → Position → State S H → Outcome H → State S H → Type 0
+  GoesOut is_fresh pos old outcome new = (k : List (Frame H)) →
       Goes rules (with_core (arguments_there rules.setting purpose args k old.local) old)
-      (with_core (came_out is_fresh pos called k new.local) new)
+      (with_core (came_out is_fresh pos outcome k new.local) new)

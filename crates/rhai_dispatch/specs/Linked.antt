@@ -7,20 +7,19 @@ use Rattle.rhai_functions.specs.declared.function.Function.{Function}
 use Rattle.rhai_machine.specs.language.State.{HasMemory}
 use Rattle.rhai_machine.specs.language.Values.{Cells}
 use Rattle.rhai_machine.specs.language.Calls.{races}
-use Rattle.rhai_calls.specs.declared.dispatch.Called.{Called}
-use Rattle.rhai_calls.specs.declared.dispatch.Called.TheVariants.{Ended, Enters}
+use Rattle.rhai_calls.specs.Called.{Ended, Enters, Outcome}
 
 module _ {H : Type 0} where
   -- no answer for want of memory
-  abbrev pub CallHasMemory : Called H → Type 0
+  abbrev pub CallHasMemory : Outcome H → Type 0
   CallHasMemory (Ended r) = HasMemory r
   CallHasMemory (Enters function args) = ⊤
 
   -- what came of a call is this, unless memory was wanting
-  abbrev pub Comes : Called H → Called H → Type 0
-  Comes called wanted = CallHasMemory called → called ≡ wanted
+  abbrev pub Comes : Outcome H → Outcome H → Type 0
+  Comes outcome wanted = CallHasMemory outcome → outcome ≡ wanted
 
   -- the function is entered, unless an argument is the handle of a cell that is held
-  abbrev pub linked_call : Cells H → Function H → List (Dynamic H) → Position → Called H
+  abbrev pub linked_call : Cells H → Function H → List (Dynamic H) → Position → Outcome H
   linked_call cells function args at =
       if races cells args then Ended (Err (error.ErrorDataRace function.def.name at)) else Enters function args

@@ -1,6 +1,6 @@
 //! Lists of arguments.
 
-ghost use Rattle.std.specs.Prelude.{◌≡◌, ◌++◌, IfOk, IfErr, IsTrue, Err, true, false};
+ghost use Rattle.std.specs.Prelude.{◌≡◌, ◌++◌, OnOk, IfErr, IsTrue, Err, true, false};
 ghost use Rattle.std.specs.Option.{option_copied};
 ghost use Rattle.rhai_tree.specs.Positions.{position_of};
 ghost use Rattle.rhai_values.specs.Cells.{cells_of};
@@ -13,6 +13,7 @@ ghost use Rattle.rhai_dispatch.specs.Kept.{HasKept};
 
 use rhai_context::ends::{stop, take_value};
 use rhai_context::outcomes::flatten_at;
+use rhai_few::Few;
 use rhai_pointers::arguments::parted;
 use rhai_state::error::EvalAltResult;
 use rhai_tree::Items;
@@ -21,6 +22,7 @@ use rhai_tree::position::Position;
 use rhai_values::base::value::{Dynamic, Host};
 use rhai_values::cells::CellStore;
 use std::alloc::Global;
+use std::mem::replace;
 
 /// The name of a call, the first of its arguments, and the others.
 #[inline(always)]
@@ -70,7 +72,7 @@ fn stop_without_room<H: Host>(place: &mut Option<EvalAltResult<H>>, arg: &Expr) 
 pub fn push_argument<H: Host>(
     alloc: Global,
     cells: &CellStore<H>,
-    made: &mut Items<Dynamic<H>>,
+    made: &mut Few<Dynamic<H>>,
     out: &mut Dynamic<H>,
     place: &mut Option<EvalAltResult<H>>,
     flattened: bool,
@@ -90,22 +92,27 @@ pub fn push_argument<H: Host>(
     }
 }
 
-/// The values that a pointer has already, with the arguments behind them. Where there is no memory both
-/// are let go of.
+/// The values that a pointer has already go before the arguments. Where there is no memory they are let go of.
 ///
 /// # Errors
 /// `ErrorOutOfMemory` at the position alone.
-pub fn joined<H: Host>(
+pub fn join<H: Host>(
     curried: Items<Dynamic<H>>,
-    args: Items<Dynamic<H>>,
+    args: &mut Few<Dynamic<H>>,
     pos: Position,
-) -> Result<Items<Dynamic<H>>, EvalAltResult<H>>
-    ensures joined { IfOk result (λ all. all ≡ curried ++ args) }
+) -> Result<(), EvalAltResult<H>>
+    ensures joined { OnOk result (args.new ≡ curried ++ args.old) }
     ensures refused { IfErr result (λ e. is_out_of_memory e ≡ true) }
 {
-    let mut all = curried;
+    let mut all = Few::from_vec(curried.into_vec());
     match all.append(args) {
-        Ok(()) => Ok(all),
-        Err(_) => Err(EvalAltResult::ErrorOutOfMemory(pos)),
+        Ok(()) => {
+            drop(replace(args, all));
+            Ok(())
+        }
+        Err(_) => {
+            drop(all);
+            Err(EvalAltResult::ErrorOutOfMemory(pos))
+        }
     }
 }

@@ -15,13 +15,15 @@ ghost use Rattle.rhai_machine.specs.language.Calls.{plainly};
 ghost use Rattle.rhai_machine.specs.language.Frames.{ToCall, ToCallNumber};
 ghost use Rattle.rhai_machine.specs.language.Setting.{rules_of};
 ghost use Rattle.rhai_steps.specs.States.{state_of};
+ghost use Rattle.rhai_calls.specs.Called.{with_args};
 ghost use Rattle.rhai_calls.specs.Dispatch.{Offers};
 ghost use Rattle.rhai_dispatch.specs.Going.{GoesOn, GoesOut};
 ghost use Rattle.rhai_dispatch.specs.Linked.{linked_call, Comes};
 
-use crate::arguments::joined;
+use crate::arguments::join;
 use rhai_calls::dispatch::{Called, call_all, races};
 use rhai_calls::native::{call_number as call_number_first, call_number_alone};
+use rhai_few::Few;
 use rhai_functions::function::{Function, Offered};
 use rhai_state::error::EvalAltResult;
 use rhai_state::limits::Limits;
@@ -36,7 +38,6 @@ use rhai_tree::token::Token;
 use rhai_values::base::value::{Dynamic, Host};
 use rhai_values::cells::CellStore;
 use std::alloc::Global;
-use std::mem::replace;
 
 /// A call by name with the values that a pointer has already before its arguments.
 fn call_curried<H: Host, T: NativeTable<H>>(
@@ -49,42 +50,37 @@ fn call_curried<H: Host, T: NativeTable<H>>(
     name: &str,
     token: Option<Token>,
     curried: Items<Dynamic<H>>,
-    args: Items<Dynamic<H>>,
+    args: &mut Few<Dynamic<H>>,
     pos: Position,
 ) -> Called<H>
     ensures counts { global.old.num_operations ≤ global.new.num_operations }
     ensures runs { (offer : _) (scope : _) (held : _) (on_scope : _) → Offers offer offered.now →
         GoesOut (rules_of limits.now H.name_of offer T.natives)
         (ToCall (record { name = name.now; token = token; at = pos }) curried
-        (plainly natives_alone on_scope)) args
+        (plainly natives_alone on_scope)) args.old
         (not on_scope) pos (state_of (T.state table.old) global.old scope held)
-        result (state_of (T.state table.new) global.new scope held) }
+        (with_args result args.new) (state_of (T.state table.new) global.new scope held) }
 {
-    match joined(curried, args, pos) {
-        Ok(all) => {
-            let mut all = all;
-            let called = call_all(
-                limits,
-                alloc,
-                offered,
-                global,
-                table,
-                natives_alone,
-                name,
-                token,
-                &mut all,
-                pos,
-            );
-            drop(all);
-            called
-        }
+    match join(curried, args, pos) {
+        Ok(()) => call_all(
+            limits,
+            alloc,
+            offered,
+            global,
+            table,
+            natives_alone,
+            name,
+            token,
+            args,
+            pos,
+        ),
         Err(error) => Called::Ended(Err(error)),
     }
 }
 
-/// A call by name whose arguments are there, behind the values that a pointer has already. The list of
-/// arguments is taken where a function of a script gets it, and is else the caller's to use again. Ports what
-/// upstream's `make_function_call` does where it passes no argument by reference.
+/// A call by name whose arguments are there, behind the values that a pointer has already. For a function of a
+/// script all stand in the list then. Ports what upstream's `make_function_call` does where it passes no argument by
+/// reference.
 ///
 /// # Errors
 /// Those of `rhai_calls::dispatch::pass_call`.
@@ -98,7 +94,7 @@ pub fn call_values<H: Host, T: NativeTable<H>>(
     name: &str,
     token: Option<Token>,
     curried: Items<Dynamic<H>>,
-    args: &mut Items<Dynamic<H>>,
+    args: &mut Few<Dynamic<H>>,
     pos: Position,
 ) -> Called<H>
     ensures counts { global.old.num_operations ≤ global.new.num_operations }
@@ -107,7 +103,7 @@ pub fn call_values<H: Host, T: NativeTable<H>>(
         (ToCall (record { name = name.now; token = token; at = pos }) curried
         (plainly natives_alone on_scope))
         args.old (not on_scope) pos (state_of (T.state table.old) global.old scope held)
-        result (state_of (T.state table.new) global.new scope held) }
+        (with_args result args.new) (state_of (T.state table.new) global.new scope held) }
 {
     if curried.is_empty() {
         drop(curried);
@@ -124,7 +120,6 @@ pub fn call_values<H: Host, T: NativeTable<H>>(
             pos,
         );
     }
-    let args = replace(args, Items::new(alloc));
     call_curried(
         limits,
         alloc,
@@ -145,22 +140,21 @@ fn function_all<H: Host>(
     alloc: Global,
     cells: &CellStore<H>,
     function: Function<H>,
-    args: Items<Dynamic<H>>,
+    args: &mut Few<Dynamic<H>>,
     pos: Position,
 ) -> Called<H>
-    ensures { Comes result (linked_call (cells_of cells.now) function args pos) }
+    ensures { Comes (with_args result args.new) (linked_call (cells_of cells.now) function args.old pos) }
 {
     if races(cells, args.as_slice()) {
         let error = data_race_by(alloc, function.def.get().def().name.get().as_str(), pos);
-        drop(args);
         drop(function);
         return Called::Ended(Err(error));
     }
-    Called::Enters(function, args)
+    Called::Enters(function)
 }
 
 /// A function that a pointer is linked to, called at once with the values that the pointer has already and the
-/// arguments behind them. Its body is for the caller to enter.
+/// arguments behind them. Its body is for the caller to enter, with all of them in the list.
 ///
 /// # Errors
 /// `ErrorDataRace` at the call, under the function's name, for an argument that is the handle of a cell which
@@ -170,13 +164,14 @@ pub fn call_function<H: Host>(
     cells: &CellStore<H>,
     function: Function<H>,
     curried: Items<Dynamic<H>>,
-    args: Items<Dynamic<H>>,
+    args: &mut Few<Dynamic<H>>,
     pos: Position,
 ) -> Called<H>
-    ensures { Comes result (linked_call (cells_of cells.now) function (curried ++ args) pos) }
+    ensures { Comes (with_args result args.new)
+        (linked_call (cells_of cells.now) function (curried ++ args.old) pos) }
 {
-    match joined(curried, args, pos) {
-        Ok(all) => function_all(alloc, cells, function, all, pos),
+    match join(curried, args, pos) {
+        Ok(()) => function_all(alloc, cells, function, args, pos),
         Err(error) => Called::Ended(Err(error)),
     }
 }
@@ -189,30 +184,27 @@ fn number_all<H: Host, T: NativeTable<H>>(
     table: &mut T,
     id: NativeId,
     name: &str,
-    args: Items<Dynamic<H>>,
+    args: &mut Few<Dynamic<H>>,
     pos: Position,
 ) -> Result<Dynamic<H>, EvalAltResult<H>>
     ensures counts { global.old.num_operations ≤ global.new.num_operations }
     ensures runs { (offer : _) (scope : _) (held : _) → GoesOn (rules_of limits.now H.name_of offer T.natives)
-        (ToCallNumber id.number (record { name = name.now; token = None; at = pos }) []) args
+        (ToCallNumber id.number (record { name = name.now; token = None; at = pos }) []) args.old
         (state_of (T.state table.old) global.old scope held)
         result (state_of (T.state table.new) global.new scope held) }
 {
     if races(&global.cells, args.as_slice()) {
-        drop(args);
         return Err(data_race_by(alloc, name, pos));
     }
     if args.is_empty() {
         return call_number_alone(limits, alloc, global, table, id, name, pos);
     }
-    let mut rest = args;
-    let mut first = rest.remove(0);
-    let others = rest.as_slice();
+    let mut first = args.remove(0);
+    let others = args.as_slice();
     let result = call_number_first(
         limits, alloc, global, table, id, name, &mut first, others, pos,
     );
     let_go(first);
-    drop(rest);
     result
 }
 
@@ -230,17 +222,17 @@ pub fn call_number<H: Host, T: NativeTable<H>>(
     id: NativeId,
     name: &str,
     curried: Items<Dynamic<H>>,
-    args: Items<Dynamic<H>>,
+    args: &mut Few<Dynamic<H>>,
     pos: Position,
 ) -> Result<Dynamic<H>, EvalAltResult<H>>
     ensures counts { global.old.num_operations ≤ global.new.num_operations }
     ensures runs { (offer : _) (scope : _) (held : _) → GoesOn (rules_of limits.now H.name_of offer T.natives)
-        (ToCallNumber id.number (record { name = name.now; token = None; at = pos }) curried) args
+        (ToCallNumber id.number (record { name = name.now; token = None; at = pos }) curried) args.old
         (state_of (T.state table.old) global.old scope held)
         result (state_of (T.state table.new) global.new scope held) }
 {
-    match joined(curried, args, pos) {
-        Ok(all) => number_all(limits, alloc, global, table, id, name, all, pos),
+    match join(curried, args, pos) {
+        Ok(()) => number_all(limits, alloc, global, table, id, name, args, pos),
         Err(error) => Err(error),
     }
 }

@@ -5,17 +5,18 @@ ghost use Rattle.rhai_machine.specs.language.Calls.{plainly};
 ghost use Rattle.rhai_machine.specs.language.Frames.{ToCallOnThis};
 ghost use Rattle.rhai_machine.specs.language.Setting.{rules_of};
 ghost use Rattle.rhai_steps.specs.States.{state_of};
+ghost use Rattle.rhai_calls.specs.Called.{with_args};
 ghost use Rattle.rhai_calls.specs.Dispatch.{Offers};
 ghost use Rattle.rhai_dispatch.specs.Going.{GoesOut};
 
 use crate::variable::call_first;
 use rhai_calls::dispatch::Called;
+use rhai_few::Few;
 use rhai_functions::function::Offered;
 use rhai_state::error::EvalAltResult;
 use rhai_state::limits::Limits;
 use rhai_state::state::GlobalRuntimeState;
 use rhai_state::table::NativeTable;
-use rhai_tree::Items;
 use rhai_tree::position::Position;
 use rhai_tree::token::Token;
 use rhai_values::base::value::{Dynamic, Host};
@@ -38,7 +39,7 @@ pub fn call_on_this<H: Host, T: NativeTable<H>>(
     name: &str,
     token: Option<Token>,
     this_at: Position,
-    args: &mut Items<Dynamic<H>>,
+    args: &mut Few<Dynamic<H>>,
     pos: Position,
 ) -> Called<H>
     ensures counts { global.old.num_operations ≤ global.new.num_operations }
@@ -47,7 +48,8 @@ pub fn call_on_this<H: Host, T: NativeTable<H>>(
         (ToCallOnThis (record { name = name.now; token = token; at = pos }) this_at
         (plainly natives_alone on_scope)) args.old (not on_scope) pos
         (state_of (T.state table.old) global.old scope (record { this = this.old; focus = focus }))
-        result (state_of (T.state table.new) global.new scope (record { this = this.new; focus = focus })) }
+        (with_args result args.new)
+        (state_of (T.state table.new) global.new scope (record { this = this.new; focus = focus })) }
 {
     match this {
         Some(first) => call_first(

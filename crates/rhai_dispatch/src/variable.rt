@@ -11,16 +11,16 @@ ghost use Rattle.rhai_machine.specs.language.Calls.{plainly};
 ghost use Rattle.rhai_machine.specs.language.Frames.{FromEntry, ToCallOn};
 ghost use Rattle.rhai_machine.specs.language.Setting.{rules_of};
 ghost use Rattle.rhai_steps.specs.States.{local_of, state_of};
-ghost use Rattle.rhai_calls.specs.Called.{Calls};
+ghost use Rattle.rhai_calls.specs.Called.{Calls, Enters, with_args};
 ghost use Rattle.rhai_calls.specs.Dispatch.{Offers};
 ghost use Rattle.rhai_calls.specs.Lending.{back_in, lent_call, Stands};
-ghost use Rattle.rhai_calls.specs.declared.dispatch.Called.TheVariants.{Enters};
 ghost use Rattle.rhai_dispatch.specs.Going.{GoesOut};
 ghost use Rattle.rhai_dispatch.specs.Linked.{Comes};
 ghost use Rattle.rhai_dispatch.specs.Variables.{is_lendable as lendable};
 
 use rhai_calls::dispatch::{Called, Dispatched, Seeks, is_held, pass_call};
 use rhai_calls::native::{Passing, unmarked};
+use rhai_few::Few;
 use rhai_functions::function::{Function, Offered};
 use rhai_state::error::EvalAltResult;
 use rhai_state::limits::Limits;
@@ -32,11 +32,10 @@ use rhai_steps::values::{copy, flatten, is_bare_handle, let_go, unit_value};
 use rhai_steps::variables::{place_of_variable, read_function};
 use rhai_tree::position::Position;
 use rhai_tree::token::Token;
-use rhai_tree::{Items, Shared, Text};
+use rhai_tree::{Shared, Text};
 use rhai_values::base::value::{AccessMode, Dynamic, Host};
 use rhai_values::cells::CellStore;
 use std::alloc::Global;
-use std::mem::replace;
 use std::num::NonZeroUsize;
 
 /// Whether a variable's value may be lent: it is no handle and no constant.
@@ -63,21 +62,18 @@ fn passed_value<H: Host>(
     flatten(alloc, cells, value, pos)
 }
 
-/// A function of a script that gets a value before the other arguments, if there is memory for their list.
+/// A function of a script that gets a value before the other arguments, if there is memory for it in their list.
 pub(crate) fn entered_with<H: Host>(
-    alloc: Global,
     function: Function<H>,
     first: Dynamic<H>,
-    args: &mut Items<Dynamic<H>>,
+    args: &mut Few<Dynamic<H>>,
     pos: Position,
 ) -> Called<H>
-    ensures { Comes result (Enters function (first ∷ args.old)) }
+    ensures { Comes (with_args result args.new) (Enters function (first ∷ args.old)) }
 {
-    let mut all = replace(args, Items::new(alloc));
-    match all.insert(0, first) {
-        Ok(()) => Called::Enters(function, all),
+    match args.insert(0, first) {
+        Ok(()) => Called::Enters(function),
         Err(_) => {
-            drop(all);
             drop(function);
             Called::Ended(Err(EvalAltResult::ErrorOutOfMemory(pos)))
         }
@@ -89,13 +85,13 @@ pub(crate) fn entered_with_copy<H: Host>(
     alloc: Global,
     function: Function<H>,
     first: &Dynamic<H>,
-    args: &mut Items<Dynamic<H>>,
+    args: &mut Few<Dynamic<H>>,
     pos: Position,
 ) -> Called<H>
-    ensures { Comes result (Enters function (copy_of first.now ∷ args.old)) }
+    ensures { Comes (with_args result args.new) (Enters function (copy_of first.now ∷ args.old)) }
 {
     match copy(alloc, first, pos) {
-        Ok(first) => entered_with(alloc, function, first, args, pos),
+        Ok(first) => entered_with(function, first, args, pos),
         Err(error) => {
             drop(function);
             Called::Ended(Err(error))
@@ -116,7 +112,7 @@ fn call_lent<H: Host, T: NativeTable<H>>(
     natives_alone: bool,
     name: &str,
     token: Option<Token>,
-    args: &mut Items<Dynamic<H>>,
+    args: &mut Few<Dynamic<H>>,
     pos: Position,
 ) -> Called<H>
     requires { index < length (entries_of scope.old) }
@@ -128,7 +124,7 @@ fn call_lent<H: Host, T: NativeTable<H>>(
         (lent_call (record { name = name.now; token = token; at = pos }) (Some (FromEntry index)) true
         (v ∷ args.old))
         (state_of (T.state table.old) global.old scope.old held)
-        result (state_of (T.state table.new) global.new scope.new held) }
+        (with_args result args.new) (state_of (T.state table.new) global.new scope.new held) }
 {
     let mut first = scope.replace_value(index, unit_value());
     let called = call_first(
@@ -160,7 +156,7 @@ pub(crate) fn call_first<H: Host, T: NativeTable<H>>(
     name: &str,
     token: Option<Token>,
     first: &mut Dynamic<H>,
-    args: &mut Items<Dynamic<H>>,
+    args: &mut Few<Dynamic<H>>,
     pos: Position,
 ) -> Called<H>
     ensures counts { global.old.num_operations ≤ global.new.num_operations }
@@ -169,7 +165,7 @@ pub(crate) fn call_first<H: Host, T: NativeTable<H>>(
         Calls (rules_of limits.now H.name_of offer T.natives) (plainly natives_alone on_scope)
         (lent_call (record { name = name.now; token = token; at = pos }) (Some lender) true
         (first.old ∷ args.old))
-        (state_of (T.state table.old) global.old scope held) result
+        (state_of (T.state table.old) global.old scope held) (with_args result args.new)
         (back_in (Some lender) first.new (state_of (T.state table.new) global.new scope held)) }
 {
     let seeks = Seeks {
@@ -200,7 +196,7 @@ fn call_passed<H: Host, T: NativeTable<H>>(
     name: &str,
     token: Option<Token>,
     first: Dynamic<H>,
-    args: &mut Items<Dynamic<H>>,
+    args: &mut Few<Dynamic<H>>,
     guarded: bool,
     pos: Position,
 ) -> Called<H>
@@ -209,7 +205,7 @@ fn call_passed<H: Host, T: NativeTable<H>>(
         Calls (rules_of limits.now H.name_of offer T.natives) (plainly natives_alone on_scope)
         (lent_call (record { name = name.now; token = token; at = pos }) None guarded (first ∷ args.old))
         (state_of (T.state table.old) global.old scope held)
-        result (state_of (T.state table.new) global.new scope held) }
+        (with_args result args.new) (state_of (T.state table.new) global.new scope held) }
 {
     let mut first = first;
     let seeks = Seeks {
@@ -228,7 +224,7 @@ fn call_passed<H: Host, T: NativeTable<H>>(
             let_go(first);
             Called::Ended(unmarked(result))
         }
-        Dispatched::Found(function) => entered_with(alloc, function, first, args, pos),
+        Dispatched::Found(function) => entered_with(function, first, args, pos),
     }
 }
 
@@ -246,7 +242,7 @@ fn call_found<H: Host, T: NativeTable<H>>(
     token: Option<Token>,
     variable: &Shared<Text>,
     variable_at: Position,
-    args: &mut Items<Dynamic<H>>,
+    args: &mut Few<Dynamic<H>>,
     pos: Position,
 ) -> Called<H>
     requires { index < length (entries_of scope.old) }
@@ -258,7 +254,7 @@ fn call_found<H: Host, T: NativeTable<H>>(
         (ToCallOn (record { name = name.now; token = token; at = pos }) variable.now variable_at
         (plainly natives_alone on_scope)) args.old (not on_scope) pos
         (state_of (T.state table.old) global.old scope.old held)
-        result (state_of (T.state table.new) global.new scope.new held) }
+        (with_args result args.new) (state_of (T.state table.new) global.new scope.new held) }
 {
     let value = scope.value_at(index);
     if is_held(&global.cells, value) {
@@ -311,7 +307,7 @@ fn call_on_function<H: Host, T: NativeTable<H>>(
     token: Option<Token>,
     variable: &Shared<Text>,
     variable_at: Position,
-    args: &mut Items<Dynamic<H>>,
+    args: &mut Few<Dynamic<H>>,
     pos: Position,
 ) -> Called<H>
     ensures counts { global.old.num_operations ≤ global.new.num_operations }
@@ -321,7 +317,7 @@ fn call_on_function<H: Host, T: NativeTable<H>>(
         (ToCallOn (record { name = name.now; token = token; at = pos }) variable.now variable_at
         (plainly natives_alone on_scope)) args.old (not on_scope) pos
         (state_of (T.state table.old) global.old scope held)
-        result (state_of (T.state table.new) global.new scope held) }
+        (with_args result args.new) (state_of (T.state table.new) global.new scope held) }
 {
     match read_function(alloc, global.lib.as_slice(), variable, variable_at) {
         Ok(first) => call_passed(
@@ -364,7 +360,7 @@ pub fn call_on_variable<H: Host, T: NativeTable<H>>(
     offset: Option<NonZeroUsize>,
     variable: &Shared<Text>,
     variable_at: Position,
-    args: &mut Items<Dynamic<H>>,
+    args: &mut Few<Dynamic<H>>,
     pos: Position,
 ) -> Called<H>
     requires { IsTrue (is_good offset variable.now (names_in scope.old)) }
@@ -375,7 +371,7 @@ pub fn call_on_variable<H: Host, T: NativeTable<H>>(
         (ToCallOn (record { name = name.now; token = token; at = pos }) variable.now variable_at
         (plainly natives_alone on_scope)) args.old (not on_scope) pos
         (state_of (T.state table.old) global.old scope.old held)
-        result (state_of (T.state table.new) global.new scope.new held) }
+        (with_args result args.new) (state_of (T.state table.new) global.new scope.new held) }
 {
     match place_of_variable(global, scope, offset, variable) {
         None => call_on_function(

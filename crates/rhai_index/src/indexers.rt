@@ -12,6 +12,7 @@ ghost use Rattle.rhai_index.specs.Calls.{Asked, Leaves};
 ghost use Rattle.rhai_index.specs.Indexers.{by_itself, called, indexer_result, reading};
 ghost use Rattle.rhai_index.specs.Indexers.{is_barred as is_barred_from, is_pure_on as is_pure_at};
 
+use rhai_few::Few;
 use rhai_places::errors::indexing_error;
 use rhai_places::spot::{Access, Refusal};
 use rhai_state::error::EvalAltResult;
@@ -20,7 +21,6 @@ use rhai_state::table::{Answer, NativeTable};
 use rhai_steps::errors::non_pure;
 use rhai_steps::replies::{placed, sized};
 use rhai_steps::values::{let_go, list_of, unit_value};
-use rhai_tree::Items;
 use rhai_tree::position::Position;
 use rhai_values::base::value::{AccessMode, Dynamic, Host};
 use rhai_values::cells::CellStore;
@@ -28,11 +28,10 @@ use std::alloc::Global;
 use std::mem::replace;
 
 /// The first value of a list.
-fn first_of<H: Host>(items: Items<Dynamic<H>>) -> Dynamic<H>
-    requires { 0 < length items }
-    ensures { slice_get items 0 ≡ Some result }
+fn first_of<H: Host>(items: &mut Few<Dynamic<H>>) -> Dynamic<H>
+    requires { 0 < length items.old }
+    ensures { slice_get items.old 0 ≡ Some result }
 {
-    let mut items = items;
     items.remove(0)
 }
 
@@ -146,6 +145,7 @@ pub(crate) fn ask_get<H: Host, T: NativeTable<H>>(
     let barred = is_barred(true, is_pure, object);
     match list_of(alloc, replace(index, unit_value())) {
         Ok(others) => {
+            let mut others = others;
             let args = others.as_slice();
             let result = call_indexer(
                 alloc,
@@ -159,7 +159,8 @@ pub(crate) fn ask_get<H: Host, T: NativeTable<H>>(
                 barred,
                 pos,
             );
-            let_go(replace(index, first_of(others)));
+            let_go(replace(index, first_of(&mut others)));
+            drop(others);
             result
         }
         Err(value) => {

@@ -16,6 +16,7 @@ ghost use Rattle.rhai_methods.specs.declared.calls.MethodCall.TheVariants.{Alone
 use crate::copies::{taken_behind, taken_out};
 use rhai_calls::dispatch::{Dispatched, Seeks, call_races, pass_all, pass_call, races};
 use rhai_calls::native::{Passing, call_number, call_number_alone, call_number_on, marked};
+use rhai_few::Few;
 use rhai_functions::function::{Function, Offered};
 use rhai_pointers::names::natives_alone;
 use rhai_state::error::EvalAltResult;
@@ -35,9 +36,9 @@ pub enum MethodCall<H> {
     /// It has ended, and a value has its mark.
     Ended(Result<(Dynamic<H>, bool), EvalAltResult<H>>),
     /// A function of a script is to be entered on the value, with these arguments.
-    OnTarget(Function<H>, Items<Dynamic<H>>),
+    OnTarget(Function<H>, Few<Dynamic<H>>),
     /// One is to be entered by itself.
-    Alone(Function<H>, Items<Dynamic<H>>),
+    Alone(Function<H>, Few<Dynamic<H>>),
 }
 
 /// A native by its number on the target, which is lent to it. It charges nothing.

@@ -13,7 +13,8 @@ ghost use Rattle.rhai_machine.specs.language.State.{Answers};
 ghost use Rattle.rhai_machine.specs.language.Values.{mismatch as mismatched, through, used};
 ghost use Rattle.rhai_methods.specs.Copies.{copy_seen, curried_seen, own_copy};
 
-use rhai_dispatch::arguments::joined;
+use rhai_dispatch::arguments::join;
+use rhai_few::Few;
 use rhai_pointers::arguments::keep_argument;
 use rhai_pointers::pointers::with_curried;
 use rhai_state::error::EvalAltResult;
@@ -157,11 +158,11 @@ pub fn taken_out<H: Host>(
     alloc: Global,
     args: &mut [Dynamic<H>],
     pos: Position,
-) -> Result<Items<Dynamic<H>>, EvalAltResult<H>>
+) -> Result<Few<Dynamic<H>>, EvalAltResult<H>>
     ensures taken { IfOk result (λ all. all ≡ args.old) }
     ensures refused { IfErr result (λ e. is_out_of_memory e ≡ true) }
 {
-    let mut all = Items::new(alloc);
+    let mut all = Few::new(alloc);
     for i in 0..args.len() {
         let value = replace(&mut args[i], unit_value());
         keep_argument(&mut all, value, pos)?;
@@ -179,12 +180,18 @@ pub fn taken_behind<H: Host>(
     curried: Items<Dynamic<H>>,
     args: &mut [Dynamic<H>],
     pos: Position,
-) -> Result<Items<Dynamic<H>>, EvalAltResult<H>>
+) -> Result<Few<Dynamic<H>>, EvalAltResult<H>>
     ensures joined { IfOk result (λ all. all ≡ curried ++ args.old) }
     ensures refused { IfErr result (λ e. is_out_of_memory e ≡ true) }
 {
-    let taken = taken_out(alloc, args, pos)?;
-    joined(curried, taken, pos)
+    let mut all = taken_out(alloc, args, pos)?;
+    match join(curried, &mut all, pos) {
+        Ok(()) => Ok(all),
+        Err(error) => {
+            drop(all);
+            Err(error)
+        }
+    }
 }
 
 /// A copy of the pointer that a value is, through a handle, with more arguments.
@@ -192,22 +199,16 @@ fn copied_with<H: Host>(
     alloc: Global,
     cells: &CellStore<H>,
     value: &Dynamic<H>,
-    more: Items<Dynamic<H>>,
+    more: &mut Few<Dynamic<H>>,
     pos: Position,
 ) -> Result<Dynamic<H>, EvalAltResult<H>>
-    ensures { Answers result (curried_seen H.name_of (cells_of cells.now) more pos
+    ensures { Answers result (curried_seen H.name_of (cells_of cells.now) more.old pos
         (through (cells_of cells.now) value.now pos)) }
 {
     match pointer_copy(alloc, cells, value, pos) {
         Ok(Some(pointer)) => with_curried(alloc, pointer, more, pos),
-        Ok(None) => {
-            drop(more);
-            Err(no_pointer(alloc, cells, value, pos))
-        }
-        Err(error) => {
-            drop(more);
-            Err(error)
-        }
+        Ok(None) => Err(no_pointer(alloc, cells, value, pos)),
+        Err(error) => Err(error),
     }
 }
 
@@ -226,6 +227,8 @@ pub fn curried<H: Host>(
     ensures { Answers result (curried_seen H.name_of (cells_of cells.now) args.old pos
         (through (cells_of cells.now) value.now pos)) }
 {
-    let more = taken_out(alloc, args, pos)?;
-    copied_with(alloc, cells, value, more, pos)
+    let mut more = taken_out(alloc, args, pos)?;
+    let curried = copied_with(alloc, cells, value, &mut more, pos);
+    drop(more);
+    curried
 }

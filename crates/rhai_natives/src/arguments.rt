@@ -129,7 +129,7 @@ fn host_of<H>(value: &Union<H>) -> Option<&H>
     ensures { option_map (λ h. h.now) result ≡ given.host_of value.now }
 {
     match value {
-        Union::Host(own) => Some(own),
+        Union::Host(own) => Some(own.get()),
         _ => None,
     }
 }

@@ -7,7 +7,7 @@ ghost use Rattle.rhai_natives.specs.declared.response.Fault.TheVariants as fault
 ghost use Rattle.rhai_natives.specs.declared.response.Response.TheVariants as response;
 
 use crate::integers::Integers;
-use rhai_tree::{Shared, Text};
+use rhai_tree::{Boxed, Shared, Text};
 use rhai_values::base::value::Union;
 use std::alloc::{AllocError, Global};
 
@@ -20,7 +20,7 @@ pub enum Datum<H> {
     Char(char),
     Text(Shared<Text>),
     Integers(Integers<H>),
-    Host(H),
+    Host(Boxed<H>),
 }
 
 impl<H> Datum<H> {
@@ -101,6 +101,26 @@ impl<H: Drop> Response<H> {
     {
         match Integers::new(alloc, numbers) {
             Ok(array) => Response::Gives(Datum::Integers(array)),
+            Err(_) => Response::NoMemory,
+        }
+    }
+
+    /// A value of the host's own.
+    pub fn host(alloc: Global, value: H) -> Response<H>
+        ensures { IsAnswered result (response.Gives (datum.Host value)) }
+    {
+        match Boxed::new(alloc, value) {
+            Ok(value) => Response::Gives(Datum::Host(value)),
+            Err(_) => Response::NoMemory,
+        }
+    }
+
+    /// `()`, and a value of the host's own as the first argument from now on.
+    pub fn changing_host(alloc: Global, first: H) -> Response<H>
+        ensures { IsAnswered result (response.Changes datum.Unit (datum.Host first)) }
+    {
+        match Boxed::new(alloc, first) {
+            Ok(first) => Response::changing(Datum::Host(first)),
             Err(_) => Response::NoMemory,
         }
     }

@@ -83,7 +83,8 @@ pub fn integer_in_place<H: Host>(
     expr: &Expr,
 ) -> Option<i64>
     requires { IsTrue (resolves_expr expr.now (names_in scope.now)) }
-    ensures { IfSome result (λ number. integer_of (standing (out-Expr expr.now) (entries_of scope.now)) ≡ Some number) }
+    ensures { IfSome result (λ number.
+        integer_of (standing (out-Expr expr.now) (entries_of scope.now)) ≡ Some number) }
 {
     match expr {
         Expr::IntegerConstant(value, _) => Some(*value),

@@ -10,6 +10,7 @@ ghost use Rattle.rhai_machine.specs.language.Arguments.{taken as taken_as, this_
 ghost use Rattle.rhai_machine.specs.language.State.{Answers};
 ghost use Rattle.rhai_pointers.specs.Leading.{all_args, by_value, first_in, leading, lent_first, seen, this_lent};
 
+use rhai_few::Few;
 use rhai_state::error::EvalAltResult;
 use rhai_state::scope::Scope;
 use rhai_steps::values::{flatten, is_bare_handle};
@@ -46,7 +47,7 @@ pub fn taken<H: Host>(
 /// # Errors
 /// `ErrorOutOfMemory` at the position alone. The arguments stay then.
 pub fn keep_argument<H: Host>(
-    args: &mut Items<Dynamic<H>>,
+    args: &mut Few<Dynamic<H>>,
     value: Dynamic<H>,
     pos: Position,
 ) -> Result<(), EvalAltResult<H>>

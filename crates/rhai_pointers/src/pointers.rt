@@ -18,6 +18,7 @@ ghost use Rattle.rhai_machine.specs.language.State.{Answers};
 ghost use Rattle.rhai_machine.specs.language.Values.{bool_value as truth_of, is_handle};
 
 use crate::names::is_pointer_name;
+use rhai_few::Few;
 use rhai_state::error::EvalAltResult;
 use rhai_state::scope::Scope;
 use rhai_steps::errors::{data_race, mismatch};
@@ -176,13 +177,16 @@ pub fn make_pointer<H: Host>(
 pub fn with_curried<H: Host>(
     alloc: Global,
     pointer: FnPtr<H>,
-    args: Items<Dynamic<H>>,
+    args: &mut Few<Dynamic<H>>,
     pos: Position,
 ) -> Result<Dynamic<H>, EvalAltResult<H>>
-    ensures { Answers result (Ok (curried_with pointer args)) }
+    ensures { Answers result (Ok (curried_with pointer args.old)) }
 {
     let mut pointer = pointer;
-    match pointer.curry.append(args) {
+    let Ok(args) = replace(args, Few::new(alloc)).into_vec() else {
+        return Err(EvalAltResult::ErrorOutOfMemory(pos));
+    };
+    match pointer.curry.append(Items::from_vec(args)) {
         Ok(()) => pointer_value(alloc, pointer, pos),
         Err(_) => Err(EvalAltResult::ErrorOutOfMemory(pos)),
     }

@@ -7,7 +7,6 @@ mod debug;
 mod display;
 pub mod error;
 pub mod limits;
-pub mod room;
 pub mod scope;
 pub mod slot;
 pub mod state;

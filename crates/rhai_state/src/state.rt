@@ -4,7 +4,6 @@ ghost use Rattle.std.specs.Prelude.{◌≡◌, [], ◌∷◌, ◌++◌, take, st
 ghost use Rattle.rhai_state.specs.Scope.{in_use};
 ghost use Rattle.rhai_state.specs.State.{import_as, import_of, with_imports, IsFresh};
 
-use crate::room::Room;
 use rhai_tree::{Items, Shared, Table, Text};
 use rhai_values::base::value::{Dynamic, Import, Module};
 use rhai_values::cells::CellStore;
@@ -32,8 +31,6 @@ pub struct GlobalRuntimeState<H> {
     pub cells: CellStore<H>,
     /// The tables of constants, by their numbers.
     pub constant_tables: Items<Table<Dynamic<H>>>,
-    /// Room for arguments, which runs use again.
-    pub room: Room<H>,
 }
 
 // Written by hand, so that the crates above call this, and need not go through the fields.
@@ -51,7 +48,6 @@ impl<H: Drop> Drop for GlobalRuntimeState<H> {
             always_search_scope: _,
             cells: _,
             constant_tables: _,
-            room: _,
         } = self;
     }
 }
@@ -77,7 +73,6 @@ impl<H: Drop> GlobalRuntimeState<H> {
     {
         let mut constant_tables = Items::new(alloc);
         constant_tables.push(Table::new(alloc))?;
-        let room = Room::with_room(alloc)?;
         Ok(GlobalRuntimeState {
             lib: Items::new(alloc),
             imports: Items::new(alloc),
@@ -90,7 +85,6 @@ impl<H: Drop> GlobalRuntimeState<H> {
             always_search_scope: false,
             cells: CellStore::new(alloc),
             constant_tables,
-            room,
         })
     }
 

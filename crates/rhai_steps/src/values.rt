@@ -12,6 +12,7 @@ ghost use Rattle.rhai_machine.specs.language.Values.{unit_value as unit, used};
 ghost use Rattle.rhai_steps.specs.Values.{unit_seen};
 
 use crate::errors::{data_race, mismatch};
+use rhai_few::Few;
 use rhai_state::error::EvalAltResult;
 use rhai_tree::literal::Literal;
 use rhai_tree::position::Position;
@@ -181,11 +182,11 @@ pub fn is_bare_handle<H: Host>(value: &Dynamic<H>) -> bool
 }
 
 /// A list of one value. Where there is no memory the value comes back.
-pub fn list_of<H: Host>(alloc: Global, value: Dynamic<H>) -> Result<Items<Dynamic<H>>, Dynamic<H>>
+pub fn list_of<H: Host>(alloc: Global, value: Dynamic<H>) -> Result<Few<Dynamic<H>>, Dynamic<H>>
     ensures ok { IfOk result (λ items. items ≡ value ∷ []) }
     ensures err { IfErr result (λ v. v ≡ value) }
 {
-    let mut items = Items::new(alloc);
+    let mut items = Few::new(alloc);
     match items.try_push(value) {
         Ok(()) => Ok(items),
         Err(failed) => Err(failed.value),

@@ -27,7 +27,6 @@ module _ {S H : Type 0} where
     always_search_scope = search;
     cells = record { cells = s.local.around.cells };
     constant_tables = s.local.around.constant_tables;
-    room = tt;
   }
 
   pub same_global : (t u : S) (g h : GlobalRuntimeState H) (a b : Scope H) (i j : Held H) → state_of t g a i ≡ state_of u h b j →

@@ -206,3 +206,25 @@ pub fn called<H: Host, N: ListedNatives<H>>(
         other.call(alloc, native, arguments),
     )
 }
+
+/// Of `Response::host`.
+pub fn host_given<H: Host>(alloc: Global, value: H, also_value: H) -> (Response<H>, Response<H>)
+    requires { value ≡ also_value }
+    ensures { BothAnswer result.0 result.1 → result.0 ≡ result.1 }
+{
+    (
+        Response::host(alloc, value),
+        Response::host(alloc, also_value),
+    )
+}
+
+/// Of `Response::changing_host`.
+pub fn host_changed<H: Host>(alloc: Global, first: H, also_first: H) -> (Response<H>, Response<H>)
+    requires { first ≡ also_first }
+    ensures { BothAnswer result.0 result.1 → result.0 ≡ result.1 }
+{
+    (
+        Response::changing_host(alloc, first),
+        Response::changing_host(alloc, also_first),
+    )
+}

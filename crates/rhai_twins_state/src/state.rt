@@ -3,7 +3,6 @@
 ghost use Rattle.std.specs.Prelude.{◌≡◌, is_ok, string_bytes};
 
 use rhai_state::limits;
-use rhai_state::room::Room;
 use rhai_state::state::GlobalRuntimeState;
 use rhai_tree::{Items, Shared};
 use rhai_values::base::value::{Dynamic, Module};
@@ -90,32 +89,4 @@ pub fn offset_in_use<H>(
     ensures { result.0 ≡ result.1 }
 {
     (one.offset_in_use(offset), other.offset_in_use(offset))
-}
-
-/// Of `Room::lend`.
-pub fn lend<H: Drop>(
-    one: &mut Room<H>,
-    other: &mut Room<H>,
-    alloc: Global,
-) -> (Items<Dynamic<H>>, Items<Dynamic<H>>)
-    requires { one.old ≡ other.old }
-    ensures result { result.0 ≡ result.1 }
-    ensures left { one.new ≡ other.new }
-{
-    (one.lend(alloc), other.lend(alloc))
-}
-
-/// Of `Room::keep`.
-pub fn keep<H: Drop>(
-    one: &mut Room<H>,
-    other: &mut Room<H>,
-    list: Items<Dynamic<H>>,
-    also_list: Items<Dynamic<H>>,
-)
-    requires same { one.old ≡ other.old }
-    requires list { list ≡ also_list }
-    ensures { one.new ≡ other.new }
-{
-    one.keep(list);
-    other.keep(also_list);
 }

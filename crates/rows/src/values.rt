@@ -44,7 +44,6 @@ fn plain(name: &str) -> Option<Union<Pair>> {
         "a quote" => Some(Union::Char('\'')),
         "a range" => Some(Union::ExclusiveRange(-1, 3)),
         "an inclusive range" => Some(Union::InclusiveRange(1, 3)),
-        "a pair" => Some(Union::Host(Pair(1, 2))),
         "a cell" => Some(Union::Cell(CellId { number: 7 })),
         _ => None,
     }
@@ -58,6 +57,7 @@ fn with_parts(alloc: Global, name: &str) -> Result<Option<Union<Pair>>, AllocErr
         "an empty array" => array_of(alloc, Items::new(alloc)),
         "bytes" => bytes(alloc),
         "a pointer" => pointer(alloc),
+        "a pair" => pair(alloc),
         _ => return Ok(None),
     };
     value.map(Some)
@@ -85,4 +85,8 @@ fn pointer(alloc: Global) -> Result<Union<Pair>, AllocError> {
         kind: FnPtrKind::Name,
     };
     Ok(Union::FnPtr(Boxed::new(alloc, pointer)?))
+}
+
+fn pair(alloc: Global) -> Result<Union<Pair>, AllocError> {
+    Ok(Union::Host(Boxed::new(alloc, Pair(1, 2))?))
 }

@@ -9,7 +9,7 @@ pub returns-in-Ok-clause-runs : goal.returns-in-Ok-clause-runs
 returns-in-Ok-clause-runs g c offer scope held =
     let rules : Rules _ _ = rules_of c.args.limits.now g.H.Host.name_of offer g.T.NativeTable.natives in
     let operation : Operation = record { name = c.args.name.now; token = None; at = c.args.pos } in
-    number_joined rules operation c.args.curried c.args.args c.in-Ok.all c.in-Ok.ensures.joined (state_of (g.T.NativeTable.state c.args.table.now) c.args.global.now scope held)
+    number_joined rules operation c.args.curried c.args.args.now c.join.new.args c.in-Ok.ensures.joined (state_of (g.T.NativeTable.state c.args.table.now) c.args.global.now scope held)
     (state_of (g.T.NativeTable.state c.number_all.new.table) c.number_all.new.global scope held) c.number_all.result
     c.args.id.number (c.number_all.ensures.runs offer scope held)
 
@@ -17,5 +17,5 @@ pub returns-in-Err-clause-runs : goal.returns-in-Err-clause-runs
 returns-in-Err-clause-runs g c offer scope held =
     let rules : Rules _ _ = rules_of c.args.limits.now g.H.Host.name_of offer g.T.NativeTable.natives in
     let operation : Operation = record { name = c.args.name.now; token = None; at = c.args.pos } in
-    there_wants rules (ToCallNumber c.args.id.number operation c.args.curried) c.args.args
+    there_wants rules (ToCallNumber c.args.id.number operation c.args.curried) c.args.args.now
     (state_of (g.T.NativeTable.state c.args.table.now) c.args.global.now scope held) c.in-Err.error c.in-Err.ensures.refused

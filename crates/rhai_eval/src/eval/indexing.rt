@@ -20,6 +20,7 @@ ghost use Rattle.rhai_eval.specs.States.{limits_of, under};
 
 use crate::engine::Engine;
 use rhai_calls::native::{Passing, call_native, pass_native};
+use rhai_few::Few;
 use rhai_index::indexing;
 use rhai_places::spot::Access;
 use rhai_places::target::Target;
@@ -29,28 +30,25 @@ use rhai_state::limits::Limits;
 use rhai_state::state::GlobalRuntimeState;
 use rhai_state::table::NativeTable;
 use rhai_steps::values::{let_go, list_of, unit_value};
-use rhai_tree::Items;
 use rhai_tree::position::Position;
 use rhai_values::base::value::{Dynamic, Host};
 use std::alloc::Global;
 use std::mem::replace;
 
 /// The first value of a list.
-fn first_of<H: Host>(items: Items<Dynamic<H>>) -> Dynamic<H>
-    requires { 0 < length items }
-    ensures { slice_get items 0 ≡ Some result }
+fn first_of<H: Host>(items: &mut Few<Dynamic<H>>) -> Dynamic<H>
+    requires { 0 < length items.old }
+    ensures { slice_get items.old 0 ≡ Some result }
 {
-    let mut items = items;
     items.remove(0)
 }
 
 /// The first two values of a list.
-fn both_of<H: Host>(items: Items<Dynamic<H>>) -> (Dynamic<H>, Dynamic<H>)
-    requires { 1 < length items }
-    ensures first { slice_get items 0 ≡ Some result.0 }
-    ensures second { slice_get items 1 ≡ Some result.1 }
+fn both_of<H: Host>(items: &mut Few<Dynamic<H>>) -> (Dynamic<H>, Dynamic<H>)
+    requires { 1 < length items.old }
+    ensures first { slice_get items.old 0 ≡ Some result.0 }
+    ensures second { slice_get items.old 1 ≡ Some result.1 }
 {
-    let mut items = items;
     let second = items.remove(1);
     (first_of(items), second)
 }
@@ -60,7 +58,7 @@ fn list_of_both<H: Host>(
     alloc: Global,
     first: Dynamic<H>,
     second: Dynamic<H>,
-) -> Result<Items<Dynamic<H>>, (Dynamic<H>, Dynamic<H>)>
+) -> Result<Few<Dynamic<H>>, (Dynamic<H>, Dynamic<H>)>
     ensures ok { IfOk result (λ items. items ≡ first ∷ second ∷ []) }
     ensures err { IfErr result (λ both. both ≡ (first, second)) }
 {
@@ -69,7 +67,11 @@ fn list_of_both<H: Host>(
             let mut items = items;
             match items.try_push(second) {
                 Ok(()) => Ok(items),
-                Err(failed) => Err((first_of(items), failed.value)),
+                Err(failed) => {
+                    let first = first_of(&mut items);
+                    drop(items);
+                    Err((first, failed.value))
+                }
             }
         }
         Err(first) => Err((first, second)),
@@ -105,6 +107,7 @@ fn ask_get<H: Host, T: NativeTable<H>>(
     let guarded = true;
     match list_of(alloc, replace(index, unit_value())) {
         Ok(items) => {
+            let mut items = items;
             let rest = items.as_slice();
             let result = call_native(
                 limits,
@@ -118,7 +121,8 @@ fn ask_get<H: Host, T: NativeTable<H>>(
                 guarded,
                 pos,
             );
-            let_go(replace(index, first_of(items)));
+            let_go(replace(index, first_of(&mut items)));
+            drop(items);
             result
         }
         Err(value) => {
@@ -158,6 +162,7 @@ fn ask_set<H: Host, T: NativeTable<H>>(
         replace(new, unit_value()),
     ) {
         Ok(items) => {
+            let mut items = items;
             let rest = items.as_slice();
             let result = pass_native(
                 limits,
@@ -171,7 +176,8 @@ fn ask_set<H: Host, T: NativeTable<H>>(
                 passing,
                 pos,
             );
-            put_both(both_of(items), index, new);
+            put_both(both_of(&mut items), index, new);
+            drop(items);
             result
         }
         Err(both) => {

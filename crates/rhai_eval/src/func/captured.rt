@@ -13,12 +13,12 @@ use rhai_calls::dispatch::{is_held, races};
 use rhai_context::Context;
 use rhai_context::ends::finish;
 use rhai_cycle::evaluator::Evaluator;
+use rhai_few::Few;
 use rhai_functions::function::Function;
 use rhai_state::error::EvalAltResult;
 use rhai_state::table::NativeTable;
 use rhai_steps::errors::{data_race, data_race_by};
 use rhai_steps::values::unit_value;
-use rhai_tree::Items;
 use rhai_tree::position::Position;
 use rhai_values::base::value::{Dynamic, Host};
 use rhai_walk::focus::put_this;
@@ -39,7 +39,7 @@ pub(crate) fn enter_with_this<H: Host, T: NativeTable<H>>(
     table: &mut T,
     function: Function<H>,
     focus: &mut Dynamic<H>,
-    args: Items<Dynamic<H>>,
+    args: Few<Dynamic<H>>,
     pos: Position,
 ) -> Result<Dynamic<H>, EvalAltResult<H>>
     ensures runs { (held : _) → Runs (under_what_is_read H.name_of evaluator.now T.natives)

@@ -31,15 +31,16 @@ use rhai_calls::dispatch::{Dispatched, Seeks, pass_all, pass_call};
 use rhai_calls::native::{Passing, marked};
 use rhai_context::ends::finish;
 use rhai_context::{give_back, take};
+use rhai_few::Few;
 use rhai_functions::function::Function;
 use rhai_methods::calls::{MethodCall, on_target};
-use rhai_methods::copies::taken_behind;
+use rhai_methods::copies::taken_out;
 use rhai_state::caches::Caches;
 use rhai_state::error::EvalAltResult;
 use rhai_state::scope::Scope;
 use rhai_state::state::GlobalRuntimeState;
 use rhai_state::table::NativeTable;
-use rhai_steps::values::{copy, let_go, list_of, unit_value};
+use rhai_steps::values::{copy, let_go, unit_value};
 use rhai_tree::Items;
 use rhai_tree::position::Position;
 use rhai_tree::token::Token;
@@ -53,7 +54,7 @@ enum Outcome<H> {
     /// It has ended, and a value has its mark.
     Ended(Result<(Dynamic<H>, bool), EvalAltResult<H>>),
     /// A function of a script is to be entered by itself, with these arguments.
-    Enters(Function<H>, Items<Dynamic<H>>),
+    Enters(Function<H>, Few<Dynamic<H>>),
 }
 
 /// Whether a constant is kept from a native that is not pure: in a place of the caller, and for a method.
@@ -90,17 +91,24 @@ fn own_args<H: Host>(
     rest: &mut [Dynamic<H>],
     is_ref_mut: bool,
     pos: Position,
-) -> Result<Items<Dynamic<H>>, EvalAltResult<H>>
+) -> Result<Few<Dynamic<H>>, EvalAltResult<H>>
     ensures args { IfOk result (λ args.
         args ≡ (if is_ref_mut then copy_of first.old else first.old) ∷ rest.old) }
     ensures refused { IfErr result (λ e. is_out_of_memory e ≡ true) }
     ensures same { is_ref_mut ≡ true → first.new ≡ first.old }
 {
     let value = own_first(alloc, first, is_ref_mut, pos)?;
-    match list_of(alloc, value) {
-        Ok(leading) => taken_behind(alloc, leading, rest, pos),
-        Err(value) => {
+    let mut all = match taken_out(alloc, rest, pos) {
+        Ok(all) => all,
+        Err(error) => {
             let_go(value);
+            return Err(error);
+        }
+    };
+    match all.insert(0, value) {
+        Ok(()) => Ok(all),
+        Err(_) => {
+            drop(all);
             Err(EvalAltResult::ErrorOutOfMemory(pos))
         }
     }
@@ -329,7 +337,7 @@ impl<H: Host> Engine<H> {
         let limits = &self.limits();
         let search = global.always_search_scope;
         let offered = self.evaluator(limits).offered();
-        let mut none = Items::new(alloc);
+        let mut none = Few::new(alloc);
         let args = none.as_mut_slice();
         let dispatched = pass_all(
             limits, alloc, &offered, global, table, false, name, token, args, true, pos,
@@ -352,7 +360,7 @@ impl<H: Host> Engine<H> {
         table: &mut T,
         function: Function<H>,
         place: &mut Dynamic<H>,
-        args: Items<Dynamic<H>>,
+        args: Few<Dynamic<H>>,
         pos: Position,
     ) -> Result<(Dynamic<H>, bool), EvalAltResult<H>>
         ensures runs { (scope : _) (held : _) → MarkedRuns (under H.name_of self.now T.natives)
@@ -365,10 +373,13 @@ impl<H: Host> Engine<H> {
         let mut run = take(alloc, global, &mut scope);
         let limits = self.limits();
         let evaluator = self.evaluator(&limits);
-        let done = evaluator.enter_on_focus(alloc, &mut run, table, function, place, args, pos);
+        let mut args = args;
+        let values = args.as_mut_slice();
+        let done = evaluator.enter_on_focus(alloc, &mut run, table, function, place, values, pos);
         let result = finish(done, &mut run.value, &mut run.error);
         give_back(run, global, &mut scope);
         drop(scope);
+        drop(args);
         marked(result, false)
     }
 
@@ -381,7 +392,7 @@ impl<H: Host> Engine<H> {
         scope: &mut Scope<H>,
         function: Function<H>,
         place: &mut Dynamic<H>,
-        args: Items<Dynamic<H>>,
+        args: Few<Dynamic<H>>,
         pos: Position,
     ) -> Result<(Dynamic<H>, bool), EvalAltResult<H>>
         ensures runs { (held : _) → MarkedRuns (under H.name_of self.now T.natives)
@@ -422,9 +433,12 @@ impl<H: Host> Engine<H> {
                 let mut run = take(alloc, global, scope);
                 let limits = self.limits();
                 let evaluator = self.evaluator(&limits);
-                let done = evaluator.enter_captured(alloc, &mut run, table, function, args, pos);
+                let mut args = args;
+                let values = args.as_mut_slice();
+                let done = evaluator.enter_captured(alloc, &mut run, table, function, values, pos);
                 let result = finish(done, &mut run.value, &mut run.error);
                 give_back(run, global, scope);
+                drop(args);
                 marked(result, false)
             }
         }
@@ -452,10 +466,13 @@ impl<H: Host> Engine<H> {
                 let mut run = take(alloc, global, &mut scope);
                 let limits = self.limits();
                 let evaluator = self.evaluator(&limits);
-                let done = evaluator.enter_fresh(alloc, &mut run, table, function, args, pos);
+                let mut args = args;
+                let values = args.as_mut_slice();
+                let done = evaluator.enter_fresh(alloc, &mut run, table, function, values, pos);
                 let result = finish(done, &mut run.value, &mut run.error);
                 give_back(run, global, &mut scope);
                 drop(scope);
+                drop(args);
                 marked(result, false)
             }
         }

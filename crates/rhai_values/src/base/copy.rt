@@ -51,7 +51,7 @@ fn copy_union<H: Host>(alloc: Global, value: &Union<H>) -> Result<Union<H>, Allo
             alloc,
             copy_pointer(alloc, pointer.get())?,
         )?)),
-        Union::Host(host) => Ok(Union::Host(host.try_clone(alloc)?)),
+        Union::Host(host) => Ok(Union::Host(Boxed::new(alloc, host.get().try_clone(alloc)?)?)),
         Union::Cell(id) => Ok(Union::Cell(*id)),
     }
 }

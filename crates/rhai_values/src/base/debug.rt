@@ -45,7 +45,7 @@ fn show<H: Host, W: Write>(value: &Union<H>, f: &mut Formatter<W>) -> fmt::Resul
         Union::Blob(bytes) => show_bytes(bytes.get().as_slice(), f),
         Union::Map(entries) => show_map(entries.get(), f),
         Union::FnPtr(pointer) => show_pointer(pointer.get(), f),
-        Union::Host(host) => f.write_str(host.type_name()),
+        Union::Host(host) => f.write_str(host.get().type_name()),
         Union::Cell(_) => f.write_str("<shared>"),
     }
 }

@@ -46,7 +46,7 @@ fn own_type_name<H: Host>(value: &Union<H>) -> &str
         Union::Blob(_) => "blob",
         Union::Map(_) => "map",
         Union::FnPtr(_) => "Fn",
-        Union::Host(host) => host.type_name(),
+        Union::Host(host) => host.get().type_name(),
         Union::Cell(_) => "",
     }
 }

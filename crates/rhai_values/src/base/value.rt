@@ -106,7 +106,7 @@ pub enum Union<H> {
     Blob(Boxed<Items<u8>>),
     Map(Boxed<Table<Dynamic<H>>>),
     FnPtr(Boxed<FnPtr<H>>),
-    Host(H),
+    Host(Boxed<H>),
     Cell(CellId),
 }
 

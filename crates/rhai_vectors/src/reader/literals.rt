@@ -152,7 +152,7 @@ impl<'a> Reader<'a> {
         } else if self.passes("false") {
             Union::Bool(false)
         } else if self.passes("stone") {
-            Union::Host(Stone { weight: 7 })
+            self.stone()
         } else if self.passes("cell ") {
             let number = self.count();
             Union::Cell(CellId { number })
@@ -163,6 +163,13 @@ impl<'a> Reader<'a> {
         } else {
             self.want("a value");
             Union::Unit
+        }
+    }
+
+    fn stone(&mut self) -> Union<Stone> {
+        match self.boxed(Stone { weight: 7 }) {
+            Some(stone) => Union::Host(stone),
+            None => Union::Unit,
         }
     }
 

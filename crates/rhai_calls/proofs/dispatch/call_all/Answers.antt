@@ -24,8 +24,7 @@ returns-in-Found-clause-runs g c offer scope held on_scope offers =
     let operation : Operation = record { name = c.args.name.now; token = c.args.token; at = c.args.pos } in
     let s : State _ _ = state_of (g.T.NativeTable.state c.args.table.now) c.args.global.now scope held in
     let new : State _ _ = state_of (g.T.NativeTable.state c.pass_all.new.table) c.pass_all.new.global scope held in
-    let is : c.replace.result ≡ c.args.args.now =
-    c.replace.ensures.value
-    ∙ written c.args.args.now c.pass_all.new.args (c.in-Found.ensures.same ∙ c.as_mut_slice-values.ensures.value) in
+    let is : _ ≡ c.args.args.now =
+    written c.args.args.now c.pass_all.new.args (c.in-Found.ensures.same ∙ c.as_mut_slice-values.ensures.value) in
     rw is (calls_entered rules s new c.args.natives_alone on_scope operation c.args.args.now c.in-Found.function
     (rw c.as_mut_slice-values.ensures.value at (c.in-Found.ensures.runs offer scope held on_scope offers)))

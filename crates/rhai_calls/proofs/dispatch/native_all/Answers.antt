@@ -1,4 +1,4 @@
-use Rattle.std.proofs.Common.{◌∷◌, List, None, false, sym, subst}
+use Rattle.std.proofs.Common.{List, None, false, sym, subst}
 use Rattle.rhai_machine.specs.language.Frames.{Ask, Operation}
 use Rattle.rhai_machine.specs.language.Setting.{Rules, rules_of}
 use Rattle.rhai_steps.specs.States.{state_of}

@@ -16,4 +16,4 @@ returns-in_default-clause-runs g c offer scope held =
 pub returns-clause-runs : goal.returns-clause-runs
 returns-clause-runs g c offer scope held =
     rw (c.as_slice-rest.ensures, c.in-Ok.ensures)
-    at (c.pass_native.ensures.runs offer scope (lending held c.args.focus.now) (Some FromFocus) refl)
+    at (c.pass_native-answer.ensures.runs offer scope (lending held c.args.focus.now) (Some FromFocus) refl)

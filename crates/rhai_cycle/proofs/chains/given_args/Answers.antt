@@ -1,4 +1,4 @@
-use Rattle.std.proofs.Common.{◌≡◌, [], None, Some, refl}
+use Rattle.std.proofs.Common.{◌≡◌, [], None, Some, arith, refl}
 use Rattle.rhai_tree.specs.declared.expr.Expr.{out-Expr}
 use Rattle.rhai_machine.specs.language.Links.{link_of}
 use Rattle.rhai_chains.specs.Ready.{at_once}
@@ -6,8 +6,8 @@ use Rattle.rhai_cycle.proofs.ChainSteps.{given_same, is_given}
 use Rattle.rhai_cycle.proofs.chains.given_args.Goals as goal
 
 pub ready_args-requires : goal.ready_args-requires
-ready_args-requires g c = is_given c.in-Some.ready _ (rw c.in-Some.is at c.needs_no_step.ensures)
+ready_args-requires g c = (omega arith, (is_given c.in-Some.ready _ (rw c.in-Some.is at c.needs_no_step.ensures), c.requires))
 
 pub returns-in-Ok-clause-given : goal.returns-in-Ok-clause-given
-returns-in-Ok-clause-given g c = λ done. given_same c.in-Some.ready (at_once (link_of (out-Expr c.args.chain.now))) c.in-Ok.values
+returns-in-Ok-clause-given g c = λ done. given_same c.in-Some.ready (at_once (link_of (out-Expr c.args.chain.now))) c.ready_args.new.made
     (rw c.in-Some.is at c.needs_no_step.ensures) c.in-Ok.ensures.given

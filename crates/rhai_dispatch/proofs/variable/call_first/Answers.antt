@@ -4,6 +4,7 @@ use Rattle.rhai_machine.specs.language.Setting.{Rules, rules_of}
 use Rattle.rhai_machine.specs.language.Frames.{Dispatch, Operation}
 use Rattle.rhai_machine.specs.language.State.{State}
 use Rattle.rhai_steps.specs.States.{state_of}
+use Rattle.rhai_calls.specs.Called.{with_args}
 use Rattle.rhai_calls.specs.Lending.{back_in, lent_call}
 use Rattle.rhai_calls.proofs.Dispatching.{calls_ended}
 use Rattle.rhai_dispatch.proofs.Going.{calls_given}
@@ -28,6 +29,6 @@ returns-in-Found-clause-runs g c offer scope held lender on_scope offers stands 
     let s : State _ _ = state_of (g.T.NativeTable.state c.args.table.now) c.args.global.now scope held in
     calls_given rules c.args.natives_alone on_scope true operation (Some lender) c.args.first.now c.args.args.now c.in-Found.function s
     (back_in (Some lender) c.pass_call.new.first (state_of (g.T.NativeTable.state c.pass_call.new.table) c.pass_call.new.global scope held))
-    c.entered_with_copy.result
+    (with_args c.entered_with_copy.result c.entered_with_copy.new.args)
     (rw c.as_slice-rest.ensures at (c.in-Found.ensures.runs offer scope held (Some lender) on_scope offers stands))
     (rw c.in-Found.ensures.same at c.entered_with_copy.ensures)

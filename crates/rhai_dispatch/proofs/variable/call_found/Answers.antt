@@ -7,6 +7,7 @@ use Rattle.rhai_machine.specs.language.Setting.{Rules, rules_of}
 use Rattle.rhai_machine.specs.language.Frames.{Dispatch, Operation, FromEntry}
 use Rattle.rhai_machine.specs.language.State.{State}
 use Rattle.rhai_steps.specs.States.{state_of}
+use Rattle.rhai_calls.specs.Called.{with_args}
 use Rattle.rhai_calls.specs.Lending.{lent_call}
 use Rattle.rhai_dispatch.proofs.Going.{on_called, on_failed, on_refused}
 use Rattle.rhai_dispatch.proofs.Passing.{on_held, on_lent, on_passed}
@@ -34,7 +35,7 @@ returns-then-is_lendable-clause-runs g c offer held on_scope offers there =
     (lent_call operation (Some (FromEntry c.args.index)) true (c.value_at-value.result.now ∷ c.args.args.now))
     (on_lent (cells_of c.args.global.now.cells) c.args.variable_at c.args.global.now.lib (entries_of c.args.scope.now) operation
     c.args.variable.now c.args.args.now c.args.index c.value_at-value.result.now there c.value_at-value.ensures
-    (sym c.is_held.ensures ∙ c.if-is_held.false) (sym c.is_lendable.ensures ∙ c.if-is_lendable.true)) c.call_lent.result
+    (sym c.is_held.ensures ∙ c.if-is_held.false) (sym c.is_lendable.ensures ∙ c.if-is_lendable.true)) (with_args c.call_lent.result c.call_lent.new.args)
     (state_of (g.T.NativeTable.state c.call_lent.new.table) c.call_lent.new.global c.call_lent.new.scope held)
     (c.call_lent.ensures.runs offer held on_scope c.value_at-value.result.now offers c.value_at-value.ensures)
 
@@ -49,7 +50,7 @@ returns-in-Ok-clause-runs g c offer held on_scope offers there =
     (on_passed (cells_of c.args.global.now.cells) c.args.variable_at c.args.global.now.lib (entries_of c.args.scope.now) operation
     c.args.variable.now c.args.args.now c.args.index c.value_at-value.result.now there c.value_at-value.ensures
     (sym c.is_held.ensures ∙ c.if-is_held.false) (sym c.is_lendable.ensures ∙ c.if-is_lendable.false) (Ok c.in-Ok.first)
-    (c.in-Ok.ensures tt)) c.call_passed.result
+    (c.in-Ok.ensures tt)) (with_args c.call_passed.result c.call_passed.new.args)
     (state_of (g.T.NativeTable.state c.call_passed.new.table) c.call_passed.new.global c.args.scope.now held)
     (c.call_passed.ensures.runs offer c.args.scope.now held on_scope offers)
 

@@ -3,6 +3,7 @@ use Rattle.rhai_machine.specs.language.Calls.{plainly}
 use Rattle.rhai_machine.specs.language.Setting.{Rules, rules_of}
 use Rattle.rhai_machine.specs.language.Frames.{Operation, FromEntry}
 use Rattle.rhai_steps.specs.States.{state_of}
+use Rattle.rhai_calls.specs.Called.{with_args}
 use Rattle.rhai_calls.specs.Lending.{lent_call}
 use Rattle.rhai_dispatch.proofs.Lending.{lent_names, lent_runs}
 use Rattle.rhai_dispatch.proofs.variable.call_lent.Goals as goal
@@ -23,5 +24,5 @@ returns-clause-runs g c offer held on_scope v offers stands =
     (plainly c.args.natives_alone on_scope)
     (lent_call operation (Some (FromEntry c.args.index)) true (v ∷ c.args.args.now))
     (state_of (g.T.NativeTable.state c.args.table.now) c.args.global.now c.args.scope.now held)
-    c.call_first-called.result (g.T.NativeTable.state c.call_first-called.new.table) c.call_first-called.new.global held
+    (with_args c.call_first-called.result c.call_first-called.new.args) (g.T.NativeTable.state c.call_first-called.new.table) c.call_first-called.new.global held
     (rw same (c.call_first-called.ensures.runs offer c.args.scope.now held (FromEntry c.args.index) on_scope offers before))

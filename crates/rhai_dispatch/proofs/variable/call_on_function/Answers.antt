@@ -6,6 +6,7 @@ use Rattle.rhai_machine.specs.language.Setting.{Rules, rules_of}
 use Rattle.rhai_machine.specs.language.Frames.{Dispatch, Operation}
 use Rattle.rhai_machine.specs.language.State.{State}
 use Rattle.rhai_steps.specs.States.{state_of}
+use Rattle.rhai_calls.specs.Called.{with_args}
 use Rattle.rhai_calls.specs.Lending.{lent_call}
 use Rattle.rhai_dispatch.proofs.Going.{on_called, on_failed}
 use Rattle.rhai_dispatch.proofs.Passing.{on_function}
@@ -21,7 +22,7 @@ returns-in-Ok-clause-runs g c offer scope held on_scope offers absent =
     (lent_call operation None true (c.in-Ok.first ∷ c.args.args.now))
     (on_function (cells_of c.args.global.now.cells) c.args.variable_at c.args.global.now.lib (entries_of scope) operation
     c.args.variable.now c.args.args.now absent (Ok c.in-Ok.first)
-    (rw c.as_slice.ensures at (c.in-Ok.ensures (cells_of c.args.global.now.cells) tt))) c.call_passed.result
+    (rw c.as_slice.ensures at (c.in-Ok.ensures (cells_of c.args.global.now.cells) tt))) (with_args c.call_passed.result c.call_passed.new.args)
     (state_of (g.T.NativeTable.state c.call_passed.new.table) c.call_passed.new.global scope held)
     (c.call_passed.ensures.runs offer scope held on_scope offers)
 

@@ -37,7 +37,7 @@ pub(crate) fn call_pair(
     match native {
         PairNative::New => {
             let (x, y) = arguments.ints()?;
-            Some(new(x, y))
+            Some(new(alloc, x, y))
         }
         PairNative::X => Some(x(*arguments.host()?)),
         PairNative::Y => Some(y(*arguments.host()?)),
@@ -45,15 +45,15 @@ pub(crate) fn call_pair(
         PairNative::List => Some(list(alloc, *arguments.host()?)),
         PairNative::SetX => {
             let (pair, number) = arguments.host_and_int()?;
-            Some(set_x(*pair, number))
+            Some(set_x(alloc, *pair, number))
         }
         PairNative::SetY => {
             let (pair, number) = arguments.host_and_int()?;
-            Some(set_y(*pair, number))
+            Some(set_y(alloc, *pair, number))
         }
         PairNative::SetList => {
             let (_, items) = arguments.host_and_array()?;
-            set_list(items)
+            set_list(alloc, items)
         }
         PairNative::At => {
             let (pair, index) = arguments.host_and_int()?;
@@ -61,15 +61,15 @@ pub(crate) fn call_pair(
         }
         PairNative::SetAt => {
             let (pair, index, number) = arguments.host_and_ints()?;
-            set_at(*pair, index, number)
+            set_at(alloc, *pair, index, number)
         }
     }
 }
 
-fn new(x: i64, y: i64) -> Response<Pair>
-    ensures { result ≡ counting.made x y }
+fn new(alloc: Global, x: i64, y: i64) -> Response<Pair>
+    ensures { IsAnswered result (counting.made x y) }
 {
-    Response::Gives(Datum::Host(Pair(x, y)))
+    Response::host(alloc, Pair(x, y))
 }
 
 fn x(pair: Pair) -> Response<Pair>
@@ -99,25 +99,25 @@ fn list(alloc: Global, pair: Pair) -> Response<Pair>
     Response::integers(alloc, &[pair.0, pair.1])
 }
 
-fn set_x(pair: Pair, number: i64) -> Response<Pair>
-    ensures { result ≡ counting.with_x pair number }
+fn set_x(alloc: Global, pair: Pair, number: i64) -> Response<Pair>
+    ensures { IsAnswered result (counting.with_x pair number) }
 {
-    Response::changing(Datum::Host(Pair(number, pair.1)))
+    Response::changing_host(alloc, Pair(number, pair.1))
 }
 
-fn set_y(pair: Pair, number: i64) -> Response<Pair>
-    ensures { result ≡ counting.with_y pair number }
+fn set_y(alloc: Global, pair: Pair, number: i64) -> Response<Pair>
+    ensures { IsAnswered result (counting.with_y pair number) }
 {
-    Response::changing(Datum::Host(Pair(pair.0, number)))
+    Response::changing_host(alloc, Pair(pair.0, number))
 }
 
-fn set_list(items: &[Dynamic<Pair>]) -> Option<Response<Pair>>
-    ensures { result ≡ counting.with_list items.now }
+fn set_list(alloc: Global, items: &[Dynamic<Pair>]) -> Option<Response<Pair>>
+    ensures { AreAnswered result (counting.with_list items.now) }
 {
     match items {
         [x, y] => {
             let pair = Pair(int_in(x)?, int_in(y)?);
-            Some(Response::changing(Datum::Host(pair)))
+            Some(Response::changing_host(alloc, pair))
         }
         [] | [_] | [_, _, _, ..] => None,
     }
@@ -145,13 +145,13 @@ fn at(pair: Pair, index: i64) -> Option<Response<Pair>>
 }
 
 /// Sets the number at an index. At the index 2, which cannot be read, it sets both.
-fn set_at(pair: Pair, index: i64, number: i64) -> Option<Response<Pair>>
-    ensures { result ≡ counting.with_number_at pair index number }
+fn set_at(alloc: Global, pair: Pair, index: i64, number: i64) -> Option<Response<Pair>>
+    ensures { AreAnswered result (counting.with_number_at pair index number) }
 {
     match index {
-        0 => Some(set_x(pair, number)),
-        1 => Some(set_y(pair, number)),
-        2 => Some(Response::changing(Datum::Host(Pair(number, number)))),
+        0 => Some(set_x(alloc, pair, number)),
+        1 => Some(set_y(alloc, pair, number)),
+        2 => Some(Response::changing_host(alloc, Pair(number, number))),
         _ => None,
     }
 }

@@ -130,6 +130,9 @@ run_operation-returns-in_default-clause-runs = calls.run_operation-returns-in_de
 pub run_operation-run_function-requires : goal.run_operation-run_function-requires
 run_operation-run_function-requires = calls.run_operation-run_function-requires
 
+pub run_unary-operate_on_one-called-requires : goal.run_unary-operate_on_one-called-requires
+run_unary-operate_on_one-called-requires = calls.run_unary-operate_on_one-called-requires
+
 pub run_unary-returns-then-not-run_arg-clause-runs : goal.run_unary-returns-then-not-run_arg-clause-runs
 run_unary-returns-then-not-run_arg-clause-runs = calls.run_unary-returns-then-not-run_arg-clause-runs
 
@@ -160,6 +163,9 @@ run_operator-run_arg-requires = calls.run_operator-run_arg-requires
 pub run_operator-run_arg-requires-2 : goal.run_operator-run_arg-requires-2
 run_operator-run_arg-requires-2 = calls.run_operator-run_arg-requires-2
 
+pub run_operator-operate_on_two-called-requires : goal.run_operator-operate_on_two-called-requires
+run_operator-operate_on_two-called-requires = calls.run_operator-operate_on_two-called-requires
+
 pub run_operator-returns-then-not-run_arg-clause-runs : goal.run_operator-returns-then-not-run_arg-clause-runs
 run_operator-returns-then-not-run_arg-clause-runs = calls.run_operator-returns-then-not-run_arg-clause-runs
 
@@ -183,6 +189,9 @@ run_arg-returns-in-Some-clause-runs = calls.run_arg-returns-in-Some-clause-runs
 
 pub run_arg-returns-in-None-clause-runs : goal.run_arg-returns-in-None-clause-runs
 run_arg-returns-in-None-clause-runs = calls.run_arg-returns-in-None-clause-runs
+
+pub run_chain-given_args-requires : goal.run_chain-given_args-requires
+run_chain-given_args-requires = chains.run_chain-given_args-requires
 
 pub run_chain-returns-in_default-clause-runs : goal.run_chain-returns-in_default-clause-runs
 run_chain-returns-in_default-clause-runs = chains.run_chain-returns-in_default-clause-runs

@@ -6,5 +6,5 @@ use Rattle.rhai_cycle.proofs.evaluator.Evaluator.call_with.Goals as goal
 pub returns-clause-runs : goal.returns-clause-runs
 unfolding GoesOut
 returns-clause-runs g c on_scope k =
-    rw c.keep_list.ensures (c.call_values-called.ensures.runs (offer_of c.args.self.now) c.args.run.now.scope (holding c.args.run.now.this) on_scope
+    (c.call_values.ensures.runs (offer_of c.args.self.now) c.args.run.now.scope (holding c.args.run.now.this) on_scope
     c.offered-offered.ensures k)

@@ -6,4 +6,4 @@ use Rattle.rhai_cycle.proofs.evaluator.Evaluator.call_with_this.Goals as goal
 pub returns-clause-runs : goal.returns-clause-runs
 unfolding GoesOut
 returns-clause-runs g c k =
-    rw c.keep_list.ensures (c.call_on_this-called.ensures.runs (offer_of c.args.self.now) c.args.run.now.scope None false c.offered-offered.ensures k)
+    (c.call_on_this.ensures.runs (offer_of c.args.self.now) c.args.run.now.scope None false c.offered-offered.ensures k)

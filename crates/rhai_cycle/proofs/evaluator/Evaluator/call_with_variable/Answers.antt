@@ -7,4 +7,4 @@ use Rattle.rhai_cycle.proofs.evaluator.Evaluator.call_with_variable.Goals as goa
 pub returns-clause-runs : goal.returns-clause-runs
 unfolding GoesOut
 returns-clause-runs g c k =
-    rw c.keep_list.ensures (c.call_on_variable-called.ensures.runs (offer_of c.args.self.now) (holding c.args.run.now.this) false c.offered-offered.ensures k)
+    (c.call_on_variable.ensures.runs (offer_of c.args.self.now) (holding c.args.run.now.this) false c.offered-offered.ensures k)

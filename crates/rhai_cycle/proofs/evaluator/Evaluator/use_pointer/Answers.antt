@@ -1,6 +1,7 @@
 use Rattle.std.proofs.Common.{◌++◌}
 use Rattle.rhai_steps.specs.States.{holding}
 use Rattle.rhai_steps.proofs.Pieces.{told}
+use Rattle.rhai_calls.specs.Called.{with_args}
 use Rattle.rhai_dispatch.specs.Going.{GoesOn, GoesOut}
 use Rattle.rhai_cycle.specs.States.{offer_of, under}
 use Rattle.rhai_cycle.proofs.CallSteps.{linked_goes}
@@ -17,7 +18,8 @@ unfolding GoesOut
 returns-in-Linked-clause-runs g c k =
     let rules = under g.H.Host.name_of c.args.self.now g.T.NativeTable.natives in
     rw c.in-Linked.is
-    (linked_goes rules c.in-Linked.function (c.in-Linked.curried ++ c.args.values) c.args.pos k _ c.call_function.result c.call_function.ensures)
+    (linked_goes rules c.in-Linked.function (c.in-Linked.curried ++ c.args.values.now) c.args.pos k _
+    (with_args c.call_function.result c.call_function.new.args) c.call_function.ensures)
 
 pub returns-in-Number-clause-runs : goal.returns-in-Number-clause-runs
 unfolding GoesOn GoesOut

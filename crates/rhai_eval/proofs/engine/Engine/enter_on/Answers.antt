@@ -19,7 +19,7 @@ returns-clause-runs g c scope held =
     (state_of (g.T.NativeTable.state c.enter_on_focus-done.new.table) c.enter_on_focus-done.new.run.global scope
     (lending held c.enter_on_focus-done.new.focus))
     c.finish-result.result c.marked.result c.marked.ensures (
-    (rw (← c.finish-result.ensures.came) at c.enter_on_focus-done.ensures.runs) scope held) in
+    (rw (← c.finish-result.ensures.came, c.as_mut_slice-values.ensures.value) at c.enter_on_focus-done.ensures.runs) scope held) in
     handed_apart reads (λ rules old new. MarkedRuns rules (EnterOnFocus c.args.function true c.args.args c.args.pos) old c.marked.result new)
     (g.T.NativeTable.state c.args.table.now) (g.T.NativeTable.state c.enter_on_focus-done.new.table) c.take-run.result
     c.enter_on_focus-done.new.run c.args.global.now c.give_back.new.global c.give_back.ensures.global scope scope

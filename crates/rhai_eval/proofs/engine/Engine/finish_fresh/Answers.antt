@@ -23,7 +23,7 @@ returns-in-Enters-clause-runs g c scope held =
     (g.T.NativeTable.state c.args.table.now) (g.T.NativeTable.state c.enter_fresh-done.new.table) c.take-run.result
     c.enter_fresh-done.new.run c.args.global.now c.give_back.new.global c.give_back.ensures.global scope scope held held
     (ap (λ (run : Context _). run.global) c.take-run.ensures.run) (
-    (rw (← c.finish-result.ensures.came) at c.enter_fresh-done.ensures.runs) scope held) in
+    (rw (← c.finish-result.ensures.came, c.as_mut_slice-values.ensures.value) at c.enter_fresh-done.ensures.runs) scope held) in
     entered_runs (under g.H.Host.name_of c.args.self.now g.T.NativeTable.natives) true c.args.pos c.args.outcome c.in-Enters.function
     c.in-Enters.args (state_of (g.T.NativeTable.state c.args.table.now) c.args.global.now scope held)
     (state_of (g.T.NativeTable.state c.enter_fresh-done.new.table) c.give_back.new.global scope held)

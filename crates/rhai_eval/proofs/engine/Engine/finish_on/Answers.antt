@@ -23,7 +23,7 @@ returns-in-Enters-clause-runs g c held =
     new) (g.T.NativeTable.state c.args.table.now) (g.T.NativeTable.state c.enter_captured-done.new.table) c.take-run.result
     c.enter_captured-done.new.run c.args.global.now c.give_back.new.global c.give_back.ensures.global c.args.scope.now
     c.give_back.new.scope c.give_back.ensures.scope None held held c.take-run.ensures.run (
-    (rw (← c.finish-result.ensures.came) at c.enter_captured-done.ensures.runs) held) in
+    (rw (← c.finish-result.ensures.came, c.as_mut_slice-values.ensures.value) at c.enter_captured-done.ensures.runs) held) in
     entered_runs (under g.H.Host.name_of c.args.self.now g.T.NativeTable.natives) false c.args.pos c.args.outcome c.in-Enters.function
     c.in-Enters.args (state_of (g.T.NativeTable.state c.args.table.now) c.args.global.now c.args.scope.now held)
     (state_of (g.T.NativeTable.state c.enter_captured-done.new.table) c.give_back.new.global c.give_back.new.scope held)

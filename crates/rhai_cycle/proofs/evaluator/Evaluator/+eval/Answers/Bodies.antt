@@ -150,13 +150,13 @@ enter_captured-returns-clause-runs g t c held =
     let error_is : c.release.new.run.error ≡ c.run_body-done.new.run.error = ap (λ (r : Context _). r.error) c.release.ensures.run in
     let global_is : c.release.new.run.global ≡ c.run_body-done.new.run.global = ap (λ (r : Context _). r.global) c.release.ensures.run in
     rw (value_is, error_is, global_is)
-    (captured_ends rules c.args.function NoObject c.args.args c.args.pos c.args.run.now.global c.args.run.now.scope held
+    (captured_ends rules c.args.function NoObject c.args.args.now c.args.pos c.args.run.now.global c.args.run.now.scope held
     c.body_of-level.result.0.now (option_copied c.body_of-level.result.1) c.body_of-level.result.2
     (g.T.NativeTable.state c.args.table.now)
     (g.T.NativeTable.state c.run_body-done.new.table) c.run_body-done.new.run result c.body_of-level.ensures.def
     c.body_of-level.ensures.environ
     (c.body_of-level.ensures.level ∙ ap (λ (r : Context _). deeper r.global.level) c.capture-captured.ensures.run)
-    (rw (c.as_mut_slice-values.ensures.value, c.capture-captured.ensures.run) at
+    (rw c.capture-captured.ensures.run at
     (c.run_body-done.ensures.runs c.args.run.now.scope held NoObject false
     (ap (λ (r : Context _). entries_of r.scope) c.capture-captured.ensures.run)
     (ap (λ (r : Context _). r.this) c.capture-captured.ensures.run)))
@@ -168,7 +168,7 @@ pub enter_captured-returns-clause-counts : goal.enter_captured-returns-clause-co
 enter_captured-returns-clause-counts g t c =
     let rules = under g.H.Host.name_of c.args.self.now g.T.NativeTable.natives in
     let result = came c.run_body-done.result c.release.new.run.value c.release.new.run.error in
-    counted rules (EnterFunction (entry_of c.args.function NoObject false c.args.args c.args.pos
+    counted rules (EnterFunction (entry_of c.args.function NoObject false c.args.args.now c.args.pos
     (local_of c.args.run.now.global c.args.run.now.scope (holding None)))) (ended result) _ _
     (enter_captured-returns-clause-runs g t c (holding None))
 
@@ -176,7 +176,7 @@ pub enter_captured-returns-clause-names : goal.enter_captured-returns-clause-nam
 enter_captured-returns-clause-names g t c done =
     let rules = under g.H.Host.name_of c.args.self.now g.T.NativeTable.natives in
     let result = came c.run_body-done.result c.release.new.run.value c.release.new.run.error in
-    names_stay rules (EnterFunction (entry_of c.args.function NoObject false c.args.args c.args.pos
+    names_stay rules (EnterFunction (entry_of c.args.function NoObject false c.args.args.now c.args.pos
     (local_of c.args.run.now.global c.args.run.now.scope (holding None)))) (ended result) _ _ refl tt
     (enter_captured-returns-clause-runs g t c (holding None))
 
@@ -187,21 +187,20 @@ enter_fresh-returns-clause-runs g t c scope held =
     let value_is : c.end_fresh.new.run.value ≡ c.run_body-done.new.run.value = ap (λ (r : Context _). r.value) c.end_fresh.ensures in
     let error_is : c.end_fresh.new.run.error ≡ c.run_body-done.new.run.error = ap (λ (r : Context _). r.error) c.end_fresh.ensures in
     rw (value_is, error_is)
-    (fresh_ends rules c.args.function NoObject c.args.args c.args.pos c.args.run.now.global scope held c.body_of-level.result.0.now
+    (fresh_ends rules c.args.function NoObject c.args.args.now c.args.pos c.args.run.now.global scope held c.body_of-level.result.0.now
     (option_copied c.body_of-level.result.1) c.body_of-level.result.2 c.put_aside-aside.new.run.global
     (g.T.NativeTable.state c.args.table.now) (g.T.NativeTable.state c.run_body-done.new.table) c.run_body-done.new.run
     result c.body_of-level.ensures.def c.body_of-level.ensures.environ
     (c.body_of-level.ensures.level ∙ ap (λ (r : Context _). deeper r.global.level) c.put_aside-aside.ensures.rest)
     (ap (λ (r : Context _). r.global) c.put_aside-aside.ensures.rest)
-    (rw c.as_mut_slice-values.ensures.value at
-    (c.run_body-done.ensures.runs scope held NoObject true c.put_aside-aside.ensures.scope c.put_aside-aside.ensures.this))
+    (c.run_body-done.ensures.runs scope held NoObject true c.put_aside-aside.ensures.scope c.put_aside-aside.ensures.this)
     c.end_fresh.new.run.global c.run_body-done.new.run.this (ap (λ (r : Context _). r.global) c.end_fresh.ensures) refl)
 
 pub enter_fresh-returns-clause-counts : goal.enter_fresh-returns-clause-counts
 enter_fresh-returns-clause-counts g t c =
     let rules = under g.H.Host.name_of c.args.self.now g.T.NativeTable.natives in
     let result = came c.run_body-done.result c.end_fresh.new.run.value c.end_fresh.new.run.error in
-    counted rules (EnterFunction (entry_of c.args.function NoObject true c.args.args c.args.pos
+    counted rules (EnterFunction (entry_of c.args.function NoObject true c.args.args.now c.args.pos
     (local_of c.args.run.now.global c.args.run.now.scope (holding None)))) (ended result) _ _
     (enter_fresh-returns-clause-runs g t c c.args.run.now.scope (holding None))
 
@@ -214,13 +213,13 @@ pub run_out-returns-then-is_fresh-clause-runs : goal.run_out-returns-then-is_fre
 unfolding StartsAs Steps
 run_out-returns-then-is_fresh-clause-runs g t c k =
     rw (c.in-Enters.is, c.if-is_fresh.true, c.enter_fresh.ensures.scope, c.enter_fresh.ensures.this)
-    (c.enter_fresh.ensures.runs c.args.run.now.scope (holding c.args.run.now.this) k)
+    ((rw c.as_mut_slice-values.ensures.value at c.enter_fresh.ensures.runs) c.args.run.now.scope (holding c.args.run.now.this) k)
 
 pub run_out-returns-else-is_fresh-clause-runs : goal.run_out-returns-else-is_fresh-clause-runs
 unfolding StartsAs Steps
 run_out-returns-else-is_fresh-clause-runs g t c k =
     rw (c.in-Enters.is, c.if-is_fresh.false, c.enter_captured.ensures.this)
-    (c.enter_captured.ensures.runs (holding c.args.run.now.this) k)
+    ((rw c.as_mut_slice-values.ensures.value at c.enter_captured.ensures.runs) (holding c.args.run.now.this) k)
 
 pub enter_on_focus-returns-in_default-clause-runs : goal.enter_on_focus-returns-in_default-clause-runs
 enter_on_focus-returns-in_default-clause-runs g t c scope held =
@@ -228,11 +227,10 @@ enter_on_focus-returns-in_default-clause-runs g t c scope held =
     let begun = state_of (g.T.NativeTable.state c.args.table.now) c.args.run.now.global scope (lending held c.args.focus.now) in
     let error = error_in c.enter_focus.new.place in
     let cells = cells_of c.args.run.now.global.cells in
-    rw c.end_call.ensures
-    (focus_refused rules c.args.function true c.args.args c.args.pos begun begun (Err error) error c.args.focus.now
+    focus_refused rules c.args.function true c.args.args.now c.args.pos begun begun (Err error) error c.args.focus.now
     c.enter_focus.new.focus cells (cells_of c.enter_focus.new.cells) refl refl (is_held cells c.args.focus.now.value) refl
     (λ is. let seen = c.enter_focus.ensures.held is in (ap cells_of seen.1, seen.2, seen.3))
-    (λ free. rw c.as_slice-values.ensures at (c.enter_focus.ensures.raced free c.in_default.is)))
+    (λ free. c.enter_focus.ensures.raced free c.in_default.is)
 
 pub enter_on_focus-returns-clause-runs : goal.enter_on_focus-returns-clause-runs
 enter_on_focus-returns-clause-runs g t c scope held =
@@ -248,43 +246,41 @@ enter_on_focus-returns-clause-runs g t c scope held =
     let table = g.T.NativeTable.state c.args.table.now in
     let left = g.T.NativeTable.state c.run_body-done.new.table in
     let run = c.run_body-done.new.run in
-    let runs = fresh_ends rules c.args.function TheFocus c.args.args c.args.pos entered scope (lending held inner)
+    let runs = fresh_ends rules c.args.function TheFocus c.args.args.now c.args.pos entered scope (lending held inner)
     c.body_of-level.result.0.now (option_copied c.body_of-level.result.1) c.body_of-level.result.2 c.lend_focus-aside.new.run.global
     table left run result c.body_of-level.ensures.def c.body_of-level.ensures.environ level_is global_is
-    (rw c.as_mut_slice-values.ensures.value at
     (c.run_body-done.ensures.runs scope (lending held inner) TheFocus true c.lend_focus-aside.ensures.scope
-    c.lend_focus-aside.ensures.this)) run.global run.this refl refl in
+    c.lend_focus-aside.ensures.this) run.global run.this refl refl in
     let owned : Held _ = record { this = Some inner; focus = None } in
-    let owns = fresh_ends rules c.args.function OwnThis c.args.args c.args.pos entered scope owned
+    let owns = fresh_ends rules c.args.function OwnThis c.args.args.now c.args.pos entered scope owned
     c.body_of-level.result.0.now (option_copied c.body_of-level.result.1) c.body_of-level.result.2 c.lend_focus-aside.new.run.global
     table left run result c.body_of-level.ensures.def c.body_of-level.ensures.environ level_is global_is
-    (rw c.as_mut_slice-values.ensures.value at
-    (c.run_body-done.ensures.runs scope owned OwnThis true c.lend_focus-aside.ensures.scope c.lend_focus-aside.ensures.this))
+    (c.run_body-done.ensures.runs scope owned OwnThis true c.lend_focus-aside.ensures.scope c.lend_focus-aside.ensures.this)
     run.global run.this refl refl in
-    let bound = (kept rules (EnterFunction (entry_of c.args.function OwnThis true c.args.args c.args.pos (local_of entered scope owned)))
+    let bound = (kept rules (EnterFunction (entry_of c.args.function OwnThis true c.args.args.now c.args.pos (local_of entered scope owned)))
     (ended result) _ _ tt owns).bound in
     let worked = is_bound run.this bound in
     let closed = c.leave_focus.new.run.global in
-    rw (c.end_call-2.ensures, value_is, error_is)
-    (subst (λ (global : GlobalRuntimeState _). Runs rules (EnterOnFocus c.args.function true c.args.args c.args.pos)
+    rw (value_is, error_is)
+    (subst (λ (global : GlobalRuntimeState _). Runs rules (EnterOnFocus c.args.function true c.args.args.now c.args.pos)
     (state_of table c.args.run.now.global scope (lending held c.args.focus.now)) result
     (standing c.leave_focus.new.focus (cells_of closed.cells) (state_of left global scope (lending held worked.0))))
     (sym (ap (λ (r : Context _). r.global) c.leave_focus.ensures.run))
-    (enters_focus rules c.args.function true c.args.args c.args.pos
+    (enters_focus rules c.args.function true c.args.args.now c.args.pos
     (state_of table c.args.run.now.global scope (lending held c.args.focus.now))
     (state_of left run.global scope (lending held worked.0)) result c.in-Some.above c.args.focus.now inner worked.0
     c.leave_focus.new.focus (cells_of c.args.run.now.global.cells) (cells_of c.enter_focus.new.cells)
     (cells_of run.global.cells) (cells_of closed.cells) passes.0
-    (inside_runs rules c.args.function true c.args.args c.args.pos
+    (inside_runs rules c.args.function true c.args.args.now c.args.pos
     (state_of table entered scope (lending held inner)) (state_of left run.global scope (lending held worked.0)) result
-    (rw c.as_slice-values.ensures at passes.1) (rw worked.1 at runs))
+    passes.1 (rw worked.1 at runs))
     (c.leave_focus.ensures.leaves worked.0 worked.1)))
 
 pub enter_on_focus-returns-clause-counts : goal.enter_on_focus-returns-clause-counts
 enter_on_focus-returns-clause-counts g t c =
     let rules = under g.H.Host.name_of c.args.self.now g.T.NativeTable.natives in
-    let result = came c.run_body-done.result c.end_call-2.new.run.value c.end_call-2.new.run.error in
-    counted rules (EnterOnFocus c.args.function true c.args.args c.args.pos) (ended result) _ _
+    let result = came c.run_body-done.result c.leave_focus.new.run.value c.leave_focus.new.run.error in
+    counted rules (EnterOnFocus c.args.function true c.args.args.now c.args.pos) (ended result) _ _
     (enter_on_focus-returns-clause-runs g t c c.args.run.now.scope (holding None))
 
 pub run_method-returns-in-Ended-clause-runs : goal.run_method-returns-in-Ended-clause-runs
@@ -301,7 +297,7 @@ run_method-returns-in-OnTarget-clause-runs g t c scope held k =
           c.enter_on_focus-done.new.run.error,
     )
     ((rw c.in-OnTarget.is at (c.call_method.ensures.runs (offer_of c.args.self.now) scope held c.offered-offered.ensures)) k
-    ⨾ c.enter_on_focus-done.ensures.runs scope held k)
+    ⨾ (rw c.as_mut_slice-values.ensures.value at c.enter_on_focus-done.ensures.runs) scope held k)
 
 pub run_method-returns-in-Alone-clause-runs : goal.run_method-returns-in-Alone-clause-runs
 unfolding CallsFrom RunsFrom Steps
@@ -312,4 +308,5 @@ run_method-returns-in-Alone-clause-runs g t c scope held k =
           c.enter_fresh-done.new.run.error,
     )
     ((rw c.in-Alone.is at (c.call_method.ensures.runs (offer_of c.args.self.now) scope held c.offered-offered.ensures)) k
-    ⨾ c.enter_fresh-done.ensures.runs scope (lending held c.call_method.new.target) k)
+    ⨾ (rw c.as_mut_slice-values-in-Alone.ensures.value at c.enter_fresh-done.ensures.runs) scope
+    (lending held c.call_method.new.target) k)

@@ -50,6 +50,9 @@ pub run_operation-run_function-requires : goal.run_operation-run_function-requir
 run_operation-run_function-requires g t c =
     λ κs lives. (omega arith, (lives.0, (lives.1, (c.requires.resolves, rw c.in-Function.is at c.form_of.ensures))))
 
+pub run_unary-operate_on_one-called-requires : goal.run_unary-operate_on_one-called-requires
+run_unary-operate_on_one-called-requires g t c = (omega arith, c.new-operands.ensures)
+
 pub run_unary-returns-then-not-run_arg-clause-runs : goal.run_unary-returns-then-not-run_arg-clause-runs
 unfolding after Steps
 run_unary-returns-then-not-run_arg-clause-runs g t c k =
@@ -72,7 +75,7 @@ run_unary-returns-clause-runs g t c k =
     opens_unary rules c.args.call.now c.args.token c.args.operand.now c.args.pos k _ c.requires.fast c.requires.token c.requires.args
     ⨾ c.if-not-run_arg.ensures.runs (UnaryOperand _ _ ∷ k)
     ⨾ next (rw (← (c.if-not-flatten_at.ensures.exact tt)) (c.operate_on_one-called.ensures.runs k))
-    ⨾ c.run_out.ensures.runs k
+    ⨾ c.run_out-done.ensures.runs k
 
 pub run_function-run_plain_call-requires : goal.run_function-run_plain_call-requires
 run_function-run_plain_call-requires g t c =
@@ -129,6 +132,9 @@ run_operator-run_arg-requires-2 g t c =
       omega (arith, c.if-not-run_arg.ensures.charges refl),
       (lives.0, (lives.1, rw (c.if-not-run_arg.ensures.names refl) c.requires.resolves_right)),
     )
+
+pub run_operator-operate_on_two-called-requires : goal.run_operator-operate_on_two-called-requires
+run_operator-operate_on_two-called-requires g t c = (omega arith, c.new-operands.ensures)
 
 pub run_operator-returns-then-not-run_arg-clause-runs : goal.run_operator-returns-then-not-run_arg-clause-runs
 unfolding after Steps
@@ -194,7 +200,7 @@ run_operator-returns-clause-runs g t c k =
     (RightOperand _ _ _ ∷ k)
     ⨾ next (rw (← (c.if-not-flatten_at-2.ensures.exact tt))
     ((rw (c.take_value-first.ensures.taken, c.if-operate_known.ensures.same refl) at c.operate_on_two-called.ensures.runs) k))))
-    ⨾ c.run_out.ensures.runs k
+    ⨾ c.run_out-done.ensures.runs k
 
 pub run_arg-returns-in-Some-clause-runs : goal.run_arg-returns-in-Some-clause-runs
 run_arg-returns-in-Some-clause-runs g t c =

@@ -34,39 +34,39 @@ use Rattle.rhai_cycle.proofs.evaluator.Evaluator.+eval.Goals as goal
 
 -- a chain, its arguments and its root
 
+pub run_chain-given_args-requires : goal.run_chain-given_args-requires
+run_chain-given_args-requires g t c = (omega arith, c.new-values.ensures)
+
 pub run_chain-returns-in_default-clause-runs : goal.run_chain-returns-in_default-clause-runs
 unfolding Steps
 run_chain-returns-in_default-clause-runs g t c k =
     let rules = under g.H.Host.name_of c.args.self.now g.T.NativeTable.natives in
     let chain = chain_on c.args.root.now (out-Expr c.args.chain.now) (new_of c.args.new) in
-    rw c.given_args.ensures.run
     (opens_wanting rules chain (out-Expr c.args.chain.now) refl k (state_in (g.T.NativeTable.state c.args.table.now) c.args.run.now)
-    (error_in c.given_args.new.run.error) (c.in_default.ensures.refused refl))
+    (error_in c.given_args.new.place) (c.in_default.ensures.refused refl))
 
 pub run_chain-run_link_args-requires : goal.run_chain-run_link_args-requires
 run_chain-run_link_args-requires g t c =
     λ κs lives. (
-      omega (arith, ap (λ (r : Context _). r.global.num_operations) c.given_args.ensures.run),
-      (lives.0, (lives.1, rw (ap (λ (r : Context _). names r) c.given_args.ensures.run) c.requires.behind)),
+      omega arith,
+      (lives.0, (lives.1, (omega arith, c.requires.behind))),
     )
 
 pub run_chain-run_root-done-requires : goal.run_chain-run_root-done-requires
 run_chain-run_root-done-requires g t c =
     let asks = c.in-Some.ensures.asks c.if-asks.true in
     let asked = rw asks.0 at c.if-not-run_link_args.ensures.asked in
-    let same = ap (λ (r : Context _). names r) c.given_args.ensures.run in
     λ κs lives. (
       omega (
         arith,
         c.if-not-run_link_args.ensures.counts refl,
-        ap (λ (r : Context _). r.global.num_operations) c.given_args.ensures.run,
       ),
       (
         lives.0,
         (
           lives.1,
           (
-            rw (c.if-not-run_link_args.ensures.names refl, same) c.requires.root,
+            rw (c.if-not-run_link_args.ensures.names refl) c.requires.root,
             (
               rw c.as_mut_slice-args.ensures.value
                   (walks_given _ (out-Expr c.args.chain.now) c.run_link_args.new.values c.requires.walks asked),
@@ -79,19 +79,18 @@ run_chain-run_root-done-requires g t c =
 
 pub run_chain-run_root-done-requires-else-asks : goal.run_chain-run_root-done-requires-else-asks
 run_chain-run_root-done-requires-else-asks g t c =
-    let asked = asked_at_once (out-Expr c.args.chain.now) c.in-Some.values (c.in-Some.ensures.given c.if-asks.false) in
-    let same = ap (λ (r : Context _). names r) c.given_args.ensures.run in
+    let asked = asked_at_once (out-Expr c.args.chain.now) c.given_args.new.made (c.in-Some.ensures.given c.if-asks.false) in
     λ κs lives. (
-      omega (arith, ap (λ (r : Context _). r.global.num_operations) c.given_args.ensures.run),
+      omega arith,
       (
         lives.0,
         (
           lives.1,
           (
-            rw same c.requires.root,
+            c.requires.root,
             (
               rw c.as_mut_slice-args-else-asks.ensures.value
-                  (walks_given _ (out-Expr c.args.chain.now) c.in-Some.values c.requires.walks asked),
+                  (walks_given _ (out-Expr c.args.chain.now) c.given_args.new.made c.requires.walks asked),
               c.requires.starts,
             ),
           ),
@@ -106,9 +105,8 @@ run_chain-returns-then-not-run_link_args-clause-runs g t c k =
     let chain = chain_on c.args.root.now (out-Expr c.args.chain.now) (new_of c.args.new) in
     let there = has_link (out-Expr c.args.chain.now) (names c.args.run.now) c.requires.behind in
     let asks = c.in-Some.ensures.asks c.if-asks.true in
-    rw c.keep_list.ensures
     (opens_asking rules chain (out-Expr c.args.chain.now) refl k _ there.0 there.1 asks.1
-    ⨾ (rw (asks.0, c.given_args.ensures.run) at c.if-not-run_link_args.ensures.gathers) chain k)
+    ⨾ (rw asks.0 at c.if-not-run_link_args.ensures.gathers) chain k)
 
 pub run_chain-returns-else-not-run_link_args-clause-runs : goal.run_chain-returns-else-not-run_link_args-clause-runs
 unfolding Steps Gathers
@@ -117,9 +115,8 @@ run_chain-returns-else-not-run_link_args-clause-runs g t c k =
     let chain = chain_on c.args.root.now (out-Expr c.args.chain.now) (new_of c.args.new) in
     let there = has_link (out-Expr c.args.chain.now) (names c.args.run.now) c.requires.behind in
     let asks = c.in-Some.ensures.asks c.if-asks.true in
-    rw c.keep_list-then-asks.ensures
     (opens_asking rules chain (out-Expr c.args.chain.now) refl k _ there.0 there.1 asks.1
-    ⨾ (rw (asks.0, c.given_args.ensures.run) at c.if-not-run_link_args.ensures.gathers) chain k
+    ⨾ (rw asks.0 at c.if-not-run_link_args.ensures.gathers) chain k
     ⨾ (rw c.as_mut_slice-args.ensures.value at c.run_root-done.ensures.runs false) k)
 
 pub run_chain-returns-else-not-run_link_args-clause-asks : goal.run_chain-returns-else-not-run_link_args-clause-asks
@@ -133,7 +130,7 @@ run_chain-returns-else-not-run_link_args-clause-asks g t c =
       c.run_link_args.new.values,
       state_in (g.T.NativeTable.state c.run_link_args.new.table) c.run_link_args.new.run,
       opens_asking rules chain (out-Expr c.args.chain.now) refl [] _ there.0 there.1 asks.1
-          ⨾ (rw (asks.0, c.given_args.ensures.run) at c.if-not-run_link_args.ensures.gathers) chain [],
+          ⨾ (rw asks.0 at c.if-not-run_link_args.ensures.gathers) chain [],
     )
 
 pub run_chain-returns-else-asks-clause-runs : goal.run_chain-returns-else-asks-clause-runs
@@ -141,20 +138,19 @@ unfolding Steps
 run_chain-returns-else-asks-clause-runs g t c k =
     let rules = under g.H.Host.name_of c.args.self.now g.T.NativeTable.natives in
     let chain = chain_on c.args.root.now (out-Expr c.args.chain.now) (new_of c.args.new) in
-    rw c.keep_list-else-asks.ensures
     (opens_at_once rules chain (out-Expr c.args.chain.now) refl k (state_in (g.T.NativeTable.state c.args.table.now) c.args.run.now)
-    c.in-Some.values (c.in-Some.ensures.given c.if-asks.false)
-    ⨾ (rw (c.as_mut_slice-args-else-asks.ensures.value, c.given_args.ensures.run) at c.run_root-done-else-asks.ensures.runs false) k)
+    c.given_args.new.made (c.in-Some.ensures.given c.if-asks.false)
+    ⨾ (rw c.as_mut_slice-args-else-asks.ensures.value at c.run_root-done-else-asks.ensures.runs false) k)
 
 pub run_chain-returns-else-asks-clause-asks : goal.run_chain-returns-else-asks-clause-asks
 run_chain-returns-else-asks-clause-asks g t c =
     let rules = under g.H.Host.name_of c.args.self.now g.T.NativeTable.natives in
     let chain = chain_on c.args.root.now (out-Expr c.args.chain.now) (new_of c.args.new) in
     λ done. (
-      c.in-Some.values,
+      c.given_args.new.made,
       state_in (g.T.NativeTable.state c.args.table.now) c.args.run.now,
       opens_at_once rules chain (out-Expr c.args.chain.now) refl [] (state_in (g.T.NativeTable.state c.args.table.now) c.args.run.now)
-          c.in-Some.values (c.in-Some.ensures.given c.if-asks.false),
+          c.given_args.new.made (c.in-Some.ensures.given c.if-asks.false),
     )
 
 -- what the links ask for
@@ -170,7 +166,7 @@ run_link_args-run_more_args-requires g t c =
     let parts = link_resolves (out-Expr c.args.chain.now) (names c.args.run.now) (Some (link_seen c.in-Some.link)) found c.requires in
     λ κs lives. (
       omega (arith, ap (λ (global : GlobalRuntimeState _). global.num_operations) (c.if-not-charge.ensures.charged refl)),
-      (lives.0, (lives.1, rw c.asked.ensures parts.0)),
+      (lives.0, (lives.1, (omega arith, rw c.asked.ensures parts.0))),
     )
 
 pub run_link_args-run_link_args-requires : goal.run_link_args-run_link_args-requires
@@ -190,8 +186,11 @@ run_link_args-run_link_args-requires g t c =
         lives.0,
         (
           lives.1,
-          rw (c.if-not-run_more_args.ensures.names refl)
-              (subst (λ (o : Option ExprLayer). RestResolves o (names c.args.run.now)) on parts.1),
+          (
+            omega arith,
+            rw (c.if-not-run_more_args.ensures.names refl)
+                (subst (λ (o : Option ExprLayer). RestResolves o (names c.args.run.now)) on parts.1),
+          ),
         ),
       ),
     )

@@ -248,23 +248,22 @@ run_keyword-returns-in-Err-linked_function-clause-runs g t c k =
 pub run_pointer-run_more_args-requires : goal.run_pointer-run_more_args-requires
 run_pointer-run_more_args-requires g t c =
     λ κs lives. (
-      omega (arith, ap (λ (r : Context _). r.global.num_operations) c.lend_list-values.ensures.run),
-      (lives.0, (lives.1, rw c.lend_list-values.ensures.run c.requires)),
+      omega arith,
+      (lives.0, (lives.1, (omega arith, c.requires))),
     )
 
 pub run_pointer-returns-then-not-run_more_args-clause-runs : goal.run_pointer-returns-then-not-run_more_args-clause-runs
 unfolding StartsAs Collects
 run_pointer-returns-then-not-run_more_args-clause-runs g t c k =
-    rw c.keep_list.ensures
-    ((rw (c.lend_list-values.ensures.list, c.lend_list-values.ensures.run) at c.if-not-run_more_args.ensures.collects)
+    ((rw c.new-values.ensures at c.if-not-run_more_args.ensures.collects)
     (purpose_of c.args.pointer c.args.pos) (kept_as_they_are c.args.pointer c.args.pos) k)
 
 pub run_pointer-returns-clause-runs : goal.run_pointer-returns-clause-runs
 unfolding StartsAs Collects GoesOut
 run_pointer-returns-clause-runs g t c k =
-    (rw (c.lend_list-values.ensures.list, c.lend_list-values.ensures.run) at c.if-not-run_more_args.ensures.collects)
+    (rw c.new-values.ensures at c.if-not-run_more_args.ensures.collects)
     (purpose_of c.args.pointer c.args.pos) (kept_as_they_are c.args.pointer c.args.pos) k
-    ⨾ c.use_pointer-called.ensures.runs k ⨾ c.run_out.ensures.runs k
+    ⨾ c.use_pointer-called.ensures.runs k ⨾ c.run_out-done.ensures.runs k
 
 -- a call by name
 
@@ -277,9 +276,8 @@ run_named-run_more_args-requires g t c =
       omega (
         arith,
         ap (λ (global : GlobalRuntimeState _). global.num_operations) (c.if-not-charge.ensures.charged refl),
-        ap (λ (r : Context _). r.global.num_operations) c.lend_list-values.ensures.run,
       ),
-      (lives.0, (lives.1, rw c.lend_list-values.ensures.run resolved)),
+      (lives.0, (lives.1, (omega arith, resolved))),
     )
 
 pub run_named-run_more_args-requires-in-Some-first_variable : goal.run_named-run_more_args-requires-in-Some-first_variable
@@ -293,9 +291,8 @@ run_named-run_more_args-requires-in-Some-first_variable g t c =
       omega (
         arith,
         ap (λ (global : GlobalRuntimeState _). global.num_operations) (c.if-not-charge-2.ensures.charged refl),
-        ap (λ (r : Context _). r.global.num_operations) c.lend_list-values-in-Some-first_variable.ensures.run,
       ),
-      (lives.0, (lives.1, rw c.lend_list-values-in-Some-first_variable.ensures.run resolved.1)),
+      (lives.0, (lives.1, (omega arith, resolved.1))),
     )
 
 pub run_named-call_with_variable-called-requires : goal.run_named-call_with_variable-called-requires
@@ -304,9 +301,11 @@ run_named-call_with_variable-called-requires g t c =
     let found = sym c.first_variable.ensures ∙ ap (option_map seen) c.in-Some-first_variable.is in
     let leading = seen c.in-Some-first_variable.variable in
     let first = lent_leads _ args leading found in
-    let resolved = first_resolves args first.arg leading.rest _ first.comes_first c.requires.1.1.1.1 in
-    rw (c.if-not-run_more_args-2.ensures.names refl, c.lend_list-values-in-Some-first_variable.ensures.run)
-    (good_name first.arg leading.offset leading.name first.namespace leading.at _ first.is_variable resolved.0)
+    let resolved = first_resolves args first.arg leading.rest _ first.comes_first c.requires.1.1.1.1 in (
+      omega arith,
+      rw (c.if-not-run_more_args-2.ensures.names refl)
+          (good_name first.arg leading.offset leading.name first.namespace leading.at _ first.is_variable resolved.0),
+    )
 
 pub run_named-returns-then-not-charge-clause-runs : goal.run_named-returns-then-not-charge-clause-runs
 unfolding Steps
@@ -330,11 +329,10 @@ run_named-returns-then-not-run_more_args-clause-runs g t c k =
     let found = sym (rw c.as_slice.ensures at c.this_first.ensures) ∙ c.in-Some.is in
     let charges = this_goes rules.setting operation c.args.curried (option_copied c.args.first) c.args.rest.now c.args.captures
     c.args.natives_alone k _ c.in-Some.this_at found in
-    rw c.keep_list.ensures
     (charged_on rules _ c.args.run.now.global c.charge.new.global _ _ _ _ k
     (λ l. arguments_core rules.setting purpose [] c.args.rest.now k l) charges (c.if-not-charge.ensures.room refl)
     (c.if-not-charge.ensures.charged refl)
-    ⨾ (rw (c.lend_list-values.ensures.list, c.lend_list-values.ensures.run) at c.if-not-run_more_args.ensures.collects) purpose refl k)
+    ⨾ (rw c.new-values.ensures at c.if-not-run_more_args.ensures.collects) purpose refl k)
 
 pub run_named-returns-in-Some-clause-runs : goal.run_named-returns-in-Some-clause-runs
 unfolding Steps Collects GoesOut StartsAs
@@ -348,9 +346,9 @@ run_named-returns-in-Some-clause-runs g t c k =
     charged_on rules _ c.args.run.now.global c.charge.new.global _ _ _ _ k
     (λ l. arguments_core rules.setting purpose [] c.args.rest.now k l) charges (c.if-not-charge.ensures.room refl)
     (c.if-not-charge.ensures.charged refl)
-    ⨾ (rw (c.lend_list-values.ensures.list, c.lend_list-values.ensures.run) at c.if-not-run_more_args.ensures.collects) purpose refl k
+    ⨾ (rw c.new-values.ensures at c.if-not-run_more_args.ensures.collects) purpose refl k
     ⨾ c.call_with_this-called.ensures.runs k
-    ⨾ c.run_out.ensures.runs k
+    ⨾ c.run_out-done.ensures.runs k
 
 pub run_named-returns-then-not-charge-2-clause-runs : goal.run_named-returns-then-not-charge-2-clause-runs
 unfolding Steps
@@ -378,11 +376,10 @@ run_named-returns-then-not-run_more_args-2-clause-runs g t c k =
     let found = sym (rw c.as_slice-2.ensures at c.first_variable.ensures) ∙ ap (option_map seen) c.in-Some-first_variable.is in
     let charges = variable_goes rules.setting operation c.args.curried (all_args (option_copied c.args.first) c.args.rest.now)
     c.args.captures c.args.natives_alone k _ variable found in
-    rw c.keep_list-then-not-run_more_args-2.ensures
     (charged_on rules _ c.args.run.now.global c.charge-in-Some-first_variable.new.global _ _ _ _ k
     (λ l. arguments_core rules.setting purpose [] variable.rest k l) charges (c.if-not-charge-2.ensures.room refl)
     (c.if-not-charge-2.ensures.charged refl)
-    ⨾ (rw (c.lend_list-values-in-Some-first_variable.ensures.list, c.lend_list-values-in-Some-first_variable.ensures.run)
+    ⨾ (rw c.new-values-in-Some-first_variable.ensures
     at c.if-not-run_more_args-2.ensures.collects) purpose refl k)
 
 pub run_named-returns-else-not-run_more_args-2-clause-runs : goal.run_named-returns-else-not-run_more_args-2-clause-runs
@@ -399,10 +396,10 @@ run_named-returns-else-not-run_more_args-2-clause-runs g t c k =
     charged_on rules _ c.args.run.now.global c.charge-in-Some-first_variable.new.global _ _ _ _ k
     (λ l. arguments_core rules.setting purpose [] variable.rest k l) charges (c.if-not-charge-2.ensures.room refl)
     (c.if-not-charge-2.ensures.charged refl)
-    ⨾ (rw (c.lend_list-values-in-Some-first_variable.ensures.list, c.lend_list-values-in-Some-first_variable.ensures.run)
+    ⨾ (rw c.new-values-in-Some-first_variable.ensures
     at c.if-not-run_more_args-2.ensures.collects) purpose refl k
     ⨾ c.call_with_variable-called.ensures.runs k
-    ⨾ c.run_out-in-Some-first_variable.ensures.runs k
+    ⨾ c.run_out-done-in-Some-first_variable.ensures.runs k
 
 pub run_named-returns-in-None-clause-runs : goal.run_named-returns-in-None-clause-runs
 unfolding Steps StartsAs
@@ -419,8 +416,8 @@ run_named-returns-in-None-clause-runs g t c k =
 pub run_on_values-run_all_args-requires : goal.run_on_values-run_all_args-requires
 run_on_values-run_all_args-requires g t c =
     λ κs lives. (
-      omega (arith, ap (λ (r : Context _). r.global.num_operations) c.lend_list-values.ensures.run),
-      (lives.0, (lives.1, rw c.lend_list-values.ensures.run c.requires.1.1.1.1)),
+      omega arith,
+      (lives.0, (lives.1, (omega arith, c.requires.1.1.1.1))),
     )
 
 pub run_on_values-returns-then-not-run_all_args-clause-runs : goal.run_on_values-returns-then-not-run_all_args-clause-runs
@@ -429,8 +426,7 @@ run_on_values-returns-then-not-run_all_args-clause-runs g t c k =
     let operation : machine.Operation = record { name = c.args.name.now; token = c.args.token; at = c.args.pos } in
     let on_scope = is_captured c.args.captures (entries_of c.args.run.now.scope) in
     let purpose : machine.Purpose g.row.H.Denot = ToCall operation c.args.curried (plainly c.args.natives_alone on_scope) in
-    rw c.keep_list.ensures
-    ((rw (c.lend_list-values.ensures.list, c.lend_list-values.ensures.run) at c.if-not-run_all_args.ensures.collects) purpose refl k)
+    ((rw c.new-values.ensures at c.if-not-run_all_args.ensures.collects) purpose refl k)
 
 pub run_on_values-returns-clause-runs : goal.run_on_values-returns-clause-runs
 unfolding StartsAs Collects GoesOut
@@ -438,9 +434,9 @@ run_on_values-returns-clause-runs g t c k =
     let operation : machine.Operation = record { name = c.args.name.now; token = c.args.token; at = c.args.pos } in
     let on_scope = is_captured c.args.captures (entries_of c.args.run.now.scope) in
     let purpose : machine.Purpose g.row.H.Denot = ToCall operation c.args.curried (plainly c.args.natives_alone on_scope) in
-    (rw (c.lend_list-values.ensures.list, c.lend_list-values.ensures.run) at c.if-not-run_all_args.ensures.collects) purpose refl k
+    (rw c.new-values.ensures at c.if-not-run_all_args.ensures.collects) purpose refl k
     ⨾ c.call_with-called.ensures.runs on_scope k
-    ⨾ (rw c.is_on_scope-on_scope.ensures at c.run_out.ensures.runs) k
+    ⨾ (rw c.is_on_scope-on_scope.ensures at c.run_out-done.ensures.runs) k
 
 -- arguments
 
@@ -530,7 +526,7 @@ run_all_args-run_more_args-requires g t c =
     (names c.args.run.now) (ap (λ o. all_args (option_copied o) c.args.rest.now) c.in-Some.is) c.requires in
     λ κs lives. (
       omega (arith, c.if-not-run_arg.ensures.charges refl),
-      (lives.0, (lives.1, rw (c.if-not-run_arg.ensures.names refl) resolved.1)),
+      (lives.0, (lives.1, (omega arith, rw (c.if-not-run_arg.ensures.names refl) resolved.1))),
     )
 
 pub run_all_args-returns-in_default-clause-collects : goal.run_all_args-returns-in_default-clause-collects
