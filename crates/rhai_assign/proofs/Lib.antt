@@ -9,4 +9,3 @@ pub mod Going
 pub mod Prepared
 pub mod Integers
 pub mod Stored
-pub mod Declared

@@ -5,7 +5,6 @@
 //! Assignment, and the crate's own specs/.
 #![tactic(auto)]
 
-pub mod declaring;
 pub mod focus;
 pub mod in_place;
 pub mod left;

@@ -1,11 +1,14 @@
 -- What a call's result says of a form, from one level of the form.
 use Rattle.std.proofs.Common.{◌≡◌, ap, sym, ◌∙◌, subst, List, [], ◌∷◌, ◌++◌, Bool, true, false, IsTrue, refl, Result, Ok, Err}
-use Rattle.std.proofs.Common.{append_assoc, if◌then◌else◌, ◌&&◌}
+use Rattle.std.proofs.Common.{if◌then◌else◌, ◌&&◌}
+use Rattle.std.specs.Prelude.{Option}
 use Rattle.std.specs.Result.{IfErr, OnOk}
+use Rattle.std.specs.declared.num.NonZeroUsize.{NonZeroUsize}
 use Rattle.rhai_tree.specs.declared.fault.CheckFault.{CheckFault}
-use Rattle.rhai_tree.specs.declared.fault.CheckFault.TheVariants.{BadAssignment, LoopControlOutside, NotYet}
+use Rattle.rhai_tree.specs.declared.fault.CheckFault.TheVariants.{BadAssignment, LoopControlOutside}
 use Rattle.rhai_check.specs.declared.check.place.Place.{Place}
 use Rattle.rhai_tree.specs.declared.expr.Expr.{Expr, out-Expr}
+use Rattle.rhai_tree.specs.declared.expr.Ident.{Ident}
 use Rattle.rhai_tree.specs.declared.expr.Stmt.{Stmt, out-Stmt}
 use Rattle.rhai_tree.specs.declared.flags.ASTFlags.{ASTFlags}
 use Rattle.rhai_tree.specs.declared.position.Position.{Position}
@@ -14,13 +17,14 @@ use Rattle.rhai_tree.specs.Context.{Context}
 use Rattle.rhai_check.specs.Around.{around}
 use Rattle.rhai_check.specs.Declares as declares
 use Rattle.rhai_check.specs.Declares.{declares_expr, declares_stmt}
-use Rattle.rhai_tree.specs.Forms.{is_exported}
 use Rattle.rhai_tree.specs.Reading as walk
 use Rattle.rhai_tree.specs.Reading.{faulty, sound}
-use Rattle.rhai_tree.specs.Frame.{tests_of, resolves_stmt, var_resolves}
+use Rattle.rhai_tree.specs.Frame.{tests_of, resolves_stmt, var_names}
 use Rattle.rhai_tree.specs.Names.{Name}
 use Rattle.rhai_check.specs.Refusals.{IsFirst, Refuses}
 use Rattle.rhai_tree.specs.WellFormed.{seen_expr, seen_stmt, target_faults, control_faults, var_faults}
+use Rattle.rhai_check.proofs.Refused.{refuses_more}
+use Rattle.rhai_check.proofs.Scopes.{around_var, above_var}
 use Rattle.rhai_check.proofs.Walk.{expr_faults, stmt_faults, expr_declares, seen-expr, seen-stmt}
 use Rattle.rhai_check.proofs.Walk.{Seen, SeenStmt, refuses_expr_at}
 use Rattle.rhai_tree.proofs.Walk.{Tests, expr_tests, stmt_tests, resolves-expr, resolves-stmt}
@@ -55,6 +59,12 @@ pub resolved_expr_at : {A : Type 0} (r : Result A CheckFault) (e : Expr) (l : Ex
 resolved_expr_at r e l names is h =
     subst (λ (s : Tests). OnOk r ((base : List Name) → IsTrue (s.value (base ++ names)))) (sym (resolves-expr e l is)) h
 
+pub resolved_stmt_at : {A : Type 0} (r : Result A CheckFault) (s : Stmt) (l : StmtLayer) (names new : List Name) → out-Stmt s ≡ l
+    → OnOk r ((base : List Name) → walk.stmt_step sound (stmt_tests l) (base ++ names) ≡ (true, base ++ new))
+    → OnOk r ((base : List Name) → resolves_stmt s (base ++ names) ≡ (true, base ++ new))
+resolved_stmt_at r s l names new is h = subst
+    (λ (f : walk.SeenStmt sound). OnOk r ((base : List Name) → f (base ++ names) ≡ (true, base ++ new))) (sym (resolves-stmt s l is)) h
+
 -- a statement that declares nothing may run where what it stands on may
 pub runs_stmt_at : {A : Type 0} (r : Result A CheckFault) (s : Stmt) (l : StmtLayer) (value : walk.Finds sound) (names new : List Name)
     → out-Stmt s ≡ l → ((ns : List Name) → walk.stmt_step sound (stmt_tests l) ns ≡ (value ns, ns))
@@ -87,21 +97,26 @@ pub target_refused : (s : Seen) (c : Context) (pos : Position) → s.is_place �
     → IsFirst (target_faults s c) (BadAssignment pos)
 target_refused s c pos not_place is = rw (not_place, is) refl
 
--- a variable that is exported, and one that is not
-pub exported_refused : (s : Seen) (options : ASTFlags) (pos : Position) (c : Context) → is_exported options ≡ true
-    → IsFirst (var_faults s options pos c) (NotYet pos)
-exported_refused s options pos c exported = rw exported refl
+-- a fault of a variable's value
+pub value_of_var_refused : (s : Seen) (index : Option NonZeroUsize) (ident : Ident) (options : ASTFlags) (pos : Position) (c : Context)
+    (declares : Bool) (e : CheckFault) → var_faults index ident s options pos c ≡ s.value c → Refuses (s.value c) declares e
+    → Refuses (var_faults index ident s options pos c) true e
+value_of_var_refused s index ident options pos c declares e same h = refuses_more (s.value c) _ declares true e
+    (λ k. subst (λ (fs : List CheckFault). IsFirst fs e) (sym same) k) (λ k. refl) h
 
-pub var_passes : (s : Seen) (options : ASTFlags) (pos : Position) (c : Context) → is_exported options ≡ false → s.value c ≡ []
-    → var_faults s options pos c ≡ []
-var_passes s options pos c private h = rw (private, h) refl
+-- a variable, with what surrounds the next statement
+pub var_passes : {A : Type 0} (r : Result A CheckFault) (faults : List CheckFault) (index : Option NonZeroUsize) (name : Name)
+    (place : Place) (names new : List Name) → OnOk r (faults ≡ []) → OnOk r (new ≡ var_names index name names)
+    → OnOk r (◌≡◌ {A = List CheckFault × Context} (faults, walk.after_var faulty index name (around names place)) ([], around new place))
+var_passes (Ok x) faults index name place names new none is = rw (none, around_var index name names place, is) refl
+var_passes (Err e) faults index name place names new none is = tt
 
-pub var_runs : {A : Type 0} (r : Result A CheckFault) (s : Tests) (options : ASTFlags) (pos : Position) (name : Name)
-    → (names new : List Name)
-    → is_exported options ≡ false → ((base : List Name) → IsTrue (s.value (base ++ names))) → OnOk r (new ≡ names ++ name ∷ [])
-    → OnOk r ((base : List Name) → var_resolves s options pos name (base ++ names) ≡ (true, base ++ new))
-var_runs (Ok x) s options pos name names new private h is = λ base. rw (private, h base, is, append_assoc) refl
-var_runs (Err e) s options pos name names new private h is = tt
+pub var_runs : {A : Type 0} (r : Result A CheckFault) (value : walk.Finds sound) (index : Option NonZeroUsize) (name : Name)
+    (names new : List Name) → OnOk r ((base : List Name) → IsTrue (value (base ++ names))) → OnOk r (new ≡ var_names index name names)
+    → OnOk r ((base : List Name) →
+    ◌≡◌ {A = Bool × List Name} (value (base ++ names), var_names index name (base ++ names)) (true, base ++ new))
+var_runs (Ok x) value index name names new h is = λ base. rw (h base, above_var index name base names, is) refl
+var_runs (Err e) value index name names new h is = tt
 
 -- a `break` or a `continue` in a loop
 pub control_passes : {A : Type 0} (r : Result A CheckFault) (pos : Position) (c : Context) (fs : List CheckFault) → c.in_loop ≡ true

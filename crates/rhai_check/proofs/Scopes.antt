@@ -1,8 +1,10 @@
--- The names that a `for` declares for its body, and a catch variable for its branch.
+-- The names that a variable declares for what follows, a `for` for its body, and a catch variable for its branch.
 use Rattle.std.proofs.Common.{◌≡◌, ap, refl, sym, ◌∙◌, subst, Bool, true, ◌||◌, IsTrue, List, [], ◌∷◌, ◌++◌, length, take}
 use Rattle.std.proofs.Common.{append_assoc}
 use Rattle.std.proofs.Math.Seq.{take-append_seam, take-length}
+use Rattle.std.proofs.lemmas.List.{append-nil}
 use Rattle.std.specs.Prelude.{Option, Some, None, option_map, IsSomeAnd}
+use Rattle.std.specs.declared.num.NonZeroUsize.{NonZeroUsize}
 use Rattle.rhai_tree.specs.declared.fault.CheckFault.{CheckFault}
 use Rattle.rhai_check.specs.declared.check.place.Place.{Place}
 use Rattle.rhai_tree.specs.declared.expr.Expr.{Expr, out-Expr}
@@ -16,8 +18,8 @@ use Rattle.rhai_tree.specs.Context.{Context, looping, declaring}
 use Rattle.rhai_check.specs.Around.{around}
 use Rattle.rhai_check.specs.Declares.{declares_block, declares_catch, names_a_catch, needs_of}
 use Rattle.rhai_tree.specs.Forms.{catch_name, catch_of}
-use Rattle.rhai_tree.specs.Frame.{with_name, turn_names, resolves_block, turns_resolve, catch_resolves}
-use Rattle.rhai_tree.specs.Names.{Name}
+use Rattle.rhai_tree.specs.Frame.{with_name, turn_names, var_names, resolves_block, turns_resolve, catch_resolves}
+use Rattle.rhai_tree.specs.Names.{Name, Begins}
 use Rattle.rhai_tree.specs.Reading as walk
 use Rattle.rhai_tree.specs.Reading.{faulty, sound}
 use Rattle.rhai_check.specs.Refusals.{IsFirst, Refuses}
@@ -29,6 +31,29 @@ use Rattle.rhai_check.proofs.Refused.{refuses_more, refuses_later}
 -- in a loop
 abbrev pub in_loop : Place → Place
 in_loop place = record place { in_loop = true }
+
+-- ---- a variable, which declares its name where it overwrites no other
+
+module _ (index : Option NonZeroUsize) (name : Name) where
+  pub around_var : (names : List Name) (place : Place) →
+      walk.after_var faulty index name (around names place) ≡ around (var_names index name names) place
+  around_var names place =
+      elim index as (λ i. walk.after_var faulty i name (around names place) ≡ around (var_names i name names) place) [
+        | None ↦ refl
+        | Some offset ↦ refl
+      ]
+
+  pub above_var : (base names : List Name) → var_names index name (base ++ names) ≡ base ++ var_names index name names
+  above_var base names = elim index as (λ i. var_names i name (base ++ names) ≡ base ++ var_names i name names) [
+    | None ↦ append_assoc base names (name ∷ [])
+    | Some offset ↦ refl
+  ]
+
+  pub begins_var : (names new : List Name) → new ≡ var_names index name names → Begins names new
+  begins_var names new is = elim index as (λ i. new ≡ var_names i name names → Begins names new) [
+    | None ↦ λ is. (name ∷ [], is)
+    | Some offset ↦ λ is. ([], is ∙ sym (append-nil names))
+  ] is
 
 -- ---- the body of a `for`
 

@@ -1,6 +1,6 @@
 -- Pieces of runs, as the functions of the evaluator put them together.
-use Rattle.std.proofs.Common.{◌≡◌, ◌≢◌, ◌<◌, ◌≤◌, ◌+◌, ◌==◌, ℕ, Bool, true, false, List, [], ◌∷◌, length, take, drop, get_or}
-use Rattle.std.proofs.Common.{arith, drop-cons, add-one, Option, Some, None, Result, Ok, Err, refl, sym, ap, is_some, rules}
+use Rattle.std.proofs.Common.{◌≡◌, ◌≢◌, ◌<◌, ◌≤◌, ◌+◌, ◌==◌, ◌&&◌, ℕ, Bool, true, false, List, [], ◌∷◌, length, take, drop, get_or}
+use Rattle.std.proofs.Common.{arith, drop-cons, add-one, Option, Some, None, Result, Ok, Err, refl, sym, ap, is_none, is_some, rules}
 use Rattle.std.proofs.lemmas.Bool.{lt-ltb, le-ltb, true≢false}
 use Rattle.std.proofs.lemmas.List as Lemmas
 use Rattle.std.specs.Prelude.{IsTrue, OnOk}
@@ -30,7 +30,7 @@ use Rattle.rhai_tree.specs.declared.expr.FnCallExpr.{FnCallExpr}
 use Rattle.rhai_tree.specs.declared.token.Token.{Token}
 use Rattle.rhai_machine.specs.language.Statements.{restored_by, saved_by, deeper, define_core}
 use Rattle.rhai_machine.specs.language.Unwinding.{down_core, up_core}
-use Rattle.rhai_tree.specs.Forms.{is_exported}
+use Rattle.std.specs.declared.num.NonZeroUsize.{NonZeroUsize}
 use Rattle.rhai_machine.specs.language.Values.{flat, unit_value}
 use Rattle.rhai_machine.specs.language.Runs.{at, Goes, Steps, Runs}
 use Rattle.rhai_tree.specs.declared.expr.Ident.{Ident}
@@ -156,7 +156,7 @@ module _ {S H : Type 0} (rules : Rules S H) where
   -- where a frame flattens its value
   abbrev pub flattens : Frame H → Option Position
   flattens (StatementValue value_at) = Some value_at
-  flattens (DefineValue ident options restoring value_at) = Some value_at
+  flattens (DefineValue ident index options restoring value_at) = Some value_at
   flattens (UnaryOperand operation operand_at) = Some operand_at
   flattens (LeftOperand operation left_at right) = Some left_at
   flattens (RightOperand operation left right_at) = Some right_at
@@ -173,7 +173,7 @@ module _ {S H : Type 0} (rules : Rules S H) where
     flat_core : (f : Frame H) → flattens f ≡ Some pos → Err e ≡ flat l.local.around.cells v pos →
         up_core rules.setting f v k l.local ≡ core (Fail e) k l.local
     flat_core (StatementValue value_at) is told = let same : value_at ≡ pos = cc in rw (same, ← told) refl
-    flat_core (DefineValue ident options restoring value_at) is told = let same : value_at ≡ pos = cc in rw (same, ← told) refl
+    flat_core (DefineValue ident index options restoring value_at) is told = let same : value_at ≡ pos = cc in rw (same, ← told) refl
     flat_core (UnaryOperand operation operand_at) is told = let same : operand_at ≡ pos = cc in rw (same, ← told) refl
     flat_core (LeftOperand operation left_at right) is told = let same : left_at ≡ pos = cc in rw (same, ← told) refl
     flat_core (RightOperand operation left right_at) is told = let same : right_at ≡ pos = cc in rw (same, ← told) refl
@@ -189,7 +189,7 @@ module _ {S H : Type 0} (rules : Rules S H) where
     flat_passes : (f : Frame H) → flattens f ≡ Some pos → (x : EvalAltResult H) →
         down_core rules.setting f x k l.local ≡ core (Fail x) k l.local
     flat_passes (StatementValue value_at) is x = refl
-    flat_passes (DefineValue ident options restoring value_at) is x = refl
+    flat_passes (DefineValue ident index options restoring value_at) is x = refl
     flat_passes (UnaryOperand operation operand_at) is x = refl
     flat_passes (LeftOperand operation left_at right) is x = refl
     flat_passes (RightOperand operation left right_at) is x = refl
@@ -208,10 +208,10 @@ module _ {S H : Type 0} (rules : Rules S H) where
     flat_fails f is told = fails_on v f k l e (flat_passes f is) (λ m. flat_core f is (told m))
 
   -- a `let`: refused, or on to its value
-  module _ (ident : Ident) (value : Expr) (options : ASTFlags) (pos : Position) (restoring : Bool) (k : List (Frame H))
-      (l : State S H) where
+  module _ (ident : Ident) (value : Expr) (index : Option NonZeroUsize) (options : ASTFlags) (pos : Position) (restoring : Bool)
+      (k : List (Frame H)) (l : State S H) where
     refused_core : (taken full : Bool) (e : EvalAltResult H) → Err e ≡ declarable ident.name pos taken full →
-        define_core rules.setting taken full ident value options restoring pos k l.local ≡ core (Fail e) k l.local
+        define_core rules.setting taken full ident value index options restoring pos k l.local ≡ core (Fail e) k l.local
     refused_core true full e is = let same : e ≡ error.ErrorVariableExists ident.name pos = cc in
         ap (λ (x : EvalAltResult H). core (Fail x) k l.local) (sym same)
     refused_core false true e is = let same : e ≡ error.ErrorTooManyVariables pos = cc in
@@ -219,30 +219,29 @@ module _ {S H : Type 0} (rules : Rules S H) where
     refused_core false false e is = cc
 
     declared_core : (taken full : Bool) → Ok tt ≡ declarable {H = H} ident.name pos taken full →
-        define_core rules.setting taken full ident value options restoring pos k l.local ≡ core (Eval value)
-        (DefineValue ident options restoring (position_of value) ∷ k) l.local
+        define_core rules.setting taken full ident value index options restoring pos k l.local ≡ core (Eval value)
+        (DefineValue ident index options restoring (position_of value) ∷ k) l.local
     declared_core true full is = cc
     declared_core false true is = cc
     declared_core false false is = refl
 
-    -- the name is taken, or the scope is full
+    -- the name is taken, or the scope is full for a new one
     abbrev taken : Bool
     taken = is_taken rules.setting.offer.allow_shadowing ident.name l.local.scope
 
     abbrev full : Bool
-    full = is_full rules.setting.limits l.local.scope
+    full = is_none index && is_full rules.setting.limits l.local.scope
 
     pub not_declared : (e : EvalAltResult H) → (is_out_of_memory e ≡ false → Err e ≡ declarable ident.name pos taken full) →
-        is_exported options ≡ false →
-        Goes rules (at (OpenStmt (layer.Var ident value None options pos) restoring) k l) (at (Fail e) k l)
-    not_declared e is kept = or_wants rules (OpenStmt (layer.Var ident value None options pos) restoring) k l e (λ m.
-        step_by rules _ _ (Go (core (Fail e) k l.local)) (rw kept (ap Go (refused_core taken full e (is m)))) here)
+        Goes rules (at (OpenStmt (layer.Var ident value index options pos) restoring) k l) (at (Fail e) k l)
+    not_declared e is = or_wants rules (OpenStmt (layer.Var ident value index options pos) restoring) k l e (λ m.
+        step_by rules _ _ (Go (core (Fail e) k l.local)) (ap Go (refused_core taken full e (is m))) here)
 
-    pub begins_value : Ok tt ≡ declarable {H = H} ident.name pos taken full → is_exported options ≡ false →
-        Goes rules (at (OpenStmt (layer.Var ident value None options pos) restoring) k l)
-        (at (Eval value) (DefineValue ident options restoring (position_of value) ∷ k) l)
-    begins_value is kept = step_by rules _ _ (Go (core (Eval value) (DefineValue ident options restoring (position_of value) ∷ k) l.local))
-        (rw kept (ap Go (declared_core taken full is))) here
+    pub begins_value : Ok tt ≡ declarable {H = H} ident.name pos taken full →
+        Goes rules (at (OpenStmt (layer.Var ident value index options pos) restoring) k l)
+        (at (Eval value) (DefineValue ident index options restoring (position_of value) ∷ k) l)
+    begins_value is = step_by rules _ _ (Go (core (Eval value) (DefineValue ident index options restoring (position_of value) ∷ k) l.local))
+        (ap Go (declared_core taken full is)) here
 
 pub still_none : {A : Type 0} (o : Option A) → is_some o ≡ false → o ≡ None
 still_none None h = refl

@@ -1,9 +1,9 @@
 -- The names of a scope that is cut back or grows, and the operands of a checked operator call.
-use Rattle.std.proofs.Common.{◌≡◌, ◌<◌, ◌+◌, ℕ, Bool, true, false, ◌&&◌, ◌||◌, IsTrue, subst, get_or, drop, List, [], ◌∷◌, ◌++◌, length}
+use Rattle.std.proofs.Common.{◌≡◌, ◌<◌, ◌+◌, ℕ, Bool, true, false, ◌&&◌, ◌||◌, IsTrue, if◌then◌else◌, subst, get_or, drop, List, [], ◌∷◌, ◌++◌, length}
 use Rattle.std.proofs.Common.{take, map, refl, sym, ap, ◌∙◌}
 use Rattle.std.proofs.lemmas.List.{take-append-drop, take-map, length-map}
 use Rattle.std.proofs.Math.Seq.{take-append_seam}
-use Rattle.rhai_tree.specs.Names.{Name, Begins}
+use Rattle.rhai_tree.specs.Names.{Name, Begins, is_good}
 use Rattle.rhai_tree.specs.declared.expr.Expr.{Expr}
 use Rattle.rhai_tree.specs.declared.expr.Expr.TheFolds.{fold_out-MapEntry}
 use Rattle.rhai_tree.specs.declared.expr.MapEntry.{MapEntry}
@@ -19,15 +19,15 @@ use Rattle.rhai_tree.specs.declared.expr.Stmt.{Stmt, out-Stmt}
 use Rattle.rhai_tree.specs.declared.expr.Expr.TheOpen as layer
 use Rattle.rhai_tree.specs.declared.flags.ASTFlags.{ASTFlags}
 use Rattle.rhai_tree.specs.declared.position.Position.{Position}
-use Rattle.rhai_tree.specs.Forms.{is_exported}
-use Rattle.rhai_tree.specs.Frame.{resolves_stmt}
+use Rattle.std.specs.declared.num.NonZeroUsize.{NonZeroUsize}
+use Rattle.rhai_tree.specs.Frame.{resolves_stmt, var_names, var_resolves}
 use Rattle.rhai_tree.specs.Layers.{StmtLayer}
 use Rattle.rhai_tree.proofs.Walk.{resolves-stmt, stmt_tests}
 use Rattle.std.proofs.Common.{Option, None, Some}
 use Rattle.rhai_values.specs.declared.base.value.Dynamic.{Dynamic}
 use Rattle.rhai_pointers.specs.Leading.{all_args, this_lent}
 use Rattle.rhai_tree.specs.declared.expr.Ident.{Ident}
-use Rattle.rhai_operands.proofs.Names.{both, fails_then}
+use Rattle.rhai_operands.proofs.Names.{both}
 use Rattle.rhai_cycle.proofs.Chain.{drop_item}
 
 module _ {H : Type 0} where
@@ -121,11 +121,27 @@ pub any_item : {A : Type 0} (f : A → Bool) (xs : List A) (i : ℕ) (x : A) →
 any_item f xs i x lt is h = subst (λ items. IsTrue (any_of (map f items))) (take-append-drop i xs)
     (any_later f (take i xs) (drop i xs) (rw (drop_item xs i x lt is) (or_left (f x) (any_of (map f (drop (i + 1) xs))) h)))
 
--- a new variable that resolves is not exported
-pub plain_var : (stmt : Stmt) (ident : Ident) (value : Expr) (options : ASTFlags) (pos : Position) (names : List Name) →
-    out-Stmt stmt ≡ layer.Var ident value None options pos → IsTrue (resolves_stmt stmt names).0 → is_exported options ≡ false
-plain_var stmt ident value options pos names is h = (fails_then (is_exported options) _
-    (rw (resolves-stmt stmt (layer.Var ident value None options pos) is) at h)).0
+-- what a statement that declares a variable relies on, and the names behind it
+module _ (stmt : Stmt) (names : List Name) (ident : Ident) (value : Expr) (index : Option NonZeroUsize) (options : ASTFlags) (pos : Position)
+    (is : out-Stmt stmt ≡ layer.Var ident value index options pos) where
+  pub declared_resolves : IsTrue (resolves_stmt stmt names).0 → IsTrue (var_resolves index ident (tests_of value) options pos names)
+  declared_resolves h = rw (resolves-stmt stmt (layer.Var ident value index options pos) is) at h
+
+  pub declared_names : (resolves_stmt stmt names).1 ≡ var_names index ident.name names
+  declared_names = ap (λ (f : walk.SeenStmt sound). (f names).1) (resolves-stmt stmt (layer.Var ident value index options pos) is)
+
+-- a variable that is declared has a value that resolves, and an offset that is good
+offset_holds : (good value : Bool) → IsTrue ((if good then true else false) && value) → IsTrue good × IsTrue value
+offset_holds true value h = (refl, h)
+offset_holds false value h = cc
+
+pub var_value : (index : Option NonZeroUsize) (ident : Ident) (value : Expr) (options : ASTFlags) (pos : Position) (names : List Name) →
+    IsTrue (var_resolves index ident (tests_of value) options pos names) → IsTrue (resolves_expr value names)
+var_value index ident value options pos names h = (offset_holds (is_good index ident.name names) (resolves_expr value names) h).1
+
+pub var_good : (index : Option NonZeroUsize) (ident : Ident) (value : Expr) (options : ASTFlags) (pos : Position) (names : List Name) →
+    IsTrue (var_resolves index ident (tests_of value) options pos names) → IsTrue (is_good index ident.name names)
+var_good index ident value options pos names h = (offset_holds (is_good index ident.name names) (resolves_expr value names) h).0
 
 -- a statement that adds no name leaves the names
 pub names_left : (stmt : Stmt) (l : StmtLayer) (names : List Name) → out-Stmt stmt ≡ l →

@@ -2,9 +2,8 @@
 
 ghost use Rattle.std.specs.Prelude.{◌≡◌, ◌<◌, ◌≤◌, ◌++◌, ◌∷◌, [], IfErr, IfSome, IsTrue, true, false};
 ghost use Rattle.std.specs.Prelude.{None, length, map};
-ghost use Rattle.rhai_tree.specs.Forms.{is_exported};
 ghost use Rattle.rhai_tree.specs.Frame.{tests_of, target_resolves, resolves_expr, resolves_stmt};
-ghost use Rattle.rhai_tree.specs.Frame.{all_resolve, resolves_block};
+ghost use Rattle.rhai_tree.specs.Frame.{all_resolve, resolves_block, var_names, var_resolves};
 ghost use Rattle.rhai_tree.specs.declared.expr.Expr.{out-Expr};
 ghost use Rattle.rhai_tree.specs.declared.expr.Expr.TheOpen as layer;
 ghost use Rattle.rhai_state.specs.Errors.{is_out_of_memory};
@@ -20,7 +19,6 @@ ghost use Rattle.rhai_cycle.specs.Memory.{asks_if, asks_stmt, may_ask};
 ghost use Rattle.rhai_cycle.specs.States.{names, state_in, under};
 
 use crate::evaluator::Evaluator;
-use rhai_assign::declaring::{declare, is_declarable};
 use rhai_assign::in_place::assign_in_place;
 use rhai_assign::left::{assign_left, assign_left_to_this};
 use rhai_assign::lists::open_list;
@@ -28,6 +26,7 @@ use rhai_context::Context;
 use rhai_context::ends::{leave_unit, put_unit, stop};
 use rhai_context::outcomes::{charge_stmt, flatten_at};
 use rhai_items::assign_item;
+use rhai_sharing::declaring::{declare, is_declarable};
 use rhai_sharing::exporting::export_variable;
 use rhai_sharing::share_variables;
 use rhai_state::error::EvalAltResult;
@@ -42,6 +41,7 @@ use rhai_tree::flags::ASTFlags;
 use rhai_tree::position::Position;
 use rhai_values::base::value::{Dynamic, Host};
 use std::alloc::Global;
+use std::num::NonZeroUsize;
 
 /// An assignment that is done in place: under fast operators, one by an operator to a variable, where its
 /// value is an operand that stands and there is a built-in for it, or to an item of an array that a variable
@@ -134,9 +134,9 @@ impl<'e, H: Host> Evaluator<'e, H> {
                 self.run_assignment(alloc, run, table, op, lhs, rhs)
             }
             Stmt::If(test, body, branch, _) => self.run_if(alloc, run, table, test, body, branch),
-            Stmt::Var(ident, value, None, options, pos) => {
-                self.run_var(alloc, run, table, ident, value, *options, *pos, restoring)
-            }
+            Stmt::Var(ident, value, index, options, pos) => self.run_var(
+                alloc, run, table, ident, value, *index, *options, *pos, restoring,
+            ),
             Stmt::While(test, body, _) => self.run_while(alloc, run, table, test, body),
             Stmt::Do(test, body, options, _) => {
                 self.run_do(alloc, run, table, test, body, *options)
@@ -351,7 +351,7 @@ impl<'e, H: Host> Evaluator<'e, H> {
         }
     }
 
-    /// A new variable. How it ended stands in the run.
+    /// A new variable, or one that overwrites another. How it ended stands in the run.
     #[inline(never)]
     #[cycle(eval)]
     fn run_var<T: NativeTable<H>>(
@@ -361,15 +361,16 @@ impl<'e, H: Host> Evaluator<'e, H> {
         table: &mut T,
         ident: &Ident,
         value: &Expr,
+        index: Option<NonZeroUsize>,
         options: ASTFlags,
         pos: Position,
         restoring: bool,
     ) -> bool
-        requires resolves { IsTrue (resolves_expr value.now (names run.old)) }
+        requires resolves { IsTrue (var_resolves index ident.now (tests_of value.now) options pos (names run.old)) }
         ensures counts { IsTrue result → run.old.global.num_operations ≤ run.new.global.num_operations }
-        ensures names { IsTrue result → names run.new ≡ names run.old ++ ident.now.name ∷ [] }
-        ensures runs { is_exported options ≡ false → Runs (under H.name_of self.now T.natives)
-            (OpenStmt (layer.Var ident.now value.now None options pos) restoring)
+        ensures names { IsTrue result → names run.new ≡ var_names index ident.now.name (names run.old) }
+        ensures runs { Runs (under H.name_of self.now T.natives)
+            (OpenStmt (layer.Var ident.now value.now index options pos) restoring)
             (state_in (T.state table.old) run.old) (came result run.new.value run.new.error)
             (state_in (T.state table.new) run.new) }
     {
@@ -379,6 +380,7 @@ impl<'e, H: Host> Evaluator<'e, H> {
             &run.scope,
             &mut run.error,
             &ident.name,
+            index,
             pos,
         ) {
             return false;
@@ -402,6 +404,7 @@ impl<'e, H: Host> Evaluator<'e, H> {
             &mut run.value,
             &mut run.error,
             ident,
+            index,
             options,
             restoring,
             pos,

@@ -90,9 +90,9 @@ module _ {H : Type 0} (own : H → List Reached) (P : Reached → Type 0) (least
       Good (up_core s frame v k l)
   up_good (StatementValue at) v k l f b = ended_fits own P least (flat l.around.cells v at) k l
       (flat_fits own P least (flat l.around.cells v at) (flat_gives own P least l v at b.local f)) (pop own P least _ k l b.back b)
-  up_good (DefineValue ident options restoring value_at) v k l f b =
+  up_good (DefineValue ident index options restoring value_at) v k l f b =
       let c = pop own P least _ k l b.back b in
-      flat_on v k l f c value_at _ (λ x g. defined_good own P least x ident options restoring k l g.0 c)
+      flat_on v k l f c value_at _ (λ x g. defined_good own P least x ident index options restoring k l g.0 c)
   up_good (IfCondition test_at body branch) v k l f b =
       let c = pop own P least _ k l b.back b in
       truth_on v k l f c test_at _ (λ holds. chosen_good own P least holds body branch k l c)

@@ -1,6 +1,7 @@
 -- The rules of expressions, of statements and of their lists lead to cores that fit.
 use Rattle.std.proofs.Common.{◌≡◌, ℕ, zero, suc, List, [], ◌∷◌, ◌++◌, length, map, refl, slice_get}
-use Rattle.std.specs.Prelude.{Bool, true, false, not, ◌&&◌, nat_le, Option, Some, None, Result, Ok, Err, is_some}
+use Rattle.std.specs.Prelude.{Bool, true, false, not, ◌&&◌, nat_le, Option, Some, None, Result, Ok, Err, is_some, is_none}
+use Rattle.std.specs.declared.num.NonZeroUsize.{NonZeroUsize}
 use Rattle.rhai_tree.specs.declared.expr.Expr.TheOpen as layer
 use Rattle.rhai_tree.specs.declared.expr.FnCallExpr.{FnCallExpr}
 use Rattle.rhai_tree.specs.declared.expr.MapEntry.{MapEntry}
@@ -11,6 +12,7 @@ use Rattle.rhai_machine.specs.Types.{ASTFlags, Dynamic, EvalAltResult, Expr, out
 use Rattle.rhai_machine.specs.Types.{Union}
 use Rattle.rhai_values.specs.declared.base.value.Union.TheVariants as value
 use Rattle.rhai_values.specs.DataSize.{data_sizes}
+use Rattle.rhai_values.specs.Modes.{with_mode}
 use Rattle.rhai_state.specs.declared.error.EvalAltResult.TheVariants as error
 use Rattle.rhai_state.specs.Reach.{Reached}
 use Rattle.rhai_state.specs.declared.scope.ScopeEntry.{ScopeEntry}
@@ -26,7 +28,8 @@ use Rattle.rhai_machine.specs.language.Expressions.{argument_move, call_move, an
 use Rattle.rhai_machine.specs.language.Expressions.{coalesce_seen, coalesce_next, expr_move}
 use Rattle.rhai_machine.specs.language.Loops.{goes_on, while_move, while_core, if_goes_on, do_control, caught}
 use Rattle.rhai_machine.specs.language.Statements.{has_option, mode_of, loop_of, enter_core, run_core, chosen_core, enters, constant_core}
-use Rattle.rhai_machine.specs.language.Statements.{added, defined_core, break_core, return_move, define_core, stmt_move}
+use Rattle.rhai_machine.specs.language.Statements.{added, overwritten, written, declared_core, defined_core, break_core, return_move}
+use Rattle.rhai_machine.specs.language.Statements.{define_core, stmt_move}
 use Rattle.rhai_machine.specs.language.Exports.{alias_or, export_at, exported}
 use Rattle.rhai_machine.specs.language.Walks.{has_no_room}
 use Rattle.rhai_fits.specs.Contents.{of_scope, of_values}
@@ -36,7 +39,7 @@ use Rattle.rhai_fits.proofs.Literals.{FitsMaybe, fit_literal}
 use Rattle.rhai_fits.proofs.Errors.{FitError, fit_error, error_fits}
 use Rattle.rhai_fits.proofs.Fitting.{AllFit, FitBelow, FitCore, FitLocal, Gives, Flat, to, back, fail, unit, push, on, ended_fits}
 use Rattle.rhai_fits.proofs.Fitting.{values_joined, scope_joined}
-use Rattle.rhai_fits.proofs.Seeing.{Any, copied_gives, given_fits, read_fits, bound_gives, within_sizes_gives}
+use Rattle.rhai_fits.proofs.Seeing.{Any, copied_gives, given_fits, read_fits, bound_gives, within_sizes_gives, put_entry}
 use Rattle.rhai_fits.proofs.Spots.{entry_fits}
 use Rattle.rhai_fits.proofs.Arguments.{fit_all, call_good}
 use Rattle.rhai_fits.proofs.Natives.{Moves}
@@ -239,68 +242,6 @@ module _ {H : Type 0} (own : H → List Reached) (P : Reached → Type 0) (least
   caught_good turn (error.LoopBreak v true at) k l h t b = back own P least v k l (error_fits own P (error.LoopBreak v true at) h) b
   caught_good turn e k l h t b = fail own P least e k l h b
 
-  -- ---- statements
-
-  pub chosen_good : (holds : Bool) (body branch : StmtBlock) (k : List (Frame H)) (l : Local H) → Below k l →
-      Good (chosen_core holds body branch k l)
-  chosen_good true body branch k l b = to own P least _ k l tt tt b
-  chosen_good false body branch k l b = to own P least _ k l tt tt b
-
-  -- a constant is entered beside the cells
-  constant_fits : (enters : Bool) (name : List ℕ) (v : Dynamic H) (l : Local H) → FitLocal own P least l →
-      FitLocal own P least (constant_core enters name v l)
-  constant_fits true name v l h =
-      record { scope = h.scope; this = h.this; focus = h.focus; cells = h.cells; sealed = h.sealed; enough = h.enough }
-  constant_fits false name v l h = h
-
-  added_below : (enters : Bool) (v : Dynamic H) (ident : Ident) (options : ASTFlags) (k : List (Frame H)) (l : Local H) → Fit own P v →
-      Below k l → Below k (added v ident options (constant_core enters ident.name v l))
-  added_below true v ident options k l f b = record {
-    stack = b.stack;
-    sealed = b.sealed;
-    back = b.back;
-    local = record {
-      scope = scope_joined own P least l.scope (new_entry ident.name (mode_of options) v ∷ []) b.local.scope
-          (fit_mode own P (mode_of options) v f, tt);
-      this = b.local.this;
-      focus = b.local.focus;
-      cells = b.local.cells;
-      sealed = b.local.sealed;
-      enough = b.local.enough;
-    };
-  }
-  added_below false v ident options k l f b = record {
-    stack = b.stack;
-    sealed = b.sealed;
-    back = b.back;
-    local = record {
-      scope = scope_joined own P least l.scope (new_entry ident.name (mode_of options) v ∷ []) b.local.scope
-          (fit_mode own P (mode_of options) v f, tt);
-      this = b.local.this;
-      focus = b.local.focus;
-      cells = b.local.cells;
-      sealed = b.local.sealed;
-      enough = b.local.enough;
-    };
-  }
-
-  pub defined_good : (v : Dynamic H) (ident : Ident) (options : ASTFlags) (restoring : Bool) (k : List (Frame H)) (l : Local H) →
-      Fit own P v → Below k l → Good (defined_core v ident options restoring k l)
-  defined_good v ident options restoring k l f b =
-      unit own P least k _ (added_below (enters options restoring l) v ident options k l f b)
-
-  break_good : (value : Option Expr) (is_break : Bool) (pos : Position) (k : List (Frame H)) (l : Local H) → Below k l →
-      Good (break_core value is_break pos k l)
-  break_good None is_break pos k l b = fail own P least _ k l (fit_error own P _ (fit_unit own P)) b
-  break_good (Some value) is_break pos k l b = to own P least _ _ l tt tt (push own P least _ k l tt tt b.back b)
-
-  return_good : (throws : Bool) (value : Option Expr) (pos : Position) (k : List (Frame H)) (l : Local H) → Below k l →
-      Moves own P least (return_move throws value pos k l)
-  return_good true None pos k l b = fail own P least _ k l (fit_error own P _ (fit_unit own P)) b
-  return_good true (Some value) pos k l b = to own P least _ _ l tt tt (push own P least _ k l tt tt b.back b)
-  return_good false None pos k l b = fail own P least _ k l (fit_error own P _ (fit_unit own P)) b
-  return_good false (Some value) pos k l b = to own P least _ _ l tt tt (push own P least _ k l tt tt b.back b)
-
   -- ---- exported variables
 
   aliased_fits : (es : List (ScopeEntry H)) (at : ℕ) (there : Option (ScopeEntry H)) (alias : List ℕ) → slice_get es at ≡ there →
@@ -331,12 +272,90 @@ module _ {H : Type 0} (own : H → List Reached) (P : Reached → Type 0) (least
       unit own P least k (exported at (alias_or ident.name alias) l) (aliased_below at (alias_or ident.name alias) k l b)
   export_good None ident alias k l b = fail own P least _ k l (fit_error own P _ tt) b
 
+  -- ---- statements
+
+  pub chosen_good : (holds : Bool) (body branch : StmtBlock) (k : List (Frame H)) (l : Local H) → Below k l →
+      Good (chosen_core holds body branch k l)
+  chosen_good true body branch k l b = to own P least _ k l tt tt b
+  chosen_good false body branch k l b = to own P least _ k l tt tt b
+
+  -- a constant is entered beside the cells
+  constant_fits : (enters : Bool) (name : List ℕ) (v : Dynamic H) (l : Local H) → FitLocal own P least l →
+      FitLocal own P least (constant_core enters name v l)
+  constant_fits true name v l h =
+      record { scope = h.scope; this = h.this; focus = h.focus; cells = h.cells; sealed = h.sealed; enough = h.enough }
+  constant_fits false name v l h = h
+
+  constant_below : (enters : Bool) (name : List ℕ) (v : Dynamic H) (k : List (Frame H)) (l : Local H) → Below k l →
+      Below k (constant_core enters name v l)
+  constant_below true name v k l b =
+      record { stack = b.stack; sealed = b.sealed; back = b.back; local = constant_fits true name v l b.local }
+  constant_below false name v k l b = b
+
+  -- a new variable's value fits, and so does one that overwrites another
+  added_below : (v : Dynamic H) (ident : Ident) (options : ASTFlags) (k : List (Frame H)) (l : Local H) → Fit own P v → Below k l →
+      Below k (added v ident options l)
+  added_below v ident options k l f b = record {
+    stack = b.stack;
+    sealed = b.sealed;
+    back = b.back;
+    local = record {
+      scope = scope_joined own P least l.scope (new_entry ident.name (mode_of options) v ∷ []) b.local.scope
+          (fit_mode own P (mode_of options) v f, tt);
+      this = b.local.this;
+      focus = b.local.focus;
+      cells = b.local.cells;
+      sealed = b.local.sealed;
+      enough = b.local.enough;
+    };
+  }
+
+  overwritten_below : (place : Option ℕ) (v : Dynamic H) (options : ASTFlags) (k : List (Frame H)) (l : Local H) → Fit own P v →
+      Below k l → Below k (overwritten place v options l)
+  overwritten_below (Some at) v options k l f b = record {
+    stack = b.stack;
+    sealed = b.sealed;
+    back = b.back;
+    local = put_entry own P least at (with_mode (mode_of options) v) l b.local (fit_mode own P (mode_of options) v f);
+  }
+  overwritten_below None v options k l f b = b
+
+  written_below : (index : Option NonZeroUsize) (v : Dynamic H) (ident : Ident) (options : ASTFlags) (k : List (Frame H)) (l : Local H) →
+      Fit own P v → Below k l → Below k (written index v ident options l)
+  written_below None v ident options k l f b = added_below v ident options k l f b
+  written_below (Some offset) v ident options k l f b = overwritten_below (index_of ident.name l.scope) v options k l f b
+
+  declared_good : (exported : Bool) (ident : Ident) (k : List (Frame H)) (l : Local H) → Below k l → Good (declared_core exported ident k l)
+  declared_good true ident k l b = export_good (index_of ident.name l.scope) ident None k l b
+  declared_good false ident k l b = unit own P least k l b
+
+  pub defined_good : (v : Dynamic H) (ident : Ident) (index : Option NonZeroUsize) (options : ASTFlags) (restoring : Bool)
+      (k : List (Frame H)) (l : Local H) →
+      Fit own P v → Below k l → Good (defined_core v ident index options restoring k l)
+  defined_good v ident index options restoring k l f b =
+      let entered = constant_core (enters options restoring l) ident.name v l in
+      declared_good (is_exported options) ident k (written index v ident options entered)
+      (written_below index v ident options k entered f (constant_below (enters options restoring l) ident.name v k l b))
+
+  break_good : (value : Option Expr) (is_break : Bool) (pos : Position) (k : List (Frame H)) (l : Local H) → Below k l →
+      Good (break_core value is_break pos k l)
+  break_good None is_break pos k l b = fail own P least _ k l (fit_error own P _ (fit_unit own P)) b
+  break_good (Some value) is_break pos k l b = to own P least _ _ l tt tt (push own P least _ k l tt tt b.back b)
+
+  return_good : (throws : Bool) (value : Option Expr) (pos : Position) (k : List (Frame H)) (l : Local H) → Below k l →
+      Moves own P least (return_move throws value pos k l)
+  return_good true None pos k l b = fail own P least _ k l (fit_error own P _ (fit_unit own P)) b
+  return_good true (Some value) pos k l b = to own P least _ _ l tt tt (push own P least _ k l tt tt b.back b)
+  return_good false None pos k l b = fail own P least _ k l (fit_error own P _ (fit_unit own P)) b
+  return_good false (Some value) pos k l b = to own P least _ _ l tt tt (push own P least _ k l tt tt b.back b)
+
   module _ (s : Setting H) where
-    define_good : (shadows full : Bool) (ident : Ident) (value : Expr) (options : ASTFlags) (restoring : Bool) (pos : Position)
-        (k : List (Frame H)) (l : Local H) → Below k l → Good (define_core s shadows full ident value options restoring pos k l)
-    define_good true full ident value options restoring pos k l b = fail own P least _ k l (fit_error own P _ tt) b
-    define_good false true ident value options restoring pos k l b = fail own P least _ k l (fit_error own P _ tt) b
-    define_good false false ident value options restoring pos k l b =
+    define_good : (shadows full : Bool) (ident : Ident) (value : Expr) (index : Option NonZeroUsize) (options : ASTFlags)
+        (restoring : Bool) (pos : Position) (k : List (Frame H)) (l : Local H) → Below k l →
+        Good (define_core s shadows full ident value index options restoring pos k l)
+    define_good true full ident value index options restoring pos k l b = fail own P least _ k l (fit_error own P _ tt) b
+    define_good false true ident value index options restoring pos k l b = fail own P least _ k l (fit_error own P _ tt) b
+    define_good false false ident value index options restoring pos k l b =
         to own P least _ _ l tt tt (push own P least _ k l tt tt b.back b)
 
     pub stmt_good : (form : StmtLayer) (restoring : Bool) (k : List (Frame H)) (l : Local H) → Below k l →
@@ -346,9 +365,9 @@ module _ {H : Type 0} (own : H → List Reached) (P : Reached → Type 0) (least
     stmt_good (layer.Stmt::FnCall call pos) restoring k l b = to own P least _ k l tt tt b
     stmt_good (layer.Block block) restoring k l b = to own P least _ k l tt tt b
     stmt_good (layer.Assignment op lhs rhs) restoring k l b = assignment_good own P least (out-Expr lhs) op rhs k l b
-    stmt_good (layer.Var ident value None options pos) restoring k l b = there_good own P least (not (is_exported options)) _
-        (define_good (not s.offer.allow_shadowing && is_some (index_of ident.name l.scope))
-        (nat_le s.limits.max_variables (length l.scope)) ident value options restoring pos k l b)
+    stmt_good (layer.Var ident value index options pos) restoring k l b =
+        define_good (not s.offer.allow_shadowing && is_some (index_of ident.name l.scope))
+        (is_none index && nat_le s.limits.max_variables (length l.scope)) ident value index options restoring pos k l b
     stmt_good (layer.If test body branch pos) restoring k l b = to own P least _ _ l tt tt (push own P least _ k l tt tt b.back b)
     stmt_good (layer.Switch value results cases ranges default pos) restoring k l b =
         to own P least _ _ l tt tt (push own P least _ k l tt tt b.back b)

@@ -308,8 +308,8 @@ module _ {H : Type 0} where
   put_stands InFocus v l is = tt
 
   module _ (a : Asked) where
-    -- what is asked of the names n over a stack: under the rest of a list, and under a `let`, there may be more of them; under the value of
-    -- a `for` its own come then
+    -- what is asked of the names n over a stack: under the rest of a list, and under a `let` that overwrites none, there may be more of
+    -- them; under the value of a `for` its own come then
     abbrev pub Tight : List (Frame H) → List Name → Type 0
     Tight [] n = a.last n
     Tight (RestoreList saved ∷ k) n = a.along (take saved.scope_length n) × Tight k (take saved.scope_length n)
@@ -317,7 +317,7 @@ module _ {H : Type 0} where
     Tight (RestoreScope length ∷ k) n = a.along (take length n) × Tight k (take length n)
     Tight (ForItems loop ∷ k) n = a.along (n ++ loop_names loop) × Tight k n
     Tight (CallEnd exit ∷ k) n = a.along (names_back exit.variables n) × Tight k (names_back exit.variables n)
-    Tight (DefineValue ident options restoring value_at ∷ k) n =
+    Tight (DefineValue ident None options restoring value_at ∷ k) n =
         a.along (n ++ ident.name ∷ []) × ((m : List Name) → Begins n m → a.along m → Tight k m)
     Tight (_ ∷ k) n = Tight k n
 

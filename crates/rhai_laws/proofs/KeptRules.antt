@@ -4,6 +4,7 @@ use Rattle.std.proofs.lemmas.Bool.Decides.{nat_tests}
 use Rattle.std.proofs.lemmas.List.{length-map, map-append}
 use Rattle.std.specs.Prelude.{◌≡◌, ◌≤◌, ◌+◌, ℕ, nat_le, nat_lt, length, not, ◌&&◌, Bool, true, false, List, [], ◌∷◌, ◌++◌, map}
 use Rattle.std.specs.Prelude.{Option, Some, None, Result, Ok, Err, is_some}
+use Rattle.std.specs.declared.num.NonZeroUsize.{NonZeroUsize}
 use Rattle.rhai_tree.specs.declared.position.Position.{Position}
 use Rattle.rhai_tree.specs.declared.flags.ASTFlags.{ASTFlags}
 use Rattle.rhai_tree.specs.declared.expr.Ident.{Ident}
@@ -15,6 +16,7 @@ use Rattle.rhai_tree.specs.declared.expr.Expr.TheOpen as layer
 use Rattle.rhai_tree.specs.Layers.{ExprLayer, StmtLayer}
 use Rattle.rhai_tree.specs.Positions.{position_of}
 use Rattle.rhai_values.specs.declared.base.value.AccessMode.{AccessMode}
+use Rattle.rhai_values.specs.Modes.{with_mode}
 use Rattle.rhai_tree.specs.Forms.{is_unqualified, is_exported}
 use Rattle.rhai_tree.specs.Keys.{key_of}
 use Rattle.rhai_values.specs.declared.base.value.Dynamic.{Dynamic}
@@ -42,14 +44,14 @@ use Rattle.rhai_machine.specs.language.Frames.{SwitchValue, SwitchCondition, For
 use Rattle.rhai_machine.specs.language.Bodies.{statements_of, variables_before, body_core, unless_deep, called_back, returned}
 use Rattle.rhai_machine.specs.language.Data.{with_item, with_value, with_part, items_core, entries_core, parts_core, part_core}
 use Rattle.rhai_machine.specs.language.Data.{joined_core, printed, unprinted_core}
-use Rattle.rhai_machine.specs.language.Places.{is_barred, target_of}
+use Rattle.rhai_machine.specs.language.Places.{InEntry, is_barred, target_of}
 use Rattle.rhai_machine.specs.language.Loops.{is_endless, goes_on, while_move, while_core, if_goes_on, do_control, caught}
 use Rattle.rhai_machine.specs.language.Expressions.{literal_of, argument_move, expr_move, and_core, and_next, or_core}
 use Rattle.rhai_machine.specs.language.Expressions.{or_next, coalesce_core, coalesce_seen, coalesce_next}
 use Rattle.rhai_machine.specs.language.Calls.{builtin_of, call_of, sized}
 use Rattle.rhai_machine.specs.language.Arguments.{flattens, taken}
 use Rattle.rhai_machine.specs.language.Statements.{has_option, mode_of, enter_core, run_core, chosen_core, defined_core, define_core}
-use Rattle.rhai_machine.specs.language.Statements.{added, constant_core, enters}
+use Rattle.rhai_machine.specs.language.Statements.{overwritten, written, declared_core, constant_core, enters}
 use Rattle.rhai_machine.specs.language.Statements.{loop_of, stmt_move, break_core, return_move}
 use Rattle.rhai_machine.specs.language.Turns.{next_turn}
 use Rattle.rhai_machine.specs.language.Walks.{has_no_room}
@@ -65,7 +67,7 @@ use Rattle.rhai_laws.specs.Kept.{declares, Sound, names_of, adds_names}
 use Rattle.rhai_laws.specs.Steady.{Moves}
 use Rattle.rhai_laws.proofs.Keeping.{Asked, Grows, Free, Held, begins_through, unwound, Keeps, quiet, through, after, calm, eager, held}
 use Rattle.rhai_laws.proofs.Keeping.{ended_keeps, step_left, call_left, constant_outline, function_entered, started_by, stopped_by}
-use Rattle.rhai_laws.proofs.Keeping.{entered_around, entered_names, left_names, scope_left}
+use Rattle.rhai_laws.proofs.Keeping.{entered_around, entered_names, left_names, scope_left, put_keeps}
 use Rattle.rhai_laws.proofs.KeptAssignments.{there_keeps, assignment_keeps, store_keeps, store_this_keeps, barred_keeps}
 use Rattle.rhai_laws.proofs.KeptAssignments.{fire_update_keeps}
 use Rattle.rhai_laws.proofs.KeptCalls.{on_keeps, call_keeps, fire_keeps, question_keeps, operator_keeps, arguments_keep, named_keeps}
@@ -228,22 +230,48 @@ module _ {H : Type 0} (a : Asked) where
       rw (map-append name_of l.scope (new_entry ident.name mode w ∷ []))
       (t.1.0, t.1.1 (names_of l ++ ident.name ∷ []) (ident.name ∷ [], refl) t.1.0)
 
-  -- and a constant may be entered besides
-  entered_keeps : (enters : Bool) (ident : Ident) (options : ASTFlags) (restoring : Bool) (value_at : Position) (v w : Dynamic H)
-      (k : List (Frame H)) (l : Local H) →
-      Keeps a (core (Back v) (DefineValue ident options restoring value_at ∷ k) l)
-      (core (Back unit_value) k (added w ident options (constant_core enters ident.name w l)))
-  entered_keeps true ident options restoring value_at v w k l =
-      quiet a tt (ap (unwound k) (constant_outline ident.name w l)) (added_names ident (mode_of options) w k l)
-  entered_keeps false ident options restoring value_at v w k l = quiet a tt refl (added_names ident (mode_of options) w k l)
+  -- a constant is entered beside the variables
+  constant_keeps : (enters : Bool) (name : List ℕ) (v w : Dynamic H) (k : List (Frame H)) (l : Local H) →
+      Keeps a (core (Back v) k l) (core (Back v) k (constant_core enters name w l))
+  constant_keeps true name v w k l = quiet a tt (ap (unwound k) (constant_outline name w l)) (λ t. t)
+  constant_keeps false name v w k l = quiet a tt refl (λ t. t)
 
-  defined_keeps : (r : Result (Dynamic H) (EvalAltResult H)) (ident : Ident) (options : ASTFlags) (restoring : Bool) (value_at : Position)
-      (v : Dynamic H) (k : List (Frame H)) (l : Local H) →
-      Keeps a (core (Back v) (DefineValue ident options restoring value_at ∷ k) l)
-      (on_value r (λ x. defined_core x ident options restoring k l) k l)
-  defined_keeps (Ok w) ident options restoring value_at v k l =
-      entered_keeps (enters options restoring l) ident options restoring value_at v w k l
-  defined_keeps (Err e) ident options restoring value_at v k l = quiet a tt refl (λ t. held a k l (t.0, t.1.1))
+  -- a value that is overwritten changes no name
+  overwritten_keeps : (place : Option ℕ) (w : Dynamic H) (options : ASTFlags) (k : List (Frame H)) (l : Local H) →
+      Keeps a (calm k l) (calm k (overwritten place w options l))
+  overwritten_keeps (Some at) w options k l = put_keeps a (InEntry at) (with_mode (mode_of options) w) k l tt
+  overwritten_keeps None w options k l = quiet a tt refl (λ t. t)
+
+  written_keeps : (index : Option NonZeroUsize) (ident : Ident) (options : ASTFlags) (restoring : Bool) (value_at : Position)
+      (v w : Dynamic H) (k : List (Frame H)) (l : Local H) →
+      Keeps a (core (Back v) (DefineValue ident index options restoring value_at ∷ k) l) (calm k (written index w ident options l))
+  written_keeps None ident options restoring value_at v w k l = quiet a tt refl (added_names ident (mode_of options) w k l)
+  written_keeps (Some offset) ident options restoring value_at v w k l =
+      after a (calm k l) refl (λ t. t) (overwritten_keeps (index_of ident.name l.scope) w options k l)
+
+  -- an alias is no name either
+  declared_keeps : (exported : Bool) (ident : Ident) (k : List (Frame H)) (l : Local H) →
+      Keeps a (calm k l) (declared_core exported ident k l)
+  declared_keeps true ident k l = export_keeps a (index_of ident.name l.scope) ident None k l
+  declared_keeps false ident k l = quiet a tt refl (λ t. t)
+
+  -- a value that did not come adds none
+  undefined_names : (index : Option NonZeroUsize) (ident : Ident) (options : ASTFlags) (restoring : Bool) (value_at : Position)
+      (k : List (Frame H)) (l : Local H) → Held a (calm (DefineValue ident index options restoring value_at ∷ k) l) → Held a (calm k l)
+  undefined_names None ident options restoring value_at k l t = held a k l (t.0, t.1.1)
+  undefined_names (Some offset) ident options restoring value_at k l t = t
+
+  defined_keeps : (r : Result (Dynamic H) (EvalAltResult H)) (ident : Ident) (index : Option NonZeroUsize) (options : ASTFlags)
+      (restoring : Bool) (value_at : Position) (v : Dynamic H) (k : List (Frame H)) (l : Local H) →
+      Keeps a (core (Back v) (DefineValue ident index options restoring value_at ∷ k) l)
+      (on_value r (λ x. defined_core x ident index options restoring k l) k l)
+  defined_keeps (Ok w) ident index options restoring value_at v k l =
+      let entered = constant_core (enters options restoring l) ident.name w l in
+      through a (constant_keeps (enters options restoring l) ident.name v w (DefineValue ident index options restoring value_at ∷ k) l)
+      (through a (written_keeps index ident options restoring value_at v w k entered)
+      (declared_keeps (is_exported options) ident k (written index w ident options entered)))
+  defined_keeps (Err e) ident index options restoring value_at v k l =
+      quiet a tt refl (undefined_names index ident options restoring value_at k l)
 
   module _ (s : Setting H) where
     -- the operands of an operator
@@ -271,8 +299,8 @@ module _ {H : Type 0} (a : Asked) where
     up_keeps : (frame : Frame H) (v : Dynamic H) (k : List (Frame H)) (l : Local H) →
         Keeps a (core (Back v) (frame ∷ k) l) (up_core s frame v k l)
     up_keeps (StatementValue pos) v k l = after a (calm k l) refl (λ t. t) (ended_keeps a (flat l.around.cells v pos) k l)
-    up_keeps (DefineValue ident options restoring value_at) v k l =
-        defined_keeps (flat l.around.cells v value_at) ident options restoring value_at v k l
+    up_keeps (DefineValue ident index options restoring value_at) v k l =
+        defined_keeps (flat l.around.cells v value_at) ident index options restoring value_at v k l
     up_keeps (IfCondition test_at body branch) v k l =
         after a (calm k l) refl (λ t. t) (on_keeps a (truth s.host_type l.around.cells v test_at) _ k l
         (λ holds. chosen_keeps holds body branch k l))
@@ -395,7 +423,8 @@ module _ {H : Type 0} (a : Asked) where
       down_keeps (RestOfList rest restoring) e k l = quiet a tt refl (held a k l)
       down_keeps (CallEnd exit) e k l = after a (calm (CallEnd exit ∷ k) l) refl (λ t. t)
           (through a (call_left a exit k l) (ended_keeps a (returned exit e) k (called_back exit l)))
-      down_keeps (DefineValue ident options restoring value_at) e k l = quiet a tt refl (λ t. held a k l (t.0, t.1.1))
+      down_keeps (DefineValue ident index options restoring value_at) e k l =
+          quiet a tt refl (undefined_names index ident options restoring value_at k l)
       down_keeps (RestoreList saved) e k l = quiet a tt refl (left_names a saved k l)
       down_keeps (ChainEnd lender outer) e k l = after a (calm (ChainEnd lender outer ∷ k) l) refl (λ t. t)
           (through a (chain_left a lender outer k l) (quiet a tt refl (λ t. t)))
@@ -411,11 +440,11 @@ module _ {H : Type 0} (a : Asked) where
           after a (calm k l) refl (λ t. t) (indexer_missing_keeps a (lacks_indexer e) e otherwise k l)
       down_keeps _ e k l = quiet a tt refl (λ t. t)
 
-      -- a `let` is tried only where there is room for one more variable
+      -- a `let` that overwrites none is tried only where there is room for one more variable
       define_keeps : (shadows full : Bool) (ident : Ident) (value : Expr) (options : ASTFlags) (restoring : Bool) (pos : Position)
           (k : List (Frame H)) (l : Local H) →
           nat_le s.limits.max_variables (length l.scope) ≡ full →
-          Keeps a (eager k l) (define_core s shadows full ident value options restoring pos k l)
+          Keeps a (eager k l) (define_core s shadows full ident value None options restoring pos k l)
       define_keeps true full ident value options restoring pos k l is = quiet a tt refl (held a k l)
       define_keeps false true ident value options restoring pos k l is = quiet a tt refl (held a k l)
       define_keeps false false ident value options restoring pos k l is = quiet a tt refl (λ t. (
@@ -426,6 +455,13 @@ module _ {H : Type 0} (a : Asked) where
           t.1,
         ),
       ))
+
+      -- and one that does needs none
+      redefine_keeps : (shadows : Bool) (ident : Ident) (value : Expr) (offset : NonZeroUsize) (options : ASTFlags) (restoring : Bool)
+          (pos : Position) (k : List (Frame H)) (l : Local H) →
+          Keeps a (calm k l) (define_core s shadows false ident value (Some offset) options restoring pos k l)
+      redefine_keeps true ident value offset options restoring pos k l = quiet a tt refl (λ t. t)
+      redefine_keeps false ident value offset options restoring pos k l = quiet a tt refl (λ t. t)
 
       -- a function is entered where it fits
       body_keeps : (stmts : List Stmt) (e : Entered H) (k : List (Frame H)) (l : Local H) →
@@ -450,11 +486,12 @@ module _ {H : Type 0} (a : Asked) where
       stmt_keeps (layer.Assignment op lhs rhs) restoring k l =
           assignment_keeps a (out-Expr lhs) op rhs (core (OpenStmt (layer.Assignment op lhs rhs) restoring) k l) k l
           (quiet a tt refl (λ t. t))
-      stmt_keeps (layer.Var ident value None options pos) restoring k l =
-          there_keeps a (not (is_exported options)) (core (OpenStmt (layer.Var ident value None options pos) restoring) k l) _
-          (after a (eager k l) refl (λ t. t)
+      stmt_keeps (layer.Var ident value None options pos) restoring k l = after a (eager k l) refl (λ t. t)
           (define_keeps (not s.offer.allow_shadowing && is_some (index_of ident.name l.scope))
-          (nat_le s.limits.max_variables (length l.scope)) ident value options restoring pos k l refl))
+          (nat_le s.limits.max_variables (length l.scope)) ident value options restoring pos k l refl)
+      stmt_keeps (layer.Var ident value (Some offset) options pos) restoring k l = after a (calm k l) refl (λ t. t)
+          (redefine_keeps (not s.offer.allow_shadowing && is_some (index_of ident.name l.scope)) ident value offset options restoring pos
+          k l)
       stmt_keeps (layer.If test body branch pos) restoring k l = quiet a tt refl (λ t. t)
       stmt_keeps (layer.Switch value results cases ranges default pos) restoring k l = quiet a tt refl (λ t. t)
       stmt_keeps (layer.For variable counter items body pos) restoring k l = after a (calm k l) refl (λ t. t)

@@ -1,7 +1,8 @@
 -- Each move of the language without a charge makes a core smaller.
 use Rattle.std.proofs.Common.{arith, refl}
 use Rattle.std.specs.Prelude.{◌≡◌, ◌*◌, ◌<◌, ◌≤◌, ℕ, ◌+◌, nat_le, length, map, not, ◌&&◌, Bool, true, false, List, [], ◌∷◌, ◌++◌, Option}
-use Rattle.std.specs.Prelude.{Some, None, Result, Ok, Err, is_some}
+use Rattle.std.specs.Prelude.{Some, None, Result, Ok, Err, is_some, is_none}
+use Rattle.std.specs.declared.num.NonZeroUsize.{NonZeroUsize}
 use Rattle.rhai_tree.specs.declared.position.Position.{Position}
 use Rattle.rhai_tree.specs.declared.token.Token.{Token}
 use Rattle.rhai_tree.specs.declared.flags.ASTFlags.{ASTFlags}
@@ -58,7 +59,7 @@ use Rattle.rhai_machine.specs.language.Calls.{builtin_of, call_of, sized}
 use Rattle.rhai_machine.specs.language.Arguments.{flattens, taken, arguments_core, keyword_of, function_core, function_of}
 use Rattle.rhai_machine.specs.language.Statements.{enter_core, run_core, chosen_core, defined_core, define_core, break_core, return_move}
 use Rattle.rhai_machine.specs.language.Exports.{export_at}
-use Rattle.rhai_machine.specs.language.Statements.{has_option, loop_of, stmt_move}
+use Rattle.rhai_machine.specs.language.Statements.{has_option, loop_of, stmt_move, enters, constant_core, written, declared_core}
 use Rattle.rhai_machine.specs.language.Bodies.{returned}
 use Rattle.rhai_machine.specs.language.Unwinding.{up_core, down_core, topped, operated, looked_at, marked_core}
 use Rattle.rhai_machine.specs.language.Language.{move_at, move}
@@ -168,12 +169,12 @@ module _ {H : Type 0} where
     expr_falls fast (layer.Coalesce parts pos) k l = grind (arith, coalesce_falls unit_value parts k l)
     expr_falls fast _ k l = tt
 
-    define_falls : (shadows full : Bool) (ident : Ident) (value : Expr) (options : ASTFlags) (restoring : Bool) (pos : Position)
-        (k : List (Frame H)) (l : Local H) →
-        size (define_core s shadows full ident value options restoring pos k l) < 50 + stack_size k
-    define_falls true full ident value options restoring pos k l = omega arith
-    define_falls false true ident value options restoring pos k l = omega arith
-    define_falls false false ident value options restoring pos k l = omega arith
+    define_falls : (shadows full : Bool) (ident : Ident) (value : Expr) (index : Option NonZeroUsize) (options : ASTFlags)
+        (restoring : Bool) (pos : Position) (k : List (Frame H)) (l : Local H) →
+        size (define_core s shadows full ident value index options restoring pos k l) < 50 + stack_size k
+    define_falls true full ident value index options restoring pos k l = omega arith
+    define_falls false true ident value index options restoring pos k l = omega arith
+    define_falls false false ident value index options restoring pos k l = omega arith
 
     assignment_falls : (target : ExprLayer) (op : OpAssignment) (rhs : Expr) (form : StmtLayer) (restoring : Bool) (k : List (Frame H))
         (l : Local H) → parts_in form ≡ links target →
@@ -201,9 +202,20 @@ module _ {H : Type 0} where
     return_falls false (Some value) pos form restoring k l = omega arith
 
     export_falls : (place : Option ℕ) (ident : Ident) (alias : Option Ident) (k : List (Frame H)) (l : Local H) →
-        size (export_at place ident alias k l) < 50 + stack_size k
+        size (export_at place ident alias k l) < 12 + stack_size k
     export_falls (Some at) ident alias k l = omega arith
     export_falls None ident alias k l = omega arith
+
+    -- a variable that is exported goes on as an `export` does
+    declared_falls : (exported : Bool) (ident : Ident) (k : List (Frame H)) (l : Local H) →
+        size (declared_core exported ident k l) < 12 + stack_size k
+    declared_falls true ident k l = export_falls (index_of ident.name l.scope) ident None k l
+    declared_falls false ident k l = omega arith
+
+    defined_falls : (v : Dynamic H) (ident : Ident) (index : Option NonZeroUsize) (options : ASTFlags) (restoring : Bool)
+        (k : List (Frame H)) (l : Local H) → size (defined_core v ident index options restoring k l) < 12 + stack_size k
+    defined_falls v ident index options restoring k l = declared_falls (is_exported options) ident k
+        (written index v ident options (constant_core (enters options restoring l) ident.name v l))
 
     stmt_falls : (form : StmtLayer) (restoring : Bool) (k : List (Frame H)) (l : Local H) →
         Falls size (core (OpenStmt form restoring) k l) (stmt_move s form restoring k l)
@@ -213,15 +225,9 @@ module _ {H : Type 0} where
     stmt_falls (layer.Block block) restoring k l = omega (arith, enter_size block.statements true k)
     stmt_falls (layer.Assignment op lhs rhs) restoring k l =
         assignment_falls (out-Expr lhs) op rhs (layer.Assignment op lhs rhs) restoring k l refl
-    stmt_falls (layer.Var ident value None options pos) restoring k l =
-        there_falls (not (is_exported options)) (core (OpenStmt (layer.Var ident value None options pos) restoring) k l)
-        (define_core s (not s.offer.allow_shadowing && is_some (index_of ident.name l.scope))
-        (nat_le s.limits.max_variables (length l.scope)) ident value options restoring pos k l)
-        (omega (
-          arith,
-          define_falls (not s.offer.allow_shadowing && is_some (index_of ident.name l.scope))
-              (nat_le s.limits.max_variables (length l.scope)) ident value options restoring pos k l,
-        ))
+    stmt_falls (layer.Var ident value index options pos) restoring k l =
+        define_falls (not s.offer.allow_shadowing && is_some (index_of ident.name l.scope))
+        (is_none index && nat_le s.limits.max_variables (length l.scope)) ident value index options restoring pos k l
     stmt_falls (layer.If test body branch pos) restoring k l = omega arith
     stmt_falls (layer.Switch value results cases ranges default pos) restoring k l = omega arith
     stmt_falls (layer.While test body pos) restoring k l = omega arith
@@ -311,8 +317,11 @@ module _ {H : Type 0} where
     up_falls : (frame : Frame H) (v : Dynamic H) (k : List (Frame H)) (l : Local H) →
         size (up_core s frame v k l) < 8 + stack_size (frame ∷ k)
     up_falls (StatementValue at) v k l = result_falls (flat l.around.cells v at) (8 + (4 + stack_size k)) (stack_size k) (omega arith)
-    up_falls (DefineValue ident options restoring value_at) v k l = grind
-        (arith, on_falls (flat l.around.cells v value_at) (λ x. defined_core x ident options restoring k l) k l (λ x. omega arith))
+    up_falls (DefineValue ident index options restoring value_at) v k l = grind (
+      arith,
+      on_falls (flat l.around.cells v value_at) (λ x. defined_core x ident index options restoring k l) k l
+          (λ x. defined_falls x ident index options restoring k l),
+    )
     up_falls (IfCondition test_at body branch) v k l = grind (
       arith,
       on_falls (truth s.host_type l.around.cells v test_at) (λ holds. chosen_core holds body branch k l) k l
@@ -433,7 +442,7 @@ module _ {H : Type 0} where
     down_falls : (frame : Frame H) (e : EvalAltResult H) (k : List (Frame H)) (l : Local H) →
         size (down_core s frame e k l) < 11 + stack_size (frame ∷ k)
     down_falls (StatementValue at) e k l = omega arith
-    down_falls (DefineValue ident options restoring value_at) e k l = omega arith
+    down_falls (DefineValue ident index options restoring value_at) e k l = omega arith
     down_falls (IfCondition test_at body branch) e k l = omega arith
     down_falls (RestOfList rest restoring) e k l = omega arith
     down_falls (RestoreList saved) e k l = omega arith

@@ -100,7 +100,7 @@ module _ {H : Type 0} where
   -- and how many more a frame can lead to, once a value or an error comes to it
   abbrev pub frame_size : Frame H → ℕ
   frame_size (StatementValue at) = 4
-  frame_size (DefineValue ident options restoring value_at) = 4
+  frame_size (DefineValue ident index options restoring value_at) = 4
   frame_size (IfCondition test_at body branch) = 4
   frame_size (RestOfList rest restoring) = 2
   frame_size (RestoreList saved) = 1

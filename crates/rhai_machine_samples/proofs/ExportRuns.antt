@@ -15,4 +15,6 @@ module _ {S H : Type 0} (table : Table S H) (host : H → List ℕ) where
     once = by_steps _ _ 20 (simp exporting) refl;
     unknown = by_steps _ _ 20 (simp exporting) refl;
     refused = by_steps _ _ 20 (simp exporting) refl;
+    declared = by_steps _ _ 20 (simp exporting) refl;
+    constant = by_steps _ _ 20 (simp exporting) refl;
   }

@@ -14,3 +14,4 @@ mod WalkRuns
 mod TryRuns
 mod ShareRuns
 mod ExportRuns
+mod OverwriteRuns

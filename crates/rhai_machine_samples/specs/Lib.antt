@@ -21,3 +21,4 @@ pub mod Walks
 pub mod Tries
 pub mod Shares
 pub mod Exports
+pub mod Overwrites

@@ -1,5 +1,6 @@
 -- Small words for the trees of sample scripts. A script stands on one line, so each place is a column.
 use Rattle.std.specs.Prelude.{ℕ, ◌+◌, pos, Bool, true, false, List, [], ◌∷◌, Option, Some, None}
+use Rattle.std.specs.declared.num.NonZeroUsize.{NonZeroUsize}
 use Rattle.rhai_machine.specs.Types.{ConditionalExpr, Expr, Ident, Position, RangeCase, SharedVariable, Stmt, StmtBlock, SwitchCase, Token}
 use Rattle.rhai_tree.specs.declared.literal.Literal.{Literal}
 use Rattle.rhai_tree.specs.declared.expr.Namespace.{Namespace}
@@ -65,15 +66,30 @@ value e = stmt.Expr e
 abbrev pub block : StmtBlock → Stmt
 block b = stmt.Block b
 
--- `let` or `const`, whose name stands so many columns further
-abbrev pub define : (options width at : ℕ) → List ℕ → Expr → Stmt
-define options width c name e = stmt.Var (record { name = name; pos = column (c + width) }) e None (record { 0 = options }) (column c)
+-- `let` or `const`, whose name stands so many columns further; one with an index overwrites the newest variable of its name
+abbrev pub define : (options width at : ℕ) → (index : Option NonZeroUsize) → List ℕ → Expr → Stmt
+define options width c index name e =
+    stmt.Var (record { name = name; pos = column (c + width) }) e index (record { 0 = options }) (column c)
 
 abbrev pub let_ : (at : ℕ) → List ℕ → Expr → Stmt
-let_ c name e = define 0 4 c name e
+let_ c name e = define 0 4 c None name e
 
 abbrev pub const_ : (at : ℕ) → List ℕ → Expr → Stmt
-const_ c name e = define 4 6 c name e
+const_ c name e = define 4 6 c None name e
+
+-- the same, as they overwrite
+abbrev pub let_over : NonZeroUsize → (at : ℕ) → List ℕ → Expr → Stmt
+let_over index c name e = define 0 4 c (Some index) name e
+
+abbrev pub const_over : NonZeroUsize → (at : ℕ) → List ℕ → Expr → Stmt
+const_over index c name e = define 4 6 c (Some index) name e
+
+-- `export let` and `export const`
+abbrev pub export_let : (at : ℕ) → (index : Option NonZeroUsize) → List ℕ → Expr → Stmt
+export_let c index name e = define 8 11 c index name e
+
+abbrev pub export_const : (at : ℕ) → (index : Option NonZeroUsize) → List ℕ → Expr → Stmt
+export_const c index name e = define 12 13 c index name e
 
 -- an assignment, plain or by an operator, which stands at a column
 abbrev pub assign : (at : ℕ) → Option Token → Expr → Expr → Stmt

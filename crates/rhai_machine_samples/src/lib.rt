@@ -3,6 +3,7 @@
 #![tactic(auto)]
 
 ghost use Rattle.std.specs.Prelude.{ℕ, List};
+ghost use Rattle.std.specs.declared.num.NonZeroUsize.{NonZeroUsize};
 ghost use Rattle.rhai_machine.specs.machine.Machine.{Config, Run, below};
 ghost use Rattle.rhai_machine.specs.language.Setting.{over};
 ghost use Rattle.rhai_machine.specs.language.Frames.{Core};
@@ -30,6 +31,7 @@ ghost use Rattle.rhai_machine_samples.specs.Walks.{Walks, WalkEnds};
 ghost use Rattle.rhai_machine_samples.specs.Tries.{Throws, Tries, TryEnds};
 ghost use Rattle.rhai_machine_samples.specs.Shares.{Shares};
 ghost use Rattle.rhai_machine_samples.specs.Exports.{Exports};
+ghost use Rattle.rhai_machine_samples.specs.Overwrites.{Overwrites};
 
 use rhai_machine::laws::{Language, always_ends};
 use rhai_state::table::NativeTable;
@@ -250,4 +252,9 @@ pub fn sample_shares<H, S>(of: PhantomData<(H, S)>)
 /// Variables that a script exports.
 pub fn sample_exports<H, S>(of: PhantomData<(H, S)>)
     ensures { (table : Table S H) (host : H → List ℕ) → Exports table host }
+{}
+
+/// Variables that a `let` overwrites, whatever its index is.
+pub fn sample_overwrites<H, S>(of: PhantomData<(H, S)>)
+    ensures { (table : Table S H) (host : H → List ℕ) (index : NonZeroUsize) → Overwrites table host index }
 {}

@@ -4,6 +4,7 @@ use crate::making::Making;
 use rhai_build::functions::TreeParts;
 use rhai_tree::Items;
 use rhai_tree::expr::{RangeCase, Stmt};
+use rhai_tree::flags::ASTFlags;
 use rhai_tree::token::Token;
 use std::alloc::{AllocError, Global};
 
@@ -54,6 +55,12 @@ pub enum Part<'a> {
     BlockStatement,
     Let(&'a str, u16, u16),
     Const(&'a str, u16, u16),
+    /// A variable that is exported where it is declared.
+    ExportLet(&'a str, u16, u16),
+    /// A constant that is exported where it is declared.
+    ExportConst(&'a str, u16, u16),
+    /// A `let` with options over the variable at an offset from the end of the scope; zero is none.
+    Overwrite(&'a str, u16, usize, &'a [ASTFlags], u16),
     Assign(u16),
     AssignBy(Token, u16),
     /// An `if` without an `else`.

@@ -1,3 +1,4 @@
 mod ExportSteps
 mod Cells
 mod Steps
+mod Declared

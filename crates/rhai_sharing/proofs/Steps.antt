@@ -1,5 +1,5 @@
 -- The steps of shared variables.
-use Rattle.std.proofs.Common.{◌≡◌, ◌≢◌, ◌<◌, ◌≤◌, ◌+◌, ◌∷◌, ℕ, zero, suc, [], true, false, List, Option, Some, None, add-one, ap, arith}
+use Rattle.std.proofs.Common.{◌≡◌, ◌<◌, ◌≤◌, ◌+◌, ◌∷◌, ℕ, zero, suc, [], true, false, List, Option, Some, None, add-one, ap, arith}
 use Rattle.std.proofs.Common.{drop, drop-cons, get_or, length, refl, sym, ◌∙◌}
 use Rattle.std.proofs.lemmas.Bool.{true≢false}
 use Rattle.std.proofs.lemmas.List as Lemmas

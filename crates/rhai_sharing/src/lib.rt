@@ -1,5 +1,5 @@
-//! Variables that closures share with their script. Ports `Stmt::Share` of upstream's `eval/stmt.rs`;
-//! the contracts speak of the machine's runs.
+//! Variables that a script declares and exports, and those that closures share with it. Ports `Stmt::Share` of
+//! upstream's `eval/stmt.rs`; the contracts speak of the machine's runs.
 #![tactic(auto)]
 
 ghost use Rattle.std.specs.Prelude.{◌≡◌, ◌<◌, IfErr, IfSome, IsTrue, OnErr, OnOk, Some, length, true};
@@ -15,6 +15,7 @@ ghost use Rattle.rhai_machine.specs.language.Values.{is_handle as leads_to_cell}
 ghost use Rattle.rhai_steps.specs.States.{local_of, state_of};
 ghost use Rattle.rhai_context.specs.Ends.{came};
 
+pub mod declaring;
 pub mod exporting;
 
 use rhai_context::ends::settle;

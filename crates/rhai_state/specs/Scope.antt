@@ -1,5 +1,5 @@
 -- Scopes as plain lists of entries, the newest last.
-use Rattle.std.specs.Prelude.{ℕ, ◌-◌, ◌≤◌, Bool, true, false, List, [], ◌∷◌, ◌++◌, if◌then◌else◌, length, Option, Some, None, map, slice_get, slice_set, IfSome}
+use Rattle.std.specs.Prelude.{ℕ, ◌-◌, ◌≤◌, Bool, true, false, List, [], ◌∷◌, ◌++◌, if◌then◌else◌, length, Option, Some, None, map, slice_get, slice_set, take, IfSome}
 use Rattle.std.specs.List.{list_any}
 use Rattle.std.specs.Option.{option_map}
 use Rattle.std.specs.Str.{bytes_eq}
@@ -79,6 +79,11 @@ module _ {H : Type 0} where
   abbrev pub aliased : List (ScopeEntry H) → (at : ℕ) → (there : Option (ScopeEntry H)) → (alias : List ℕ) → List (ScopeEntry H)
   aliased entries at (Some entry) alias = slice_set entries at (record entry { aliases = with_alias alias entry.aliases })
   aliased entries at None alias = entries
+
+  -- the entry at a place with its oldest aliases alone
+  abbrev pub first_aliases : List (ScopeEntry H) → (at : ℕ) → (there : Option (ScopeEntry H)) → (count : ℕ) → List (ScopeEntry H)
+  first_aliases entries at (Some entry) count = slice_set entries at (record entry { aliases = take count entry.aliases })
+  first_aliases entries at None count = entries
 
   -- the entry that a name, a value and aliases show
   abbrev pub shown : Bor (List ℕ) × Bor (Dynamic H) × Bor (List (List ℕ)) → ScopeEntry H

@@ -10,7 +10,7 @@ ghost use Rattle.rhai_values.specs.Copy.{plain};
 ghost use Rattle.rhai_values.specs.declared.base.value.AccessMode.TheVariants.{ReadWrite};
 ghost use Rattle.rhai_values.specs.declared.base.value.Union.TheVariants as value;
 ghost use Rattle.rhai_state.specs.Lends.{lends_spare, lends_value};
-ghost use Rattle.rhai_state.specs.Scope.{aliased, entries_of, index_of, new_entry, place_of, revalued, scope_of};
+ghost use Rattle.rhai_state.specs.Scope.{aliased, entries_of, first_aliases, index_of, new_entry, place_of, revalued, scope_of};
 ghost use Rattle.rhai_state.specs.Scope.{shown, value_of};
 ghost use Rattle.rhai_state.specs.Scope.{Fits};
 
@@ -269,6 +269,16 @@ impl<H: Drop> Scope<H> {
             return Ok(());
         }
         entry.aliases.push(alias)
+    }
+
+    /// Lets go of the aliases of the entry at a place from `len` on, if there are any.
+    pub fn truncate_aliases(&mut self, index: usize, len: usize)
+        requires { index < length (entries_of self.old) }
+        ensures { entries_of self.new ≡ first_aliases (entries_of self.old) index
+            (slice_get (entries_of self.old) index) len }
+    {
+        let entry = self.entries.at_mut(index);
+        entry.aliases.truncate(len);
     }
 
     /// Lets go of all entries from `len` on, if there are any. Ports upstream's `Scope::rewind`.

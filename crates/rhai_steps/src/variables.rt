@@ -1,11 +1,12 @@
 //! Variables, and what a restoring list takes back.
 
 ghost use Rattle.std.specs.Prelude.{◌≡◌, ℕ, List, Ok, Err, Some, None, false, IsTrue, ◌++◌, ◌∷◌, [], true};
-ghost use Rattle.std.specs.Prelude.{not, ◌&&◌, ◌<◌, is_some, length, take, IfSome, IfOk, IfErr, OnOk, OnErr};
+ghost use Rattle.std.specs.Prelude.{not, ◌&&◌, ◌<◌, is_none, is_some, length, take, IfSome, IfOk, IfErr, OnOk, OnErr};
 ghost use Rattle.std.specs.Borrow.{sem};
 ghost use Rattle.rhai_values.specs.Cells.{cells_of};
 ghost use Rattle.rhai_state.specs.Errors.{is_out_of_memory};
 ghost use Rattle.rhai_state.specs.declared.error.EvalAltResult.TheVariants as error;
+ghost use Rattle.rhai_tree.specs.Forms.{is_exported as exported};
 ghost use Rattle.rhai_tree.specs.Names.{is_good};
 ghost use Rattle.rhai_tree.specs.declared.expr.Expr.{out-Expr};
 ghost use Rattle.rhai_state.specs.Scope.{entries_of, found_by, index_of, names_in, new_entry, Fits};
@@ -207,7 +208,7 @@ fn refuses_name<H: Host>(allow_shadowing: bool, scope: &Scope<H>, name: &Shared<
 }
 
 /// Whether a variable may be declared: its name is free where shadowing is off, and the scope has
-/// room for it.
+/// room for it, which one that overwrites another does not need.
 ///
 /// # Errors
 /// `ErrorVariableExists` first, then `ErrorTooManyVariables`, both at the statement.
@@ -216,15 +217,16 @@ pub fn may_declare<H: Host>(
     allow_shadowing: bool,
     scope: &Scope<H>,
     name: &Shared<Text>,
+    index: Option<NonZeroUsize>,
     pos: Position,
 ) -> Result<(), EvalAltResult<H>>
     ensures { Answers result (declarable name.now pos (is_taken allow_shadowing name.now
-        (entries_of scope.now)) (is_full limits.now (entries_of scope.now))) }
+        (entries_of scope.now)) (is_none index && is_full limits.now (entries_of scope.now))) }
 {
     if refuses_name(allow_shadowing, scope, name) {
         return Err(variable_exists(name, pos));
     }
-    if scope.len() >= limits.max_variables {
+    if index.is_none() && scope.len() >= limits.max_variables {
         return Err(EvalAltResult::ErrorTooManyVariables(pos));
     }
     Ok(())
@@ -274,6 +276,13 @@ pub fn mode_of(options: ASTFlags) -> AccessMode
     } else {
         AccessMode::ReadWrite
     }
+}
+
+/// Whether a `let` or a `const` exports its variable.
+pub fn is_exported(options: ASTFlags) -> bool
+    ensures { result ≡ exported options }
+{
+    options.contains(ASTFlags::EXPORTED)
 }
 
 /// Adds a variable. Where there is no memory the scope stays.

@@ -1,5 +1,6 @@
 -- What a run may rely on in a part of a checked tree: it has forms that are there alone, a list counts the links of each chain, and each
 -- offset is that of the newest variable of its name in the scope, whose names are taken oldest first.
+use Rattle.std.specs.declared.num.NonZeroUsize.{NonZeroUsize}
 use Rattle.std.specs.Prelude.{Bool, false, IsTrue, List, [], ◌∷◌, ◌++◌, map, Option, option_map}
 use Rattle.rhai_tree.specs.Types.{ASTFlags, ConditionalExpr, Expr, FnCallExpr, Ident, MapEntry, Position, ScriptFuncDef}
 use Rattle.rhai_tree.specs.Types.{ScriptFuncPayload, SharedVariable, Stmt, StmtBlock}
@@ -92,9 +93,12 @@ name_resolves link = walk.found_from_name sound (walk.named_in sound link) (walk
 abbrev pub bracket_resolves : Bool → walk.Seen sound → walk.Finds sound
 bracket_resolves ends seen = walk.found_behind_bracket sound ends seen.link seen.value
 
--- and of a variable, which stands after the names before it
-abbrev pub var_resolves : walk.Seen sound → ASTFlags → Position → Name → walk.SeenStmt sound
-var_resolves expr options pos name names = (walk.found_in_var sound expr options pos names, names ++ name ∷ [])
+-- of a variable's declaration, and the names behind it: its own stands there where it overwrites no other
+abbrev pub var_resolves : Option NonZeroUsize → Ident → walk.Seen sound → ASTFlags → Position → walk.Finds sound
+var_resolves = walk.found_in_var sound
+
+abbrev pub var_names : Option NonZeroUsize → Name → List Name → List Name
+var_names = walk.after_var sound
 
 -- whether a chain that starts here may be assigned to, and whether one that goes on ends in a method
 abbrev pub tested_root : walk.Seen sound → Bool

@@ -4,7 +4,7 @@ use Rattle.std.specs.declared.num.NonZeroUsize.{NonZeroUsize}
 use Rattle.rhai_tree.specs.Types.{ASTFlags, CheckFault, ConditionalExpr, Expr, FnCallExpr, Ident, MapEntry, Position, SharedVariable}
 use Rattle.rhai_tree.specs.Types.{Stmt, StmtBlock}
 use Rattle.rhai_tree.specs.declared.fault.CheckFault.TheVariants.{BadOffset, BadChain, BadAssignment, BadSwitch, BadMapKey, BadCatch}
-use Rattle.rhai_tree.specs.declared.fault.CheckFault.TheVariants.{LoopControlOutside, EvalCall, NotAnExpression, QualifiedMethod, NotYet}
+use Rattle.rhai_tree.specs.declared.fault.CheckFault.TheVariants.{LoopControlOutside, ExportNotGlobal, EvalCall, NotAnExpression, QualifiedMethod, NotYet}
 use Rattle.rhai_tree.specs.declared.expr.Expr.TheOpen as layer
 use Rattle.rhai_tree.specs.declared.expr.Expr.TheFolds.{fold-Expr, fold-ConditionalExpr, fold-FnCallExpr, fold-MapEntry, fold-StmtBlock}
 use Rattle.rhai_tree.specs.declared.expr.Expr.TheFolds.{fold-Stmt}
@@ -22,6 +22,7 @@ pub record Reading : Type 1 where
   pub Around : Type 0
   pub names : Around → List Name
   pub in_loop : Around → Bool
+  pub in_top : Around → Bool
   pub declaring : Name → Around → Around
   pub looping : Around → Around
   pub inside : Around → Around
@@ -37,6 +38,7 @@ faulty = record {
   Around = Context;
   names = λ c. c.names;
   in_loop = λ c. c.in_loop;
+  in_top = λ c. c.in_top;
   declaring = declaring;
   looping = looping;
   inside = inside;
@@ -53,6 +55,7 @@ sound = record {
   Around = List Name;
   names = λ names. names;
   in_loop = λ names. true;
+  in_top = λ names. true;
   declaring = λ name names. names ++ name ∷ [];
   looping = λ names. names;
   inside = λ names. names;
@@ -272,9 +275,20 @@ module _ (r : Reading) where
   abbrev pub found_in_catch : (catch : Option (Option Name)) → Position → (branch : Finds) → Finds
   found_in_catch catch pos branch c = r.both (found_in_catch_variable catch pos) (branch (after_catch catch c))
 
-  -- a variable that is exported is not there yet
-  abbrev pub found_in_var : Seen → ASTFlags → Position → Finds
-  found_in_var expr options pos c = if is_exported options then r.fault (NotYet pos) else expr.value c
+  -- a variable is exported in the tree's top list alone
+  abbrev pub found_in_export : (in_top : Bool) → ASTFlags → Position → r.Found
+  found_in_export true options pos = r.none
+  found_in_export false options pos = if is_exported options then r.fault (ExportNotGlobal pos) else r.none
+
+  -- a variable with its value; one that overwrites another has an offset, which is among the names before it
+  abbrev pub found_in_var : Option NonZeroUsize → Ident → Seen → ASTFlags → Position → Finds
+  found_in_var index ident expr options pos c = r.both (found_in_export (r.in_top c) options pos)
+      (r.both (found_at_offset index ident.name ident.pos (r.names c)) (expr.value c))
+
+  -- what surrounds the next statement: only a variable that overwrites none declares its name
+  abbrev pub after_var : Option NonZeroUsize → Name → r.Around → r.Around
+  after_var None name c = r.declaring name c
+  after_var (Some offset) name c = c
 
   -- an expression as its form is written, without what it declares as a catch variable
   abbrev pub form_step : layer.Expr-F Seen SeenStmt SeenConditional SeenCall SeenEntry Seen → Seen
@@ -331,8 +345,7 @@ module _ (r : Reading) where
   stmt_step (layer.Stmt::FnCall call pos) c = (call.value pos c, c)
   stmt_step (layer.Block block) c = (block.value c, c)
   stmt_step (layer.Assignment op lhs rhs) c = (r.both (found_in_target lhs c) (rhs.value c), c)
-  stmt_step (layer.Var ident expr None options pos) c = (found_in_var expr options pos c, r.declaring ident.name c)
-  stmt_step (layer.Var ident expr (Some offset) options pos) c = (r.fault (NotYet pos), c)
+  stmt_step (layer.Var ident expr index options pos) c = (found_in_var index ident expr options pos c, after_var index ident.name c)
   stmt_step (layer.If expr body branch pos) c = (r.both (expr.value c) (r.both (body.value c) (branch.value c)), c)
   stmt_step (layer.Switch expr expressions cases ranges def_case pos) c =
       (found_in_switch (is_switch (length expressions) cases ranges def_case) pos expr.value expressions c, c)

@@ -1,6 +1,7 @@
 -- Well-formed trees: the faults that stand in a tree, each with its position, in the order of the tree.
 use Rattle.std.specs.Prelude.{◌≡◌, Bool, false, List, [], ◌∷◌, ◌++◌, map, Option, option_map}
 use Rattle.std.specs.List.{Contains}
+use Rattle.std.specs.declared.num.NonZeroUsize.{NonZeroUsize}
 use Rattle.rhai_tree.specs.Types.{ASTFlags, CheckFault, ConditionalExpr, Expr, FnCallExpr, Ident, MapEntry, Position, ScriptFuncDef}
 use Rattle.rhai_tree.specs.Types.{ScriptFuncPayload, SharedVariable, Stmt, StmtBlock}
 use Rattle.rhai_tree.specs.Positions.{position_of}
@@ -49,7 +50,7 @@ target_faults = walk.found_in_target faulty
 abbrev pub control_faults : Position → walk.Finds faulty
 control_faults = walk.found_in_control faulty
 
-abbrev pub var_faults : walk.Seen faulty → ASTFlags → Position → walk.Finds faulty
+abbrev pub var_faults : Option NonZeroUsize → Ident → walk.Seen faulty → ASTFlags → Position → walk.Finds faulty
 var_faults = walk.found_in_var faulty
 
 -- the faults of a result of a `switch` and of its condition, and of those in a row

@@ -256,6 +256,17 @@ pub fn add_alias<H: Drop>(
     )
 }
 
+/// Of `Scope::truncate_aliases`.
+pub fn truncate_aliases<H: Drop>(one: &mut Scope<H>, other: &mut Scope<H>, index: usize, len: usize)
+    requires same { entries_of one.old ≡ entries_of other.old }
+    requires known { index < length (entries_of one.old) }
+    requires also_known { index < length (entries_of other.old) }
+    ensures { entries_of one.new ≡ entries_of other.new }
+{
+    one.truncate_aliases(index, len);
+    other.truncate_aliases(index, len);
+}
+
 /// Of `Scope::rewind`.
 pub fn rewind<H: Drop>(one: &mut Scope<H>, other: &mut Scope<H>, len: usize)
     requires { entries_of one.old ≡ entries_of other.old }

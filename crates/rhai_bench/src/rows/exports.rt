@@ -1,23 +1,35 @@
-//! Variables that are exported.
+//! Variables that are exported, and those that a `let` overwrites.
 
 use crate::rows::{Row, scripts_in};
 use crate::sample::Sample;
 use crate::sample::Tree::Parts;
-use crate::settings::Setting::Usual;
+use crate::settings::Setting::{MaxVariables, Usual, WithoutShadowing};
 use rhai_samples::exports::{
-    EXPORTED_AS_NOTHING, EXPORTED_IN_A_BLOCK, EXPORTED_TWICE, NEWEST_EXPORTED, UNKNOWN_EXPORTED,
+    CONSTANT_OVER_A_VARIABLE, EXPORTED_AS_NOTHING, EXPORTED_CONSTANT, EXPORTED_IN_A_BLOCK,
+    EXPORTED_OVER_A_SHARED_CONSTANT, EXPORTED_TWICE, EXPORTED_WHERE_DECLARED,
+    EXPORTED_WHERE_DECLARED_IN_A_BLOCK, NEWEST_EXPORTED, OVERWRITTEN_AT_ANOTHER_OFFSET,
+    UNKNOWN_EXPORTED,
 };
 
 /// The scripts of this file, by the name of a list that no row has.
 const LISTS: &[Row] = &[Row("exports", EXPORTS)];
 
-/// Variables that get one alias twice, two aliases, one in a block that they end with, and none.
+/// Variables that get one alias twice, two aliases, one in a block that they end with, and none; then those that are
+/// exported where they are declared, and those that a `let` overwrites.
 const EXPORTS: &[Sample] = &[
     Sample(Parts(EXPORTED_TWICE), Usual),
     Sample(Parts(NEWEST_EXPORTED), Usual),
     Sample(Parts(EXPORTED_IN_A_BLOCK), Usual),
     Sample(Parts(UNKNOWN_EXPORTED), Usual),
     Sample(Parts(EXPORTED_AS_NOTHING), Usual),
+    Sample(Parts(EXPORTED_WHERE_DECLARED), Usual),
+    Sample(Parts(EXPORTED_OVER_A_SHARED_CONSTANT), Usual),
+    Sample(Parts(EXPORTED_OVER_A_SHARED_CONSTANT), MaxVariables(2)),
+    Sample(Parts(EXPORTED_OVER_A_SHARED_CONSTANT), WithoutShadowing),
+    Sample(Parts(EXPORTED_WHERE_DECLARED_IN_A_BLOCK), Usual),
+    Sample(Parts(OVERWRITTEN_AT_ANOTHER_OFFSET), Usual),
+    Sample(Parts(EXPORTED_CONSTANT), Usual),
+    Sample(Parts(CONSTANT_OVER_A_VARIABLE), Usual),
 ];
 
 /// The scripts of a list of this file.

@@ -5,7 +5,7 @@ ghost use Rattle.std.specs.Int.NonZero.{non_zero_usize_get};
 ghost use Rattle.rhai_check.specs.Declares.{names_a_catch};
 ghost use Rattle.rhai_check.specs.Refusals.{Refuses};
 ghost use Rattle.rhai_tree.specs.Forms.{catch_of};
-ghost use Rattle.rhai_tree.specs.Frame.{with_name, turn_names, shared_resolve};
+ghost use Rattle.rhai_tree.specs.Frame.{with_name, turn_names, var_names, shared_resolve};
 ghost use Rattle.rhai_tree.specs.Names.{Name, offset_of, is_good};
 ghost use Rattle.rhai_tree.specs.WellFormed.{catch_variable_faults, shared_faults};
 
@@ -53,6 +53,21 @@ pub(crate) fn declare(
             Ok(()) => Ok(()),
             Err(_) => Err(CheckFault::NoMemory),
         },
+    }
+}
+
+/// Adds the name of a variable's declaration, unless that overwrites another variable.
+pub(crate) fn declare_var(
+    names: &mut Items<Shared<Text>>,
+    index: Option<NonZeroUsize>,
+    name: &Shared<Text>,
+) -> Result<(), CheckFault>
+    ensures added { OnOk result (names.new ≡ var_names index name.now names.old) }
+    ensures memory { IfErr result (λ fault. fault ≡ CheckFault.NoMemory) }
+{
+    match index {
+        None => declare(names, name),
+        Some(_) => Ok(()),
     }
 }
 

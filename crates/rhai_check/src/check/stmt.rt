@@ -1,15 +1,16 @@
 //! The checker's walk over statements.
 
-ghost use Rattle.std.specs.Prelude.{◌≡◌, ◌++◌, [], ◌∷◌, true, IsTrue, IfErr, OnOk, map, List, None};
+ghost use Rattle.std.specs.Prelude.{◌≡◌, ◌++◌, [], true, false, IsTrue, IfErr, OnOk, map, List};
 ghost use Rattle.std.specs.Prelude.{option_map};
 ghost use Rattle.rhai_check.specs.Around.{around};
 ghost use Rattle.rhai_tree.specs.Forms.{any_of};
 ghost use Rattle.rhai_check.specs.Declares.{in_option, needs_of, declares_stmt, declares_block};
 ghost use Rattle.rhai_check.specs.Declares.{declares_catch, declares_conditional};
 ghost use Rattle.rhai_tree.specs.Frame.{tests_of, resolves_stmt, resolves_block, all_resolve};
-ghost use Rattle.rhai_tree.specs.Frame.{option_resolves, var_resolves, turns_resolve, catch_resolves};
-ghost use Rattle.rhai_tree.specs.Frame.{resolves_conditional, conditionals_resolve};
+ghost use Rattle.rhai_tree.specs.Frame.{option_resolves, var_resolves, var_names, turns_resolve};
+ghost use Rattle.rhai_tree.specs.Frame.{catch_resolves, resolves_conditional, conditionals_resolve};
 ghost use Rattle.rhai_tree.specs.Names.{Name, Begins};
+ghost use Rattle.rhai_tree.specs.Reading.{Seen, faulty, sound};
 ghost use Rattle.rhai_check.specs.Refusals.{Refuses};
 ghost use Rattle.rhai_tree.specs.WellFormed.{seen_expr, seen_stmt, seen_block, faults_in_list};
 ghost use Rattle.rhai_tree.specs.WellFormed.{faults_in_option, control_faults, var_faults, turn_faults};
@@ -18,13 +19,14 @@ ghost use Rattle.rhai_tree.specs.WellFormed.{catch_faults, seen_conditional, fau
 use crate::check::CheckFault;
 use crate::check::cases::is_switch;
 use crate::check::expr::{check_call, check_expr, check_option, check_target};
-use crate::check::names::{check_shared, declare, declare_catch, declare_turn};
+use crate::check::names::{check_shared, declare_catch, declare_turn, declare_var, is_good};
 use crate::check::place::Place;
 use bitflags::Flags;
 use rhai_tree::expr::{ConditionalExpr, Expr, Ident, Stmt, StmtBlock};
 use rhai_tree::flags::ASTFlags;
 use rhai_tree::position::Position;
 use rhai_tree::{Items, Shared, Text};
+use std::num::NonZeroUsize;
 
 /// Passes a block, or answers one of its faults. The names that it declares end with it.
 #[cycle(check)]
@@ -67,28 +69,56 @@ pub(crate) fn check_statements(
     Ok(())
 }
 
-/// Passes a `let` or a `const`, which declares its name, or answers its fault.
+/// Passes a `let` or a `const` but for its value, or answers its fault: one that is exported stands in
+/// the tree's top list, and an index is the offset of the newest variable of its name.
+fn check_declaration(
+    names: &[Shared<Text>],
+    place: Place,
+    index: Option<NonZeroUsize>,
+    ident: &Ident,
+    options: ASTFlags,
+    pos: Position,
+) -> Result<(), CheckFault>
+    ensures exact { OnOk result ((value : Seen faulty) →
+        var_faults index ident.now value options pos (around names.now place)
+        ≡ value.value (around names.now place)) }
+    ensures resolved { OnOk result ((base : List Name) → (value : Seen sound) →
+        var_resolves index ident.now value options pos (base ++ names.now) ≡ value.value (base ++ names.now)) }
+    ensures refused { IfErr result (λ fault. (value : Seen faulty) → Refuses
+        (var_faults index ident.now value options pos (around names.now place)) false fault) }
+{
+    if options.contains(ASTFlags::EXPORTED) && !place.in_top {
+        Err(CheckFault::ExportNotGlobal(pos))
+    } else if is_good(names, index, ident.name.get()) {
+        Ok(())
+    } else {
+        Err(CheckFault::BadOffset(ident.pos))
+    }
+}
+
+/// Passes a `let` or a `const`, or answers one of its faults. It declares its name, unless an index
+/// says which variable it overwrites.
 #[cycle(check)]
 fn check_var(
     names: &mut Items<Shared<Text>>,
     place: Place,
-    name: &Shared<Text>,
+    index: Option<NonZeroUsize>,
+    ident: &Ident,
     expr: &Expr,
     options: ASTFlags,
     pos: Position,
 ) -> Result<(), CheckFault>
-    ensures declared { OnOk result (names.new ≡ names.old ++ name.now ∷ []) }
-    ensures exact { OnOk result (var_faults (seen_expr expr.now) options pos (around names.old place) ≡ []) }
-    ensures resolved { OnOk result ((base : List Name) → var_resolves (tests_of expr.now) options
-        pos name.now (base ++ names.old) ≡ (true, base ++ names.new)) }
-    ensures refused { IfErr result (λ fault. Refuses (var_faults (seen_expr expr.now) options pos
-        (around names.old place)) true fault) }
+    ensures declared { OnOk result (names.new ≡ var_names index ident.now.name names.old) }
+    ensures exact { OnOk result (var_faults index ident.now (seen_expr expr.now) options pos
+        (around names.old place) ≡ []) }
+    ensures resolved { OnOk result ((base : List Name) → IsTrue
+        (var_resolves index ident.now (tests_of expr.now) options pos (base ++ names.old))) }
+    ensures refused { IfErr result (λ fault. Refuses (var_faults index ident.now (seen_expr expr.now)
+        options pos (around names.old place)) true fault) }
 {
-    if options.contains(ASTFlags::EXPORTED) {
-        return Err(CheckFault::NotYet(pos));
-    }
+    check_declaration(names.as_slice(), place, index, ident, options, pos)?;
     check_expr(names, place, expr)?;
-    declare(names, name)
+    declare_var(names, index, &ident.name)
 }
 
 /// Passes a `break` or a `continue` with its value, or answers its fault.
@@ -217,8 +247,8 @@ fn check_stmt(names: &mut Items<Shared<Text>>, place: Place, stmt: &Stmt) -> Res
         Stmt::Expr(expr) => check_expr(names, place, expr),
         Stmt::FnCall(call, pos) => check_call(names, place, call, *pos),
         Stmt::Block(block) => check_block(names, place, block),
-        Stmt::Var(ident, expr, None, options, pos) => {
-            check_var(names, place, &ident.name, expr, *options, *pos)
+        Stmt::Var(ident, expr, index, options, pos) => {
+            check_var(names, place, *index, ident, expr, *options, *pos)
         }
         Stmt::If(expr, body, branch, _) => {
             check_expr(names, place, expr)?;
@@ -270,8 +300,6 @@ fn check_stmt(names: &mut Items<Shared<Text>>, place: Place, stmt: &Stmt) -> Res
         }
         Stmt::Share(variables) => check_shared(names.as_slice(), variables.as_slice()),
         Stmt::Export(_, _, _) => Ok(()),
-        Stmt::Var(_, _, Some(_), _, pos) | Stmt::Import(_, _, pos) => {
-            Err(CheckFault::NotYet(*pos))
-        }
+        Stmt::Import(_, _, pos) => Err(CheckFault::NotYet(*pos)),
     }
 }

@@ -1,5 +1,6 @@
 -- The machine's controls and frames: what it does next, and what waits for the value or the error that comes of it.
 use Rattle.std.specs.Prelude.{ℕ, Bool, true, false, List, [], Option, Result, Ok, Err}
+use Rattle.std.specs.declared.num.NonZeroUsize.{NonZeroUsize}
 use Rattle.rhai_machine.specs.Types.{ASTFlags, ConditionalExpr, Dynamic, EvalAltResult, Expr, FnPtr, Ident, OpAssignment, Position, Stmt, StmtBlock}
 use Rattle.rhai_machine.specs.Types.{SharedVariable, Token}
 use Rattle.rhai_tree.specs.declared.expr.MapEntry.{MapEntry}
@@ -180,7 +181,7 @@ pub data Frame (H : Type 0) : Type 0 where
   -- the value of an expression statement
   StatementValue : Position → Frame H
   -- the value of a `let`
-  DefineValue : (ident : Ident) → (options : ASTFlags) → (restoring : Bool) → (value_at : Position) → Frame H
+  DefineValue : (ident : Ident) → (index : Option NonZeroUsize) → (options : ASTFlags) → (restoring : Bool) → (value_at : Position) → Frame H
   -- the condition of an `if`
   IfCondition : (test_at : Position) → (body branch : StmtBlock) → Frame H
   -- a statement's value, before the rest of its list

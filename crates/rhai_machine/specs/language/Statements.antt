@@ -1,7 +1,8 @@
 -- The rules of statements and of their lists.
 use Rattle.std.specs.Prelude.{ℕ, ◌+◌, nat_lt, Bool, true, false, not, ◌&&◌, List, [], ◌∷◌, ◌++◌, Option, Some, None}
-use Rattle.std.specs.Prelude.{length, is_some, nat_le, nat_eq, if◌then◌else◌, bit_and, take, slice_get, slice_set}
+use Rattle.std.specs.Prelude.{length, is_some, is_none, nat_le, nat_eq, if◌then◌else◌, bit_and, take, slice_get, slice_set}
 use Rattle.std.specs.List.{list_any}
+use Rattle.std.specs.declared.num.NonZeroUsize.{NonZeroUsize}
 use Rattle.rhai_machine.specs.Types.{ASTFlags, AccessMode, Dynamic, out-Expr, Expr, Ident, Module, out-Module, Position, Stmt, StmtBlock}
 use Rattle.rhai_tree.specs.declared.expr.Expr.TheOpen as layer
 use Rattle.rhai_tree.specs.Layers.{StmtLayer}
@@ -9,6 +10,7 @@ use Rattle.rhai_tree.specs.Positions.{position_of}
 use Rattle.rhai_tree.specs.Forms.{is_exported}
 use Rattle.rhai_tree.specs.Lookup.{with_entry}
 use Rattle.rhai_values.specs.Copy.{copy_of}
+use Rattle.rhai_values.specs.Modes.{with_mode}
 use Rattle.rhai_values.specs.declared.base.value.AccessMode.TheVariants.{ReadWrite, ReadOnly}
 use Rattle.rhai_state.specs.declared.error.EvalAltResult.TheVariants as error
 use Rattle.rhai_state.specs.Scope.{index_of, new_entry}
@@ -18,7 +20,8 @@ use Rattle.rhai_machine.specs.language.State.{Local, Surroundings}
 pub use Rattle.rhai_machine.specs.language.State.{deeper}
 use Rattle.rhai_machine.specs.language.Values.{unit_value}
 use Rattle.rhai_machine.specs.language.Turns.{ForLoop}
-use Rattle.rhai_machine.specs.language.Frames.{Saved, Frame, Core, core, where_there, Eval, Exec, OpenExpr, Enter, Run, WhileTurn}
+use Rattle.rhai_machine.specs.language.Places.{InEntry, put}
+use Rattle.rhai_machine.specs.language.Frames.{Saved, Frame, Core, core, Eval, Exec, OpenExpr, Enter, Run, WhileTurn}
 use Rattle.rhai_machine.specs.language.Frames.{DoTurn, Back, Fail, StatementValue, DefineValue, IfCondition, RestOfList, RestoreList}
 use Rattle.rhai_machine.specs.language.Frames.{Share, SwitchValue, TryBody, BreakValue, ReturnValue, ThrowValue}
 use Rattle.rhai_machine.specs.language.Exports.{export_core}
@@ -98,9 +101,24 @@ module _ {H : Type 0} where
   abbrev pub added : Dynamic H → Ident → ASTFlags → Local H → Local H
   added v ident options l = record l { scope = l.scope ++ new_entry ident.name (mode_of options) v ∷ [] }
 
-  abbrev pub defined_core : Dynamic H → Ident → ASTFlags → (restoring : Bool) → List (Frame H) → Local H → Core H
-  defined_core v ident options restoring k l =
-      core (Back unit_value) k (added v ident options (constant_core (enters options restoring l) ident.name v l))
+  -- the value of one that overwrites another goes into the newest entry of its name, a constant's and a handle's too
+  abbrev pub overwritten : (at : Option ℕ) → Dynamic H → ASTFlags → Local H → Local H
+  overwritten None v options l = l
+  overwritten (Some at) v options l = put (InEntry at) (with_mode (mode_of options) v) l
+
+  abbrev pub written : (index : Option NonZeroUsize) → Dynamic H → Ident → ASTFlags → Local H → Local H
+  written None v ident options l = added v ident options l
+  written (Some offset) v ident options l = overwritten (index_of ident.name l.scope) v options l
+
+  -- one that is exported is then exported under its own name
+  abbrev pub declared_core : (exported : Bool) → Ident → List (Frame H) → Local H → Core H
+  declared_core false ident k l = core (Back unit_value) k l
+  declared_core true ident k l = export_core ident None k l
+
+  abbrev pub defined_core : Dynamic H → Ident → (index : Option NonZeroUsize) → ASTFlags → (restoring : Bool) → List (Frame H) →
+      Local H → Core H
+  defined_core v ident index options restoring k l = declared_core (is_exported options) ident k
+      (written index v ident options (constant_core (enters options restoring l) ident.name v l))
 
   -- a `break` or a `continue` is an error on its way to its loop, with its value as it is
   abbrev pub break_core : Option Expr → (is_break : Bool) → Position → List (Frame H) → Local H → Core H
@@ -115,13 +133,13 @@ module _ {H : Type 0} where
   return_move false (Some value) pos k l = Go (core (Eval value) (ReturnValue (position_of value) pos ∷ k) l)
 
   module _ (s : Setting H) where
-    -- where shadowing is off a name is declared once; the scope holds at most so many variables; then the value
-    abbrev pub define_core : (shadows full : Bool) → Ident → Expr → ASTFlags → (restoring : Bool) → Position → List (Frame H) → Local H →
-        Core H
-    define_core true full ident value options restoring pos k l = core (Fail (error.ErrorVariableExists ident.name pos)) k l
-    define_core false true ident value options restoring pos k l = core (Fail (error.ErrorTooManyVariables pos)) k l
-    define_core false false ident value options restoring pos k l =
-        core (Eval value) (DefineValue ident options restoring (position_of value) ∷ k) l
+    -- where shadowing is off a name is declared once; a scope gets a new variable only below its limit; then the value
+    abbrev pub define_core : (shadows full : Bool) → Ident → Expr → (index : Option NonZeroUsize) → ASTFlags → (restoring : Bool) →
+        Position → List (Frame H) → Local H → Core H
+    define_core true full ident value index options restoring pos k l = core (Fail (error.ErrorVariableExists ident.name pos)) k l
+    define_core false true ident value index options restoring pos k l = core (Fail (error.ErrorTooManyVariables pos)) k l
+    define_core false false ident value index options restoring pos k l =
+        core (Eval value) (DefineValue ident index options restoring (position_of value) ∷ k) l
 
     -- a statement, after its charge; a form that is not there has no step
     abbrev pub stmt_move : StmtLayer → Bool → List (Frame H) → Local H → Move H (Core H)
@@ -130,10 +148,9 @@ module _ {H : Type 0} where
     stmt_move (layer.Stmt::FnCall call pos) restoring k l = Go (core (OpenExpr (layer.Expr::FnCall call pos)) k l)
     stmt_move (layer.Block block) restoring k l = Go (core (Enter block.statements true) k l)
     stmt_move (layer.Assignment op lhs rhs) restoring k l = assignment_move (out-Expr lhs) op rhs k l
-    stmt_move (layer.Var ident value None options pos) restoring k l =
-        where_there (not (is_exported options))
+    stmt_move (layer.Var ident value index options pos) restoring k l = Go
         (define_core (not s.offer.allow_shadowing && is_some (index_of ident.name l.scope))
-        (nat_le s.limits.max_variables (length l.scope)) ident value options restoring pos k l)
+        (is_none index && nat_le s.limits.max_variables (length l.scope)) ident value index options restoring pos k l)
     stmt_move (layer.If test body branch pos) restoring k l = Go (core (Eval test) (IfCondition (position_of test) body branch ∷ k) l)
     stmt_move (layer.Switch value results cases ranges default pos) restoring k l = Go (core (Eval value)
         (SwitchValue (position_of value) (record { results = results; cases = cases; ranges = ranges; default = default }) ∷ k) l)

@@ -122,8 +122,8 @@ module _ {H : Type 0} (s : Setting H) where
   -- a value comes up to a frame; a left operand is flattened before the right one is evaluated
   abbrev pub up_core : Frame H → Dynamic H → List (Frame H) → Local H → Core H
   up_core (StatementValue at) v k l = core (ended (flat l.around.cells v at)) k l
-  up_core (DefineValue ident options restoring value_at) v k l =
-      on_value (flat l.around.cells v value_at) (λ x. defined_core x ident options restoring k l) k l
+  up_core (DefineValue ident index options restoring value_at) v k l =
+      on_value (flat l.around.cells v value_at) (λ x. defined_core x ident index options restoring k l) k l
   up_core (IfCondition test_at body branch) v k l =
       on_value (truth s.host_type l.around.cells v test_at) (λ holds. chosen_core holds body branch k l) k l
   up_core (RestOfList rest restoring) v k l = core (Run rest restoring v) k l

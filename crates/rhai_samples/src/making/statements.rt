@@ -9,6 +9,7 @@ use rhai_tree::flags::ASTFlags;
 use rhai_tree::position::Position;
 use rhai_tree::token::Token;
 use std::alloc::{AllocError, Global};
+use std::num::NonZeroUsize;
 
 /// A name at a column.
 pub(super) fn ident(alloc: Global, name: &str, column: u16) -> Result<Ident, AllocError> {
@@ -16,6 +17,15 @@ pub(super) fn ident(alloc: Global, name: &str, column: u16) -> Result<Ident, All
         name: shared(alloc, name)?,
         pos: place(column),
     })
+}
+
+/// Options in one.
+fn all_of(options: &[ASTFlags]) -> ASTFlags {
+    let mut all = ASTFlags::empty();
+    for option in options {
+        all.insert(*option);
+    }
+    all
 }
 
 impl Making {
@@ -32,13 +42,19 @@ impl Making {
             }
             Part::Value => Stmt::Expr(self.expr()),
             Part::BlockStatement => Stmt::Block(self.block()),
-            Part::Let(name, at_name, column) => {
-                let name = ident(self.alloc, name, at_name)?;
-                Stmt::Var(name, self.expr(), None, ASTFlags::empty(), place(column))
-            }
+            Part::Let(name, at_name, column) => { self.declaration(name, at_name, 0, &[], column)? }
             Part::Const(name, at_name, column) => {
-                let name = ident(self.alloc, name, at_name)?;
-                Stmt::Var(name, self.expr(), None, ASTFlags::CONSTANT, place(column))
+                self.declaration(name, at_name, 0, &[ASTFlags::CONSTANT], column)?
+            }
+            Part::ExportLet(name, at_name, column) => {
+                self.declaration(name, at_name, 0, &[ASTFlags::EXPORTED], column)?
+            }
+            Part::ExportConst(name, at_name, column) => {
+                let options = [ASTFlags::CONSTANT, ASTFlags::EXPORTED];
+                self.declaration(name, at_name, 0, &options, column)?
+            }
+            Part::Overwrite(name, at_name, offset, options, column) => {
+                self.declaration(name, at_name, offset, options, column)?
             }
             Part::Assign(column) => self.assignment(None, column),
             Part::AssignBy(token, column) => self.assignment(Some(token), column),
@@ -49,6 +65,21 @@ impl Making {
             _ => return self.add_branch(part),
         };
         self.statements.push(made)
+    }
+
+    /// A `let` with options over the variable at an offset from the end of the scope; zero is none.
+    fn declaration(
+        &mut self,
+        name: &str,
+        at_name: u16,
+        offset: usize,
+        options: &[ASTFlags],
+        column: u16,
+    ) -> Result<Stmt, AllocError> {
+        let name = ident(self.alloc, name, at_name)?;
+        let value = self.expr();
+        let index = NonZeroUsize::new(offset);
+        Ok(Stmt::Var(name, value, index, all_of(options), place(column)))
     }
 
     fn assignment(&mut self, op: Option<Token>, column: u16) -> Stmt {

@@ -1,11 +1,9 @@
-use Rattle.std.proofs.Common.{◌≡◌, ◌∙◌, ◌∷◌, Some, arith, length, refl, sym}
-use Rattle.std.specs.Prelude.{IfSome, OnOk}
+use Rattle.std.proofs.Common.{◌∙◌, refl, sym}
 use Rattle.rhai_tree.proofs.Statements.{shared_at}
 use Rattle.rhai_state.specs.Scope.{entries_of, names_in, value_of}
 use Rattle.rhai_machine.specs.machine.Memory.{here, ◌⨾◌}
 use Rattle.rhai_machine.specs.language.Runs.{Steps}
 use Rattle.rhai_machine.specs.language.Setting.{rules_of}
-use Rattle.rhai_steps.specs.States.{local_of}
 use Rattle.rhai_steps.proofs.Pieces.{exits}
 use Rattle.rhai_sharing.proofs.Steps.{drop_all, drop_item, is_none, item_there, left_so, shares_none, shares_not, shares_one, shares_wanting}
 use Rattle.rhai_sharing.proofs.share_each.Goals as goal

@@ -1,31 +1,32 @@
-use Rattle.std.proofs.Common.{◌≡◌, ap, ◌∙◌, sym, rules, refl, ◌++◌, true, false, arith, length, ◌≤◌, take, ◌&&◌}
+use Rattle.std.proofs.Common.{◌≡◌, ap, ◌∙◌, sym, rules, refl, List, ◌++◌, true, false, IsTrue, arith, length, ◌≤◌, take, ◌&&◌}
 use Rattle.rhai_tree.specs.declared.expr.Expr.TheOpen as layer
 use Rattle.rhai_tree.specs.declared.expr.Expr.TheVariants.{outs-Variable, outs-Or, outs-Dot, outs-Index, outs-DynamicConstant}
 use Rattle.rhai_tree.specs.declared.expr.Expr.TheVariants.{outs-BoolConstant, outs-IntegerConstant, outs-CharConstant}
 use Rattle.rhai_tree.specs.declared.expr.Expr.TheVariants.{outs-StringConstant, outs-Unit, outs-ThisPtr}
 use Rattle.rhai_tree.specs.declared.expr.Stmt.TheVariants.{outs-If, outs-Noop, outs-Export, outs-While, outs-Assignment, outs-Switch, outs-For}
-use Rattle.rhai_tree.specs.declared.expr.Stmt.TheVariants.{outs-TryCatch}
+use Rattle.rhai_tree.specs.declared.expr.Stmt.TheVariants.{outs-TryCatch, outs-Var}
 use Rattle.rhai_check.specs.Around.{around}
 use Rattle.rhai_tree.specs.Frame.{tests_of, resolves_expr, dot_resolves, name_resolves, bracket_resolves}
-use Rattle.rhai_tree.specs.Frame.{resolves_block, turn_names, turns_resolve, catch_resolves}
+use Rattle.rhai_tree.specs.Frame.{resolves_block, turn_names, turns_resolve, catch_resolves, var_resolves}
 use Rattle.rhai_check.specs.Declares.{names_a_catch}
 use Rattle.rhai_tree.specs.Cases.{is_switch}
 use Rattle.rhai_tree.specs.Forms.{ends_chain, catch_of}
 use Rattle.rhai_tree.specs.Reading.{faulty, sound}
 use Rattle.rhai_tree.specs.WellFormed.{seen_expr, seen_block, dot_faults, catch_variable_faults}
-use Rattle.rhai_tree.specs.Names.{is_good}
+use Rattle.rhai_tree.specs.Names.{Name, is_good}
 use Rattle.std.proofs.lemmas.Grind.{common_steps}
 use Rattle.std.proofs.lemmas.List.{append-nil}
 use Rattle.rhai_check.proofs.Chains.{bracket_same, bracket_last, bracket_apart, bracket_runs, named_alone, named_apart, and_true}
 use Rattle.rhai_check.proofs.Chains.{passes_as, runs_as, refused_as}
 use Rattle.rhai_check.proofs.Chains.{chain_passes, chain_runs, chain_refused, rest_refused}
 use Rattle.rhai_check.proofs.Offsets.{variable_above}
-use Rattle.rhai_check.proofs.Outcome.{given_ok, err_then, runs_at, exact_expr_at, exact_stmt_at, resolved_expr_at, refused_expr_at}
-use Rattle.rhai_check.proofs.Outcome.{target_refused, exported_refused, var_passes, var_runs, control_passes, control_refused, loop_passes}
+use Rattle.rhai_check.proofs.Outcome.{given_ok, ok_then, err_then, runs_at, exact_expr_at, exact_stmt_at, resolved_expr_at}
+use Rattle.rhai_check.proofs.Outcome.{resolved_stmt_at, refused_expr_at, target_refused, value_of_var_refused, var_passes, var_runs}
+use Rattle.rhai_check.proofs.Outcome.{control_passes, control_refused, loop_passes}
 use Rattle.rhai_check.proofs.Refused.{refused, refuses_expr, refuses_stmt, refuses_first, refuses_later}
-use Rattle.rhai_check.proofs.Refused.{refuses_front, refuses_behind, refuses_memory}
+use Rattle.rhai_check.proofs.Refused.{refuses_more, refuses_front, refuses_behind, refuses_memory}
 use Rattle.rhai_check.proofs.Scopes.{take_turn, turn_passes, turn_runs, turn_refused, take_caught, branch_passes, branch_runs}
-use Rattle.rhai_check.proofs.Scopes.{branch_refused, catch_same, catch_refused}
+use Rattle.rhai_check.proofs.Scopes.{branch_refused, catch_same, catch_refused, begins_var}
 use Rattle.rhai_check.proofs.Switches.{refuses_conditional, switch_bad, value_refused, parts_refused, switch_passes, switch_runs}
 use Rattle.rhai_check.proofs.Outcome.{runs_stmt_at, both_run}
 use Rattle.rhai_check.proofs.Counted.{counted_runs}
@@ -108,24 +109,59 @@ stmt::check_stmt-returns-in_ok-check_expr-in-While-clause-refused t c =
     (refuses_later _ _ _ _ e c.in_ok-check_expr-in-While.ensures.exact h))
     (rw (c.in_ok-check_expr-in-While.ensures.same, c.looping.ensures) at c.check_block-in-While.ensures.refused)
 
-pub stmt::check_var-returns-then-contains-clause-refused : goal.stmt::check_var-returns-then-contains-clause-refused
-stmt::check_var-returns-then-contains-clause-refused t c =
-    exported_refused (seen_expr c.args.expr.now) c.args.options c.args.pos (around c.args.names.now c.args.place)
-    (sym (c.if-contains.ensures tt))
+pub stmt::check_var-returns-in_err-check_declaration-clause-refused :
+    goal.stmt::check_var-returns-in_err-check_declaration-clause-refused
+stmt::check_var-returns-in_err-check_declaration-clause-refused t c =
+    refused _ _ _ _ c.from_residual.ensures (refuses_more _ _ false true _ (λ k. k) (λ k. refl)
+    (rw c.as_slice.ensures at c.in_err-check_declaration.ensures.refused (seen_expr c.args.expr.now)))
+
+pub stmt::check_var-returns-in_err-check_expr-clause-refused : goal.stmt::check_var-returns-in_err-check_expr-clause-refused
+stmt::check_var-returns-in_err-check_expr-clause-refused t c =
+    refused _ _ _ _ c.from_residual-in_err-check_expr.ensures
+    (value_of_var_refused (seen_expr c.args.expr.now) c.args.index c.args.ident.now c.args.options c.args.pos
+    (around c.args.names.now c.args.place) _ _
+    (rw c.as_slice.ensures at c.in_ok-check_declaration.ensures.exact (seen_expr c.args.expr.now))
+    c.in_err-check_expr.ensures.refused)
 
 pub stmt::check_var-returns-clause-declared : goal.stmt::check_var-returns-clause-declared
-stmt::check_var-returns-clause-declared t c =
-    search (sym c.in_ok-check_expr.ensures.same)
+stmt::check_var-returns-clause-declared t c = rw c.in_ok-check_expr.ensures.same at c.declare_var.ensures.added
 
 pub stmt::check_var-returns-clause-exact : goal.stmt::check_var-returns-clause-exact
 stmt::check_var-returns-clause-exact t c =
-    given_ok _ (var_passes (seen_expr c.args.expr.now) c.args.options c.args.pos (around c.args.names.now c.args.place)
-    (sym (c.if-contains.ensures tt)) c.in_ok-check_expr.ensures.exact)
+    given_ok _ ((rw c.as_slice.ensures at c.in_ok-check_declaration.ensures.exact (seen_expr c.args.expr.now))
+    ∙ c.in_ok-check_expr.ensures.exact)
 
 pub stmt::check_var-returns-clause-resolved : goal.stmt::check_var-returns-clause-resolved
 stmt::check_var-returns-clause-resolved t c =
-    var_runs _ (tests_of c.args.expr.now) c.args.options c.args.pos c.args.name.now c.args.names.now _ (sym (c.if-contains.ensures tt))
-    c.in_ok-check_expr.ensures.resolved (rw c.in_ok-check_expr.ensures.same at c.declare.ensures.added)
+    let runs : (base : List Name) → IsTrue (var_resolves c.args.index c.args.ident.now (tests_of c.args.expr.now) c.args.options c.args.pos
+    (base ++ c.args.names.now)) = λ base.
+    (rw c.as_slice.ensures at c.in_ok-check_declaration.ensures.resolved base (tests_of c.args.expr.now))
+    ∙ c.in_ok-check_expr.ensures.resolved base in
+    given_ok _ runs
+
+pub stmt::check_stmt-returns-in-Var-clause-begins : goal.stmt::check_stmt-returns-in-Var-clause-begins
+stmt::check_stmt-returns-in-Var-clause-begins t c =
+    ok_then _ (begins_var c.in-Var.index c.in-Var.ident.name c.args.names.now _) c.check_var.ensures.declared
+
+pub stmt::check_stmt-returns-in-Var-clause-exact : goal.stmt::check_stmt-returns-in-Var-clause-exact
+stmt::check_stmt-returns-in-Var-clause-exact t c =
+    exact_stmt_at _ c.args.stmt.now (layer.Var c.in-Var.ident c.in-Var.expr c.in-Var.index c.in-Var.options c.in-Var.pos)
+    (around c.args.names.now c.args.place) _ (rw (c.in-Var.is, outs-Var) refl)
+    (var_passes _ _ c.in-Var.index c.in-Var.ident.name c.args.place c.args.names.now _ c.check_var.ensures.exact
+    c.check_var.ensures.declared)
+
+pub stmt::check_stmt-returns-in-Var-clause-resolved : goal.stmt::check_stmt-returns-in-Var-clause-resolved
+stmt::check_stmt-returns-in-Var-clause-resolved t c =
+    resolved_stmt_at _ c.args.stmt.now (layer.Var c.in-Var.ident c.in-Var.expr c.in-Var.index c.in-Var.options c.in-Var.pos)
+    c.args.names.now _ (rw (c.in-Var.is, outs-Var) refl)
+    (var_runs _ (var_resolves c.in-Var.index c.in-Var.ident (tests_of c.in-Var.expr) c.in-Var.options c.in-Var.pos)
+    c.in-Var.index c.in-Var.ident.name c.args.names.now _ c.check_var.ensures.resolved c.check_var.ensures.declared)
+
+pub stmt::check_stmt-returns-in-Var-clause-refused : goal.stmt::check_stmt-returns-in-Var-clause-refused
+stmt::check_stmt-returns-in-Var-clause-refused t c =
+    err_then _ (λ e h. refuses_stmt_at c.args.stmt.now
+    (layer.Var c.in-Var.ident c.in-Var.expr c.in-Var.index c.in-Var.options c.in-Var.pos)
+    (around c.args.names.now c.args.place) e (rw (c.in-Var.is, outs-Var) refl) h) c.check_var.ensures.refused
 
 pub stmt::check_control-returns-clause-exact : goal.stmt::check_control-returns-clause-exact
 stmt::check_control-returns-clause-exact t c =

@@ -994,8 +994,14 @@ run_stmt-returns-in-Share-clause-runs = statements.run_stmt-returns-in-Share-cla
 pub run_stmt-returns-in-Export-clause-runs : goal.run_stmt-returns-in-Export-clause-runs
 run_stmt-returns-in-Export-clause-runs = statements.run_stmt-returns-in-Export-clause-runs
 
-pub run_stmt-returns-in-Var-default-default-None-default-default-clause-runs : goal.run_stmt-returns-in-Var-default-default-None-default-default-clause-runs
-run_stmt-returns-in-Var-default-default-None-default-default-clause-runs = statements.run_stmt-returns-in-Var-default-default-None-default-default-clause-runs
+pub run_stmt-run_var-requires : goal.run_stmt-run_var-requires
+run_stmt-run_var-requires = statements.run_stmt-run_var-requires
+
+pub run_stmt-returns-in-Var-clause-names : goal.run_stmt-returns-in-Var-clause-names
+run_stmt-returns-in-Var-clause-names = statements.run_stmt-returns-in-Var-clause-names
+
+pub run_stmt-returns-in-Var-clause-runs : goal.run_stmt-returns-in-Var-clause-runs
+run_stmt-returns-in-Var-clause-runs = statements.run_stmt-returns-in-Var-clause-runs
 
 pub run_if-returns-in-None-clause-runs : goal.run_if-returns-in-None-clause-runs
 run_if-returns-in-None-clause-runs = statements.run_if-returns-in-None-clause-runs
@@ -1036,11 +1042,20 @@ assign_evaluated-returns-else-not-flatten_at-2-clause-runs = statements.assign_e
 pub run_var-returns-then-not-is_declarable-clause-runs : goal.run_var-returns-then-not-is_declarable-clause-runs
 run_var-returns-then-not-is_declarable-clause-runs = statements.run_var-returns-then-not-is_declarable-clause-runs
 
+pub run_var-run_expr-requires : goal.run_var-run_expr-requires
+run_var-run_expr-requires = statements.run_var-run_expr-requires
+
+pub run_var-declare-requires : goal.run_var-declare-requires
+run_var-declare-requires = statements.run_var-declare-requires
+
 pub run_var-returns-then-not-run_expr-clause-runs : goal.run_var-returns-then-not-run_expr-clause-runs
 run_var-returns-then-not-run_expr-clause-runs = statements.run_var-returns-then-not-run_expr-clause-runs
 
 pub run_var-returns-then-not-flatten_at-clause-runs : goal.run_var-returns-then-not-flatten_at-clause-runs
 run_var-returns-then-not-flatten_at-clause-runs = statements.run_var-returns-then-not-flatten_at-clause-runs
+
+pub run_var-returns-clause-names : goal.run_var-returns-clause-names
+run_var-returns-clause-names = statements.run_var-returns-clause-names
 
 pub run_var-returns-clause-runs : goal.run_var-returns-clause-runs
 run_var-returns-clause-runs = statements.run_var-returns-clause-runs

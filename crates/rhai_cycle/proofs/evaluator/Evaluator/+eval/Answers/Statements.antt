@@ -6,7 +6,7 @@ use Rattle.rhai_tree.specs.declared.expr.Expr.TheOpen as layer
 use Rattle.rhai_tree.specs.declared.expr.Expr.TheVariants as exprs
 use Rattle.rhai_tree.specs.declared.expr.Stmt.TheVariants as stmts
 use Rattle.rhai_tree.specs.declared.expr.Expr.TheViews.{the_lemmas}
-use Rattle.rhai_tree.specs.Frame.{resolves_stmt}
+use Rattle.rhai_tree.specs.Frame.{resolves_stmt, var_names}
 use Rattle.rhai_tree.proofs.Statements.{for_resolves, share_resolves, switch_resolves, try_resolves}
 use Rattle.rhai_state.specs.declared.state.GlobalRuntimeState.{GlobalRuntimeState}
 use Rattle.rhai_machine.specs.machine.Point.{after}
@@ -25,7 +25,7 @@ use Rattle.rhai_assign.proofs.Alone.{sides_resolve}
 use Rattle.rhai_assign.proofs.Prepared.{begins_assignment}
 use Rattle.rhai_tree.proofs.Links.{few_in_target}
 use Rattle.rhai_cycle.proofs.Conditions.{chooses}
-use Rattle.rhai_cycle.proofs.NameLemmas.{plain_var, names_restored, rest_resolves, any_item}
+use Rattle.rhai_cycle.proofs.NameLemmas.{declared_names, declared_resolves, var_good, var_value, names_restored, rest_resolves, any_item}
 use Rattle.rhai_cycle.proofs.Chain.{flat_fails, drop_item, drop_all, begins_stmt, opens_stmt, refuses_stmt, restores, enters_empty}
 use Rattle.rhai_cycle.proofs.Chain.{enters_plain, enters_restoring, has_some, is_empty_list, is_not_empty, left_state, not_declared, begins_value}
 use Rattle.rhai_cycle.proofs.ThisSteps.{this_begins, this_unbound}
@@ -244,19 +244,33 @@ run_stmt-returns-in-Export-clause-runs g t c =
     (c.export_variable.ensures.runs (offer_of c.args.self.now) (holding c.args.run.now.this) c.in-Export.field-2 c.args.restoring)
     (rw (c.in-Export.is, stmts.outs-Export) refl)
 
-pub run_stmt-returns-in-Var-default-default-None-default-default-clause-runs :
-    goal.run_stmt-returns-in-Var-default-default-None-default-default-clause-runs
-run_stmt-returns-in-Var-default-default-None-default-default-clause-runs g t c =
+pub run_stmt-run_var-requires : goal.run_stmt-run_var-requires
+run_stmt-run_var-requires g t c =
+    λ κs lives. (
+      omega (
+        arith,
+        (c.if-not-charge_stmt.ensures.room refl),
+        ap (λ (global : GlobalRuntimeState _). global.num_operations) (c.if-not-charge_stmt.ensures.charged refl),
+      ),
+      (
+        lives.0,
+        (
+          lives.1,
+          declared_resolves c.args.stmt.now (names c.args.run.now) c.in-Var.ident c.in-Var.value c.in-Var.index c.in-Var.options
+              c.in-Var.pos (rw (c.in-Var.is, stmts.outs-Var) refl) c.requires.resolves,
+        ),
+      ),
+    )
+
+pub run_stmt-returns-in-Var-clause-names : goal.run_stmt-returns-in-Var-clause-names
+run_stmt-returns-in-Var-clause-names g t c done = c.run_var.ensures.names done ∙ sym (declared_names c.args.stmt.now
+    (names c.args.run.now) c.in-Var.ident c.in-Var.value c.in-Var.index c.in-Var.options c.in-Var.pos (rw (c.in-Var.is, stmts.outs-Var) refl))
+
+pub run_stmt-returns-in-Var-clause-runs : goal.run_stmt-returns-in-Var-clause-runs
+run_stmt-returns-in-Var-clause-runs g t c =
     let rules = under g.H.Host.name_of c.args.self.now g.T.NativeTable.natives in
-    let none : c.in-Var-default-default-None-default-default.field-2 ≡ None = search (common_rules, the_lemmas) in
-    let form : out-Stmt c.args.stmt.now ≡ layer.Var c.in-Var-default-default-None-default-default.ident
-    c.in-Var-default-default-None-default-default.value None c.in-Var-default-default-None-default-default.options
-    c.in-Var-default-default-None-default-default.pos = rw (c.in-Var-default-default-None-default-default.is, stmts.outs-Var)
-    (ap (λ o. layer.Var
-    c.in-Var-default-default-None-default-default.ident c.in-Var-default-default-None-default-default.value o
-    c.in-Var-default-default-None-default-default.options c.in-Var-default-default-None-default-default.pos) none) in
     opens_stmt rules _ c.args.run.now.global c.charge_stmt.new.global _ _ (c.if-not-charge_stmt.ensures.room refl)
-    (c.if-not-charge_stmt.ensures.charged refl) _ _ _ _ _ (c.run_var.ensures.runs (plain_var _ _ _ _ _ _ form c.requires.resolves)) form
+    (c.if-not-charge_stmt.ensures.charged refl) _ _ _ _ _ c.run_var.ensures.runs (rw (c.in-Var.is, stmts.outs-Var) refl)
 
 -- a condition, and the list that it chooses
 
@@ -371,36 +385,61 @@ assign_evaluated-returns-else-not-flatten_at-2-clause-runs g t c restoring k =
 
 pub run_var-returns-then-not-is_declarable-clause-runs : goal.run_var-returns-then-not-is_declarable-clause-runs
 unfolding after Steps
-run_var-returns-then-not-is_declarable-clause-runs g t c kept k =
+run_var-returns-then-not-is_declarable-clause-runs g t c k =
     let rules = under g.H.Host.name_of c.args.self.now g.T.NativeTable.natives in
-    not_declared rules c.args.ident.now c.args.value.now c.args.options c.args.pos c.args.restoring k _ _ c.if-not-is_declarable.ensures kept
+    not_declared rules c.args.ident.now c.args.value.now c.args.index c.args.options c.args.pos c.args.restoring k _ _
+    c.if-not-is_declarable.ensures
+
+pub run_var-run_expr-requires : goal.run_var-run_expr-requires
+run_var-run_expr-requires g t c =
+    λ κs lives. (
+      omega arith,
+      (
+        lives.0,
+        (
+          lives.1,
+          var_value c.args.index c.args.ident.now c.args.value.now c.args.options c.args.pos (names c.args.run.now) c.requires.resolves,
+        ),
+      ),
+    )
+
+pub run_var-declare-requires : goal.run_var-declare-requires
+run_var-declare-requires g t c = rw (c.if-not-run_expr.ensures.names refl) (var_good c.args.index c.args.ident.now c.args.value.now
+    c.args.options c.args.pos (names c.args.run.now) c.requires.resolves)
 
 pub run_var-returns-then-not-run_expr-clause-runs : goal.run_var-returns-then-not-run_expr-clause-runs
 unfolding after Steps
-run_var-returns-then-not-run_expr-clause-runs g t c kept k =
+run_var-returns-then-not-run_expr-clause-runs g t c k =
     let rules = under g.H.Host.name_of c.args.self.now g.T.NativeTable.natives in
-    begins_value rules c.args.ident.now c.args.value.now c.args.options c.args.pos c.args.restoring k _ (c.if-not-is_declarable.ensures tt) kept
-    ⨾ c.if-not-run_expr.ensures.runs (DefineValue _ _ _ _ ∷ k) ⨾ next here
+    begins_value rules c.args.ident.now c.args.value.now c.args.index c.args.options c.args.pos c.args.restoring k _
+    (c.if-not-is_declarable.ensures tt)
+    ⨾ c.if-not-run_expr.ensures.runs (DefineValue _ _ _ _ _ ∷ k) ⨾ next here
 
 pub run_var-returns-then-not-flatten_at-clause-runs : goal.run_var-returns-then-not-flatten_at-clause-runs
 unfolding after Steps
-run_var-returns-then-not-flatten_at-clause-runs g t c kept k =
+run_var-returns-then-not-flatten_at-clause-runs g t c k =
     let rules = under g.H.Host.name_of c.args.self.now g.T.NativeTable.natives in
-    begins_value rules c.args.ident.now c.args.value.now c.args.options c.args.pos c.args.restoring k _ (c.if-not-is_declarable.ensures tt) kept
-    ⨾ c.if-not-run_expr.ensures.runs (DefineValue _ _ _ _ ∷ k)
-    ⨾ flat_fails rules _ _ k _ _ (DefineValue _ _ _ _) refl c.if-not-flatten_at.ensures.exact
+    begins_value rules c.args.ident.now c.args.value.now c.args.index c.args.options c.args.pos c.args.restoring k _
+    (c.if-not-is_declarable.ensures tt)
+    ⨾ c.if-not-run_expr.ensures.runs (DefineValue _ _ _ _ _ ∷ k)
+    ⨾ flat_fails rules _ _ k _ _ (DefineValue _ _ _ _ _) refl c.if-not-flatten_at.ensures.exact
+
+pub run_var-returns-clause-names : goal.run_var-returns-clause-names
+run_var-returns-clause-names g t c done = c.declare.ensures.names done
+    ∙ ap (var_names c.args.index c.args.ident.now.name) (c.if-not-run_expr.ensures.names refl)
 
 pub run_var-returns-clause-runs : goal.run_var-returns-clause-runs
 unfolding Steps
-run_var-returns-clause-runs g t c kept k =
+run_var-returns-clause-runs g t c k =
     let rules = under g.H.Host.name_of c.args.self.now g.T.NativeTable.natives in
     let old = c.run_expr.new.run in
-    begins_value rules c.args.ident.now c.args.value.now c.args.options c.args.pos c.args.restoring k _ (c.if-not-is_declarable.ensures tt) kept
-    ⨾ c.if-not-run_expr.ensures.runs (DefineValue _ _ _ _ ∷ k)
-    ⨾ declared rules _ old.global c.declare.new.global old.scope c.declare.new.scope (holding old.this) c.args.ident.now c.args.options
-    c.args.restoring _ c.flatten_at.new.out _ k c.declare.result c.declare.new.out c.declare.new.place (c.if-not-flatten_at.ensures.exact tt)
-    c.declare.ensures.value (c.declare.ensures.defined (holding old.this)) c.declare.ensures.counts c.declare.ensures.refused
-    c.declare.ensures.same c.declare.ensures.same_scope
+    begins_value rules c.args.ident.now c.args.value.now c.args.index c.args.options c.args.pos c.args.restoring k _
+    (c.if-not-is_declarable.ensures tt)
+    ⨾ c.if-not-run_expr.ensures.runs (DefineValue _ _ _ _ _ ∷ k)
+    ⨾ declared rules _ old.global c.declare.new.global old.scope c.declare.new.scope (holding old.this) c.args.ident.now c.args.index
+    c.args.options c.args.restoring _ c.flatten_at.new.out _ k c.declare.result c.declare.new.out c.declare.new.place
+    (c.if-not-flatten_at.ensures.exact tt) c.declare.ensures.value (c.declare.ensures.declares (holding old.this)) c.declare.ensures.counts
+    c.declare.ensures.refused c.declare.ensures.same c.declare.ensures.same_scope
 
 -- lists
 

@@ -1,0 +1,256 @@
+//! Variables that a script declares, and those that it overwrites. Ports what upstream's `eval_stmt` does with a
+//! `let` and a `const`.
+
+ghost use Rattle.std.specs.Prelude.{◌≡◌, ◌<◌, ◌&&◌, IfErr, IsTrue, None, OnErr, OnOk, Some, false, true};
+ghost use Rattle.std.specs.Prelude.{is_none, length, slice_get};
+ghost use Rattle.std.specs.Option.{option_map};
+ghost use Rattle.rhai_tree.specs.Forms.{is_exported as exported};
+ghost use Rattle.rhai_tree.specs.Frame.{var_names};
+ghost use Rattle.rhai_tree.specs.Names.{is_good};
+ghost use Rattle.rhai_state.specs.Errors.{is_out_of_memory};
+ghost use Rattle.rhai_state.specs.Scope.{entries_of, names_in, value_of};
+ghost use Rattle.rhai_machine.specs.language.State.{Answers};
+ghost use Rattle.rhai_machine.specs.language.Statements.{constant_core, enters};
+ghost use Rattle.rhai_machine.specs.language.Values.{unit_value as unit};
+ghost use Rattle.rhai_steps.specs.Declaring.{declarable, is_full, is_taken};
+ghost use Rattle.rhai_steps.specs.States.{local_of};
+ghost use Rattle.rhai_context.specs.Ends.{came, error_in};
+ghost use Rattle.rhai_sharing.specs.Declares.{Declares, own_alias};
+
+use rhai_context::ends::{stop, take_value};
+use rhai_state::error::EvalAltResult;
+use rhai_state::limits::Limits;
+use rhai_state::scope::Scope;
+use rhai_state::state::GlobalRuntimeState;
+use rhai_steps::constants::enter_constant;
+use rhai_steps::variables::{
+    define_variable, is_exported, may_declare, mode_of, place_of_variable,
+};
+use rhai_tree::expr::Ident;
+use rhai_tree::flags::ASTFlags;
+use rhai_tree::position::Position;
+use rhai_tree::{Shared, Text};
+use rhai_values::base::value::{Dynamic, Host};
+use std::alloc::Global;
+use std::num::NonZeroUsize;
+
+/// Whether a variable may be declared; one that overwrites another needs no room. Where it may not, the run stops.
+///
+/// # Errors
+/// Those of `may_declare`.
+#[inline(always)]
+pub fn is_declarable<H: Host>(
+    limits: &Limits,
+    allow_shadowing: bool,
+    scope: &Scope<H>,
+    place: &mut Option<EvalAltResult<H>>,
+    name: &Shared<Text>,
+    index: Option<NonZeroUsize>,
+    pos: Position,
+) -> bool
+    ensures { Answers (came result tt place.new) (declarable name.now pos (is_taken allow_shadowing name.now
+        (entries_of scope.now)) (is_none index && is_full limits.now (entries_of scope.now))) }
+{
+    match may_declare(limits, allow_shadowing, scope, name, index, pos) {
+        Ok(()) => true,
+        Err(error) => stop(place, error),
+    }
+}
+
+/// Gives the entry at a place its variable's own name as an alias, where the variable is exported. Where there is no
+/// memory the scope stays.
+///
+/// # Errors
+/// `ErrorOutOfMemory` at the position alone.
+fn add_own_alias<H: Host>(
+    scope: &mut Scope<H>,
+    at: usize,
+    name: &Shared<Text>,
+    options: ASTFlags,
+    pos: Position,
+) -> Result<(), EvalAltResult<H>>
+    requires { at < length (entries_of scope.old) }
+    ensures aliased { OnOk result (entries_of scope.new
+        ≡ own_alias (exported options) (entries_of scope.old) at name.now) }
+    ensures refused { IfErr result (λ e. is_out_of_memory e ≡ true) }
+    ensures same { OnErr result (entries_of scope.new ≡ entries_of scope.old) }
+{
+    if !is_exported(options) {
+        return Ok(());
+    }
+    let Ok(alias) = name.share() else {
+        return Err(EvalAltResult::ErrorOutOfMemory(pos));
+    };
+    match scope.add_alias(at, alias) {
+        Ok(()) => Ok(()),
+        Err(_) => Err(EvalAltResult::ErrorOutOfMemory(pos)),
+    }
+}
+
+/// What comes with a variable that stands at a place: its own name as an alias, where it is exported, and its value
+/// among the constants of a script that has a library, where it is a constant at the top. Where there is no memory
+/// nothing is changed.
+///
+/// # Errors
+/// `ErrorOutOfMemory` at the position alone.
+fn publish<H: Host>(
+    alloc: Global,
+    global: &mut GlobalRuntimeState<H>,
+    scope: &mut Scope<H>,
+    at: usize,
+    name: &Shared<Text>,
+    options: ASTFlags,
+    restoring: bool,
+    pos: Position,
+) -> Result<(), EvalAltResult<H>>
+    requires { at < length (entries_of scope.old) }
+    ensures aliased { OnOk result (entries_of scope.new
+        ≡ own_alias (exported options) (entries_of scope.old) at name.now) }
+    ensures entered { (v : _) (s : _) (held : _) → OnOk result
+        (option_map value_of (slice_get (entries_of scope.old) at) ≡ Some v → local_of global.new s held
+        ≡ constant_core (enters options restoring (local_of global.old s held)) name.now v (local_of global.old s held)) }
+    ensures counts { global.new.num_operations ≡ global.old.num_operations }
+    ensures refused { IfErr result (λ e. is_out_of_memory e ≡ true) }
+    ensures same { OnErr result (global.new ≡ global.old) }
+    ensures same_scope { OnErr result (entries_of scope.new ≡ entries_of scope.old) }
+{
+    let count = scope.entries()[at].aliases.len();
+    add_own_alias(scope, at, name, options, pos)?;
+    let value = scope.value_at(at);
+    let entered = enter_constant(alloc, global, name, value, options, restoring, pos);
+    if let Err(error) = entered {
+        scope.truncate_aliases(at, count);
+        return Err(error);
+    }
+    Ok(())
+}
+
+/// Adds a variable with a value. Where there is no memory nothing is changed.
+///
+/// # Errors
+/// `ErrorOutOfMemory` at the position alone.
+fn add_variable<H: Host>(
+    alloc: Global,
+    global: &mut GlobalRuntimeState<H>,
+    scope: &mut Scope<H>,
+    value: Dynamic<H>,
+    ident: &Ident,
+    options: ASTFlags,
+    restoring: bool,
+    pos: Position,
+) -> Result<(), EvalAltResult<H>>
+    ensures declares { (held : _) → OnOk result (Declares value ident.now None options restoring
+        (local_of global.old scope.old held) (local_of global.new scope.new held)) }
+    ensures names { OnOk result (names_in scope.new ≡ var_names None ident.now.name (names_in scope.old)) }
+    ensures counts { global.new.num_operations ≡ global.old.num_operations }
+    ensures refused { IfErr result (λ e. is_out_of_memory e ≡ true) }
+    ensures same { OnErr result (global.new ≡ global.old) }
+    ensures same_scope { OnErr result (entries_of scope.new ≡ entries_of scope.old) }
+{
+    let at = scope.len();
+    define_variable(scope, ident, mode_of(options), value, pos)?;
+    let published = publish(
+        alloc,
+        global,
+        scope,
+        at,
+        &ident.name,
+        options,
+        restoring,
+        pos,
+    );
+    if let Err(error) = published {
+        scope.rewind(at);
+        return Err(error);
+    }
+    Ok(())
+}
+
+/// Puts a value into the newest variable of a name as it stands there, a constant or a handle too. Where there is no
+/// memory nothing is changed. Asked: the offset leads to that variable.
+///
+/// # Errors
+/// `ErrorOutOfMemory` at the position alone.
+fn overwrite_variable<H: Host>(
+    alloc: Global,
+    global: &mut GlobalRuntimeState<H>,
+    scope: &mut Scope<H>,
+    mut value: Dynamic<H>,
+    ident: &Ident,
+    offset: NonZeroUsize,
+    options: ASTFlags,
+    restoring: bool,
+    pos: Position,
+) -> Result<(), EvalAltResult<H>>
+    requires { IsTrue (is_good (Some offset) ident.now.name (names_in scope.old)) }
+    ensures declares { (held : _) → OnOk result (Declares value ident.now (Some offset) options restoring
+        (local_of global.old scope.old held) (local_of global.new scope.new held)) }
+    ensures names { OnOk result (names_in scope.new ≡ var_names (Some offset) ident.now.name (names_in scope.old)) }
+    ensures counts { global.new.num_operations ≡ global.old.num_operations }
+    ensures refused { IfErr result (λ e. is_out_of_memory e ≡ true) }
+    ensures same { OnErr result (global.new ≡ global.old) }
+    ensures same_scope { OnErr result (entries_of scope.new ≡ entries_of scope.old) }
+{
+    let Some(at) = place_of_variable(global, scope, Some(offset), &ident.name) else {
+        unreachable!()
+    };
+    value.set_access_mode(mode_of(options));
+    let before = scope.replace_value(at, value);
+    let published = publish(
+        alloc,
+        global,
+        scope,
+        at,
+        &ident.name,
+        options,
+        restoring,
+        pos,
+    );
+    if let Err(error) = published {
+        scope.replace_value(at, before);
+        return Err(error);
+    }
+    Ok(())
+}
+
+/// Declares a variable with the value of a run, which is `()` then: a new one, or, with an offset, by overwriting the
+/// one that it leads to. An exported one has its own name as an alias; a constant at the top of a script that has a
+/// library is entered among its constants. Where there is no memory the run stops, and nothing but its value is
+/// changed. Asked: the offset leads to the newest variable of the name.
+///
+/// # Errors
+/// `ErrorOutOfMemory` at the position alone.
+pub fn declare<H: Host>(
+    alloc: Global,
+    global: &mut GlobalRuntimeState<H>,
+    scope: &mut Scope<H>,
+    out: &mut Dynamic<H>,
+    place: &mut Option<EvalAltResult<H>>,
+    ident: &Ident,
+    index: Option<NonZeroUsize>,
+    options: ASTFlags,
+    restoring: bool,
+    pos: Position,
+) -> bool
+    requires { IsTrue (is_good index ident.now.name (names_in scope.old)) }
+    ensures value { IsTrue result → out.new ≡ unit }
+    ensures declares { (held : _) → IsTrue result → Declares out.old ident.now index options restoring
+        (local_of global.old scope.old held) (local_of global.new scope.new held) }
+    ensures names { IsTrue result → names_in scope.new ≡ var_names index ident.now.name (names_in scope.old) }
+    ensures counts { global.new.num_operations ≡ global.old.num_operations }
+    ensures refused { result ≡ false → is_out_of_memory (error_in place.new) ≡ true }
+    ensures same { result ≡ false → global.new ≡ global.old }
+    ensures same_scope { result ≡ false → entries_of scope.new ≡ entries_of scope.old }
+{
+    let value = take_value(out);
+    let declared = match index {
+        None => add_variable(alloc, global, scope, value, ident, options, restoring, pos),
+        Some(offset) => overwrite_variable(
+            alloc, global, scope, value, ident, offset, options, restoring, pos,
+        ),
+    };
+    match declared {
+        Ok(()) => true,
+        Err(error) => stop(place, error),
+    }
+}
