@@ -1,0 +1,11 @@
+pub mod ConstantLemmas
+pub mod Keeping
+pub mod Settling
+pub mod Assignments
+pub mod Calls
+pub mod Firing
+pub mod Methods
+pub mod Chains
+pub mod Forms
+pub mod Rules
+pub mod Runs

@@ -1,0 +1,26 @@
+//! The laws of constants, under all limits, for every engine and over every table of natives.
+//! Nothing here is run: each function stands for the law that is its contract.
+
+ghost use Rattle.rhai_machine.specs.language.Setting.{Offer, rules_of};
+ghost use Rattle.rhai_constants.specs.Laws.{ConstIsConstant, ConstantIsReadOnly, ConstantsStay};
+
+use rhai_state::limits::Limits;
+use rhai_state::table::NativeTable;
+use rhai_values::base::value::Host;
+use std::marker::PhantomData;
+
+/// What a `const` declares is read-only throughout.
+pub fn const_is_constant<H: Host>(of: PhantomData<H>)
+    ensures { ConstIsConstant H }
+{}
+
+/// What is read-only throughout is so itself, and each value in it is read-only throughout.
+pub fn constant_is_read_only<H: Host>(of: PhantomData<H>)
+    ensures { ConstantIsReadOnly H }
+{}
+
+/// A variable that is read-only throughout when a run starts has the same value when it ends, unless a
+/// step on the way shared that entry, or a `let` with an index wrote it.
+pub fn script_constants_stay<H: Host, T: NativeTable<H>>(of: PhantomData<(H, T)>)
+    ensures { (limits : Limits) (offer : Offer H) → ConstantsStay (rules_of limits H.name_of offer T.natives) }
+{}
