@@ -22,5 +22,6 @@ pub fn constant_is_read_only<H: Host>(of: PhantomData<H>)
 /// A variable that is read-only throughout when a run starts has the same value when it ends, unless a
 /// step on the way shared that entry, or a `let` with an index wrote it.
 pub fn script_constants_stay<H: Host, T: NativeTable<H>>(of: PhantomData<(H, T)>)
-    ensures { (limits : Limits) (offer : Offer H) → ConstantsStay (rules_of limits H.name_of offer T.natives) }
+    ensures { (limits : Limits) (offer : Offer H) →
+        ConstantsStay (rules_of limits H.name_of offer T.natives) }
 {}
