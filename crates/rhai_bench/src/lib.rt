@@ -3,6 +3,7 @@
 #![tactic(auto)]
 
 pub mod command;
+pub mod modules;
 pub mod outcome;
 pub mod print;
 pub mod rows;

@@ -3,9 +3,10 @@
 ghost use Rattle.std.specs.Prelude.{◌≡◌};
 ghost use Rattle.rhai_bench.specs.Outcome.{status_of};
 
-use rhai_eval::base::{EvalAltResult, Scope};
+use rhai_eval::base::{EvalAltResult, Items, Scope};
 use rhai_eval::cells::CellStore;
 use rhai_eval::check::CheckFault;
+use rhai_eval::state::Import;
 use rhai_tables::host::Pair;
 use rhai_values::base::value::Dynamic;
 
@@ -37,6 +38,10 @@ pub struct Outcome {
     pub ending: Ending,
     /// The operations that were charged.
     pub num_operations: u64,
+    /// How many modules were loaded.
+    pub num_modules_loaded: usize,
+    /// The imports that were left.
+    pub imports: Items<Import<Pair>>,
     /// The cells that variables and values share.
     pub cells: CellStore<Pair>,
     /// The variables that were left.

@@ -15,6 +15,7 @@ mod choices;
 mod data;
 mod exports;
 mod functions;
+mod imports;
 mod loops;
 mod operators;
 mod order;
@@ -49,6 +50,7 @@ pub fn scripts_of(list: &str) -> Option<&'static [Sample]> {
         data::scripts_of(list),
         exports::scripts_of(list),
         functions::scripts_of(list),
+        imports::scripts_of(list),
         loops::scripts_of(list),
         operators::scripts_of(list),
         order::scripts_of(list),

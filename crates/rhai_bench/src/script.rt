@@ -102,7 +102,7 @@ impl Script {
             Err(fault) => Ending::Refused(fault),
             Ok(tree) => {
                 add_library(alloc, &mut global, &tree)?;
-                let engine: Engine<Pair> = self.settings.engine(alloc);
+                let engine: Engine<Pair> = self.settings.engine(alloc)?;
                 let exits = self.settings.map_exit_to_return_value;
                 match engine.eval_global_statements(
                     alloc,
@@ -121,6 +121,8 @@ impl Script {
         Ok(Outcome {
             ending,
             num_operations: global.num_operations,
+            num_modules_loaded: global.num_modules_loaded,
+            imports: replace(&mut global.imports, Items::new(alloc)),
             cells: replace(&mut global.cells, CellStore::new(alloc)),
             scope,
         })

@@ -1,15 +1,18 @@
 //! What is set for a run.
 
-ghost use Rattle.std.specs.Prelude.{◌≡◌, []};
+ghost use Rattle.std.specs.Prelude.{◌≡◌, [], IfOk};
 ghost use Rattle.rhai_state.specs.Caches.{depth_of, is_on};
 ghost use Rattle.rhai_state.specs.Limits.{limit_of};
 ghost use Rattle.rhai_eval.specs.States.{limits_of};
 ghost use Rattle.rhai_bench.specs.Settings.{settings_of, usual};
 
+use crate::modules::modules_to_import;
+use rhai_eval::base::Table;
 use rhai_eval::engine::Engine;
-use rhai_eval::state::{Caches, Limits};
+use rhai_eval::state::{Caches, Limits, ModuleTable};
 use rhai_tables::host::Pair;
-use std::alloc::Global;
+use std::alloc::{AllocError, Global};
+use std::mem::replace;
 
 /// The limits and switches of a run.
 #[derive(Clone, Copy, Debug, PartialEq, Eq)]
@@ -19,6 +22,8 @@ pub struct Settings {
     pub allow_shadowing: bool,
     pub fail_on_invalid_map_property: bool,
     pub map_exit_to_return_value: bool,
+    /// Whether there are modules to import.
+    pub has_modules: bool,
 }
 
 impl Settings {
@@ -37,6 +42,7 @@ impl Settings {
         allow_shadowing: true,
         fail_on_invalid_map_property: false,
         map_exit_to_return_value: false,
+        has_modules: false,
     };
 
     /// The usual settings, but for their limits.
@@ -49,16 +55,18 @@ impl Settings {
         }
     }
 
-    /// An engine with these limits and switches, without modules.
-    pub fn engine(&self, alloc: Global) -> Engine<Pair>
-        ensures limits { limits_of result ≡ record self.now.limits
-            { max_operations = limit_of self.now.limits.max_operations } }
-        ensures fast_operators { result.fast_operators ≡ self.now.fast_operators }
-        ensures shadowing { result.allow_shadowing ≡ self.now.allow_shadowing }
-        ensures map_property { result.fail_on_invalid_map_property ≡ self.now.fail_on_invalid_map_property }
-        ensures global_modules { result.global_modules ≡ [] }
-        ensures global_sub_modules { result.global_sub_modules ≡ ([], []) }
+    /// An engine with these limits and switches. It has no modules but those to import, if there are to be any.
+    pub fn engine(&self, alloc: Global) -> Result<Engine<Pair>, AllocError>
+        ensures limits { IfOk result (λ engine. limits_of engine ≡ record self.now.limits
+            { max_operations = limit_of self.now.limits.max_operations }) }
+        ensures fast_operators { IfOk result (λ engine. engine.fast_operators ≡ self.now.fast_operators) }
+        ensures shadowing { IfOk result (λ engine. engine.allow_shadowing ≡ self.now.allow_shadowing) }
+        ensures map_property { IfOk result (λ engine. engine.fail_on_invalid_map_property
+            ≡ self.now.fail_on_invalid_map_property) }
+        ensures global_modules { IfOk result (λ engine. engine.global_modules ≡ []) }
+        ensures global_sub_modules { IfOk result (λ engine. engine.global_sub_modules ≡ ([], [])) }
     {
+        let modules = self.modules(alloc)?;
         let mut engine = Engine::new(alloc);
         engine.max_operations = self.limits.max_operations;
         engine.max_variables = self.limits.max_variables;
@@ -70,7 +78,19 @@ impl Settings {
         engine.fast_operators = self.fast_operators;
         engine.allow_shadowing = self.allow_shadowing;
         engine.fail_on_invalid_map_property = self.fail_on_invalid_map_property;
-        engine
+        drop(replace(&mut engine.modules, modules));
+        Ok(engine)
+    }
+
+    /// The modules to import, or none.
+    fn modules(&self, alloc: Global) -> Result<ModuleTable<Pair>, AllocError> {
+        if self.has_modules {
+            modules_to_import(alloc)
+        } else {
+            Ok(ModuleTable {
+                modules: Table::new(alloc),
+            })
+        }
     }
 }
 
@@ -91,6 +111,10 @@ pub enum Setting {
     WithoutShadowing,
     /// A key that a map does not have is an error.
     FailingOnMissingKeys,
+    /// There are modules to import.
+    WithModules,
+    /// There are modules to import, and a limit of them.
+    MaxModules(usize),
 }
 
 impl Setting {
@@ -126,6 +150,18 @@ impl Setting {
             },
             Setting::FailingOnMissingKeys => Settings {
                 fail_on_invalid_map_property: true,
+                ..Settings::USUAL
+            },
+            Setting::WithModules => Settings {
+                has_modules: true,
+                ..Settings::USUAL
+            },
+            Setting::MaxModules(max_modules) => Settings {
+                limits: Limits {
+                    max_modules,
+                    ..Settings::USUAL.limits
+                },
+                has_modules: true,
                 ..Settings::USUAL
             },
         }

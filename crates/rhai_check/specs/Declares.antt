@@ -53,7 +53,7 @@ conditional_step conditional = conditional.condition.declares || conditional.exp
 abbrev pub block_step : layer.StmtBlock-F Needs Bool Bool Bool (Unit {0}) Bool → Bool
 block_step block = any_of block.statements
 
--- a form that is not there yet is refused without a look inside
+-- a `let` may declare its name, and anything else asks as its parts do
 abbrev pub stmt_step : layer.Stmt-F Needs Bool Bool Bool (Unit {0}) Bool → Bool
 stmt_step (layer.Noop pos) = false
 stmt_step (layer.Expr expr) = expr.declares
@@ -69,7 +69,7 @@ stmt_step (layer.For name counter expr body pos) = true
 stmt_step (layer.BreakLoop expr options pos) = in_option expr
 stmt_step (layer.TryCatch body variable branch pos) = body || (variable.in_catch || branch)
 stmt_step (layer.Return expr options pos) = in_option expr
-stmt_step (layer.Import expr alias pos) = false
+stmt_step (layer.Import expr alias pos) = expr.declares
 stmt_step (layer.Export name alias pos) = false
 stmt_step (layer.Share variables) = false
 

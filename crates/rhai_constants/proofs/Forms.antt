@@ -1,4 +1,5 @@
--- What the rules of `switch`, `for`, `try` and of shared variables keep: the variables of a `for` are newer than the constant.
+-- What the rules of `switch`, `for`, `try`, `export`, `import` and of shared variables keep: the variables of a `for` are newer than the
+-- constant, and an import is no variable.
 use Rattle.std.proofs.Common.{refl, ◌∙◌, arith, slice_get, subst}
 use Rattle.std.proofs.lemmas.Bool.Decides.{nat_tests}
 use Rattle.std.specs.Option.{option_map}
@@ -22,18 +23,20 @@ use Rattle.rhai_values.specs.Layers.{layer_of}
 use Rattle.rhai_state.specs.declared.error.EvalAltResult.{EvalAltResult}
 use Rattle.rhai_state.specs.declared.scope.ScopeEntry.{ScopeEntry}
 use Rattle.rhai_state.specs.Scope.{aliased, found, index_of, new_entry, value_in, with_alias}
+use Rattle.rhai_machine.specs.Types.{Module}
 use Rattle.rhai_machine.specs.language.Setting.{Setting}
 use Rattle.rhai_machine.specs.language.State.{Local}
-use Rattle.rhai_machine.specs.language.Values.{flat}
+use Rattle.rhai_machine.specs.language.Values.{flat, unit_value}
 use Rattle.rhai_machine.specs.language.Places.{Place, InEntry, InCell, put}
 use Rattle.rhai_machine.specs.language.Turns.{ForLoop, Turns, integer_value, turns_of}
-use Rattle.rhai_machine.specs.language.Frames.{Frame, Core, core, on_value, Enter, ForTurn, ForItem, ForBody}
+use Rattle.rhai_machine.specs.language.Frames.{Frame, Core, core, on_value, Enter, ForTurn, ForItem, Back, ForBody}
 use Rattle.rhai_machine.specs.language.Choices.{truth_literal, met_core, tested_core, choose_core}
 use Rattle.rhai_machine.specs.language.Walks.{counters, for_core, loop_entries, started_core, shared_place, place_by}
 use Rattle.rhai_machine.specs.language.Walks.{place_of_entry, counted_core, turn_core, for_move, entered_core, item_core}
 use Rattle.rhai_machine.specs.language.Caught.{caught_value, thrown}
 use Rattle.rhai_machine.specs.language.Tries.{branch_with, branch_core, tried_core}
 use Rattle.rhai_machine.specs.language.Exports.{alias_or, export_at}
+use Rattle.rhai_machine.specs.language.Imports.{import_core, importing}
 use Rattle.rhai_machine.specs.language.Sharing.{handle_of, with_cell, shared, shared_core, share_core}
 use Rattle.std.proofs.Common.{zero, suc}
 use Rattle.std.specs.Prelude.{nat_eq, not, ◌&&◌, slice_set}
@@ -200,6 +203,18 @@ module _ {H : Type 0} (a : Told H) where
     ),
   ))
   export_keeps None ident alias k l = same a tt (λ h. h.1)
+
+  -- ---- imported modules
+
+  -- an import stands beside the variables
+  pub imported_keeps : (r : Result (Module H) (EvalAltResult H)) (name : List ℕ) (k : List (Frame H)) (l : Local H) →
+      Keeps a (calm k l) (on_value r (λ m. core (Back unit_value) k (importing name m l)) k l)
+  imported_keeps r name k l = on_keeps a r _ k l (λ m. same a tt (λ h. h.1))
+
+  pub import_keeps : (full : Bool) (path : Expr) (alias : Option Ident) (at : Position) (k : List (Frame H)) (l : Local H) →
+      Keeps a (calm k l) (import_core full path alias at k l)
+  import_keeps true path alias at k l = same a tt (λ h. h.1)
+  import_keeps false path alias at k l = same a tt (λ h. h.1)
 
   module _ (s : Setting H) where
     -- ---- the variables of a `for` and of a `catch`

@@ -38,7 +38,7 @@ use Rattle.rhai_machine.specs.language.Frames.{RestoreList, Top, UnaryOperand, L
 use Rattle.rhai_machine.specs.language.Frames.{WhileCondition, WhileBody, DoCondition, DoBody, BreakValue, ReturnValue}
 use Rattle.rhai_machine.specs.language.Frames.{ArrayItem, EntryValue, TextPart, PrintedPart, CallNamed, CallArgument, KeywordArgument}
 use Rattle.rhai_machine.specs.language.Frames.{EnterFunction, EnterOnFocus, AssignThis, AssignThisValue, CallEnd, Choose, ForTurn, ForItem, Share}
-use Rattle.rhai_machine.specs.language.Frames.{SwitchValue, SwitchCondition, ForItems, ForBody, RestoreScope, TryBody, ThrowValue}
+use Rattle.rhai_machine.specs.language.Frames.{SwitchValue, SwitchCondition, ForItems, ForBody, ImportPath, RestoreScope, TryBody, ThrowValue}
 use Rattle.rhai_machine.specs.language.Bodies.{statements_of, variables_before, body_core, unless_deep, called_back, returned}
 use Rattle.rhai_machine.specs.language.Data.{with_item, with_value, with_part, items_core, entries_core, parts_core, part_core}
 use Rattle.rhai_machine.specs.language.Data.{joined_core, printed, unprinted_core}
@@ -51,6 +51,7 @@ use Rattle.rhai_machine.specs.language.Arguments.{flattens, taken}
 use Rattle.rhai_machine.specs.language.Statements.{has_option, mode_of, enter_core, run_core, chosen_core, defined_core, define_core}
 use Rattle.rhai_machine.specs.language.Statements.{overwritten, written, declared_core, constant_core, enters}
 use Rattle.rhai_machine.specs.language.Statements.{loop_of, stmt_move, break_core, return_move}
+use Rattle.rhai_machine.specs.language.Imports.{module_meant, name_asked}
 use Rattle.rhai_machine.specs.language.Turns.{next_turn}
 use Rattle.rhai_machine.specs.language.Walks.{has_no_room}
 use Rattle.rhai_machine.specs.language.Tries.{catch_variable}
@@ -80,7 +81,7 @@ use Rattle.rhai_constants.proofs.Calls.{on_keeps, known_keeps, call_keeps, opera
 use Rattle.rhai_constants.proofs.Firing.{question_keeps, fire_keeps}
 use Rattle.rhai_constants.proofs.Methods.{focus_keeps}
 use Rattle.rhai_constants.proofs.Forms.{choose_keeps, met_keeps, walked_keeps, for_keeps, for_turn_keeps, item_keeps, tried_keeps, export_keeps}
-use Rattle.rhai_constants.proofs.Forms.{share_keeps}
+use Rattle.rhai_constants.proofs.Forms.{imported_keeps, import_keeps, share_keeps}
 use Rattle.rhai_constants.proofs.Chains.{open_keeps, asked_keeps, root_keeps, read_root_keeps, temporary_root, walk_keeps, locate_keeps}
 use Rattle.rhai_constants.proofs.Chains.{assign_focus_keeps, operated_on_keeps, part_assigned_keeps, part_changed_keeps, temporary_keeps}
 use Rattle.rhai_constants.proofs.Chains.{got_none_keeps, getter_missing_keeps, setter_missing_keeps, indexer_missing_keeps}
@@ -338,6 +339,8 @@ module _ {H : Type 0} (a : Told H) where
         (defined_keeps (flat l.around.cells v value_at) ident None options restoring v k l tt)
     up_keeps (DefineValue ident (Some offset) options restoring value_at) v k l fine sealed = after a (core (Back v) k l) (λ h. (tt, h.1))
         (defined_keeps (flat l.around.cells v value_at) ident (Some offset) options restoring v k l fine)
+    up_keeps (ImportPath alias path_at starts_at) v k l fine sealed = after a (calm k l) (λ h. (tt, h.1))
+        (imported_keeps a (module_meant s.host_type l.around.cells s.offer.modules v path_at starts_at) (name_asked alias) k l)
     up_keeps (IfCondition test_at body branch) v k l fine sealed =
         after a (calm k l) (λ h. (tt, h.1)) (on_keeps a (truth s.host_type l.around.cells v test_at) _ k l
         (λ holds. chosen_keeps holds body branch k l))
@@ -531,6 +534,8 @@ module _ {H : Type 0} (a : Told H) where
     stmt_keeps (layer.TryCatch body variable branch pos) restoring k l = same a tt (λ h. h.1)
     stmt_keeps (layer.Export ident alias pos) restoring k l = after a (calm k l) (λ h. (tt, h.1))
         (export_keeps a (index_of ident.name l.scope) ident alias k l)
+    stmt_keeps (layer.Import path alias pos) restoring k l = after a (calm k l) (λ h. (tt, h.1))
+        (import_keeps a (nat_le s.limits.max_modules l.around.num_modules_loaded) path alias pos k l)
     stmt_keeps (layer.Share variables) restoring k l = same a tt (λ h. h.1)
     stmt_keeps (layer.While test body pos) restoring k l = same a tt (λ h. h.1)
     stmt_keeps (layer.Do test body options pos) restoring k l = same a tt (λ h. h.1)
@@ -539,7 +544,6 @@ module _ {H : Type 0} (a : Told H) where
     stmt_keeps (layer.Return value options pos) restoring k l =
         return_keeps (has_option 2 options) value pos (core (OpenStmt (layer.Return value options pos) restoring) k l) k l
         (same a tt (λ h. h.1))
-    stmt_keeps _ restoring k l = tt
 
     -- what is known of a move's core is known of the move
     moves_knowing : (c : Core H) (v : Move H (Core H)) → (Inv a c → Moves a c v) → Moves a c v

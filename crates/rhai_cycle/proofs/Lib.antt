@@ -12,6 +12,7 @@ mod DataSteps
 pub mod FocusSteps
 mod ForSteps
 mod FormNames
+mod ImportSteps
 mod LoopSteps
 mod NameLemmas
 mod PlainLemmas

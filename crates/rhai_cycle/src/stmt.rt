@@ -26,6 +26,7 @@ use rhai_context::Context;
 use rhai_context::ends::{leave_unit, put_unit, stop};
 use rhai_context::outcomes::{charge_stmt, flatten_at};
 use rhai_items::assign_item;
+use rhai_modules::importing::{import_module, may_import};
 use rhai_sharing::declaring::{declare, is_declarable};
 use rhai_sharing::exporting::export_variable;
 use rhai_sharing::share_variables;
@@ -196,7 +197,9 @@ impl<'e, H: Host> Evaluator<'e, H> {
                 ident,
                 alias,
             ),
-            _ => unreachable!(),
+            Stmt::Import(path, alias, pos) => {
+                self.run_import(alloc, run, table, path, alias, *pos)
+            }
         }
     }
 
@@ -409,6 +412,36 @@ impl<'e, H: Host> Evaluator<'e, H> {
             restoring,
             pos,
         )
+    }
+
+    /// A module that is imported under what its path gives. How it ended stands in the run.
+    #[inline(never)]
+    #[cycle(eval)]
+    fn run_import<T: NativeTable<H>>(
+        &self,
+        alloc: Global,
+        run: &mut Context<H>,
+        table: &mut T,
+        path: &Expr,
+        alias: &Option<Ident>,
+        pos: Position,
+    ) -> bool
+        requires resolves { IsTrue (resolves_expr path.now (names run.old)) }
+        ensures counts { IsTrue result → run.old.global.num_operations ≤ run.new.global.num_operations }
+        ensures names { IsTrue result → names run.new ≡ names run.old }
+        ensures runs { (restoring : _) → Runs (under H.name_of self.now T.natives)
+            (OpenStmt (layer.Import path.now alias.now pos) restoring)
+            (state_in (T.state table.old) run.old) (came result run.new.value run.new.error)
+            (state_in (T.state table.new) run.new) }
+    {
+        if !may_import(self.limits, &run.global, &mut run.error, pos) {
+            return false;
+        }
+        if !self.run_expr(alloc, run, table, path) {
+            return false;
+        }
+        let (modules, out, place) = (self.modules, &mut run.value, &mut run.error);
+        import_module(alloc, modules, &mut run.global, out, place, path, alias)
     }
 
     /// What a list of statements does. A restoring list takes back on every way out the variables that

@@ -69,7 +69,7 @@ module _ {H : Type 0} (own : H → List Reached) (P : Reached → Type 0) (least
   text_seen_gives host cells (Ok v) at h = text_in_gives host cells v.value v at
   text_seen_gives host cells (Err e) at h = h
 
-  text_gives : (host : H → List ℕ) (l : Local H) (v : Dynamic H) (at : Position) → FitLocal own P least l → Fit own P v →
+  pub text_gives : (host : H → List ℕ) (l : Local H) (v : Dynamic H) (at : Position) → FitLocal own P least l → Fit own P v →
       Gives own P least (Any own P least (List ℕ)) (text_wanted host l.around.cells v at)
   text_gives host l v at h f = text_seen_gives host l.around.cells (through l.around.cells v at) at (through_gives own P least l v at h f)
 

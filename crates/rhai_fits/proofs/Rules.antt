@@ -32,7 +32,7 @@ use Rattle.rhai_machine.specs.language.Frames.{WhileBody, DoCondition, DoBody, B
 use Rattle.rhai_machine.specs.language.Frames.{TextPart, PrintedPart, CallArgument, KeywordArgument, AssignChain, AssignedChain, RootValue}
 use Rattle.rhai_machine.specs.language.Frames.{StepDown, Temporary, PartMethod, PartAssigned, Measured, MethodLink, MemberLink, MemberGot}
 use Rattle.rhai_machine.specs.language.Frames.{MemberOperated, GetterTried, SetterTried, IndexerTried, MemberSet, SwitchValue}
-use Rattle.rhai_machine.specs.language.Frames.{SwitchCondition, ForItems, ForBody, TryBody, CatchBranch, CallEnd}
+use Rattle.rhai_machine.specs.language.Frames.{SwitchCondition, ForItems, ForBody, ImportPath, TryBody, CatchBranch, CallEnd}
 use Rattle.rhai_machine.specs.language.Unwinding.{up_core, down_core, marked_core, operated, looked_at, topped}
 use Rattle.rhai_machine.specs.language.Language.{move_at}
 use Rattle.rhai_fits.specs.Contents.{of_values, of_control}
@@ -55,7 +55,7 @@ use Rattle.rhai_fits.proofs.Chains.{assign_focus_good}
 use Rattle.rhai_fits.proofs.Forms.{met_good, choose_good, walked_good, for_turn_good, item_good, tried_good, share_good, Fresh}
 use Rattle.rhai_fits.proofs.Statements.{enter_good, run_good, item_gives, value_gives, items_good, entries_good, part_good, joined_good}
 use Rattle.rhai_fits.proofs.Statements.{unprinted_good, argument_good, and_next_good, or_next_good, coalesce_next_good, expr_good}
-use Rattle.rhai_fits.proofs.Statements.{while_good, while_core_good, do_good, caught_good, chosen_good, defined_good, stmt_good}
+use Rattle.rhai_fits.proofs.Statements.{while_good, while_core_good, do_good, caught_good, imported_good, chosen_good, defined_good, stmt_good}
 use Rattle.rhai_fits.proofs.Leaving.{pop, refocus, left, step_left, topped_fits, raised_fits, sized_any, part_assigned_good}
 use Rattle.rhai_fits.proofs.Leaving.{part_changed_good, operated_good, got_none_good, temporary_good}
 
@@ -93,6 +93,8 @@ module _ {H : Type 0} (own : H → List Reached) (P : Reached → Type 0) (least
   up_good (DefineValue ident index options restoring value_at) v k l f b =
       let c = pop own P least _ k l b.back b in
       flat_on v k l f c value_at _ (λ x g. defined_good own P least x ident index options restoring k l g.0 c)
+  up_good (ImportPath alias path_at starts_at) v k l f b =
+      imported_good own P least s.host_type s.offer.modules alias v path_at starts_at k l f (pop own P least _ k l b.back b)
   up_good (IfCondition test_at body branch) v k l f b =
       let c = pop own P least _ k l b.back b in
       truth_on v k l f c test_at _ (λ holds. chosen_good own P least holds body branch k l c)

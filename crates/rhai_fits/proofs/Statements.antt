@@ -8,8 +8,9 @@ use Rattle.rhai_tree.specs.declared.expr.MapEntry.{MapEntry}
 use Rattle.rhai_tree.specs.Forms.{is_unqualified, is_exported}
 use Rattle.rhai_tree.specs.Keys.{key_of}
 use Rattle.rhai_tree.specs.Layers.{ExprLayer, StmtLayer}
+use Rattle.rhai_tree.specs.Lookup.{value_of}
 use Rattle.rhai_machine.specs.Types.{ASTFlags, Dynamic, EvalAltResult, Expr, out-Expr, Ident, Limits, Position, Stmt, StmtBlock, Token}
-use Rattle.rhai_machine.specs.Types.{Union}
+use Rattle.rhai_machine.specs.Types.{Module, Union}
 use Rattle.rhai_values.specs.declared.base.value.Union.TheVariants as value
 use Rattle.rhai_values.specs.DataSize.{data_sizes}
 use Rattle.rhai_values.specs.Modes.{with_mode}
@@ -21,7 +22,8 @@ use Rattle.rhai_machine.specs.language.Setting.{Setting}
 use Rattle.rhai_machine.specs.language.State.{Local}
 use Rattle.rhai_machine.specs.language.Values.{copied, unit_value}
 use Rattle.rhai_machine.specs.language.Names.{bound_this, read}
-use Rattle.rhai_machine.specs.language.Frames.{Control, Frame, Core, core}
+use Rattle.rhai_machine.specs.language.Arguments.{text_wanted}
+use Rattle.rhai_machine.specs.language.Frames.{Control, Frame, Core, core, on_value, Back}
 use Rattle.rhai_machine.specs.language.Data.{array_of, text_of, filled, map_of, entry_sizes, with_item, with_value, with_part, items_core}
 use Rattle.rhai_machine.specs.language.Data.{entries_core, parts_core, part_core, joined_core, unprinted_core}
 use Rattle.rhai_machine.specs.language.Expressions.{argument_move, call_move, and_core, and_next, or_core, or_next, coalesce_core}
@@ -31,6 +33,7 @@ use Rattle.rhai_machine.specs.language.Statements.{has_option, mode_of, loop_of,
 use Rattle.rhai_machine.specs.language.Statements.{added, overwritten, written, declared_core, defined_core, break_core, return_move}
 use Rattle.rhai_machine.specs.language.Statements.{define_core, stmt_move}
 use Rattle.rhai_machine.specs.language.Exports.{alias_or, export_at, exported}
+use Rattle.rhai_machine.specs.language.Imports.{found_under, import_core, importing, module_meant, module_under, name_asked}
 use Rattle.rhai_machine.specs.language.Walks.{has_no_room}
 use Rattle.rhai_fits.specs.Contents.{of_scope, of_values}
 use Rattle.rhai_fits.proofs.Values.{Fit, fit_unit, fit_bool, fit_int, fit_char, fit_text, fit_array, fit_map}
@@ -41,7 +44,7 @@ use Rattle.rhai_fits.proofs.Fitting.{AllFit, FitBelow, FitCore, FitLocal, Gives,
 use Rattle.rhai_fits.proofs.Fitting.{values_joined, scope_joined}
 use Rattle.rhai_fits.proofs.Seeing.{Any, copied_gives, given_fits, read_fits, bound_gives, within_sizes_gives, put_entry}
 use Rattle.rhai_fits.proofs.Spots.{entry_fits}
-use Rattle.rhai_fits.proofs.Arguments.{fit_all, call_good}
+use Rattle.rhai_fits.proofs.Arguments.{fit_all, call_good, text_gives}
 use Rattle.rhai_fits.proofs.Natives.{Moves}
 use Rattle.rhai_fits.proofs.Assignments.{there_good, assignment_good}
 use Rattle.rhai_fits.proofs.Forms.{for_good}
@@ -272,6 +275,55 @@ module _ {H : Type 0} (own : H → List Reached) (P : Reached → Type 0) (least
       unit own P least k (exported at (alias_or ident.name alias) l) (aliased_below at (alias_or ident.name alias) k l b)
   export_good None ident alias k l b = fail own P least _ k l (fit_error own P _ tt) b
 
+  -- ---- imported modules
+
+  found_under_gives : (path : List ℕ) (at : Position) (there : Option (Module H)) →
+      Gives own P least (Any own P least (Module H)) (found_under path at there)
+  found_under_gives path at (Some m) = tt
+  found_under_gives path at None = fit_error own P _ tt
+
+  module_under_gives : (modules : List (List ℕ) × List (Module H)) (starts_at : Position) (path : Result (List ℕ) (EvalAltResult H)) →
+      Gives own P least (Any own P least (List ℕ)) path → Gives own P least (Any own P least (Module H)) (module_under modules starts_at path)
+  module_under_gives modules starts_at (Ok path) h = found_under_gives path starts_at (value_of path modules)
+  module_under_gives modules starts_at (Err e) h = h
+
+  -- a module, of which nothing is asked
+  module_gives : (host : H → List ℕ) (modules : List (List ℕ) × List (Module H)) (l : Local H) (v : Dynamic H)
+      (path_at starts_at : Position) → FitLocal own P least l → Fit own P v →
+      Gives own P least (Any own P least (Module H)) (module_meant host l.around.cells modules v path_at starts_at)
+  module_gives host modules l v path_at starts_at h f = module_under_gives modules starts_at (text_wanted host l.around.cells v path_at)
+      (text_gives own P least host l v path_at h f)
+
+  -- an import has no value of a run in hand
+  imported_below : (name : List ℕ) (m : Module H) (k : List (Frame H)) (l : Local H) → Below k l → Below k (importing name m l)
+  imported_below name m k l b = record {
+    stack = b.stack;
+    sealed = b.sealed;
+    back = b.back;
+    local = record {
+      scope = b.local.scope;
+      this = b.local.this;
+      focus = b.local.focus;
+      cells = b.local.cells;
+      sealed = b.local.sealed;
+      enough = b.local.enough;
+    };
+  }
+
+  pub imported_good : (host : H → List ℕ) (modules : List (List ℕ) × List (Module H)) (alias : Option Ident) (v : Dynamic H)
+      (path_at starts_at : Position) (k : List (Frame H)) (l : Local H) → Fit own P v → Below k l →
+      Good (on_value (module_meant host l.around.cells modules v path_at starts_at)
+      (λ m. core (Back unit_value) k (importing (name_asked alias) m l)) k l)
+  imported_good host modules alias v path_at starts_at k l f b = on own P least (Any own P least (Module H))
+      (module_meant host l.around.cells modules v path_at starts_at) _ k l
+      (module_gives host modules l v path_at starts_at b.local f) b
+      (λ m h. unit own P least k (importing (name_asked alias) m l) (imported_below (name_asked alias) m k l b))
+
+  import_good : (full : Bool) (path : Expr) (alias : Option Ident) (pos : Position) (k : List (Frame H)) (l : Local H) → Below k l →
+      Good (import_core full path alias pos k l)
+  import_good true path alias pos k l b = fail own P least _ k l (fit_error own P _ tt) b
+  import_good false path alias pos k l b = to own P least _ _ l tt tt (push own P least _ k l tt tt b.back b)
+
   -- ---- statements
 
   pub chosen_good : (holds : Bool) (body branch : StmtBlock) (k : List (Frame H)) (l : Local H) → Below k l →
@@ -379,6 +431,7 @@ module _ {H : Type 0} (own : H → List Reached) (P : Reached → Type 0) (least
     stmt_good (layer.TryCatch body variable branch pos) restoring k l b =
         to own P least _ _ l tt tt (push own P least _ k l tt tt b.back b)
     stmt_good (layer.Export ident alias pos) restoring k l b = export_good (index_of ident.name l.scope) ident alias k l b
+    stmt_good (layer.Import path alias pos) restoring k l b =
+        import_good (nat_le s.limits.max_modules l.around.num_modules_loaded) path alias pos k l b
     stmt_good (layer.Share variables) restoring k l b = to own P least _ k l tt tt b
     stmt_good (layer.Return value options pos) restoring k l b = return_good (has_option 2 options) value pos k l b
-    stmt_good _ restoring k l b = tt

@@ -1,10 +1,11 @@
--- The relation that each rule keeps: the surroundings that are left once the stack has been unwound, and what is asked of the names.
+-- The relation that each rule keeps: the surroundings that are left once the stack has been unwound, and what is asked of the names and of
+-- the imports.
 use Rattle.std.proofs.Common.{refl, sym, ap, ◌∙◌, arith}
 use Rattle.std.proofs.Math.Seq.{take-append_seam, take-length}
-use Rattle.std.proofs.lemmas.List.{take-map, drop-map, length-map, length-append, append-nil, map-append}
+use Rattle.std.proofs.lemmas.List.{take-map, drop-map, length-map, length-append, length-take, append-nil, map-append}
 use Rattle.std.proofs.Common.{append_assoc}
 use Rattle.std.specs.Option.{option_flatten, unwrap_or}
-use Rattle.std.specs.Prelude.{◌≡◌, ◌≤◌, ◌+◌, ℕ, zero, suc, Bool, true, false, not, ◌&&◌, List, [], ◌∷◌, ◌++◌, map, take, drop, length}
+use Rattle.std.specs.Prelude.{◌≡◌, ◌≤◌, ◌+◌, ◌-◌, ℕ, zero, suc, min, Bool, true, false, not, ◌&&◌, List, [], ◌∷◌, ◌++◌, map, take, drop, length}
 use Rattle.std.specs.Prelude.{Option, Some, None, Result, Ok, Err, is_some, replicate, slice_get, slice_set}
 use Rattle.rhai_tree.specs.Names.{Name, Begins}
 use Rattle.rhai_tree.specs.declared.expr.Ident.{Ident}
@@ -12,6 +13,7 @@ use Rattle.rhai_tree.specs.declared.expr.Stmt.{Stmt, out-Stmt}
 use Rattle.rhai_tree.specs.Lookup.{with_entry}
 use Rattle.rhai_values.specs.declared.base.value.Dynamic.{Dynamic}
 use Rattle.rhai_values.specs.declared.base.value.EncapsulatedEnviron.{EncapsulatedEnviron, out-EncapsulatedEnviron}
+use Rattle.rhai_values.specs.declared.base.value.Import.{Import}
 use Rattle.rhai_values.specs.Cells.{value_of_cell, with_held, with_value}
 use Rattle.rhai_values.specs.Copy.{copy_of}
 use Rattle.rhai_places.specs.Paths.{Step, ToPlace, ToCell}
@@ -25,14 +27,14 @@ use Rattle.rhai_machine.specs.language.Activations.{Object, NoObject, OwnThis, T
 use Rattle.rhai_machine.specs.language.Activations.{CallExit}
 use Rattle.rhai_machine.specs.language.Turns.{ForLoop}
 use Rattle.rhai_machine.specs.language.Frames.{Saved, Control, Frame, Core, core, ended, Exec, OpenStmt, Enter, Run, Back, DefineValue}
-use Rattle.rhai_machine.specs.language.Frames.{RestOfList, RestoreList, StepDown, EnterFunction, CallEnd, ForItems, RestoreScope}
+use Rattle.rhai_machine.specs.language.Frames.{RestOfList, RestoreList, StepDown, EnterFunction, CallEnd, ForItems, ImportPath, RestoreScope}
 use Rattle.rhai_functions.specs.Entering.{parameters}
 use Rattle.rhai_machine.specs.language.Bodies.{back_by, variables_before, this_by, with_environ, entered_local}
 use Rattle.rhai_machine.specs.language.Bodies.{variables_after, exit_of, variables_back, called_back}
 use Rattle.rhai_machine.specs.language.Statements.{saved_by, restored_by, deeper, with_constant, with_entry_at}
 use Rattle.rhai_machine.specs.language.Unwinding.{restored}
 use Rattle.rhai_machine.proofs.Places.{put_names}
-use Rattle.rhai_laws.specs.Kept.{declares, forgotten_cell, Stands, Sound, names_of, adds_names}
+use Rattle.rhai_laws.specs.Kept.{declares, forgotten_cell, is_import, Stands, Sound, names_of, adds_names}
 
 -- the surroundings, without the values of the cells, and what is restored along with them
 pub record Outline (H : Type 0) : Type 0 where
@@ -40,10 +42,17 @@ pub record Outline (H : Type 0) : Type 0 where
   pub scope_level : ℕ
   pub bound : Bool
 
--- what is asked of the names: all along, and at the end
+-- what is added: so many new cells, all of them free, imports behind the others, and so many modules loaded
+pub record Growth (H : Type 0) : Type 0 where
+  pub cells : ℕ
+  pub imports : List (Import H)
+  pub loaded : ℕ
+
+-- what is asked of the names: all along, and at the end; and at the end of how many imports there are
 pub record Asked : Type 1 where
   pub along : List Name → Type 0
   pub last : List Name → Type 0
+  pub imports : ℕ → Type 0
 
 -- what is asked all along holds of so few names, and stays where names between others go
 pub record Grows (a : Asked) (most : ℕ) : Type 0 where
@@ -116,13 +125,23 @@ module _ {H : Type 0} where
   unwound (StepDown above (ToCell n) ∷ k) o = unwound k (freed n o)
   unwound (_ ∷ k) o = unwound k o
 
-  -- so many new cells, all of them free
-  abbrev pub more : ℕ → Outline H → Outline H
-  more count o = record o { around = record o.around { cells = o.around.cells ++ replicate count (Some unit_value) } }
+  -- an outline with what is added
+  abbrev pub more : Growth H → Outline H → Outline H
+  more g o = record o {
+    around = record o.around {
+      cells = o.around.cells ++ replicate g.cells (Some unit_value);
+      imports = o.around.imports ++ g.imports;
+      num_modules_loaded = o.around.num_modules_loaded + g.loaded;
+    };
+  }
 
-  -- cells are only added
+  -- so many new cells alone
+  abbrev pub new_cells : ℕ → Growth H
+  new_cells count = record { cells = count; imports = []; loaded = zero }
+
+  -- what is around is only added to
   abbrev pub Onto : (old new : Outline H) → Type 0
-  Onto old new = (count : ℕ) × (new ≡ more count old)
+  Onto old new = (g : Growth H) × (new ≡ more g old)
 
   -- free cells and free cells are free cells
   free_and_free : (m n : ℕ) → replicate m (Some unit_value) ++ replicate n (Some unit_value) ≡ replicate (m + n) (Some (unit_value {H = H}))
@@ -132,12 +151,31 @@ module _ {H : Type 0} where
       let same : suc (m + n) ≡ suc m + n = omega arith in
       ap (λ rest. Some unit_value ∷ rest) (free_and_free m n) ∙ ap (λ count. replicate count (Some (unit_value {H = H}))) same
 
-  pub none_more : (o : Outline H) → more zero o ≡ o
-  none_more o = rw (append-nil o.around.cells) refl
+  pub none_more : (o : Outline H) → more (new_cells zero) o ≡ o
+  none_more o =
+      let same : o.around.num_modules_loaded + zero ≡ o.around.num_modules_loaded = omega arith in
+      rw (append-nil o.around.cells, append-nil o.around.imports, same) refl
 
-  pub more_and_more : (m n : ℕ) (o : Outline H) → more n (more m o) ≡ more (m + n) o
-  more_and_more m n o =
-      rw (append_assoc o.around.cells (replicate m (Some unit_value)) (replicate n (Some unit_value)), free_and_free m n) refl
+  -- one addition after another
+  abbrev both : (f g : Growth H) → Growth H
+  both f g = record { cells = f.cells + g.cells; imports = f.imports ++ g.imports; loaded = f.loaded + g.loaded }
+
+  more_and_more : (f g : Growth H) (o : Outline H) → more g (more f o) ≡ more (both f g) o
+  more_and_more f g o =
+      let same : o.around.num_modules_loaded + f.loaded + g.loaded ≡ o.around.num_modules_loaded + (f.loaded + g.loaded) = omega arith in
+      rw (
+        append_assoc o.around.cells (replicate f.cells (Some unit_value)) (replicate g.cells (Some unit_value)),
+        free_and_free f.cells g.cells,
+        append_assoc o.around.imports f.imports g.imports,
+        same,
+      ) refl
+
+  -- nothing is added, and more is added to what was added to
+  onto_same : (o p : Outline H) → p ≡ o → Onto o p
+  onto_same o p is = (new_cells zero, is ∙ sym (none_more o))
+
+  onto_through : (o p q : Outline H) → Onto o p → Onto p q → Onto o q
+  onto_through o p q f g = (both f.0 g.0, g.1 ∙ ap (more g.0) f.1 ∙ more_and_more f.0 g.0 o)
 
   -- a free cell that is freed stays so, and so do new ones
   free_cells : (count n : ℕ) → slice_set (replicate count (Some unit_value)) n (Some unit_value) ≡ replicate count (Some (unit_value {H = H}))
@@ -152,16 +190,43 @@ module _ {H : Type 0} where
   freed_before (cell ∷ cells) count zero = refl
   freed_before (cell ∷ cells) count (suc n) = ap (λ rest. cell ∷ rest) (freed_before cells count n)
 
-  freed_more : (n count : ℕ) (o : Outline H) → freed n (more count o) ≡ more count (freed n o)
-  freed_more n count o = rw (freed_before o.around.cells count n) refl
+  freed_more : (n : ℕ) (g : Growth H) (o : Outline H) → freed n (more g o) ≡ more g (freed n o)
+  freed_more n g o = rw (freed_before o.around.cells g.cells n) refl
 
-  -- what is added stays through what is taken back
-  pub unwound_more : (k : List (Frame H)) (count : ℕ) (o : Outline H) → unwound k (more count o) ≡ more count (unwound k o)
-  unwound_more [] count o = refl
-  unwound_more (CallEnd exit ∷ k) count o = unwound_more k count (ended_call exit o)
-  unwound_more (RestoreList saved ∷ k) count o = unwound_more k count (given_back saved o)
-  unwound_more (StepDown above (ToCell n) ∷ k) count o = ap (unwound k) (freed_more n count o) ∙ unwound_more k count (freed n o)
-  unwound_more (_ ∷ k) count o = unwound_more k count o
+  -- of more imports so many are left as of fewer, and some of those that were added
+  some_taken : (n : ℕ) (old added : List (Import H)) → take n (old ++ added) ≡ take n old ++ take (n - length old) added
+  some_taken zero [] added = refl
+  some_taken (suc n) [] added = let same : suc n - length {A = Import H} [] ≡ suc n = omega arith in rw same refl
+  some_taken zero (i ∷ old) added = let same : zero - length (i ∷ old) ≡ zero = omega arith in rw same refl
+  some_taken (suc n) (i ∷ old) added =
+      let same : suc n - length (i ∷ old) ≡ n - length old = omega arith in
+      ap (λ rest. i ∷ rest) (some_taken n old added) ∙ ap (λ count. i ∷ take n old ++ take count added) (sym same)
+
+  -- what is left of the imports that were added
+  abbrev left_of : ℕ → Growth H → Outline H → Growth H
+  left_of n g o = record g { imports = take (n - length o.around.imports) g.imports }
+
+  ended_more : (exit : CallExit H) (g : Growth H) (o : Outline H) →
+      ended_call exit (more g o) ≡ more (left_of exit.imports_length g o) (ended_call exit o)
+  ended_more exit g o = rw (some_taken exit.imports_length o.around.imports g.imports) refl
+
+  given_more : (saved : Saved) (g : Growth H) (o : Outline H) →
+      given_back saved (more g o) ≡ more (left_of saved.imports_length g o) (given_back saved o)
+  given_more saved g o = rw (some_taken saved.imports_length o.around.imports g.imports) refl
+
+  -- what is added stays through what is taken back, but for some of the imports
+  pub unwound_more : (k : List (Frame H)) (g : Growth H) (o : Outline H) → Onto (unwound k o) (unwound k (more g o))
+  unwound_more [] g o = (g, refl)
+  unwound_more (CallEnd exit ∷ k) g o =
+      rw (ended_more exit g o) (unwound_more k (left_of exit.imports_length g o) (ended_call exit o))
+  unwound_more (RestoreList saved ∷ k) g o =
+      rw (given_more saved g o) (unwound_more k (left_of saved.imports_length g o) (given_back saved o))
+  unwound_more (StepDown above (ToCell n) ∷ k) g o = rw (freed_more n g o) (unwound_more k g (freed n o))
+  unwound_more (_ ∷ k) g o = unwound_more k g o
+
+  -- what adds to the outline adds to what is left of it
+  pub adds : (k : List (Frame H)) (g : Growth H) (o p : Outline H) → p ≡ more g o → Onto (unwound k o) (unwound k p)
+  adds k g o p is = rw is (unwound_more k g o)
 
   -- a control over a stack that adds no names, and one that may add some
   abbrev pub calm : List (Frame H) → Local H → Core H
@@ -307,6 +372,19 @@ module _ {H : Type 0} where
   put_stands InThis v l is = tt
   put_stands InFocus v l is = tt
 
+  -- and the imports stay
+  pub put_imports : (place : Place) (v : Dynamic H) (l : Local H) → (put place v l).around.imports ≡ l.around.imports
+  put_imports (InEntry index) v l = refl
+  put_imports (InCell n) v l = refl
+  put_imports InThis v l = refl
+  put_imports InFocus v l = refl
+
+  -- a function has the imports that it finds, and those of its environment
+  more_imports : (environ : Option (EncapsulatedEnviron H)) (l : Local H) →
+      length l.around.imports ≤ length (with_environ environ l.around).imports
+  more_imports None l = omega arith
+  more_imports (Some environ) l = omega (arith, length-append l.around.imports (out-EncapsulatedEnviron H environ).imports)
+
   module _ (a : Asked) where
     -- what is asked of the names n over a stack: under the rest of a list, and under a `let` that overwrites none, there may be more of
     -- them; under the value of a `for` its own come then
@@ -338,9 +416,37 @@ module _ {H : Type 0} where
     TightAt (Enter stmts false) k n = Free k n
     TightAt _ k n = Tight k n
 
+    -- what is asked of so many imports over a stack: under the rest of a list, and under the path of an `import`, there may be more of
+    -- them; a restoring list and a call take back what was added
+    abbrev pub Imports : List (Frame H) → ℕ → Type 0
+    Imports [] n = a.imports n
+    Imports (RestoreList saved ∷ k) n = Imports k (min saved.imports_length n)
+    Imports (CallEnd exit ∷ k) n = Imports k (min exit.imports_length n)
+    Imports (RestOfList rest restoring ∷ k) n = (m : ℕ) → n ≤ m → Imports k m
+    Imports (ImportPath alias path_at starts_at ∷ k) n = (m : ℕ) → n ≤ m → Imports k m
+    Imports (_ ∷ k) n = Imports k n
+
+    -- there may be more imports
+    abbrev pub AnyImports : List (Frame H) → ℕ → Type 0
+    AnyImports k n = (m : ℕ) → n ≤ m → Imports k m
+
+    abbrev pub ImportsBy : (adds : Bool) → List (Frame H) → ℕ → Type 0
+    ImportsBy true k n = AnyImports k n
+    ImportsBy false k n = Imports k n
+
+    -- what is asked of them at a control: an `import` and the rest of a list may add some
+    abbrev pub ImportsAt : Control H → List (Frame H) → ℕ → Type 0
+    ImportsAt (Exec stmt restoring) k n = ImportsBy (is_import (out-Stmt stmt)) k n
+    ImportsAt (OpenStmt form restoring) k n = ImportsBy (is_import form) k n
+    ImportsAt (Run stmts restoring last) k n = AnyImports k n
+    ImportsAt (Enter stmts false) k n = AnyImports k n
+    ImportsAt _ k n = Imports k n
+
     -- what is asked holds of a core
     abbrev pub Held : Core H → Type 0
-    Held c = a.along (names_of c.local) × TightAt c.control c.stack (names_of c.local)
+    Held c =
+        a.along (names_of c.local) × TightAt c.control c.stack (names_of c.local)
+        × ImportsAt c.control c.stack (length c.local.around.imports)
 
     -- what a move from a sound core keeps
     pub record Keeps (c d : Core H) : Type 0 where
@@ -351,16 +457,14 @@ module _ {H : Type 0} where
     -- the same outline, names that will do
     pub quiet : {c d : Core H} → Sound d.control d.local → unwound d.stack (outline d.local) ≡ unwound c.stack (outline c.local) →
         (Held c → Held d) → Keeps c d
-    quiet {c} {d} s o n = record { sound = s; around = (zero, o ∙ sym (none_more (unwound c.stack (outline c.local)))); names = n }
+    quiet {c} {d} s o n = record { sound = s; around = onto_same (unwound c.stack (outline c.local)) (unwound d.stack (outline d.local)) o; names = n }
 
     -- one move after another
     pub through : {b c d : Core H} → Keeps b c → Keeps c d → Keeps b d
     through {b} {c} {d} p q = record {
       sound = q.sound;
-      around = (
-        p.around.0 + q.around.0,
-        q.around.1 ∙ ap (more q.around.0) p.around.1 ∙ more_and_more p.around.0 q.around.0 (unwound b.stack (outline b.local)),
-      );
+      around = onto_through (unwound b.stack (outline b.local)) (unwound c.stack (outline c.local)) (unwound d.stack (outline d.local))
+          p.around q.around;
       names = λ t. q.names (p.names t);
     }
 
@@ -373,9 +477,13 @@ module _ {H : Type 0} where
       names = λ t. q.names (n t);
     }
 
-    -- what may add names may add none
+    -- what may add imports may add none
+    pub as_many : (k : List (Frame H)) (n : ℕ) → AnyImports k n → Imports k n
+    as_many k n any = any n (omega arith)
+
+    -- what may add names and imports may add none
     pub held : (k : List (Frame H)) (l : Local H) → Held (eager k l) → Held (calm k l)
-    held k l t = (t.0, t.1 (names_of l) (begins_self (names_of l)) t.0)
+    held k l t = (t.0, t.1 (names_of l) (begins_self (names_of l)) t.0, as_many k (length l.around.imports) t.2)
 
     -- a result comes back
     pub ended_keeps : (r : Result (Dynamic H) (EvalAltResult H)) (k : List (Frame H)) (l : Local H) → Keeps (calm k l) (core (ended r) k l)
@@ -384,24 +492,38 @@ module _ {H : Type 0} where
 
     -- a restoring list is entered
     pub entered_names : (k : List (Frame H)) (l : Local H) → Held (calm k l) → Held (eager (RestoreList (saved_by l) ∷ k) l)
-    entered_names k l t = (t.0, λ m b q. rw (taken l m b) t)
+    entered_names k l t = (
+      t.0,
+      λ m b q. rw (taken l m b) (t.0, t.1),
+      λ m le. let same : min (length l.around.imports) m ≡ length l.around.imports = omega (arith, le) in rw same t.2,
+    )
 
     -- a restoring list is left
     pub left_names : (saved : Saved) (k : List (Frame H)) (l : Local H) → Held (calm (RestoreList saved ∷ k) l) →
         Held (calm k (restored_by saved l))
-    left_names saved k l t = rw (← take-map name_of saved.scope_length l.scope) t.1
+    left_names saved k l t = rw
+        (← take-map name_of saved.scope_length l.scope, length-take saved.imports_length l.around.imports) (t.1.0, t.1.1, t.2)
 
     -- the variables that are newer than so many are gone
     pub scope_left : (length : ℕ) (k : List (Frame H)) (l : Local H) → Held (calm (RestoreScope length ∷ k) l) →
         Held (calm k (record l { scope = take length l.scope }))
-    scope_left length k l t = rw (← take-map name_of length l.scope) t.1
+    scope_left length k l t = rw (← take-map name_of length l.scope) (t.1.0, t.1.1, t.2)
 
     -- variables that are newer than those that are there, over the frame that takes them back
     pub newer_held : (entries : List (ScopeEntry H)) (k : List (Frame H)) (l : Local H) →
         a.along (names_of l ++ map name_of entries) → Held (calm k l) →
         Held (calm (RestoreScope (length l.scope) ∷ k) (record l { scope = l.scope ++ entries }))
     newer_held entries k l w t = rw
-        (map-append name_of l.scope entries, taken l (names_of l ++ map name_of entries) (map name_of entries, refl)) (w, t)
+        (map-append name_of l.scope entries, taken l (names_of l ++ map name_of entries) (map name_of entries, refl)) (w, (t.0, t.1), t.2)
+
+    -- a control that may add imports, or may not, adds none
+    pub no_more_by : (adds : Bool) (k : List (Frame H)) (n : ℕ) → ImportsBy adds k n → Imports k n
+    no_more_by true k n t = as_many k n t
+    no_more_by false k n t = t
+
+    pub any_by : (adds : Bool) (k : List (Frame H)) (n : ℕ) → AnyImports k n → ImportsBy adds k n
+    any_by true k n t = t
+    any_by false k n t = as_many k n t
 
     -- a control that may add names, or may not, adds none
     pub stopped_by : (adds : Bool) (k : List (Frame H)) (n : List Name) → a.along n → TightBy adds k n → Tight k n
@@ -415,7 +537,8 @@ module _ {H : Type 0} where
     -- a function's call is left
     pub call_left : (exit : CallExit H) (k : List (Frame H)) (l : Local H) →
         Keeps (calm (CallEnd exit ∷ k) l) (calm k (called_back exit l))
-    call_left exit k l = quiet tt (ap (unwound k) (left_call exit l)) (λ t. rw (named_back exit.variables l.scope) t.1)
+    call_left exit k l = quiet tt (ap (unwound k) (left_call exit l))
+        (λ t. rw (named_back exit.variables l.scope, length-take exit.imports_length l.around.imports) (t.1.0, t.1.1, t.2))
 
     -- a function that fits is entered
     module _ (most : ℕ) (grows : Grows a most) where
@@ -454,6 +577,18 @@ module _ {H : Type 0} where
         le,
       )
 
+      -- the end of a call takes back the imports that its function had or added
+      few_imports : (e : Entered H) (l : Local H) (n : ℕ) (k : List (Frame H)) → Imports k (length l.around.imports) →
+          length l.around.imports ≤ n → Imports (CallEnd (exit_of e l) ∷ k) n
+      few_imports e l n k t le =
+          let same : min (length l.around.imports) n ≡ length l.around.imports = omega (arith, le) in rw same t
+
+      entered_imports : (restores : Bool) (stmt : Stmt) (stmts : List Stmt) (e : Entered H) (l : Local H) (n : ℕ) (k : List (Frame H)) →
+          Imports k (length l.around.imports) → length l.around.imports ≤ n →
+          ImportsAt (Enter (stmt ∷ stmts) restores) (CallEnd (exit_of e l) ∷ k) n
+      entered_imports true stmt stmts e l n k t le = few_imports e l n k t le
+      entered_imports false stmt stmts e l n k t le = λ m more. few_imports e l m k t (omega (arith, le, more))
+
       pub function_entered : (e : Entered H) (stmt : Stmt) (stmts : List Stmt) (k : List (Frame H)) (l : Local H) →
           length (variables_before e.is_fresh l.scope) + length e.def.params ≤ most →
           Keeps (core (EnterFunction e) k l) (core (Enter (stmt ∷ stmts) e.restores) (CallEnd (exit_of e l) ∷ k) (entered_local e l))
@@ -463,6 +598,7 @@ module _ {H : Type 0} where
             grows.fits (names_of (entered_local e l)) (few_names e.is_fresh e.def.params e.args l.scope le),
             entered_names_by e.is_fresh e.restores stmt stmts (exit_of e l) (names_of (entered_local e l)) (length e.def.params) k l refl
                 (entered_begins e.is_fresh e.def.params e.args l.scope) t.0 t.1,
+            entered_imports e.restores stmt stmts e l (length (entered_local e l).around.imports) k t.2 (more_imports e.environ l),
           ))
 
     -- a step down is left
@@ -473,7 +609,7 @@ module _ {H : Type 0} where
 
     -- a value is written to a place
     put_names_held : (place : Place) (v : Dynamic H) (k : List (Frame H)) (l : Local H) → Held (calm k l) → Held (calm k (put place v l))
-    put_names_held place v k l t = rw (put_names place v l) t
+    put_names_held place v k l t = rw (put_names place v l, put_imports place v l) t
 
     pub put_keeps : (place : Place) (v : Dynamic H) (k : List (Frame H)) (l : Local H) → Stands place l →
         Keeps (calm k l) (calm k (put place v l))

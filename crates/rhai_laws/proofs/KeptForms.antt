@@ -1,16 +1,17 @@
--- What the rules of `switch`, `for`, `try` and of shared variables keep.
-use Rattle.std.proofs.Common.{refl, ap, ◌∙◌, arith, slice_get, subst, sym}
+-- What the rules of `switch`, `for`, `try`, `export`, `import` and of shared variables keep.
+use Rattle.std.proofs.Common.{refl, ap, arith, slice_get, subst, sym}
 use Rattle.std.proofs.lemmas.Option.{get_or_from_slice_get}
 use Rattle.std.proofs.Math.Seq.{map-set_same}
 use Rattle.std.proofs.lemmas.Bool.Decides.{nat_tests}
-use Rattle.std.proofs.lemmas.List.{length-append, length-map, map-append}
+use Rattle.std.proofs.lemmas.List.{append-nil, length-append, length-map, map-append}
 use Rattle.std.specs.Option.{option_map}
-use Rattle.std.specs.Prelude.{◌≡◌, ◌≤◌, ◌<◌, ◌+◌, ◌^◌, ℕ, pos, nat_le, length, Bool, true, false, List, [], ◌∷◌, ◌++◌, map, Option, Some, None}
+use Rattle.std.specs.Prelude.{◌≡◌, ◌≤◌, ◌<◌, ◌+◌, ◌-◌, ◌^◌, ℕ, min, pos, nat_le, length, Bool, true, false, List, [], ◌∷◌, ◌++◌, map, Option, Some, None}
 use Rattle.std.specs.Prelude.{Result, Ok, Err}
 use Rattle.rhai_tree.specs.Names.{Name}
 use Rattle.rhai_tree.specs.declared.position.Position.{Position}
 use Rattle.rhai_tree.specs.declared.expr.ConditionalExpr.{ConditionalExpr}
 use Rattle.rhai_tree.specs.declared.expr.Expr.{Expr, out-Expr}
+use Rattle.rhai_tree.specs.declared.expr.Expr.TheOpen as layer
 use Rattle.rhai_tree.specs.declared.expr.Ident.{Ident}
 use Rattle.rhai_tree.specs.declared.expr.SharedVariable.{SharedVariable}
 use Rattle.rhai_tree.specs.declared.expr.Stmt.{Stmt}
@@ -18,19 +19,24 @@ use Rattle.rhai_tree.specs.declared.expr.StmtBlock.{StmtBlock}
 use Rattle.rhai_tree.specs.Positions.{position_of}
 use Rattle.rhai_values.specs.declared.base.value.AccessMode.TheVariants.{ReadWrite}
 use Rattle.rhai_values.specs.declared.base.value.Dynamic.{Dynamic}
+use Rattle.rhai_values.specs.declared.base.value.Import.{Import}
+use Rattle.rhai_values.specs.declared.base.value.Module.{Module}
 use Rattle.rhai_values.specs.declared.base.value.Union.{Union}
 use Rattle.rhai_values.specs.declared.base.value.Union.TheVariants as value
 use Rattle.rhai_values.specs.Cells.{value_of_cell}
 use Rattle.rhai_values.specs.Layers.{layer_of}
 use Rattle.rhai_state.specs.declared.error.EvalAltResult.{EvalAltResult}
 use Rattle.rhai_state.specs.declared.scope.ScopeEntry.{ScopeEntry}
+use Rattle.rhai_state.specs.State.{import_as}
 use Rattle.rhai_state.specs.Scope.{aliased, name_of, found, index_of, new_entry, value_in, with_alias}
 use Rattle.rhai_machine.specs.language.Setting.{Setting}
 use Rattle.rhai_machine.specs.language.State.{Local}
 use Rattle.rhai_machine.specs.language.Values.{flat, unit_value}
 use Rattle.rhai_machine.specs.language.Places.{Place, InEntry, InCell, put}
 use Rattle.rhai_machine.specs.language.Turns.{ForLoop, Turns, integer_value, turns_of}
-use Rattle.rhai_machine.specs.language.Frames.{Frame, Core, core, on_value, Enter, ForTurn, ForItem, Back, ForItems, ForBody}
+use Rattle.rhai_machine.specs.language.Frames.{Frame, Core, core, on_value, OpenStmt, Enter, ForTurn, ForItem, Back, ForItems, ForBody}
+use Rattle.rhai_machine.specs.language.Frames.{ImportPath}
+use Rattle.rhai_machine.specs.language.Imports.{import_core, importing, name_asked}
 use Rattle.rhai_machine.specs.language.Choices.{truth_literal, met_core, tested_core, choose_core}
 use Rattle.rhai_machine.specs.language.Walks.{counters, has_no_room, for_core, counter_entry, loop_entries, started_core, shared_place, place_by}
 use Rattle.rhai_machine.specs.language.Walks.{place_of_entry, counted_core, turn_core, for_move, entered_core, item_core}
@@ -41,8 +47,8 @@ use Rattle.rhai_machine.specs.language.Sharing.{handle_of, with_cell, shared, sh
 use Rattle.rhai_machine.proofs.Places.{put_names}
 use Rattle.rhai_laws.specs.Kept.{forgotten_cell, Stands, names_of}
 use Rattle.rhai_laws.specs.Steady.{Moves}
-use Rattle.rhai_laws.proofs.Keeping.{Asked, Grows, counter_names, loop_names, outline, more, unwound, unwound_more, Held, Keeps, quiet}
-use Rattle.rhai_laws.proofs.Keeping.{through, after, calm, newer_held, put_keeps}
+use Rattle.rhai_laws.proofs.Keeping.{Asked, Grows, counter_names, loop_names, outline, Growth, more, new_cells, adds, Tight, AnyImports, as_many}
+use Rattle.rhai_laws.proofs.Keeping.{Held, Keeps, quiet, through, after, calm, newer_held, put_keeps}
 use Rattle.rhai_laws.proofs.KeptCalls.{on_keeps}
 
 -- a `for` has a name for its variable and one for its counter
@@ -93,14 +99,14 @@ module _ {H : Type 0} (a : Asked) where
   started_keeps : (turns : Option (Turns H)) (loop : ForLoop) (v : Dynamic H) (k : List (Frame H)) (l : Local H) →
       Keeps a (core (Back v) (ForItems loop ∷ k) l) (started_core turns loop k l)
   started_keeps (Some turns) loop v k l = quiet a tt refl (λ t. newer_held a (loop_entries loop) k l
-      (rw (entry_names loop.counter (new_entry loop.variable.name ReadWrite unit_value)) t.1.0) (t.0, t.1.1))
-  started_keeps None loop v k l = quiet a tt refl (λ t. (t.0, t.1.1))
+      (rw (entry_names loop.counter (new_entry loop.variable.name ReadWrite unit_value)) t.1.0) (t.0, t.1.1, t.2))
+  started_keeps None loop v k l = quiet a tt refl (λ t. (t.0, t.1.1, t.2))
 
   -- what it walks is there
   pub walked_keeps : (r : Result (Dynamic H) (EvalAltResult H)) (loop : ForLoop) (v : Dynamic H) (k : List (Frame H)) (l : Local H) →
       Keeps a (core (Back v) (ForItems loop ∷ k) l) (on_value r (λ x. started_core (turns_of (layer_of x)) loop k l) k l)
   walked_keeps (Ok x) loop v k l = started_keeps (turns_of (layer_of x)) loop v k l
-  walked_keeps (Err e) loop v k l = quiet a tt refl (λ t. (t.0, t.1.1))
+  walked_keeps (Err e) loop v k l = quiet a tt refl (λ t. (t.0, t.1.1, t.2))
 
   -- a variable of a `for` may be written where it stands
   shared_stands : (name : Name) (at : Position) (n : ℕ) (there : Option (Dynamic H)) (place : Place) (l : Local H) →
@@ -160,8 +166,10 @@ module _ {H : Type 0} (a : Asked) where
   -- ---- shared variables
 
   -- a new cell is free
-  cell_added : (v : Dynamic H) (l : Local H) → outline (with_cell v l) ≡ more 1 (outline l)
-  cell_added v l = rw (map-append forgotten_cell l.around.cells (Some v ∷ [])) refl
+  cell_added : (v : Dynamic H) (l : Local H) → outline (with_cell v l) ≡ more (new_cells 1) (outline l)
+  cell_added v l =
+      let same : l.around.num_modules_loaded + 0 ≡ l.around.num_modules_loaded = omega arith in
+      rw (map-append forgotten_cell l.around.cells (Some v ∷ []), append-nil l.around.imports, same) refl
 
   names_shared : (index : ℕ) (v : Dynamic H) (k : List (Frame H)) (l : Local H) → Held a (calm k l) →
       Held a (calm k (put (InEntry index) v l))
@@ -172,7 +180,7 @@ module _ {H : Type 0} (a : Asked) where
   shared_keeps index (value.Cell id) v k l = quiet a tt refl (λ t. t)
   shared_keeps index _ v k l = record {
     sound = tt;
-    around = (1, ap (unwound k) (cell_added v l) ∙ unwound_more k 1 (outline l));
+    around = adds k (new_cells 1) (outline l) (outline (with_cell v l)) (cell_added v l);
     names = names_shared index (handle_of (length l.around.cells) v.mode) k (with_cell v l);
   }
 
@@ -201,6 +209,7 @@ module _ {H : Type 0} (a : Asked) where
             (length-map l.scope name_of) (loop_length loop.counter loop.variable.name) is),
         t.1,
       ),
+      t.2,
     ))
 
     branch_with_keeps : (full : Bool) (variable : Ident) (v : Dynamic H) (caught : EvalAltResult H) (branch : StmtBlock) (k : List (Frame H))
@@ -237,3 +246,44 @@ module _ {H : Type 0} (a : Asked) where
   export_keeps (Some at) ident alias k l =
       quiet a tt refl (λ t. rw (aliased_by l.scope at (slice_get l.scope at) (alias_or ident.name alias) refl) t)
   export_keeps None ident alias k l = quiet a tt refl (λ t. t)
+
+  -- ---- imported modules
+
+  -- one module is loaded, and one import is added
+  abbrev one_of : List ℕ → Module H → Local H → Growth H
+  one_of name m l =
+      record { cells = 0; imports = import_as name m ∷ []; loaded = min 1 (2 ^ 64 - 1 - l.around.num_modules_loaded) }
+
+  one_import : (name : List ℕ) (m : Module H) (l : Local H) → outline (importing name m l) ≡ more (one_of name m l) (outline l)
+  one_import name m l = rw (append-nil (map forgotten_cell l.around.cells)) refl
+
+  -- and there is one more
+  more_by_one : (i : Import H) (imports : List (Import H)) → length imports ≤ length (imports ++ i ∷ [])
+  more_by_one i imports = omega (arith, length-append imports (i ∷ []))
+
+  -- a path that did not come imports none
+  pub not_imported : (k : List (Frame H)) (l : Local H) →
+      a.along (names_of l) × Tight a k (names_of l) × AnyImports a k (length l.around.imports) → Held a (calm k l)
+  not_imported k l t = (t.0, t.1, as_many a k (length l.around.imports) t.2)
+
+  pub imported_keeps : (r : Result (Module H) (EvalAltResult H)) (alias : Option Ident) (path_at starts_at : Position) (v : Dynamic H)
+      (k : List (Frame H)) (l : Local H) →
+      Keeps a (core (Back v) (ImportPath alias path_at starts_at ∷ k) l)
+      (on_value r (λ m. core (Back unit_value) k (importing (name_asked alias) m l)) k l)
+  imported_keeps (Ok m) alias path_at starts_at v k l = record {
+    sound = tt;
+    around = adds k (one_of (name_asked alias) m l) (outline l) (outline (importing (name_asked alias) m l))
+        (one_import (name_asked alias) m l);
+    names = λ t. (
+      t.0,
+      t.1,
+      t.2 (length (importing (name_asked alias) m l).around.imports) (more_by_one (import_as (name_asked alias) m) l.around.imports),
+    );
+  }
+  imported_keeps (Err e) alias path_at starts_at v k l = quiet a tt refl (not_imported k l)
+
+  -- where as many are loaded as may be, none is added
+  pub import_keeps : (full : Bool) (path : Expr) (alias : Option Ident) (at : Position) (restoring : Bool) (k : List (Frame H))
+      (l : Local H) → Keeps a (core (OpenStmt (layer.Import path alias at) restoring) k l) (import_core full path alias at k l)
+  import_keeps true path alias at restoring k l = quiet a tt refl (not_imported k l)
+  import_keeps false path alias at restoring k l = quiet a tt refl (λ t. t)

@@ -40,7 +40,7 @@ use Rattle.rhai_machine.specs.language.Frames.{RestoreList, Top, UnaryOperand, L
 use Rattle.rhai_machine.specs.language.Frames.{WhileCondition, WhileBody, DoCondition, DoBody, BreakValue, ReturnValue}
 use Rattle.rhai_machine.specs.language.Frames.{ArrayItem, EntryValue, TextPart, PrintedPart, CallNamed, CallArgument, KeywordArgument}
 use Rattle.rhai_machine.specs.language.Frames.{EnterFunction, EnterOnFocus, AssignThis, AssignThisValue, CallEnd, Choose, ForTurn, ForItem, Share}
-use Rattle.rhai_machine.specs.language.Frames.{SwitchValue, SwitchCondition, ForItems, ForBody, RestoreScope, TryBody, ThrowValue}
+use Rattle.rhai_machine.specs.language.Frames.{SwitchValue, SwitchCondition, ForItems, ForBody, ImportPath, RestoreScope, TryBody, ThrowValue}
 use Rattle.rhai_machine.specs.language.Bodies.{statements_of, variables_before, body_core, unless_deep, called_back, returned}
 use Rattle.rhai_machine.specs.language.Data.{with_item, with_value, with_part, items_core, entries_core, parts_core, part_core}
 use Rattle.rhai_machine.specs.language.Data.{joined_core, printed, unprinted_core}
@@ -53,6 +53,7 @@ use Rattle.rhai_machine.specs.language.Arguments.{flattens, taken}
 use Rattle.rhai_machine.specs.language.Statements.{has_option, mode_of, enter_core, run_core, chosen_core, defined_core, define_core}
 use Rattle.rhai_machine.specs.language.Statements.{overwritten, written, declared_core, constant_core, enters}
 use Rattle.rhai_machine.specs.language.Statements.{loop_of, stmt_move, break_core, return_move}
+use Rattle.rhai_machine.specs.language.Imports.{module_meant}
 use Rattle.rhai_machine.specs.language.Turns.{next_turn}
 use Rattle.rhai_machine.specs.language.Walks.{has_no_room}
 use Rattle.rhai_machine.specs.language.Tries.{catch_variable}
@@ -63,9 +64,10 @@ use Rattle.rhai_machine.specs.language.Frames.{MemberLink, MemberGot, MemberOper
 use Rattle.rhai_machine.specs.language.Members.{focus_of, focused_on, lacks_property, lacks_indexer}
 use Rattle.rhai_machine.specs.language.Unwinding.{up_core, down_core, marked_core, topped, operated, looked_at}
 use Rattle.rhai_machine.specs.language.Language.{move_at}
-use Rattle.rhai_laws.specs.Kept.{declares, Sound, names_of, adds_names}
+use Rattle.rhai_laws.specs.Kept.{declares, is_import, Sound, names_of, adds_names}
 use Rattle.rhai_laws.specs.Steady.{Moves}
-use Rattle.rhai_laws.proofs.Keeping.{Asked, Grows, Free, Held, begins_through, unwound, Keeps, quiet, through, after, calm, eager, held}
+use Rattle.rhai_laws.proofs.Keeping.{Asked, Grows, Free, Imports, Held, begins_self, begins_through, unwound, Keeps, quiet, through, after, calm}
+use Rattle.rhai_laws.proofs.Keeping.{any_by, held}
 use Rattle.rhai_laws.proofs.Keeping.{ended_keeps, step_left, call_left, constant_outline, function_entered, started_by, stopped_by}
 use Rattle.rhai_laws.proofs.Keeping.{entered_around, entered_names, left_names, scope_left, put_keeps}
 use Rattle.rhai_laws.proofs.KeptAssignments.{there_keeps, assignment_keeps, store_keeps, store_this_keeps, barred_keeps}
@@ -73,7 +75,7 @@ use Rattle.rhai_laws.proofs.KeptAssignments.{fire_update_keeps}
 use Rattle.rhai_laws.proofs.KeptCalls.{on_keeps, call_keeps, fire_keeps, question_keeps, operator_keeps, arguments_keep, named_keeps}
 use Rattle.rhai_laws.proofs.KeptCalls.{keyword_keeps}
 use Rattle.rhai_laws.proofs.KeptForms.{choose_keeps, met_keeps, walked_keeps, for_keeps, for_turn_keeps, item_keeps, tried_keeps, export_keeps, share_keeps}
-use Rattle.rhai_laws.proofs.KeptForms.{room}
+use Rattle.rhai_laws.proofs.KeptForms.{imported_keeps, import_keeps, not_imported, room}
 use Rattle.rhai_laws.proofs.KeptMethods.{focus_keeps}
 use Rattle.rhai_laws.proofs.KeptChains.{open_keeps, asked_keeps, root_keeps, read_root_keeps, walk_keeps, locate_keeps, chain_left}
 use Rattle.rhai_laws.proofs.KeptChains.{assign_focus_keeps, operated_on_keeps, part_assigned_keeps, part_changed_keeps, temporary_keeps}
@@ -96,6 +98,8 @@ module _ {H : Type 0} (a : Asked) where
         t.0,
         started_by a (declares (out-Stmt stmt)) (RestOfList stmts restoring ∷ k) (names_of l) t.1
             (λ m b q n c r. t.1 n (begins_through (names_of l) m n b c) r),
+        any_by a (is_import (out-Stmt stmt)) (RestOfList stmts restoring ∷ k) (length l.around.imports)
+            (λ m le n more. t.2 n (omega (arith, le, more))),
       ))
 
   -- expressions
@@ -224,11 +228,12 @@ module _ {H : Type 0} (a : Asked) where
 
   -- a new variable adds its name
   added_names : (ident : Ident) (mode : AccessMode) (w : Dynamic H) (k : List (Frame H)) (l : Local H) →
-      a.along (names_of l) × (a.along (names_of l ++ ident.name ∷ []) × Free a k (names_of l)) →
+      a.along (names_of l) × (a.along (names_of l ++ ident.name ∷ []) × Free a k (names_of l))
+      × Imports a k (length l.around.imports) →
       Held a (calm k (record l { scope = l.scope ++ new_entry ident.name mode w ∷ [] }))
   added_names ident mode w k l t =
       rw (map-append name_of l.scope (new_entry ident.name mode w ∷ []))
-      (t.1.0, t.1.1 (names_of l ++ ident.name ∷ []) (ident.name ∷ [], refl) t.1.0)
+      (t.1.0, t.1.1 (names_of l ++ ident.name ∷ []) (ident.name ∷ [], refl) t.1.0, t.2)
 
   -- a constant is entered beside the variables
   constant_keeps : (enters : Bool) (name : List ℕ) (v w : Dynamic H) (k : List (Frame H)) (l : Local H) →
@@ -258,7 +263,8 @@ module _ {H : Type 0} (a : Asked) where
   -- a value that did not come adds none
   undefined_names : (index : Option NonZeroUsize) (ident : Ident) (options : ASTFlags) (restoring : Bool) (value_at : Position)
       (k : List (Frame H)) (l : Local H) → Held a (calm (DefineValue ident index options restoring value_at ∷ k) l) → Held a (calm k l)
-  undefined_names None ident options restoring value_at k l t = held a k l (t.0, t.1.1)
+  undefined_names None ident options restoring value_at k l t =
+      (t.0, t.1.1 (names_of l) (begins_self (names_of l)) t.0, t.2)
   undefined_names (Some offset) ident options restoring value_at k l t = t
 
   defined_keeps : (r : Result (Dynamic H) (EvalAltResult H)) (ident : Ident) (index : Option NonZeroUsize) (options : ASTFlags)
@@ -301,6 +307,8 @@ module _ {H : Type 0} (a : Asked) where
     up_keeps (StatementValue pos) v k l = after a (calm k l) refl (λ t. t) (ended_keeps a (flat l.around.cells v pos) k l)
     up_keeps (DefineValue ident index options restoring value_at) v k l =
         defined_keeps (flat l.around.cells v value_at) ident index options restoring value_at v k l
+    up_keeps (ImportPath alias path_at starts_at) v k l =
+        imported_keeps a (module_meant s.host_type l.around.cells s.offer.modules v path_at starts_at) alias path_at starts_at v k l
     up_keeps (IfCondition test_at body branch) v k l =
         after a (calm k l) refl (λ t. t) (on_keeps a (truth s.host_type l.around.cells v test_at) _ k l
         (λ holds. chosen_keeps holds body branch k l))
@@ -414,7 +422,7 @@ module _ {H : Type 0} (a : Asked) where
           after a (calm k l) refl (λ t. t) (caught_keeps (DoTurn test body options) e k l (quiet a tt refl (λ t. t)))
       down_keeps (ForBody loop rest turn base) e k l =
           after a (calm k l) refl (λ t. t) (caught_keeps (ForTurn loop rest (turn + 1) base) e k l (quiet a tt refl (λ t. t)))
-      down_keeps (ForItems loop) e k l = quiet a tt refl (λ t. (t.0, t.1.1))
+      down_keeps (ForItems loop) e k l = quiet a tt refl (λ t. (t.0, t.1.1, t.2))
       down_keeps (RestoreScope length) e k l = quiet a tt refl (scope_left a length k l)
       down_keeps (TryBody variable branch) e k l =
           after a (calm k l) refl (λ t. t) (tried_keeps a s grows (is_catchable e) (catch_variable (out-Expr variable)) e branch k l)
@@ -425,6 +433,7 @@ module _ {H : Type 0} (a : Asked) where
           (through a (call_left a exit k l) (ended_keeps a (returned exit e) k (called_back exit l)))
       down_keeps (DefineValue ident index options restoring value_at) e k l =
           quiet a tt refl (undefined_names index ident options restoring value_at k l)
+      down_keeps (ImportPath alias path_at starts_at) e k l = quiet a tt refl (not_imported a k l)
       down_keeps (RestoreList saved) e k l = quiet a tt refl (left_names a saved k l)
       down_keeps (ChainEnd lender outer) e k l = after a (calm (ChainEnd lender outer ∷ k) l) refl (λ t. t)
           (through a (chain_left a lender outer k l) (quiet a tt refl (λ t. t)))
@@ -440,13 +449,19 @@ module _ {H : Type 0} (a : Asked) where
           after a (calm k l) refl (λ t. t) (indexer_missing_keeps a (lacks_indexer e) e otherwise k l)
       down_keeps _ e k l = quiet a tt refl (λ t. t)
 
+      -- a `let` that is refused adds no name
+      no_name : (k : List (Frame H)) (l : Local H) →
+          a.along (names_of l) × Free a k (names_of l) × Imports a k (length l.around.imports) → Held a (calm k l)
+      no_name k l t = (t.0, t.1 (names_of l) (begins_self (names_of l)) t.0, t.2)
+
       -- a `let` that overwrites none is tried only where there is room for one more variable
       define_keeps : (shadows full : Bool) (ident : Ident) (value : Expr) (options : ASTFlags) (restoring : Bool) (pos : Position)
           (k : List (Frame H)) (l : Local H) →
           nat_le s.limits.max_variables (length l.scope) ≡ full →
-          Keeps a (eager k l) (define_core s shadows full ident value None options restoring pos k l)
-      define_keeps true full ident value options restoring pos k l is = quiet a tt refl (held a k l)
-      define_keeps false true ident value options restoring pos k l is = quiet a tt refl (held a k l)
+          Keeps a (core (OpenStmt (layer.Var ident value None options pos) restoring) k l)
+          (define_core s shadows full ident value None options restoring pos k l)
+      define_keeps true full ident value options restoring pos k l is = quiet a tt refl (no_name k l)
+      define_keeps false true ident value options restoring pos k l is = quiet a tt refl (no_name k l)
       define_keeps false false ident value options restoring pos k l is = quiet a tt refl (λ t. (
         t.0,
         (
@@ -454,6 +469,7 @@ module _ {H : Type 0} (a : Asked) where
               (room s.limits.max_variables (length l.scope) (names_of l) ident.name (length-map l.scope name_of) is),
           t.1,
         ),
+        t.2,
       ))
 
       -- and one that does needs none
@@ -467,14 +483,14 @@ module _ {H : Type 0} (a : Asked) where
       body_keeps : (stmts : List Stmt) (e : Entered H) (k : List (Frame H)) (l : Local H) →
           length (variables_before e.is_fresh l.scope) + length e.def.params ≤ s.limits.max_variables →
           Keeps a (core (EnterFunction e) k l) (body_core stmts e k l)
-      body_keeps [] e k l le = quiet a tt refl (λ t. (t.0, stopped_by a (adds_names e) k (names_of l) t.0 t.1))
+      body_keeps [] e k l le = quiet a tt refl (λ t. (t.0, stopped_by a (adds_names e) k (names_of l) t.0 t.1, t.2))
       body_keeps (stmt ∷ stmts) e k l le = function_entered a s.limits.max_variables grows e stmt stmts k l le
 
       full_keeps : (deep full : Bool) (e : Entered H) (k : List (Frame H)) (l : Local H) →
           nat_lt s.limits.max_variables (length (variables_before e.is_fresh l.scope) + length e.def.params) ≡ full →
           Keeps a (core (EnterFunction e) k l) (unless_deep deep full e k l)
-      full_keeps true full e k l is = quiet a tt refl (λ t. (t.0, stopped_by a (adds_names e) k (names_of l) t.0 t.1))
-      full_keeps false true e k l is = quiet a tt refl (λ t. (t.0, stopped_by a (adds_names e) k (names_of l) t.0 t.1))
+      full_keeps true full e k l is = quiet a tt refl (λ t. (t.0, stopped_by a (adds_names e) k (names_of l) t.0 t.1, t.2))
+      full_keeps false true e k l is = quiet a tt refl (λ t. (t.0, stopped_by a (adds_names e) k (names_of l) t.0 t.1, t.2))
       full_keeps false false e k l is = body_keeps (statements_of e.def.body) e k l (grind (arith, nat_tests))
 
       stmt_keeps : (form : StmtLayer) (restoring : Bool) (k : List (Frame H)) (l : Local H) →
@@ -486,9 +502,9 @@ module _ {H : Type 0} (a : Asked) where
       stmt_keeps (layer.Assignment op lhs rhs) restoring k l =
           assignment_keeps a (out-Expr lhs) op rhs (core (OpenStmt (layer.Assignment op lhs rhs) restoring) k l) k l
           (quiet a tt refl (λ t. t))
-      stmt_keeps (layer.Var ident value None options pos) restoring k l = after a (eager k l) refl (λ t. t)
-          (define_keeps (not s.offer.allow_shadowing && is_some (index_of ident.name l.scope))
-          (nat_le s.limits.max_variables (length l.scope)) ident value options restoring pos k l refl)
+      stmt_keeps (layer.Var ident value None options pos) restoring k l =
+          define_keeps (not s.offer.allow_shadowing && is_some (index_of ident.name l.scope))
+          (nat_le s.limits.max_variables (length l.scope)) ident value options restoring pos k l refl
       stmt_keeps (layer.Var ident value (Some offset) options pos) restoring k l = after a (calm k l) refl (λ t. t)
           (redefine_keeps (not s.offer.allow_shadowing && is_some (index_of ident.name l.scope)) ident value offset options restoring pos
           k l)
@@ -499,6 +515,8 @@ module _ {H : Type 0} (a : Asked) where
       stmt_keeps (layer.TryCatch body variable branch pos) restoring k l = quiet a tt refl (λ t. t)
       stmt_keeps (layer.Export ident alias pos) restoring k l = after a (calm k l) refl (λ t. t)
           (export_keeps a (index_of ident.name l.scope) ident alias k l)
+      stmt_keeps (layer.Import path alias pos) restoring k l =
+          import_keeps a (nat_le s.limits.max_modules l.around.num_modules_loaded) path alias pos restoring k l
       stmt_keeps (layer.Share variables) restoring k l = quiet a tt refl (λ t. t)
       stmt_keeps (layer.While test body pos) restoring k l = quiet a tt refl (λ t. t)
       stmt_keeps (layer.Do test body options pos) restoring k l = quiet a tt refl (λ t. t)
@@ -507,7 +525,6 @@ module _ {H : Type 0} (a : Asked) where
       stmt_keeps (layer.Return value options pos) restoring k l =
           return_keeps (has_option 2 options) value pos (core (OpenStmt (layer.Return value options pos) restoring) k l) k l
           (quiet a tt refl (λ t. t))
-      stmt_keeps _ restoring k l = tt
 
       -- each move from a sound core
       pub move_keeps : (c : Control H) (k : List (Frame H)) (l : Local H) → Sound c l → Moves (Keeps a) (core c k l) (move_at s c k l)

@@ -41,7 +41,7 @@ use Rattle.rhai_machine.specs.language.Frames.{OpenChain, ChainArguments, ChainR
 use Rattle.rhai_machine.specs.language.Frames.{RootValue, ChainEnd, StepDown, Temporary, PartMethod, PartAssigned, Measured, MethodLink}
 use Rattle.rhai_machine.specs.language.Frames.{MemberLink, MemberGot, MemberOperated, GetterTried, SetterTried, IndexerTried, MemberSet}
 use Rattle.rhai_machine.specs.language.Frames.{EnterFunction, EnterOnFocus, AssignThis, AssignThisValue, CallEnd, Choose, ForTurn, ForItem, Share}
-use Rattle.rhai_machine.specs.language.Frames.{SwitchValue, SwitchCondition, ForItems, ForBody, RestoreScope, TryBody, CatchBranch, ThrowValue}
+use Rattle.rhai_machine.specs.language.Frames.{SwitchValue, SwitchCondition, ForItems, ForBody, ImportPath, RestoreScope, TryBody, CatchBranch, ThrowValue}
 use Rattle.rhai_machine.specs.language.Data.{with_item, with_value, with_part, items_core, entries_core, parts_core, part_core, joined_core}
 use Rattle.rhai_machine.specs.language.Data.{printed, unprinted_core}
 use Rattle.rhai_machine.specs.language.Places.{is_barred, target_of, this_target}
@@ -59,6 +59,7 @@ use Rattle.rhai_machine.specs.language.Calls.{builtin_of, call_of, sized}
 use Rattle.rhai_machine.specs.language.Arguments.{flattens, taken, arguments_core, keyword_of, function_core, function_of}
 use Rattle.rhai_machine.specs.language.Statements.{enter_core, run_core, chosen_core, defined_core, define_core, break_core, return_move}
 use Rattle.rhai_machine.specs.language.Exports.{export_at}
+use Rattle.rhai_machine.specs.language.Imports.{import_core, importing, module_meant, name_asked}
 use Rattle.rhai_machine.specs.language.Statements.{has_option, loop_of, stmt_move, enters, constant_core, written, declared_core}
 use Rattle.rhai_machine.specs.language.Bodies.{returned}
 use Rattle.rhai_machine.specs.language.Unwinding.{up_core, down_core, topped, operated, looked_at, marked_core}
@@ -206,6 +207,11 @@ module _ {H : Type 0} where
     export_falls (Some at) ident alias k l = omega arith
     export_falls None ident alias k l = omega arith
 
+    import_falls : (full : Bool) (path : Expr) (alias : Option Ident) (pos : Position) (k : List (Frame H)) (l : Local H) →
+        size (import_core full path alias pos k l) < 50 + stack_size k
+    import_falls true path alias pos k l = omega arith
+    import_falls false path alias pos k l = omega arith
+
     -- a variable that is exported goes on as an `export` does
     declared_falls : (exported : Bool) (ident : Ident) (k : List (Frame H)) (l : Local H) →
         size (declared_core exported ident k l) < 12 + stack_size k
@@ -237,11 +243,12 @@ module _ {H : Type 0} where
     stmt_falls (layer.TryCatch body variable branch pos) restoring k l = omega (arith, enter_size body.statements true k)
     stmt_falls (layer.Export ident alias pos) restoring k l =
         omega (arith, export_falls (index_of ident.name l.scope) ident alias k l)
+    stmt_falls (layer.Import path alias pos) restoring k l =
+        omega (arith, import_falls (nat_le s.limits.max_modules l.around.num_modules_loaded) path alias pos k l)
     stmt_falls (layer.Share variables) restoring k l = omega arith
     stmt_falls (layer.BreakLoop value options pos) restoring k l = break_falls value (has_option 2 options) pos k l
     stmt_falls (layer.Return value options pos) restoring k l =
         return_falls (has_option 2 options) value pos (layer.Return value options pos) restoring k l
-    stmt_falls _ restoring k l = tt
 
     part_falls : (text part : List ℕ) (at : Position) (rest : List Expr) (k : List (Frame H)) (l : Local H) →
         size (part_core s text part at rest k l) < 12 + stack_size k
@@ -321,6 +328,11 @@ module _ {H : Type 0} where
       arith,
       on_falls (flat l.around.cells v value_at) (λ x. defined_core x ident index options restoring k l) k l
           (λ x. defined_falls x ident index options restoring k l),
+    )
+    up_falls (ImportPath alias path_at starts_at) v k l = grind (
+      arith,
+      on_falls (module_meant s.host_type l.around.cells s.offer.modules v path_at starts_at)
+          (λ m. core (Back unit_value) k (importing (name_asked alias) m l)) k l (λ m. omega arith),
     )
     up_falls (IfCondition test_at body branch) v k l = grind (
       arith,
@@ -443,6 +455,7 @@ module _ {H : Type 0} where
         size (down_core s frame e k l) < 11 + stack_size (frame ∷ k)
     down_falls (StatementValue at) e k l = omega arith
     down_falls (DefineValue ident index options restoring value_at) e k l = omega arith
+    down_falls (ImportPath alias path_at starts_at) e k l = omega arith
     down_falls (IfCondition test_at body branch) e k l = omega arith
     down_falls (RestOfList rest restoring) e k l = omega arith
     down_falls (RestoreList saved) e k l = omega arith

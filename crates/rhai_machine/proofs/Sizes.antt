@@ -23,7 +23,7 @@ use Rattle.rhai_machine.specs.language.Frames.{ReadRoot, Walk, Locate, AssignCha
 use Rattle.rhai_machine.specs.language.Frames.{PartMethod, PartAssigned, Measured, MethodLink, MemberLink, MemberGot, MemberOperated}
 use Rattle.rhai_machine.specs.language.Frames.{GetterTried, SetterTried, IndexerTried, MemberSet, EnterFunction, EnterOnFocus}
 use Rattle.rhai_machine.specs.language.Frames.{AssignThis, AssignThisValue, CallEnd, Choose, ForTurn, ForItem, Share, SwitchValue, SwitchCondition}
-use Rattle.rhai_machine.specs.language.Frames.{ForItems, ForBody, RestoreScope, TryBody, CatchBranch, ThrowValue}
+use Rattle.rhai_machine.specs.language.Frames.{ForItems, ForBody, ImportPath, RestoreScope, TryBody, CatchBranch, ThrowValue}
 use Rattle.rhai_machine.specs.language.Calls.{answered}
 use Rattle.rhai_machine.proofs.ChainLinks.{links, left_by}
 
@@ -101,6 +101,7 @@ module _ {H : Type 0} where
   abbrev pub frame_size : Frame H → ℕ
   frame_size (StatementValue at) = 4
   frame_size (DefineValue ident index options restoring value_at) = 4
+  frame_size (ImportPath alias path_at starts_at) = 4
   frame_size (IfCondition test_at body branch) = 4
   frame_size (RestOfList rest restoring) = 2
   frame_size (RestoreList saved) = 1

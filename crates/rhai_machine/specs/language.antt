@@ -15,6 +15,7 @@ pub mod Exports
 pub mod Expressions
 pub mod Calls
 pub mod Arguments
+pub mod Imports
 pub mod Methods
 pub mod Data
 pub mod Assignment

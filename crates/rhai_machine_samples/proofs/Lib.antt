@@ -14,4 +14,5 @@ mod WalkRuns
 mod TryRuns
 mod ShareRuns
 mod ExportRuns
+mod ImportRuns
 mod OverwriteRuns

@@ -21,4 +21,5 @@ pub mod Walks
 pub mod Tries
 pub mod Shares
 pub mod Exports
+pub mod Imports
 pub mod Overwrites

@@ -4,6 +4,8 @@
 
 ghost use Rattle.std.specs.Prelude.{ℕ, List};
 ghost use Rattle.std.specs.declared.num.NonZeroUsize.{NonZeroUsize};
+ghost use Rattle.rhai_values.specs.declared.base.value.Import.{Import};
+ghost use Rattle.rhai_values.specs.declared.base.value.Module.{Module};
 ghost use Rattle.rhai_machine.specs.machine.Machine.{Config, Run, below};
 ghost use Rattle.rhai_machine.specs.language.Setting.{over};
 ghost use Rattle.rhai_machine.specs.language.Frames.{Core};
@@ -31,6 +33,7 @@ ghost use Rattle.rhai_machine_samples.specs.Walks.{Walks, WalkEnds};
 ghost use Rattle.rhai_machine_samples.specs.Tries.{Throws, Tries, TryEnds};
 ghost use Rattle.rhai_machine_samples.specs.Shares.{Shares};
 ghost use Rattle.rhai_machine_samples.specs.Exports.{Exports};
+ghost use Rattle.rhai_machine_samples.specs.Imports.{Imports};
 ghost use Rattle.rhai_machine_samples.specs.Overwrites.{Overwrites};
 
 use rhai_machine::laws::{Language, always_ends};
@@ -252,6 +255,11 @@ pub fn sample_shares<H, S>(of: PhantomData<(H, S)>)
 /// Variables that a script exports.
 pub fn sample_exports<H, S>(of: PhantomData<(H, S)>)
     ensures { (table : Table S H) (host : H → List ℕ) → Exports table host }
+{}
+
+/// Modules that a script imports, whatever they are.
+pub fn sample_imports<H, S>(of: PhantomData<(H, S)>)
+    ensures { (table : Table S H) (host : H → List ℕ) (m other : Module H) (older : Import H) → Imports table host m other older }
 {}
 
 /// Variables that a `let` overwrites, whatever its index is.

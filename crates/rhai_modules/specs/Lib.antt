@@ -1,2 +1,3 @@
 pub mod Namespaces
 pub mod Qualified
+pub mod Imports

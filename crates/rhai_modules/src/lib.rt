@@ -8,6 +8,7 @@ ghost use Rattle.std.specs.Option.{option_copied};
 ghost use Rattle.rhai_functions.specs.Keys.{key_seen};
 ghost use Rattle.rhai_modules.specs.Namespaces.{constant_in, down, if_public, imported, public_in, root_in};
 
+pub mod importing;
 pub mod qualified;
 
 use rhai_functions::key::FnKey;

@@ -12,6 +12,7 @@ pub mod choices;
 pub mod data;
 pub mod exports;
 pub mod functions;
+pub mod imports;
 pub mod loops;
 mod making;
 pub mod operators;

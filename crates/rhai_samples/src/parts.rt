@@ -88,8 +88,14 @@ pub enum Part<'a> {
     Export(&'a str, u16, u16),
     /// A variable that is exported under an alias.
     ExportAs(&'a str, u16, &'a str, u16, u16),
+    /// An `import` of what an expression leads to, without an alias.
+    Import(u16),
+    /// An `import` of what an expression leads to, under an alias.
+    ImportAs(&'a str, u16, u16),
     /// A function with a block.
     Function(&'a str, &'a [&'a str]),
+    /// A private function with a block.
+    PrivateFunction(&'a str, &'a [&'a str]),
 }
 
 /// A case of a `switch`: its value, and the numbers of its results.

@@ -357,7 +357,7 @@ module _ (r : Reading) where
   stmt_step (layer.TryCatch body variable branch pos) c =
       (r.both (body.value c) (found_in_catch variable.catch variable.pos branch.value c), c)
   stmt_step (layer.Return expr options pos) c = (found_in_option expr c, c)
-  stmt_step (layer.Import expr alias pos) c = (r.fault (NotYet pos), c)
+  stmt_step (layer.Import expr alias pos) c = (expr.value c, c)
   stmt_step (layer.Export name alias pos) c = (r.none, c)
   stmt_step (layer.Share variables) c = (found_in_shared variables (r.names c), c)
 

@@ -19,6 +19,7 @@ use std::io::Write;
 ///   list, counted from 1, its operations, its variables, and what its error says beside its place
 /// - `fixes LIST N`, `shares LIST N`, `exports LIST N`, `reads LIST N`: the names of its constants, the values of its
 ///   cells, its variables with their aliases, and its error as a user reads it
+/// - `loads LIST N`, `imports LIST N`: how many modules it loads, and the names of the imports that it leaves
 /// - `above ends LIST N` and so on: the same above a scope of 300 other variables
 /// - `run [WORD] ..`: the lines of the program for the words, and its status
 /// - `refuses [WORD] ..`: the status of the program where one of its writes is refused

@@ -231,7 +231,7 @@ fn write_way(alloc: Global, chain: Chain, way: Way, out: &mut Vec<u8>) -> io::Re
         Err(fault) => write!(out, "{fault}")?,
         Ok(tree) => {
             add_library(alloc, &mut global, &tree)?;
-            let engine: Engine<Pair> = Settings::USUAL.engine(alloc);
+            let engine: Engine<Pair> = Settings::USUAL.engine(alloc)?;
             match engine.eval_global_statements(
                 alloc,
                 &mut global,

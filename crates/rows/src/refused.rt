@@ -157,6 +157,12 @@ fn judge(
         report.wrong
     } else if !own.names.as_slice().starts_with(report.names.as_slice()) {
         Some("other variables are left")
+    } else if !own
+        .imports
+        .as_slice()
+        .starts_with(report.imports.as_slice())
+    {
+        Some("other imports are left")
     } else if report.wants_memory {
         tally.wanting = tally.wanting.saturating_add(1);
         unless(was_refused, "out of memory, though nothing was refused")
@@ -175,6 +181,7 @@ fn is_same(own: &Report, report: &Report) -> bool {
         && report.num_operations == own.num_operations
         && report.counter == own.counter
         && report.names.as_slice() == own.names.as_slice()
+        && report.imports.as_slice() == own.imports.as_slice()
 }
 
 /// Whether the assignment is done, or was not reached since a request was refused.

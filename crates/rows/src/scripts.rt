@@ -9,6 +9,7 @@ use rhai_bench::script::Script;
 use rhai_bench::settings::Way;
 use rhai_eval::base::{AccessMode, CellId, Dynamic, EvalAltResult, Scope, Shared, Text, Union};
 use rhai_eval::cells::CellStore;
+use rhai_eval::state::Import;
 use rhai_tables::host::Pair;
 use std::alloc::{AllocError, Global};
 use std::io;
@@ -110,6 +111,8 @@ fn write_outcome(
         "fixes" => write_constants(&outcome.scope, out),
         "shares" => write_cells(&outcome.cells, out),
         "exports" => write_aliases(&outcome.scope, out),
+        "loads" => write!(out, "{}", outcome.num_modules_loaded),
+        "imports" => write_imports(outcome.imports.as_slice(), out),
         "says" => write_said(&outcome.ending, out),
         "reads" => write_read(alloc, &outcome.ending, out),
         _ => write!(out, "no form"),
@@ -176,6 +179,19 @@ fn write_names(names: &[Shared<Text>], out: &mut Vec<u8>) -> io::Result<()> {
     write!(out, ";")
 }
 
+/// Writes the names of imports in quotes, each with a `;`, or `nothing`.
+fn write_imports(imports: &[Import<Pair>], out: &mut Vec<u8>) -> io::Result<()> {
+    if imports.is_empty() {
+        return write!(out, "nothing");
+    }
+    let mut separator = "";
+    for import in imports {
+        write!(out, "{separator}\"{}\";", import.name.get().as_str())?;
+        separator = " ";
+    }
+    Ok(())
+}
+
 /// Writes the values of the cells, as `1; [2];`, or `nothing`.
 fn write_cells(cells: &CellStore<Pair>, out: &mut Vec<u8>) -> io::Result<()> {
     if cells.len() == 0 {
@@ -224,6 +240,7 @@ fn text_of(ending: &Ending) -> &str {
     match ending {
         Ending::Error(EvalAltResult::ErrorFunctionNotFound(text, _)) => text.get().as_str(),
         Ending::Error(EvalAltResult::ErrorVariableNotFound(text, _)) => text.get().as_str(),
+        Ending::Error(EvalAltResult::ErrorModuleNotFound(text, _)) => text.get().as_str(),
         Ending::Error(EvalAltResult::ErrorAssignmentToConstant(text, _)) => text.get().as_str(),
         Ending::Error(EvalAltResult::ErrorDotExpr(text, _)) => text.get().as_str(),
         Ending::Error(EvalAltResult::ErrorNonPureMethodCallOnConstant(text, _)) => {

@@ -1,11 +1,11 @@
 //! A variable whose function finds others than the script's.
 
+use crate::modules::checked;
 use rhai::library_of;
-use rhai_build::functions::TreeParts;
 use rhai_eval::base::{
     AccessMode, Boxed, Dynamic, FnPtr, FnPtrKind, Items, Scope, Shared, Text, Union,
 };
-use rhai_eval::check::{CheckedFn, CheckedTree, check_tree};
+use rhai_eval::check::CheckedFn;
 use rhai_eval::script::EncapsulatedEnviron;
 use rhai_samples::functions::{FUNCTION_G, FUNCTION_H};
 use rhai_samples::parts::tree_of;
@@ -48,13 +48,4 @@ fn checked_h(alloc: Global) -> Result<Shared<CheckedFn>, AllocError> {
         [function, ..] => function.share(),
         [] => Err(AllocError),
     }
-}
-
-/// The tree of parts that are well formed.
-fn checked(alloc: Global, parts: TreeParts) -> Result<CheckedTree, AllocError> {
-    let TreeParts {
-        statements,
-        functions,
-    } = parts;
-    check_tree(alloc, statements, functions).map_err(|_| AllocError)
 }

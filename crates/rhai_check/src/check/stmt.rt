@@ -300,6 +300,6 @@ fn check_stmt(names: &mut Items<Shared<Text>>, place: Place, stmt: &Stmt) -> Res
         }
         Stmt::Share(variables) => check_shared(names.as_slice(), variables.as_slice()),
         Stmt::Export(_, _, _) => Ok(()),
-        Stmt::Import(_, _, pos) => Err(CheckFault::NotYet(*pos)),
+        Stmt::Import(path, _, _) => check_expr(names, place, path),
     }
 }

@@ -182,6 +182,8 @@ pub data Frame (H : Type 0) : Type 0 where
   StatementValue : Position → Frame H
   -- the value of a `let`
   DefineValue : (ident : Ident) → (index : Option NonZeroUsize) → (options : ASTFlags) → (restoring : Bool) → (value_at : Position) → Frame H
+  -- the path of an `import`
+  ImportPath : (alias : Option Ident) → (path_at : Position) → (starts_at : Position) → Frame H
   -- the condition of an `if`
   IfCondition : (test_at : Position) → (body branch : StmtBlock) → Frame H
   -- a statement's value, before the rest of its list

@@ -14,7 +14,7 @@ use Rattle.rhai_values.specs.Modes.{with_mode}
 use Rattle.rhai_values.specs.declared.base.value.AccessMode.TheVariants.{ReadWrite, ReadOnly}
 use Rattle.rhai_state.specs.declared.error.EvalAltResult.TheVariants as error
 use Rattle.rhai_state.specs.Scope.{index_of, new_entry}
-use Rattle.rhai_machine.specs.machine.Machine.{Move, Halt, Go}
+use Rattle.rhai_machine.specs.machine.Machine.{Move, Go}
 use Rattle.rhai_machine.specs.language.Setting.{Setting}
 use Rattle.rhai_machine.specs.language.State.{Local, Surroundings}
 pub use Rattle.rhai_machine.specs.language.State.{deeper}
@@ -25,6 +25,7 @@ use Rattle.rhai_machine.specs.language.Frames.{Saved, Frame, Core, core, Eval, E
 use Rattle.rhai_machine.specs.language.Frames.{DoTurn, Back, Fail, StatementValue, DefineValue, IfCondition, RestOfList, RestoreList}
 use Rattle.rhai_machine.specs.language.Frames.{Share, SwitchValue, TryBody, BreakValue, ReturnValue, ThrowValue}
 use Rattle.rhai_machine.specs.language.Exports.{export_core}
+use Rattle.rhai_machine.specs.language.Imports.{import_core}
 use Rattle.rhai_machine.specs.language.Walks.{for_core, has_no_room}
 use Rattle.rhai_machine.specs.language.Assignment.{assignment_move}
 
@@ -141,7 +142,7 @@ module _ {H : Type 0} where
     define_core false false ident value index options restoring pos k l =
         core (Eval value) (DefineValue ident index options restoring (position_of value) ∷ k) l
 
-    -- a statement, after its charge; a form that is not there has no step
+    -- a statement, after its charge
     abbrev pub stmt_move : StmtLayer → Bool → List (Frame H) → Local H → Move H (Core H)
     stmt_move (layer.Noop pos) restoring k l = Go (core (Back unit_value) k l)
     stmt_move (layer.Expr value) restoring k l = Go (core (Eval value) (StatementValue (position_of value) ∷ k) l)
@@ -161,6 +162,7 @@ module _ {H : Type 0} where
     stmt_move (layer.BreakLoop value options pos) restoring k l = Go (break_core value (has_option 2 options) pos k l)
     stmt_move (layer.TryCatch body variable branch pos) restoring k l = Go (core (Enter body.statements true) (TryBody variable branch ∷ k) l)
     stmt_move (layer.Export ident alias pos) restoring k l = Go (export_core ident alias k l)
+    stmt_move (layer.Import path alias pos) restoring k l =
+        Go (import_core (nat_le s.limits.max_modules l.around.num_modules_loaded) path alias pos k l)
     stmt_move (layer.Share variables) restoring k l = Go (core (Share variables) k l)
     stmt_move (layer.Return value options pos) restoring k l = return_move (has_option 2 options) value pos k l
-    stmt_move _ restoring k l = Halt

@@ -28,7 +28,8 @@ use Rattle.rhai_machine.specs.language.Frames.{TextPart, PrintedPart, CallArgume
 use Rattle.rhai_machine.specs.language.Frames.{ChainEnd, StepDown, Temporary, PartMethod, PartAssigned, Measured, MethodLink, MemberLink}
 use Rattle.rhai_machine.specs.language.Frames.{MemberGot, MemberOperated, GetterTried, SetterTried, IndexerTried, MemberSet}
 use Rattle.rhai_machine.specs.language.Frames.{Choose, ForTurn, SwitchValue, SwitchCondition, ForItems, ForBody, RestoreScope, TryBody}
-use Rattle.rhai_machine.specs.language.Frames.{CatchBranch, ThrowValue}
+use Rattle.rhai_machine.specs.language.Frames.{CatchBranch, ImportPath, ThrowValue}
+use Rattle.rhai_machine.specs.language.Imports.{importing, module_meant, name_asked}
 use Rattle.rhai_machine.specs.language.Data.{with_item, with_value, items_core, entries_core, joined_core, part_core, printed}
 use Rattle.rhai_machine.specs.language.Data.{unprinted_core}
 use Rattle.rhai_machine.specs.language.Expressions.{and_next, or_next, coalesce_next}
@@ -124,6 +125,9 @@ module _ {H : Type 0} (s : Setting H) where
   up_core (StatementValue at) v k l = core (ended (flat l.around.cells v at)) k l
   up_core (DefineValue ident index options restoring value_at) v k l =
       on_value (flat l.around.cells v value_at) (λ x. defined_core x ident index options restoring k l) k l
+  up_core (ImportPath alias path_at starts_at) v k l =
+      on_value (module_meant s.host_type l.around.cells s.offer.modules v path_at starts_at)
+      (λ m. core (Back unit_value) k (importing (name_asked alias) m l)) k l
   up_core (IfCondition test_at body branch) v k l =
       on_value (truth s.host_type l.around.cells v test_at) (λ holds. chosen_core holds body branch k l) k l
   up_core (RestOfList rest restoring) v k l = core (Run rest restoring v) k l

@@ -1,4 +1,4 @@
-//! `switch`, `for` and `try`, what closures share, and functions.
+//! `switch`, `for`, `try`, `export` and `import`, what closures share, and functions.
 
 use crate::making::statements::ident;
 use crate::making::{Making, place, shared};
@@ -43,7 +43,7 @@ fn variables(
 }
 
 impl Making {
-    /// Adds a `switch`, a `for`, a `try`, what closures share, or a function.
+    /// Adds a `switch`, a `for`, a `try`, what closures share, an `export`, an `import`, or a function.
     pub(super) fn add_choice(&mut self, part: Part<'_>) -> Result<(), AllocError> {
         let made = match part {
             Part::Switch(count, cases, ranges, default, column) => Stmt::Switch {
@@ -84,7 +84,7 @@ impl Making {
         Ok(results)
     }
 
-    /// Adds a `try`, what closures share, an `export`, or a function.
+    /// Adds a `try`, what closures share, an `export`, an `import`, or a function.
     fn add_catch(&mut self, part: Part<'_>) -> Result<(), AllocError> {
         let made = match part {
             Part::Try(column) => {
@@ -106,14 +106,39 @@ impl Making {
                 let alias = ident(self.alloc, alias, at_alias)?;
                 Stmt::Export(name, Some(alias), place(column))
             }
+            _ => return self.add_import(part),
+        };
+        self.statements.push(made)
+    }
+
+    /// Adds an `import` or a function.
+    fn add_import(&mut self, part: Part<'_>) -> Result<(), AllocError> {
+        let made = match part {
+            Part::Import(column) => Stmt::Import(self.expr(), None, place(column)),
+            Part::ImportAs(alias, at_alias, column) => {
+                let alias = ident(self.alloc, alias, at_alias)?;
+                Stmt::Import(self.expr(), Some(alias), place(column))
+            }
             Part::Function(name, params) => {
-                let body = self.block();
-                let access = FnAccess::Public;
-                let function = script_function(self.alloc, access, None, name, params, body)?;
-                return self.functions.push(function);
+                return self.add_function(FnAccess::Public, name, params);
+            }
+            Part::PrivateFunction(name, params) => {
+                return self.add_function(FnAccess::Private, name, params);
             }
             _ => return Ok(()),
         };
         self.statements.push(made)
+    }
+
+    /// Adds a function with the newest block.
+    fn add_function(
+        &mut self,
+        access: FnAccess,
+        name: &str,
+        params: &[&str],
+    ) -> Result<(), AllocError> {
+        let body = self.block();
+        let function = script_function(self.alloc, access, None, name, params, body)?;
+        self.functions.push(function)
     }
 }

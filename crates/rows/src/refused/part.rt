@@ -10,7 +10,6 @@ use rhai_bench::settings::{Settings, Way};
 use rhai_eval::base::{CellId, Dynamic, EvalAltResult, Items, Scope, Union};
 use rhai_eval::cells::CellStore;
 use rhai_eval::check::{CheckFault, CheckedTree, check_tree};
-use rhai_eval::engine::Engine;
 use rhai_eval::state::{Caches, GlobalRuntimeState};
 use rhai_eval::table::NativeTable;
 use rhai_natives::Natives;
@@ -23,11 +22,11 @@ use std::io;
 use std::io::Write;
 
 /// The lists whose scripts are run: the rows, with fewer calls in place of row 3, and lists that no row has.
-pub const LISTS: [&str; 46] = [
+pub const LISTS: [&str; 47] = [
     "1", "2", "fewer", "4", "5", "6", "7", "8", "9", "10", "11", "12", "13", "14", "15", "16",
     "17", "18", "19", "20", "21", "22", "23", "24", "26", "27", "28", "29", "30", "31", "32", "33",
     "34", "35", "36", "37", "38", "calls", "order", "kept", "block", "walks", "choices", "caught",
-    "cells", "exports",
+    "cells", "exports", "imports",
 ];
 
 /// A script by its list and its place there, and a way to run it.
@@ -48,6 +47,8 @@ pub struct Report {
     pub counter: i64,
     /// The names of the variables that it left, one a line.
     pub names: Vec<u8>,
+    /// The names of the imports that it left, one a line.
+    pub imports: Vec<u8>,
     pub wants_memory: bool,
     /// What should hold after a run, and does not.
     pub wrong: Option<&'static str>,
@@ -89,7 +90,7 @@ struct Run {
 
 impl Run {
     /// Checks and runs a script, sees to what holds then, and runs another over what is left. None where the
-    /// library of its functions could not be made.
+    /// library of its functions or its engine could not be made.
     fn report(mut self, alloc: Global, script: Script) -> io::Result<Option<Report>> {
         let settings = script.settings;
         let (ending, is_restored) = match check_tree(alloc, script.statements, script.functions) {
@@ -98,7 +99,10 @@ impl Run {
                 if add_library(alloc, &mut self.global, &tree).is_err() {
                     return Ok(None);
                 }
-                self.run_tree(alloc, settings, &tree)
+                match self.run_tree(alloc, settings, &tree) {
+                    Some(ended) => ended,
+                    None => return Ok(None),
+                }
             }
         };
         // What is asked for from here on is granted.
@@ -110,30 +114,34 @@ impl Run {
         let num_operations = self.global.num_operations;
         let counter = self.table.natives.counter;
         let names = names_of(alloc, &self.scope)?;
+        let imports = imports_of(alloc, &self.global)?;
         let wrong = if is_restored {
             self.fault(alloc, settings)
         } else {
-            Some("libraries, imports or levels are not what they were")
+            Some("libraries or levels are not what they were")
         };
         Ok(Some(Report {
             line,
             num_operations,
             counter,
             names,
+            imports,
             wants_memory,
             wrong,
         }))
     }
 
-    /// How a tree ends, and whether what a run takes back is as it was.
+    /// How a tree ends, and whether what a run takes back is as it was. None where the engine could not be made.
     fn run_tree(
         &mut self,
         alloc: Global,
         settings: Settings,
         tree: &CheckedTree,
-    ) -> (Ending, bool) {
+    ) -> Option<(Ending, bool)> {
         let before = Levels::of(&self.global);
-        let engine: Engine<Pair> = settings.engine(alloc);
+        let Ok(engine) = settings.engine(alloc) else {
+            return None;
+        };
         let outcome = engine.eval_global_statements(
             alloc,
             &mut self.global,
@@ -145,8 +153,8 @@ impl Run {
         );
         let is_restored = before == Levels::of(&self.global);
         match outcome {
-            Ok(value) => (Ending::Value(value), is_restored),
-            Err(error) => (Ending::Error(error), is_restored),
+            Ok(value) => Some((Ending::Value(value), is_restored)),
+            Err(error) => Some((Ending::Error(error), is_restored)),
         }
     }
 
@@ -157,6 +165,10 @@ impl Run {
             Some("the count is past its limit")
         } else if self.scope.len() > settings.limits.max_variables {
             Some("there are more variables than may be")
+        } else if self.global.num_modules_loaded > settings.limits.max_modules {
+            Some("more modules are loaded than may be")
+        } else if self.global.imports.len() > self.global.num_modules_loaded {
+            Some("there are more imports than were loaded")
         } else if is_any_held(&self.global.cells) {
             Some("a cell is held")
         } else if self.sum(alloc) != Some(42) {
@@ -170,7 +182,7 @@ impl Run {
     fn sum(&mut self, alloc: Global) -> Option<i64> {
         let tree = check_tree(alloc, statements_of(alloc, SUM).ok()?, Items::new(alloc)).ok()?;
         self.global.num_operations = 0;
-        match self.run_tree(alloc, Settings::USUAL, &tree).0 {
+        match self.run_tree(alloc, Settings::USUAL, &tree)?.0 {
             Ending::Value(value) => integer_in(&value),
             _ => None,
         }
@@ -186,11 +198,19 @@ fn names_of(alloc: Global, scope: &Scope<Pair>) -> io::Result<Vec<u8>> {
     Ok(names)
 }
 
+/// The names of a state's imports, one a line.
+fn imports_of(alloc: Global, global: &GlobalRuntimeState<Pair>) -> io::Result<Vec<u8>> {
+    let mut names = Vec::new(alloc);
+    for import in global.imports.as_slice() {
+        writeln!(&mut names, "{}", import.name.get().as_str())?;
+    }
+    Ok(names)
+}
+
 /// What a run takes back on every way out.
 #[derive(Clone, Copy, Debug, PartialEq, Eq)]
 struct Levels {
     libraries: usize,
-    imports: usize,
     level: usize,
     scope_level: usize,
     constants: usize,
@@ -200,7 +220,6 @@ impl Levels {
     fn of(global: &GlobalRuntimeState<Pair>) -> Levels {
         Levels {
             libraries: global.lib.len(),
-            imports: global.imports.len(),
             level: global.level,
             scope_level: global.scope_level,
             constants: global.constants,

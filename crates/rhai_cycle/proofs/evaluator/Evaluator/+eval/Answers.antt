@@ -1003,6 +1003,9 @@ run_stmt-returns-in-Var-clause-names = statements.run_stmt-returns-in-Var-clause
 pub run_stmt-returns-in-Var-clause-runs : goal.run_stmt-returns-in-Var-clause-runs
 run_stmt-returns-in-Var-clause-runs = statements.run_stmt-returns-in-Var-clause-runs
 
+pub run_stmt-returns-in-Import-clause-runs : goal.run_stmt-returns-in-Import-clause-runs
+run_stmt-returns-in-Import-clause-runs = statements.run_stmt-returns-in-Import-clause-runs
+
 pub run_if-returns-in-None-clause-runs : goal.run_if-returns-in-None-clause-runs
 run_if-returns-in-None-clause-runs = statements.run_if-returns-in-None-clause-runs
 
@@ -1059,6 +1062,15 @@ run_var-returns-clause-names = statements.run_var-returns-clause-names
 
 pub run_var-returns-clause-runs : goal.run_var-returns-clause-runs
 run_var-returns-clause-runs = statements.run_var-returns-clause-runs
+
+pub run_import-returns-then-not-may_import-clause-runs : goal.run_import-returns-then-not-may_import-clause-runs
+run_import-returns-then-not-may_import-clause-runs = statements.run_import-returns-then-not-may_import-clause-runs
+
+pub run_import-returns-then-not-run_expr-clause-runs : goal.run_import-returns-then-not-run_expr-clause-runs
+run_import-returns-then-not-run_expr-clause-runs = statements.run_import-returns-then-not-run_expr-clause-runs
+
+pub run_import-returns-clause-runs : goal.run_import-returns-clause-runs
+run_import-returns-clause-runs = statements.run_import-returns-clause-runs
 
 pub run_stmt_block-returns-then-is_empty-clause-runs : goal.run_stmt_block-returns-then-is_empty-clause-runs
 run_stmt_block-returns-then-is_empty-clause-runs = statements.run_stmt_block-returns-then-is_empty-clause-runs

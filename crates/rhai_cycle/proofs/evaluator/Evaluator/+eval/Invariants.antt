@@ -64,6 +64,9 @@ decreases-run_stmt_block g l = measured l.self.now l.run.now 0 2
 abbrev pub decreases-run_var : goal.decreases-run_var
 decreases-run_var g l = measured l.self.now l.run.now 0 1
 
+abbrev pub decreases-run_import : goal.decreases-run_import
+decreases-run_import g l = measured l.self.now l.run.now 0 1
+
 abbrev pub decreases-run_operator : goal.decreases-run_operator
 decreases-run_operator g l = measured l.self.now l.run.now 0 6
 

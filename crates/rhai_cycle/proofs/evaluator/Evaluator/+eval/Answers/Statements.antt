@@ -11,7 +11,7 @@ use Rattle.rhai_tree.proofs.Statements.{for_resolves, share_resolves, switch_res
 use Rattle.rhai_state.specs.declared.state.GlobalRuntimeState.{GlobalRuntimeState}
 use Rattle.rhai_machine.specs.machine.Point.{after}
 use Rattle.rhai_machine.specs.machine.Memory.{here, next, ◌⨾◌}
-use Rattle.rhai_machine.specs.language.Frames.{StatementValue, DefineValue, IfCondition, RestOfList, RestoreList, AssignValue}
+use Rattle.rhai_machine.specs.language.Frames.{StatementValue, DefineValue, IfCondition, ImportPath, RestOfList, RestoreList, AssignValue}
 use Rattle.rhai_machine.specs.language.Frames.{AssignThisValue}
 use Rattle.rhai_machine.specs.language.Runs.{Steps}
 use Rattle.rhai_laws.proofs.KeptLaws.{names_begin}
@@ -25,6 +25,7 @@ use Rattle.rhai_assign.proofs.Alone.{sides_resolve}
 use Rattle.rhai_assign.proofs.Prepared.{begins_assignment}
 use Rattle.rhai_tree.proofs.Links.{few_in_target}
 use Rattle.rhai_cycle.proofs.Conditions.{chooses}
+use Rattle.rhai_cycle.proofs.ImportSteps.{begins_path, imports, not_imported}
 use Rattle.rhai_cycle.proofs.NameLemmas.{declared_names, declared_resolves, var_good, var_value, names_restored, rest_resolves, any_item}
 use Rattle.rhai_cycle.proofs.Chain.{flat_fails, drop_item, drop_all, begins_stmt, opens_stmt, refuses_stmt, restores, enters_empty}
 use Rattle.rhai_cycle.proofs.Chain.{enters_plain, enters_restoring, has_some, is_empty_list, is_not_empty, left_state, not_declared, begins_value}
@@ -272,6 +273,13 @@ run_stmt-returns-in-Var-clause-runs g t c =
     opens_stmt rules _ c.args.run.now.global c.charge_stmt.new.global _ _ (c.if-not-charge_stmt.ensures.room refl)
     (c.if-not-charge_stmt.ensures.charged refl) _ _ _ _ _ c.run_var.ensures.runs (rw (c.in-Var.is, stmts.outs-Var) refl)
 
+pub run_stmt-returns-in-Import-clause-runs : goal.run_stmt-returns-in-Import-clause-runs
+run_stmt-returns-in-Import-clause-runs g t c =
+    let rules = under g.H.Host.name_of c.args.self.now g.T.NativeTable.natives in
+    opens_stmt rules _ c.args.run.now.global c.charge_stmt.new.global _ _ (c.if-not-charge_stmt.ensures.room refl)
+    (c.if-not-charge_stmt.ensures.charged refl) _ _ _ _ (layer.Import c.in-Import.path c.in-Import.alias c.in-Import.pos)
+    (c.run_import.ensures.runs c.args.restoring) (rw (c.in-Import.is, stmts.outs-Import) refl)
+
 -- a condition, and the list that it chooses
 
 pub run_if-returns-in-None-clause-runs : goal.run_if-returns-in-None-clause-runs
@@ -440,6 +448,33 @@ run_var-returns-clause-runs g t c k =
     c.args.options c.args.restoring _ c.flatten_at.new.out _ k c.declare.result c.declare.new.out c.declare.new.place
     (c.if-not-flatten_at.ensures.exact tt) c.declare.ensures.value (c.declare.ensures.declares (holding old.this)) c.declare.ensures.counts
     c.declare.ensures.refused c.declare.ensures.same c.declare.ensures.same_scope
+
+-- a module that is imported
+
+pub run_import-returns-then-not-may_import-clause-runs : goal.run_import-returns-then-not-may_import-clause-runs
+unfolding after Steps
+run_import-returns-then-not-may_import-clause-runs g t c restoring k =
+    let rules = under g.H.Host.name_of c.args.self.now g.T.NativeTable.natives in
+    not_imported rules c.args.path.now c.args.alias.now c.args.pos restoring k _ _ c.if-not-may_import.ensures
+
+pub run_import-returns-then-not-run_expr-clause-runs : goal.run_import-returns-then-not-run_expr-clause-runs
+unfolding after Steps
+run_import-returns-then-not-run_expr-clause-runs g t c restoring k =
+    let rules = under g.H.Host.name_of c.args.self.now g.T.NativeTable.natives in
+    begins_path rules c.args.path.now c.args.alias.now c.args.pos restoring k _ (c.if-not-may_import.ensures tt)
+    ⨾ c.if-not-run_expr.ensures.runs (ImportPath _ _ _ ∷ k) ⨾ next here
+
+pub run_import-returns-clause-runs : goal.run_import-returns-clause-runs
+unfolding Steps
+run_import-returns-clause-runs g t c restoring k =
+    let rules = under g.H.Host.name_of c.args.self.now g.T.NativeTable.natives in
+    let old = c.run_expr.new.run in
+    begins_path rules c.args.path.now c.args.alias.now c.args.pos restoring k _ (c.if-not-may_import.ensures tt)
+    ⨾ c.if-not-run_expr.ensures.runs (ImportPath _ _ _ ∷ k)
+    ⨾ imports rules _ old.global c.import_module.new.global old.scope (holding old.this) c.args.alias.now _ _ _ k c.import_module.result
+    c.import_module.new.out c.import_module.new.place c.import_module.ensures.value
+    (c.import_module.ensures.imports old.scope (holding old.this)) c.import_module.ensures.counts c.import_module.ensures.refused
+    c.import_module.ensures.same
 
 -- lists
 

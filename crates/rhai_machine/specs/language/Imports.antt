@@ -1,0 +1,50 @@
+-- The rule of `import`: the engine's module under a path is imported under a name, and counted.
+use Rattle.std.specs.Prelude.{ℕ, ◌+◌, ◌-◌, ◌^◌, min, Bool, true, false, List, [], ◌∷◌, ◌++◌, Option, Some, None, Result, Ok, Err}
+use Rattle.rhai_machine.specs.Types.{Dynamic, EvalAltResult, Expr, Ident, Module, Position}
+use Rattle.rhai_tree.specs.Lookup.{value_of}
+use Rattle.rhai_tree.specs.Positions.{position_of, start_of}
+use Rattle.rhai_state.specs.declared.error.EvalAltResult.TheVariants as error
+use Rattle.rhai_state.specs.State.{import_as}
+use Rattle.rhai_machine.specs.language.State.{Local}
+use Rattle.rhai_machine.specs.language.Values.{Cells}
+use Rattle.rhai_machine.specs.language.Arguments.{text_wanted}
+use Rattle.rhai_machine.specs.language.Frames.{Frame, Core, core, Eval, Fail, ImportPath}
+
+-- the name that is asked for, or the empty one
+abbrev pub name_asked : Option Ident → List ℕ
+name_asked None = []
+name_asked (Some alias) = alias.name
+
+-- one module more is loaded, up to the greatest count; no count falls
+abbrev pub one_more : ℕ → ℕ
+one_more loaded = loaded + min 1 (2 ^ 64 - 1 - loaded)
+
+module _ {H : Type 0} where
+  -- what was found under a path, or that there is no such module
+  abbrev pub found_under : List ℕ → Position → Option (Module H) → Result (Module H) (EvalAltResult H)
+  found_under path at (Some m) = Ok m
+  found_under path at None = Err (error.ErrorModuleNotFound path at)
+
+  abbrev pub module_under : (modules : List (List ℕ) × List (Module H)) → (starts_at : Position) → Result (List ℕ) (EvalAltResult H) →
+      Result (Module H) (EvalAltResult H)
+  module_under modules starts_at (Ok path) = found_under path starts_at (value_of path modules)
+  module_under modules starts_at (Err e) = Err e
+
+  -- the module that a path leads to, which has to be a text
+  abbrev pub module_meant : (H → List ℕ) → Cells H → (modules : List (List ℕ) × List (Module H)) → Dynamic H → (path_at : Position) →
+      (starts_at : Position) → Result (Module H) (EvalAltResult H)
+  module_meant host cells modules path path_at starts_at = module_under modules starts_at (text_wanted host cells path path_at)
+
+  -- it is imported behind the others, and counted
+  abbrev pub importing : List ℕ → Module H → Local H → Local H
+  importing name m l = record l {
+    around = record l.around {
+      imports = l.around.imports ++ import_as name m ∷ [];
+      num_modules_loaded = one_more l.around.num_modules_loaded;
+    };
+  }
+
+  -- where as many are loaded as may be, the path is not evaluated
+  abbrev pub import_core : (full : Bool) → (path : Expr) → (alias : Option Ident) → Position → List (Frame H) → Local H → Core H
+  import_core true path alias pos k l = core (Fail (error.ErrorTooManyModules pos)) k l
+  import_core false path alias pos k l = core (Eval path) (ImportPath alias (position_of path) (start_of path) ∷ k) l
