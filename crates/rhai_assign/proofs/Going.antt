@@ -21,6 +21,7 @@ use Rattle.rhai_machine.specs.machine.Memory.{◌⨾◌}
 use Rattle.rhai_machine.specs.language.Setting.{Rules}
 use Rattle.rhai_machine.specs.language.State.{Held, Local, State}
 use Rattle.rhai_machine.specs.language.Values.{unit_value}
+use Rattle.rhai_machine.specs.language.Variables.{no_path}
 use Rattle.rhai_machine.specs.language.Places.{InFocus, Target, focus_target, target, this_target, while_lent}
 use Rattle.rhai_machine.specs.language.Links.{name_in}
 use Rattle.rhai_machine.specs.language.Members.{focus_of}
@@ -74,7 +75,7 @@ module _ {S H : Type 0} (rules : Rules S H) where
     wanted = focus_target old.local.around.cells (name_in (out-Expr root)) (start_of root) (focus_of old.local)
 
     abbrev assignment : Position → Assignment
-    assignment at = record { name = name_in (out-Expr root); at = at; op = op }
+    assignment at = record { path = no_path; name = name_in (out-Expr root); at = at; op = op }
 
     starts : (found : Result (Target H) (EvalAltResult H)) → wanted ≡ found → (k : List (Frame H)) →
         assign_focus rules.setting root (record { op = op; value = v }) k old.local
@@ -101,7 +102,7 @@ module _ {S H : Type 0} (rules : Rules S H) where
     wanted_this = this_target old.local.around.cells pos old.local.this
 
     abbrev of_this : Assignment
-    of_this = record { name = []; at = pos; op = op }
+    of_this = record { path = no_path; name = []; at = pos; op = op }
 
     starts_this : (found : Result (Target H) (EvalAltResult H)) → wanted_this ≡ found → (k : List (Frame H)) →
         store_this rules.setting op pos v k old.local
@@ -124,8 +125,8 @@ module _ {S H : Type 0} (rules : Rules S H) where
     -- the target of a `()` that was just inserted is the focus itself
     inserted : (token : Option Token) → op.op ≡ token → (k : List (Frame H)) →
         assign_focus rules.setting root (record { op = op; value = v }) k (placed InFocus t s).local
-        ≡ assign_core rules.setting token (record { name = name_in (out-Expr root); at = position_of root; op = op }) (target InFocus t) v k
-        (placed InFocus t s).local
+        ≡ assign_core rules.setting token (record { path = no_path; name = name_in (out-Expr root); at = position_of root; op = op })
+        (target InFocus t) v k (placed InFocus t s).local
     inserted token is k = rw (← is) (starts root op v (placed InFocus t s) (Ok (target InFocus t)) (rw is_unit refl) k)
 
     -- a value is written to it

@@ -1,5 +1,5 @@
 -- An assignment by an operator between two integers, charged at once.
-use Rattle.std.proofs.Common.{◌≡◌, ◌≤◌, ◌+◌, ◌-◌, ℕ, ℤ, Bool, true, false, IsTrue, List, Option, Some, None, is_some, slice_get, Ok}
+use Rattle.std.proofs.Common.{◌≡◌, ◌≤◌, ◌+◌, ◌-◌, ℕ, ℤ, Bool, true, false, List, Option, Some, None, is_some, slice_get, Ok}
 use Rattle.std.proofs.Common.{if◌then◌else◌, refl, sym, ap, ◌∙◌, arith}
 use Rattle.std.specs.Option.{option_map}
 use Rattle.std.specs.declared.num.NonZeroUsize.{NonZeroUsize}
@@ -9,11 +9,8 @@ use Rattle.rhai_tree.specs.declared.expr.Expr.{Expr, out-Expr}
 use Rattle.rhai_tree.specs.declared.expr.Expr.TheOpen as layer
 use Rattle.rhai_tree.specs.declared.expr.Namespace.{Namespace}
 use Rattle.rhai_tree.specs.declared.expr.OpAssignment.{OpAssignment}
-use Rattle.rhai_tree.specs.Forms.{is_unqualified}
-use Rattle.rhai_tree.specs.Frame.{resolves_expr}
 use Rattle.rhai_tree.specs.Names.{Name}
 use Rattle.rhai_values.specs.declared.base.value.Dynamic.{Dynamic}
-use Rattle.rhai_values.specs.declared.base.value.Module.{Module}
 use Rattle.rhai_values.specs.declared.base.value.Union.{Union}
 use Rattle.rhai_values.specs.declared.base.value.Union.TheVariants as value
 use Rattle.rhai_values.specs.Cells.{cells_of}
@@ -22,16 +19,15 @@ use Rattle.rhai_state.specs.declared.scope.Scope.{Scope}
 use Rattle.rhai_state.specs.declared.scope.ScopeEntry.{ScopeEntry}
 use Rattle.rhai_state.specs.declared.state.GlobalRuntimeState.{GlobalRuntimeState}
 use Rattle.rhai_state.specs.declared.limits.Limits.{Limits}
-use Rattle.rhai_state.specs.Scope.{entries_of, index_of, names_in, revalued, value_in, value_of}
+use Rattle.rhai_state.specs.Scope.{entries_of, revalued, value_of}
 use Rattle.rhai_operators.specs.Answers.{answer, op_assign_of}
 use Rattle.rhai_operators.specs.Direct.{integer_given, integer_in}
 use Rattle.rhai_operators.specs.Operators.{Outcome, op_assign_at}
 use Rattle.rhai_machine.specs.language.State.{Held}
 use Rattle.rhai_machine.specs.language.Setting.{Rules, limit_under}
 use Rattle.rhai_machine.specs.language.Values.{Cells, unit_value}
-use Rattle.rhai_machine.specs.language.Places.{InEntry, is_constant, no_variable, target, target_at, target_found, target_of}
-use Rattle.rhai_machine.specs.language.Places.{unless_constant}
-use Rattle.rhai_machine.specs.language.Functions.{meant_function}
+use Rattle.rhai_machine.specs.language.Names.{entry_named}
+use Rattle.rhai_machine.specs.language.Places.{InEntry, is_constant, target, target_at, unless_constant}
 use Rattle.rhai_machine.specs.language.Calls.{applied}
 use Rattle.rhai_machine.specs.language.Assignment.{written_core}
 use Rattle.rhai_machine.specs.language.Frames.{OpenStmt, Back, core}
@@ -43,7 +39,9 @@ use Rattle.rhai_operands.proofs.Integers.{number_given}
 use Rattle.rhai_assign.specs.declared.place.Place.TheVariants as place
 use Rattle.rhai_assign.specs.InPlace.{assigned, charged_at, writable_in}
 use Rattle.rhai_assign.specs.Keeps.{Keeps}
+use Rattle.rhai_assign.specs.Targets.{if_found, named_target}
 use Rattle.rhai_assign.specs.Updates.{Becomes}
+use Rattle.rhai_assign.proofs.Entries.{target_is}
 use Rattle.rhai_assign.proofs.Places.{keeps_names, local_put, standing_is}
 use Rattle.rhai_assign.proofs.Prepared.{updates_in_place}
 
@@ -100,14 +98,13 @@ module _ {H : Type 0} where
   knows_by token v o w (Some m) (Some n) left right is = knows_two token v o w m n left right is
 
   -- the target of a variable whose entry holds an integer
-  entry_found : (cells : Cells H) (lib : List (Module H)) (name : Name) (pos : Position) (entries : List (ScopeEntry H)) (i : ℕ) (v : Dynamic H) (m : ℤ) →
-      index_of name entries ≡ Some i → option_map value_of (slice_get entries i) ≡ Some v → is_constant v.mode ≡ false →
-      v.value ≡ value.Int m → target_of cells lib name pos entries ≡ Ok (target (InEntry i) v)
-  entry_found cells lib name pos entries i v m at stands writable holds =
-      ap (λ (o : Option ℕ). target_found cells (no_variable (meant_function lib name) name pos) name pos o (value_in entries o)) at
-      ∙ ap (λ (o : Option (Dynamic H)). target_found cells (no_variable (meant_function lib name) name pos) name pos (Some i) o) stands
-      ∙ ap (λ (u : Union H). target_at cells name pos i u v) holds
-      ∙ ap (λ (b : Bool). unless_constant b name pos (target (InEntry i) v)) writable
+  entry_found : (cells : Cells H) (path : List Name) (name : Name) (pos : Position) (entries : List (ScopeEntry H)) (i : ℕ) (v : Dynamic H)
+      (m : ℤ) → entry_named path name entries ≡ Some i → option_map value_of (slice_get entries i) ≡ Some v → is_constant v.mode ≡ false →
+      v.value ≡ value.Int m → named_target cells path name pos entries ≡ Some (target (InEntry i) v)
+  entry_found cells path name pos entries i v m at stands writable holds =
+      target_is cells path name pos entries i v at stands
+      ∙ ap (λ (u : Union H). if_found (target_at cells name pos i u v)) holds
+      ∙ ap (λ (b : Bool). if_found (unless_constant b name pos (target (InEntry i) v))) writable
 
   -- the integer is written to its entry
   integer_written : (limits : Limits) (scope later : Scope H) (held : Held H) (g : GlobalRuntimeState H) (at : Position)
@@ -121,11 +118,11 @@ module _ {H : Type 0} where
 
 module _ {S H : Type 0} (rules : Rules S H) (t : S) (scope : Scope H) (held : Held H) (op : OpAssignment) (lhs rhs : Expr)
     (offset : Option NonZeroUsize) (name : Name) (namespace : Namespace) (pos : Position) (restoring : Bool)
-    (form : out-Expr lhs ≡ layer.Variable offset name namespace pos) (plain : is_unqualified namespace.path ≡ true)
-    (resolves : IsTrue (resolves_expr rhs (names_in scope))) (old new : GlobalRuntimeState H) (later : Scope H)
+    (form : out-Expr lhs ≡ layer.Variable offset name namespace pos) (old new : GlobalRuntimeState H) (later : Scope H)
     (room : old.num_operations + 2 ≤ limit_under rules) (charges : new ≡ record old { num_operations = old.num_operations + 2 })
     (token : Token) (is_token : op.op ≡ Some token) (fast : rules.setting.offer.fast_operators ≡ true) (i : ℕ) (v w : Dynamic H)
-    (at : index_of name (entries_of scope) ≡ Some i) (stands : option_map value_of (slice_get (entries_of scope) i) ≡ Some v) where
+    (at : entry_named namespace.path name (entries_of scope) ≡ Some i)
+    (stands : option_map value_of (slice_get (entries_of scope) i) ≡ Some v) where
   abbrev middle : GlobalRuntimeState H
   middle = record old { num_operations = old.num_operations + 1 }
 
@@ -135,11 +132,12 @@ module _ {S H : Type 0} (rules : Rules S H) (t : S) (scope : Scope H) (held : He
       (state_of t new later held)
   assigned_by knows put_there =
       let holder = standing_is (InEntry i) v (entries_of scope) (cells_of old.cells) stands in
-      updates_in_place rules t scope held op lhs rhs offset name namespace pos restoring knows.y form plain resolves knows.given
+      updates_in_place rules t scope held op lhs rhs offset name namespace pos restoring knows.y form knows.given
       old middle (omega arith) refl new (omega arith)
       (charges ∙ ap (λ (n : ℕ). record old { num_operations = n }) (omega arith)) token is_token fast
       (place.InEntry i) (Ok w) (Ok unit_value) new later
-      (rw holder (entry_found (cells_of old.cells) old.lib name pos (entries_of scope) i v knows.m at stands knows.writable knows.holds))
+      (rw holder (entry_found (cells_of old.cells) namespace.path name pos (entries_of scope) i v knows.m at stands knows.writable
+      knows.holds))
       (λ memory. rw holder knows.answers) refl
       (integer_written rules.setting.limits scope later held new op.position i w knows.z knows.number put_there) tt tt
 
@@ -151,22 +149,23 @@ module _ {S H : Type 0} (rules : Rules S H) (t : S) (scope : Scope H) (held : He
       (writable_in v) (integer_of (standing (out-Expr rhs) (entries_of scope))) refl refl known) put_there
 
 -- it is an assignment by a built-in
-module _ {H : Type 0} (scope : Scope H) (lib : List (Module H)) (cells : Cells H) (op : OpAssignment) (lhs rhs : Expr) (offset : Option NonZeroUsize) (name : Name)
+module _ {H : Type 0} (scope : Scope H) (cells : Cells H) (op : OpAssignment) (lhs rhs : Expr) (offset : Option NonZeroUsize) (name : Name)
     (namespace : Namespace) (pos : Position) (form : out-Expr lhs ≡ layer.Variable offset name namespace pos) (token : Token)
-    (is_token : op.op ≡ Some token) (i : ℕ) (v w : Dynamic H) (at : index_of name (entries_of scope) ≡ Some i)
+    (is_token : op.op ≡ Some token) (i : ℕ) (v w : Dynamic H)
+    (at : entry_named namespace.path name (entries_of scope) ≡ Some i)
     (stands : option_map value_of (slice_get (entries_of scope) i) ≡ Some v) where
   found_by : Knows token v (standing (out-Expr rhs) (entries_of scope)) w →
-      is_some (assigned op.op (out-Expr lhs) (out-Expr rhs) (entries_of scope) lib cells) ≡ true
+      is_some (assigned op.op (out-Expr lhs) (out-Expr rhs) (entries_of scope) cells) ≡ true
   found_by knows = rw (
     form,
     is_token,
-    entry_found cells lib name pos (entries_of scope) i v knows.m at stands knows.writable knows.holds,
+    entry_found cells namespace.path name pos (entries_of scope) i v knows.m at stands knows.writable knows.holds,
     knows.given,
     ← knows.answers,
   ) refl
 
   pub integer_found : assigned_known token (writable_in v) (integer_of (standing (out-Expr rhs) (entries_of scope))) ≡ Some w →
-      is_some (assigned op.op (out-Expr lhs) (out-Expr rhs) (entries_of scope) lib cells) ≡ true
+      is_some (assigned op.op (out-Expr lhs) (out-Expr rhs) (entries_of scope) cells) ≡ true
   integer_found known = found_by (knows_by token v (standing (out-Expr rhs) (entries_of scope)) w
       (writable_in v) (integer_of (standing (out-Expr rhs) (entries_of scope))) refl refl known)
 

@@ -1,6 +1,7 @@
 pub mod Alone
 pub mod Places
-pub mod Found
+pub mod Entries
+mod Found
 pub mod Lent
 pub mod Natives
 pub mod Writes

@@ -1,5 +1,5 @@
 -- An assignment that is done in place: its value and its target are charged, and what the built-in gave is written.
-use Rattle.std.proofs.Common.{◌≡◌, ◌<◌, ◌≤◌, ◌+◌, Bool, true, IsTrue, List, ◌∷◌, Option, Some, None, Result}
+use Rattle.std.proofs.Common.{◌≡◌, ◌<◌, ◌≤◌, ◌+◌, Bool, true, List, ◌∷◌, Option, Some, None, Result}
 use Rattle.std.proofs.Common.{Ok, Err, IfErr, refl, sym, ap, subst, ◌∙◌}
 use Rattle.std.specs.declared.num.NonZeroUsize.{NonZeroUsize}
 use Rattle.rhai_tree.specs.declared.position.Position.{Position}
@@ -9,11 +9,8 @@ use Rattle.rhai_tree.specs.declared.expr.Expr.TheOpen as layer
 use Rattle.rhai_tree.specs.declared.expr.Namespace.{Namespace}
 use Rattle.rhai_tree.specs.declared.expr.OpAssignment.{OpAssignment}
 use Rattle.rhai_tree.specs.Positions.{position_of}
-use Rattle.rhai_tree.specs.Forms.{is_unqualified}
-use Rattle.rhai_tree.specs.Frame.{resolves_expr}
 use Rattle.rhai_tree.specs.Names.{Name}
 use Rattle.rhai_values.specs.declared.base.value.Dynamic.{Dynamic}
-use Rattle.rhai_values.specs.declared.base.value.Module.{Module}
 use Rattle.rhai_values.specs.declared.cells.CellStore.{CellStore}
 use Rattle.rhai_values.specs.Cells.{cells_of}
 use Rattle.rhai_values.specs.Copy.{copy_of}
@@ -21,47 +18,48 @@ use Rattle.rhai_state.specs.declared.scope.Scope.{Scope}
 use Rattle.rhai_state.specs.declared.state.GlobalRuntimeState.{GlobalRuntimeState}
 use Rattle.rhai_state.specs.declared.error.EvalAltResult.{EvalAltResult}
 use Rattle.rhai_state.specs.declared.error.EvalAltResult.TheVariants as error
-use Rattle.rhai_state.specs.Scope.{entries_of, names_in}
+use Rattle.rhai_state.specs.Scope.{entries_of}
 use Rattle.rhai_operators.specs.Answers as operators
 use Rattle.rhai_operators.specs.Answers.{op_assign_of}
 use Rattle.rhai_machine.specs.machine.Machine.{Go}
 use Rattle.rhai_machine.specs.machine.Memory.{here, next, ◌⨾◌}
 use Rattle.rhai_machine.specs.machine.Point.{after}
-use Rattle.rhai_machine.specs.language.Setting.{Rules, limit_under}
+use Rattle.rhai_machine.specs.language.Setting.{Rules, globals_of, limit_under}
 use Rattle.rhai_machine.specs.language.State.{Held, Local, State}
 use Rattle.rhai_machine.specs.language.Calls.{applied}
-use Rattle.rhai_machine.specs.language.Places.{target, target_of}
-use Rattle.rhai_machine.specs.language.Assignment.{assign_core, if_fast, update_core, written_core}
+use Rattle.rhai_machine.specs.language.Places.{target}
+use Rattle.rhai_machine.specs.language.Variables.{variable_named}
+use Rattle.rhai_machine.specs.language.Assignment.{assign_core, assignment_to, if_fast, update_core, written_core}
 use Rattle.rhai_machine.specs.language.Frames.{Assignment, Frame, InPlace, Update, core, on_value, Assign}
 use Rattle.rhai_machine.specs.language.Frames.{AssignValue, Eval, Fail, OpenStmt}
 use Rattle.rhai_machine.specs.language.Runs.{at, Goes, Runs, Steps}
-use Rattle.rhai_steps.specs.States.{local_of, state_of}
+use Rattle.rhai_steps.specs.States.{local_of, state_of, surroundings_of}
 use Rattle.rhai_steps.proofs.Pieces.{step_by}
 use Rattle.rhai_operands.specs.Standing.{standing}
 use Rattle.rhai_operands.proofs.InPlace.{assign_copied, flat_copy}
 use Rattle.rhai_operands.proofs.Standing.{standing_plain, value_goes, value_refused}
 use Rattle.rhai_assign.specs.declared.place.Place as code
 use Rattle.rhai_assign.specs.Follows.{FollowsAssign}
-use Rattle.rhai_assign.specs.Targets.{place_in, standing_at}
+use Rattle.rhai_assign.specs.Targets.{named_target, place_in, standing_at}
 use Rattle.rhai_assign.specs.Updates.{Becomes, update_of}
+use Rattle.rhai_assign.proofs.Entries.{named_meant}
 use Rattle.rhai_assign.proofs.Updates.{assigns, built, follows_alike, refuses_assignment}
 
 module _ {S H : Type 0} (rules : Rules S H) where
   -- an assignment to a variable begins with its value
   pub begins_assignment : (op : OpAssignment) (lhs rhs : Expr) (offset : Option NonZeroUsize) (name : Name) (namespace : Namespace)
       (pos : Position) (restoring : Bool) (k : List (Frame H)) (l : State S H) →
-      out-Expr lhs ≡ layer.Variable offset name namespace pos → is_unqualified namespace.path ≡ true →
+      out-Expr lhs ≡ layer.Variable offset name namespace pos →
       Goes rules (at (OpenStmt (layer.Assignment op lhs rhs) restoring) k l)
-      (at (Eval rhs) (AssignValue (record { name = name; at = pos; op = op }) (position_of rhs) ∷ k) l)
+      (at (Eval rhs) (AssignValue (assignment_to (variable_named name namespace pos) op) (position_of rhs) ∷ k) l)
   unfolding after
-  begins_assignment op lhs rhs offset name namespace pos restoring k l is plain = next (rw (is, plain) here)
+  begins_assignment op lhs rhs offset name namespace pos restoring k l is = next (rw is here)
 
   module _ (t : S) (scope : Scope H) (held : Held H) (op : OpAssignment) (lhs rhs : Expr) (offset : Option NonZeroUsize)
       (name : Name) (namespace : Namespace) (pos : Position) (restoring : Bool) (y : Dynamic H)
-      (form : out-Expr lhs ≡ layer.Variable offset name namespace pos) (plain : is_unqualified namespace.path ≡ true)
-      (resolves : IsTrue (resolves_expr rhs (names_in scope))) (given : standing (out-Expr rhs) (entries_of scope) ≡ Some y) where
+      (form : out-Expr lhs ≡ layer.Variable offset name namespace pos) (given : standing (out-Expr rhs) (entries_of scope) ≡ Some y) where
     abbrev assignment : Assignment
-    assignment = record { name = name; at = pos; op = op }
+    assignment = assignment_to (variable_named name namespace pos) op
 
     -- the value is refused
     pub value_stops : (old new : GlobalRuntimeState H) (e : EvalAltResult H) → limit_under rules ≤ old.num_operations →
@@ -69,8 +67,8 @@ module _ {S H : Type 0} (rules : Rules S H) where
         Steps rules (OpenStmt (layer.Assignment op lhs rhs) restoring) (state_of t old scope held) (Fail e) (state_of t new scope held)
     unfolding after Steps
     value_stops old new e full is same k =
-        begins_assignment op lhs rhs offset name namespace pos restoring k (state_of t old scope held) form plain
-        ⨾ value_refused rules rhs y t old new scope held resolves given e full is same (AssignValue assignment (position_of rhs) ∷ k)
+        begins_assignment op lhs rhs offset name namespace pos restoring k (state_of t old scope held) form
+        ⨾ value_refused rules rhs y t old new scope held given e full is same (AssignValue assignment (position_of rhs) ∷ k)
         ⨾ next here
 
     module _ (old mid : GlobalRuntimeState H) (room : old.num_operations < limit_under rules)
@@ -80,8 +78,8 @@ module _ {S H : Type 0} (rules : Rules S H) where
           Goes rules (at (OpenStmt (layer.Assignment op lhs rhs) restoring) k (state_of t old scope held))
           (at (Assign assignment (copy_of y)) k (state_of t mid scope held))
       value_comes k =
-          begins_assignment op lhs rhs offset name namespace pos restoring k (state_of t old scope held) form plain
-          ⨾ value_goes rules rhs y t old mid scope held resolves given room is (AssignValue assignment (position_of rhs) ∷ k)
+          begins_assignment op lhs rhs offset name namespace pos restoring k (state_of t old scope held) form
+          ⨾ value_goes rules rhs y t old mid scope held given room is (AssignValue assignment (position_of rhs) ∷ k)
           ⨾ step_by rules _ _ (Go (core (Assign assignment (copy_of y)) k (state_of t mid scope held).local))
           (ap (λ (r : Result (Dynamic H) (EvalAltResult H)). Go (on_value r (λ v. core (Assign assignment v) k
           (state_of t mid scope held).local) k (state_of t mid scope held).local))
@@ -102,13 +100,10 @@ module _ {S H : Type 0} (rules : Rules S H) where
         same_cells : second.cells ≡ old.cells
         same_cells = ap (λ (g : GlobalRuntimeState H). g.cells) last ∙ ap (λ (g : GlobalRuntimeState H). g.cells) is
 
-        same_lib : second.lib ≡ old.lib
-        same_lib = ap (λ (g : GlobalRuntimeState H). g.lib) last ∙ ap (λ (g : GlobalRuntimeState H). g.lib) is
-
         module _ (place : code.Place) (outcome result : Result (Dynamic H) (EvalAltResult H)) (new : GlobalRuntimeState H) (later :
             Scope H)
-            (finds : target_of (cells_of old.cells) old.lib name pos (entries_of scope)
-            ≡ Ok (target (place_in place) (standing_at place scope old.cells)))
+            (finds : named_target (cells_of old.cells) namespace.path name pos (entries_of scope)
+            ≡ Some (target (place_in place) (standing_at place scope old.cells)))
             (answers : operators.HasMemory (Some outcome) → Some outcome ≡ op_assign_of token (standing_at place scope old.cells) y)
             (counts : new.num_operations ≡ second.num_operations)
             (written : Becomes (written_core (applied rules.setting.limits outcome op.position) (place_in place)) (local_of second
@@ -154,7 +149,6 @@ module _ {S H : Type 0} (rules : Rules S H) where
           unfolding Steps
           updates_in_place k = value_comes k ⨾ assigns rules t mid second scope held assignment (copy_of y) more last
               (target (place_in place) before) result (state_of t new later held)
-              (subst (λ (cells : CellStore H). target_of (cells_of cells) second.lib name pos (entries_of scope)
-              ≡ Ok (target (place_in place) (standing_at place scope cells))) (sym same_cells)
-              (subst (λ (lib : List (Module H)). target_of (cells_of old.cells) lib name pos (entries_of scope)
-              ≡ Ok (target (place_in place) (standing_at place scope old.cells))) (sym same_lib) finds)) follows k
+              (named_meant (globals_of rules.setting.offer) (surroundings_of second) (entries_of scope) (variable_named name namespace pos)
+              (target (place_in place) before) (subst (λ (cells : CellStore H). named_target (cells_of cells) namespace.path name pos
+              (entries_of scope) ≡ Some (target (place_in place) (standing_at place scope cells))) (sym same_cells) finds)) follows k

@@ -11,7 +11,6 @@ use Rattle.rhai_state.specs.declared.scope.Scope.{Scope}
 use Rattle.rhai_state.specs.declared.state.GlobalRuntimeState.{GlobalRuntimeState}
 use Rattle.rhai_state.specs.declared.error.EvalAltResult.{EvalAltResult}
 use Rattle.rhai_state.specs.declared.error.EvalAltResult.TheVariants as error
-use Rattle.rhai_values.specs.Cells.{cells_of}
 use Rattle.rhai_state.specs.Errors.{is_out_of_memory}
 use Rattle.rhai_state.specs.Scope.{entries_of}
 use Rattle.rhai_state.specs.Native.{Reply, Missing}
@@ -19,7 +18,7 @@ use Rattle.rhai_operators.specs.Answers as operators
 use Rattle.rhai_operators.specs.Answers.{Answer, op_assign_of}
 use Rattle.rhai_machine.specs.machine.Point.{Point, after}
 use Rattle.rhai_machine.specs.machine.Memory.{here, next, wanting, ◌⨾◌}
-use Rattle.rhai_machine.specs.language.Setting.{Rules, limit_under}
+use Rattle.rhai_machine.specs.language.Setting.{Rules, globals_of, limit_under}
 use Rattle.rhai_machine.specs.language.State.{Held, State, Local, HasMemory, Answers}
 use Rattle.rhai_machine.specs.language.Values.{unit_value}
 use Rattle.rhai_machine.specs.language.Places.{Place, Target, target_of, put}
@@ -27,9 +26,9 @@ use Rattle.rhai_machine.specs.language.Calls.{applied, operation_at, placed_if_n
 use Rattle.rhai_machine.specs.language.Frames.{Control, Assignment, AsValue, InPlace, Update, Frame, Core, core, ended}
 use Rattle.rhai_machine.specs.language.Frames.{Assign, Store, AskUpdate, Fail}
 use Rattle.rhai_machine.specs.language.Assignment.{assign_core, changed_core, fault_core, if_fast, native_of, store_core}
-use Rattle.rhai_machine.specs.language.Assignment.{update_core, value_core, written_core}
+use Rattle.rhai_machine.specs.language.Assignment.{update_core, value_core, variable_of_assignment, written_core}
 use Rattle.rhai_machine.specs.language.Runs.{at, with_core, Goes, Runs, Steps}
-use Rattle.rhai_steps.specs.States.{state_of}
+use Rattle.rhai_steps.specs.States.{state_of, surroundings_of}
 use Rattle.rhai_steps.proofs.Pieces.{charged, or_wants, refused, told}
 use Rattle.rhai_assign.specs.declared.place.Update as code
 use Rattle.rhai_assign.specs.Follows.{Asked, Follows, FollowsAssign, FollowsUpdate, Does, Wants}
@@ -194,7 +193,7 @@ module _ {S H : Type 0} (rules : Rules S H) where
   -- where the target of a charged assignment is found, or is not
   store_step : (assignment : Assignment) (v : Dynamic H) (k : List (Frame H)) (now : State S H)
       (found : Result (Target H) (EvalAltResult H)) →
-      target_of now.local.around.cells now.local.around.lib assignment.name assignment.at now.local.scope ≡ found →
+      target_of (globals_of rules.setting.offer) now.local.around now.local.scope (variable_of_assignment assignment) ≡ found →
       Goes rules (at (Store assignment v) k now) (with_core (store_core rules.setting found assignment v k now.local) now)
   unfolding after
   store_step assignment v k now found is = next (rw is here)
@@ -212,7 +211,7 @@ module _ {S H : Type 0} (rules : Rules S H) where
     module _ (room : old.num_operations < limit_under rules) (counted : mid ≡ record old { num_operations = old.num_operations + 1 }) where
       -- or whose target is not found
       pub misses : (e : EvalAltResult H) → (is_out_of_memory e ≡ false →
-          target_of (cells_of mid.cells) mid.lib assignment.name assignment.at (entries_of scope) ≡ Err e) →
+          target_of (globals_of rules.setting.offer) (surroundings_of mid) (entries_of scope) (variable_of_assignment assignment) ≡ Err e) →
           Steps rules (Assign assignment v) (state_of t old scope held) (Fail e) (state_of t mid scope held)
       unfolding Steps
       misses e is k =
@@ -222,7 +221,8 @@ module _ {S H : Type 0} (rules : Rules S H) where
 
       -- or whose target is found, and goes on from there
       pub assigns : (target : Target H) (result : Result (Dynamic H) (EvalAltResult H)) (new : State S H) →
-          target_of (cells_of mid.cells) mid.lib assignment.name assignment.at (entries_of scope) ≡ Ok target →
+          target_of (globals_of rules.setting.offer) (surroundings_of mid) (entries_of scope) (variable_of_assignment assignment)
+          ≡ Ok target →
           FollowsAssign rules assignment target v (state_of t mid scope held) result new →
           Runs rules (Assign assignment v) (state_of t old scope held) result new
       unfolding Steps

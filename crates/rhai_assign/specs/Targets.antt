@@ -1,6 +1,7 @@
 -- Where the value of a variable stands in the code, and what is written there.
-use Rattle.std.specs.Prelude.{◌≡◌, ◌<◌, Bool, true, false, List, length, Option, Some, None, is_some, unwrap_or, slice_get}
+use Rattle.std.specs.Prelude.{◌≡◌, ◌<◌, ℕ, Bool, true, false, List, length, Option, Some, None, is_some, unwrap_or, slice_get}
 use Rattle.std.specs.Prelude.{Result, Ok, Err, is_ok}
+use Rattle.rhai_tree.specs.declared.position.Position.{Position}
 use Rattle.rhai_values.specs.declared.base.value.CellId.{CellId}
 use Rattle.rhai_values.specs.declared.base.value.Dynamic.{Dynamic}
 use Rattle.rhai_state.specs.declared.scope.Scope.{Scope}
@@ -11,7 +12,8 @@ use Rattle.rhai_values.specs.Cells.{cells_of, value_of_cell, with_value}
 use Rattle.rhai_state.specs.Errors.{is_out_of_memory}
 use Rattle.rhai_state.specs.Scope.{entries_of, value_in, revalued}
 use Rattle.rhai_machine.specs.language.Values.{Cells, unit_value}
-use Rattle.rhai_machine.specs.language.Places.{Place, InEntry, InCell, InThis, InFocus, Target, target}
+use Rattle.rhai_machine.specs.language.Names.{entry_named}
+use Rattle.rhai_machine.specs.language.Places.{Place, InEntry, InCell, InThis, InFocus, Target, target, target_at}
 use Rattle.rhai_assign.specs.declared.place.Place as code
 use Rattle.rhai_assign.specs.declared.place.Place.TheVariants as place
 
@@ -25,6 +27,20 @@ own_cell (place.InEntry index) = None
 own_cell (place.InCell id) = Some id
 
 module _ {H : Type 0} where
+  abbrev pub if_found : Result (Target H) (EvalAltResult H) → Option (Target H)
+  if_found (Ok target) = Some target
+  if_found (Err e) = None
+
+  -- the target of the variable at an entry, where it may be assigned to
+  abbrev pub target_there : Cells H → List ℕ → Position → (entry : Option ℕ) → Option (Dynamic H) → Option (Target H)
+  target_there cells name at (Some index) (Some v) = if_found (target_at cells name at index v.value v)
+  target_there cells name at _ _ = None
+
+  -- that of a variable which an entry has, and which has no path then
+  abbrev pub named_target : Cells H → (path : List (List ℕ)) → List ℕ → Position → List (ScopeEntry H) → Option (Target H)
+  named_target cells path name at entries =
+      target_there cells name at (entry_named path name entries) (value_in entries (entry_named path name entries))
+
   -- the value at a place of a variable, None where there is none
   abbrev pub there : Place → List (ScopeEntry H) → Cells H → Option (Dynamic H)
   there (InEntry index) entries cells = value_in entries (Some index)
@@ -83,3 +99,9 @@ module _ {H : Type 0} where
   Finds (Ok p) entries cells wanted =
       (wanted ≡ Ok (target (place_in p) (standing (place_in p) entries cells))) × (stands (place_in p) entries cells ≡ true)
   Finds (Err e) entries cells wanted = (is_ok wanted ≡ false) × (is_out_of_memory e ≡ false → wanted ≡ Err e)
+
+  -- the same of a target that is there or not
+  abbrev pub FindsNamed : Option code.Place → List (ScopeEntry H) → Cells H → Option (Target H) → Type 0
+  FindsNamed (Some p) entries cells wanted =
+      (wanted ≡ Some (target (place_in p) (standing (place_in p) entries cells))) × (stands (place_in p) entries cells ≡ true)
+  FindsNamed None entries cells wanted = wanted ≡ None

@@ -125,10 +125,10 @@ pub(crate) fn assign_in_cell<H: Host, T: NativeTable<H>>(
 ) -> Result<Dynamic<H>, EvalAltResult<H>>
     requires { IsWritable (value_of_cell (cells_of global.old.cells) id.number) }
     ensures keeps { KeepsHeld global.old global.new }
-    ensures runs { (offer : _) (scope : _) (held : _) (name : _) (inner : _) →
+    ensures runs { (offer : _) (scope : _) (held : _) (path : _) (name : _) (inner : _) →
         offer.fast_operators ≡ fast → value_of_cell (cells_of global.old.cells) id.number ≡ Some inner →
         FollowsAssign (rules_of limits.now H.name_of offer T.natives)
-        (record { name = name; at = pos; op = op }) (target_in (InCell id.number) inner) value
+        (record { path = path; name = name; at = pos; op = op }) (target_in (InCell id.number) inner) value
         (state_of (T.state table.old) global.old scope held)
         result (state_of (T.state table.new) global.new scope held) }
 {

@@ -10,7 +10,6 @@ ghost use Rattle.rhai_values.specs.Cells.{cells_of};
 ghost use Rattle.rhai_state.specs.Scope.{entries_of, names_in};
 ghost use Rattle.rhai_machine.specs.language.Frames.{OpenStmt};
 ghost use Rattle.rhai_machine.specs.language.Runs.{Runs};
-ghost use Rattle.rhai_machine.specs.language.Places.{target_of};
 ghost use Rattle.rhai_machine.specs.language.Setting.{rules_of};
 ghost use Rattle.rhai_machine.specs.language.Values.{unit_value as unit};
 ghost use Rattle.rhai_steps.specs.States.{state_of};
@@ -18,8 +17,9 @@ ghost use Rattle.rhai_context.specs.Ends.{came};
 ghost use Rattle.rhai_operands.specs.Standing.{standing};
 ghost use Rattle.rhai_assign.specs.InPlace.{IsReady, assigned, assigned_by, charged_at, writable_in};
 ghost use Rattle.rhai_assign.specs.Keeps.{Keeps};
+ghost use Rattle.rhai_assign.specs.Targets.{named_target};
 
-use crate::place::{Place, find_target, value_at};
+use crate::place::{Place, find_named, value_at};
 use crate::write::write_outcome;
 use rhai_context::ends::{put_unit, settle, write_number};
 use rhai_operands::operands::{integer_at, integer_in_place, operand_in_place};
@@ -31,8 +31,8 @@ use rhai_state::scope::Scope;
 use rhai_state::state::GlobalRuntimeState;
 use rhai_state::table::NativeTable;
 use rhai_steps::charges::{charge_all, track_operation};
-use rhai_steps::variables::place_by_offset;
-use rhai_tree::expr::{Expr, OpAssignment};
+use rhai_steps::variables::{is_plain, place_by_offset};
+use rhai_tree::expr::{Expr, Namespace, OpAssignment};
 use rhai_tree::position::Position;
 use rhai_tree::token::Token;
 use rhai_tree::{Shared, Text};
@@ -47,8 +47,8 @@ pub(crate) struct Ready<H> {
     pub(crate) outcome: Result<Dynamic<H>, EvalAltResult<H>>,
 }
 
-/// What a built-in gives for a variable and an operand as it stands. None where the variable is not
-/// there or may not be assigned to, the operand has to be evaluated, or there is no built-in for them.
+/// What a built-in gives for a variable and an operand as it stands. None where no entry has the variable
+/// or it may not be assigned to, the operand has to be evaluated, or there is no built-in for them.
 fn prepare<H: Host>(
     alloc: Global,
     global: &GlobalRuntimeState<H>,
@@ -56,24 +56,19 @@ fn prepare<H: Host>(
     token: Token,
     offset: Option<NonZeroUsize>,
     name: &Shared<Text>,
+    namespace: &Namespace,
     pos: Position,
     operand: &Expr,
 ) -> Option<Ready<H>>
     requires good { IsTrue (is_good offset name.now (names_in scope.now)) }
     requires resolves { IsTrue (resolves_expr operand.now (names_in scope.now)) }
     ensures found { is_some result ≡ is_some (assigned_by (Some token)
-        (target_of (cells_of global.now.cells) global.now.lib name.now pos (entries_of scope.now))
+        (named_target (cells_of global.now.cells) namespace.now.path name.now pos (entries_of scope.now))
         (standing (out-Expr operand.now) (entries_of scope.now))) }
-    ensures ready { IfSome result (λ ready. IsReady ready name.now pos token (out-Expr operand.now) scope.now
-        global.now.lib global.now.cells) }
+    ensures ready { IfSome result (λ ready. IsReady ready namespace.now.path name.now pos token
+        (out-Expr operand.now) scope.now global.now.cells) }
 {
-    let place = match find_target(global, scope, offset, name, pos) {
-        Ok(place) => place,
-        Err(error) => {
-            drop(error);
-            return None;
-        }
-    };
+    let place = find_named(global, scope, offset, name, namespace, pos)?;
     let operand = operand_in_place(global, scope, operand)?;
     let target = value_at(&global.cells, scope, place);
     let outcome = builtin_op_assign(alloc, token, target, operand.value())?;
@@ -108,7 +103,7 @@ pub(crate) fn assign_integer<H: Host, T: NativeTable<H>>(
     requires resolves_target { IsTrue (target_resolves (tests_of lhs.now) (names_in scope.old)) }
     requires resolves { IsTrue (resolves_expr rhs.now (names_in scope.old)) }
     ensures found { result ≡ true → is_some (assigned op.now.op (out-Expr lhs.now) (out-Expr rhs.now)
-        (entries_of scope.old) global.old.lib (cells_of global.old.cells)) ≡ true }
+        (entries_of scope.old) (cells_of global.old.cells)) ≡ true }
     ensures left_global { result ≡ false → global.new ≡ global.old }
     ensures left_scope { result ≡ false → scope.new ≡ scope.old }
     ensures room { result ≡ true → global.old.num_operations + charges ≤ limits.now.max_operations }
@@ -121,9 +116,18 @@ pub(crate) fn assign_integer<H: Host, T: NativeTable<H>>(
         (state_of (T.state _table.now) (charged_at (charges - 2) level global.old) scope.old held)
         (Ok unit) (state_of (T.state _table.now) (record global.new { scope_level = level }) scope.new held) }
 {
-    let Expr::Variable { offset, name, .. } = lhs else {
+    let Expr::Variable {
+        offset,
+        name,
+        namespace,
+        ..
+    } = lhs
+    else {
         return false;
     };
+    if !is_plain(namespace) {
+        return false;
+    }
     let Some(token) = op.op else {
         return false;
     };
@@ -165,7 +169,7 @@ fn assign_prepared<H: Host, T: NativeTable<H>>(
     requires resolves_target { IsTrue (target_resolves (tests_of lhs.now) (names_in scope.old)) }
     requires resolves { IsTrue (resolves_expr rhs.now (names_in scope.old)) }
     ensures found { is_some result ≡ is_some (assigned op.op (out-Expr lhs.now) (out-Expr rhs.now)
-        (entries_of scope.old) global.old.lib (cells_of global.old.cells)) }
+        (entries_of scope.old) (cells_of global.old.cells)) }
     ensures left_global { result ≡ None → global.new ≡ global.old }
     ensures left_scope { result ≡ None → scope.new ≡ scope.old }
     ensures keeps { Keeps global.old global.new scope.old scope.new }
@@ -178,14 +182,16 @@ fn assign_prepared<H: Host, T: NativeTable<H>>(
     let Expr::Variable {
         offset,
         name,
+        namespace,
         pos,
-        ..
     } = lhs
     else {
         return None;
     };
     let token = op.op?;
-    let ready = prepare(alloc, global, scope, token, *offset, name, *pos, rhs)?;
+    let ready = prepare(
+        alloc, global, scope, token, *offset, name, namespace, *pos, rhs,
+    )?;
     if let Err(error) = track_operation(limits, global, rhs.position()) {
         drop(ready);
         return Some(Err(error));
@@ -216,7 +222,7 @@ fn assign_others<H: Host, T: NativeTable<H>>(
     requires resolves_target { IsTrue (target_resolves (tests_of lhs.now) (names_in scope.old)) }
     requires resolves { IsTrue (resolves_expr rhs.now (names_in scope.old)) }
     ensures found { is_some result ≡ is_some (assigned op.now.op (out-Expr lhs.now) (out-Expr rhs.now)
-        (entries_of scope.old) global.old.lib (cells_of global.old.cells)) }
+        (entries_of scope.old) (cells_of global.old.cells)) }
     ensures left_global { result ≡ None → global.new ≡ global.old }
     ensures left_scope { result ≡ None → scope.new ≡ scope.old }
     ensures keeps { Keeps global.old global.new scope.old scope.new }
@@ -255,7 +261,7 @@ pub fn assign_in_place<H: Host, T: NativeTable<H>>(
     requires resolves_target { IsTrue (target_resolves (tests_of lhs.now) (names_in scope.old)) }
     requires resolves { IsTrue (resolves_expr rhs.now (names_in scope.old)) }
     ensures found { is_some result ≡ is_some (assigned op.now.op (out-Expr lhs.now) (out-Expr rhs.now)
-        (entries_of scope.old) global.old.lib (cells_of global.old.cells)) }
+        (entries_of scope.old) (cells_of global.old.cells)) }
     ensures left_global { result ≡ None → global.new ≡ global.old }
     ensures left_scope { result ≡ None → scope.new ≡ scope.old }
     ensures keeps { Keeps global.old global.new scope.old scope.new }

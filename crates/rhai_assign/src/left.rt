@@ -4,9 +4,12 @@
 ghost use Rattle.std.specs.Prelude.{◌≡◌, ◌≤◌, IsTrue, true};
 ghost use Rattle.rhai_tree.specs.Names.{is_good};
 ghost use Rattle.rhai_state.specs.Scope.{names_in};
+ghost use Rattle.rhai_machine.specs.language.Assignment.{assignment_to};
 ghost use Rattle.rhai_machine.specs.language.Setting.{rules_of};
 ghost use Rattle.rhai_machine.specs.language.Frames.{Assign, AssignThis};
 ghost use Rattle.rhai_machine.specs.language.Runs.{Runs};
+ghost use Rattle.rhai_machine.specs.language.Variables.{variable_named};
+ghost use Rattle.rhai_steps.specs.Offers.{Offers};
 ghost use Rattle.rhai_steps.specs.States.{holding, state_of};
 ghost use Rattle.rhai_context.specs.Ends.{came};
 
@@ -14,12 +17,13 @@ use crate::assign_variable;
 use crate::this::assign_this;
 use rhai_context::ends::{settle, stop, take_value};
 use rhai_context::outcomes::charge;
+use rhai_functions::function::Offered;
 use rhai_state::error::EvalAltResult;
 use rhai_state::limits::Limits;
 use rhai_state::scope::Scope;
 use rhai_state::state::GlobalRuntimeState;
 use rhai_state::table::NativeTable;
-use rhai_tree::expr::OpAssignment;
+use rhai_tree::expr::{Namespace, OpAssignment};
 use rhai_tree::position::Position;
 use rhai_tree::{Shared, Text};
 use rhai_values::base::value::{Dynamic, Host};
@@ -33,6 +37,7 @@ use std::num::NonZeroUsize;
 pub fn assign_left<H: Host, T: NativeTable<H>>(
     limits: &Limits,
     alloc: Global,
+    offered: &Offered<'_, H>,
     global: &mut GlobalRuntimeState<H>,
     table: &mut T,
     scope: &mut Scope<H>,
@@ -40,6 +45,7 @@ pub fn assign_left<H: Host, T: NativeTable<H>>(
     place: &mut Option<EvalAltResult<H>>,
     offset: Option<NonZeroUsize>,
     name: &Shared<Text>,
+    namespace: &Namespace,
     pos: Position,
     op: OpAssignment,
     fast: bool,
@@ -47,15 +53,15 @@ pub fn assign_left<H: Host, T: NativeTable<H>>(
     requires { IsTrue (is_good offset name.now (names_in scope.old)) }
     ensures counts { global.old.num_operations ≤ global.new.num_operations }
     ensures names { names_in scope.new ≡ names_in scope.old }
-    ensures runs { (offer : _) (held : _) → offer.fast_operators ≡ fast →
+    ensures runs { (offer : _) (held : _) → Offers offer offered.now → offer.fast_operators ≡ fast →
         Runs (rules_of limits.now H.name_of offer T.natives)
-        (Assign (record { name = name.now; at = pos; op = op }) out.old)
+        (Assign (assignment_to (variable_named name.now namespace.now pos) op) out.old)
         (state_of (T.state table.old) global.old scope.old held)
         (came result out.new place.new) (state_of (T.state table.new) global.new scope.new held) }
 {
     let value = take_value(out);
     let answer = assign_variable(
-        limits, alloc, global, table, scope, offset, name, pos, op, value, fast,
+        limits, alloc, offered, global, table, scope, offset, name, namespace, pos, op, value, fast,
     );
     settle(place, out, answer)
 }

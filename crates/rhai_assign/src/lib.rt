@@ -18,13 +18,17 @@ mod write;
 ghost use Rattle.std.specs.Prelude.{◌≡◌, ◌≤◌, IsTrue, true};
 ghost use Rattle.rhai_tree.specs.Names.{is_good};
 ghost use Rattle.rhai_state.specs.Scope.{names_in};
+ghost use Rattle.rhai_machine.specs.language.Assignment.{assignment_to};
 ghost use Rattle.rhai_machine.specs.language.Setting.{rules_of};
 ghost use Rattle.rhai_machine.specs.language.Frames.{Assign};
 ghost use Rattle.rhai_machine.specs.language.Runs.{Runs};
+ghost use Rattle.rhai_machine.specs.language.Variables.{variable_named};
+ghost use Rattle.rhai_steps.specs.Offers.{Offers};
 ghost use Rattle.rhai_steps.specs.States.{state_of};
 
 use crate::place::find_target;
 use crate::update::store;
+use rhai_functions::function::Offered;
 use rhai_state::error::EvalAltResult;
 use rhai_state::limits::Limits;
 use rhai_state::scope::Scope;
@@ -32,7 +36,7 @@ use rhai_state::state::GlobalRuntimeState;
 use rhai_state::table::NativeTable;
 use rhai_steps::charges::track_operation;
 use rhai_steps::values::let_go;
-use rhai_tree::expr::OpAssignment;
+use rhai_tree::expr::{Namespace, OpAssignment};
 use rhai_tree::position::Position;
 use rhai_tree::{Shared, Text};
 use rhai_values::base::value::{Dynamic, Host};
@@ -42,22 +46,25 @@ use std::num::NonZeroUsize;
 /// Assigns a value to a variable, charged first at the variable. By an operator the built-in is tried
 /// first under fast operators, then the native `op=`, which may change the target, or its built-in, and
 /// where both are missing the native `op`, which gives its new value. The variable is found by its offset
-/// where that is given and variables are not searched for, and else by its name. Asked: the offset leads to
-/// the newest variable of the name.
+/// where that is given and variables are not searched for, and else by its name. What no entry has, as a name
+/// behind a path, is not assigned to. Asked: the offset leads to the newest variable of the name.
 ///
 /// # Errors
 /// At the variable: `ErrorTooManyOperations` where the count has reached the limit,
-/// `ErrorVariableNotFound`, `ErrorAssignmentToConstant`, and `ErrorDataRace` where its cell is
-/// held. At the operator: what the operator answers, and `ErrorDataTooLarge` for a value above
-/// a limit; what a native left in the target is measured at the variable.
+/// `ErrorVariableNotFound`, `ErrorAssignmentToConstant` for a constant or a function too, and `ErrorDataRace`
+/// where its cell is held. At its path: `ErrorModuleNotFound` and `ErrorVariableNotFound`. At the operator:
+/// what the operator answers, and `ErrorDataTooLarge` for a value above a limit; what a native left in the
+/// target is measured at the variable.
 pub fn assign_variable<H: Host, T: NativeTable<H>>(
     limits: &Limits,
     alloc: Global,
+    offered: &Offered<'_, H>,
     global: &mut GlobalRuntimeState<H>,
     table: &mut T,
     scope: &mut Scope<H>,
     offset: Option<NonZeroUsize>,
     name: &Shared<Text>,
+    namespace: &Namespace,
     pos: Position,
     op: OpAssignment,
     value: Dynamic<H>,
@@ -66,9 +73,9 @@ pub fn assign_variable<H: Host, T: NativeTable<H>>(
     requires { IsTrue (is_good offset name.now (names_in scope.old)) }
     ensures counts { global.old.num_operations ≤ global.new.num_operations }
     ensures names { names_in scope.new ≡ names_in scope.old }
-    ensures runs { (offer : _) (held : _) → offer.fast_operators ≡ fast →
+    ensures runs { (offer : _) (held : _) → Offers offer offered.now → offer.fast_operators ≡ fast →
         Runs (rules_of limits.now H.name_of offer T.natives)
-        (Assign (record { name = name.now; at = pos; op = op }) value)
+        (Assign (assignment_to (variable_named name.now namespace.now pos) op) value)
         (state_of (T.state table.old) global.old scope.old held)
         result (state_of (T.state table.new) global.new scope.new held) }
 {
@@ -76,7 +83,7 @@ pub fn assign_variable<H: Host, T: NativeTable<H>>(
         let_go(value);
         return Err(error);
     }
-    match find_target(global, scope, offset, name, pos) {
+    match find_target(alloc, offered, global, scope, offset, name, namespace, pos) {
         Ok(place) => store(
             limits, alloc, global, table, scope, place, pos, op, value, fast,
         ),

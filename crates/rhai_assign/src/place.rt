@@ -1,31 +1,36 @@
 //! Where the value of a variable stands, as it is assigned to: it is found, read, taken and
 //! written there.
 
-ghost use Rattle.std.specs.Prelude.{◌≡◌, ◌||◌, Some, IsTrue, false, true};
+ghost use Rattle.std.specs.Prelude.{◌≡◌, ◌||◌, Err, Some, IsTrue, false, true};
 ghost use Rattle.rhai_tree.specs.Names.{is_good};
 ghost use Rattle.rhai_values.specs.Cells.{cells_of, value_of_cell};
-ghost use Rattle.rhai_state.specs.Scope.{entries_of, names_in};
+ghost use Rattle.rhai_state.specs.Scope.{entries_of, names_in, value_in};
 ghost use Rattle.rhai_machine.specs.language.Values.{unit_value as unit};
+ghost use Rattle.rhai_machine.specs.language.Names.{temporary, value_beside};
 ghost use Rattle.rhai_machine.specs.language.Places.{is_constant as constant_at, target, target_in_cell};
-ghost use Rattle.rhai_machine.specs.language.Functions.{meant_function};
-ghost use Rattle.rhai_machine.specs.language.Places.{no_variable as no_variable_of, target_of};
+ghost use Rattle.rhai_machine.specs.language.Places.{target_at, target_meant, target_of};
 ghost use Rattle.rhai_machine.specs.language.Places.{unless_constant as allowed, while_lent};
+ghost use Rattle.rhai_machine.specs.language.Variables.{variable_named};
+ghost use Rattle.rhai_steps.specs.Offers.{globals_in};
+ghost use Rattle.rhai_steps.specs.States.{surroundings_of};
 ghost use Rattle.rhai_state.specs.Errors.{is_out_of_memory};
-ghost use Rattle.rhai_assign.specs.Targets.{Finds, IsKnownAt, IsPut, entries_put, own_cell, place_in};
-ghost use Rattle.rhai_assign.specs.Targets.{stands_at, there, there_at};
+ghost use Rattle.rhai_assign.specs.Targets.{Finds, FindsNamed, IsKnownAt, IsPut, entries_put, named_target, own_cell};
+ghost use Rattle.rhai_assign.specs.Targets.{place_in, stands_at, there, there_at};
 
-use rhai_functions::named::arity_named;
+use rhai_functions::function::Offered;
 use rhai_state::error::EvalAltResult;
 use rhai_state::scope::Scope;
 use rhai_state::state::GlobalRuntimeState;
-use rhai_steps::errors::{assignment_to_constant, data_race_of, variable_not_found};
+use rhai_steps::errors::{assignment_to_constant, data_race_of};
 use rhai_steps::values::{let_go, unit_value};
-use rhai_steps::variables::place_of_variable;
+use rhai_steps::variables::{entry_of_variable, read_beside};
+use rhai_tree::expr::Namespace;
 use rhai_tree::position::Position;
 use rhai_tree::token::Token;
 use rhai_tree::{Shared, Text};
-use rhai_values::base::value::{AccessMode, CellId, Dynamic, Host, Module, Union};
+use rhai_values::base::value::{AccessMode, CellId, Dynamic, Host, Union};
 use rhai_values::cells::{CellStore, put_back};
+use std::alloc::Global;
 use std::num::NonZeroUsize;
 
 /// Where a variable's value stands: in an entry of the scope, or in a cell.
@@ -101,44 +106,94 @@ fn find_in_cell<H: Host>(
     }
 }
 
-/// What a name is refused with that is no variable's: one that means a function is not assigned to.
-#[cold]
-#[inline(never)]
-fn no_variable<H: Host>(
-    lib: &[Shared<Module<H>>],
+/// The place of the variable at an entry, as it is assigned to.
+fn entry_target<H: Host>(
+    cells: &CellStore<H>,
+    index: usize,
+    value: &Dynamic<H>,
     name: &Shared<Text>,
     pos: Position,
-) -> EvalAltResult<H>
-    ensures { is_out_of_memory result ≡ false →
-        result ≡ no_variable_of (meant_function lib.now name.now) name.now pos }
+) -> Result<Place, EvalAltResult<H>>
+    ensures { (entries : _) → value_in entries (Some index) ≡ Some value.now →
+        Finds result entries (cells_of cells.now)
+        (target_at (cells_of cells.now) name.now pos index value.now.value value.now) }
 {
-    match arity_named(lib, name.get().as_str()) {
-        Some(_) => assignment_to_constant(name, pos),
-        None => variable_not_found(name, pos),
+    let mode = value.access_mode();
+    match &value.value {
+        Union::Cell(id) => find_in_cell(cells, mode, *id, name, pos),
+        _ => unless_constant(is_constant(mode, mode), Place::InEntry(index), name, pos),
     }
 }
 
-/// The place of a variable, as it is assigned to. It is found as `place_of_variable` says, which asks
-/// the same of its offset.
-pub(crate) fn find_target<H: Host>(
+/// The place of a variable that an entry has and that may be assigned to, None for any other. It is found as
+/// `entry_of_variable` says, which asks the same of its offset.
+pub(crate) fn find_named<H: Host>(
     global: &GlobalRuntimeState<H>,
     scope: &Scope<H>,
     offset: Option<NonZeroUsize>,
     name: &Shared<Text>,
+    namespace: &Namespace,
+    pos: Position,
+) -> Option<Place>
+    requires { IsTrue (is_good offset name.now (names_in scope.now)) }
+    ensures { FindsNamed result (entries_of scope.now) (cells_of global.now.cells)
+        (named_target (cells_of global.now.cells) namespace.now.path name.now pos (entries_of scope.now)) }
+{
+    let index = entry_of_variable(global, scope, offset, name, namespace)?;
+    match entry_target(&global.cells, index, scope.value_at(index), name, pos) {
+        Ok(place) => Some(place),
+        Err(error) => {
+            drop(error);
+            None
+        }
+    }
+}
+
+/// What an assignment to a variable is refused with that no entry has: what else it means is a constant.
+#[cold]
+#[inline(never)]
+fn no_target<H: Host>(
+    alloc: Global,
+    offered: &Offered<'_, H>,
+    global: &GlobalRuntimeState<H>,
+    name: &Shared<Text>,
+    namespace: &Namespace,
+    pos: Position,
+) -> EvalAltResult<H>
+    ensures { is_out_of_memory result ≡ false →
+        target_meant (cells_of global.now.cells) name.now pos (temporary (value_beside
+        (globals_in offered.now) (surroundings_of global.now) (variable_named name.now namespace.now pos)))
+        ≡ Err result }
+{
+    match read_beside(alloc, offered, global, name, namespace, pos) {
+        Ok(value) => {
+            let_go(value);
+            assignment_to_constant(name, pos)
+        }
+        Err(error) => error,
+    }
+}
+
+/// The place of a variable, as it is assigned to. It is found as `entry_of_variable` says, which asks
+/// the same of its offset.
+pub(crate) fn find_target<H: Host>(
+    alloc: Global,
+    offered: &Offered<'_, H>,
+    global: &GlobalRuntimeState<H>,
+    scope: &Scope<H>,
+    offset: Option<NonZeroUsize>,
+    name: &Shared<Text>,
+    namespace: &Namespace,
     pos: Position,
 ) -> Result<Place, EvalAltResult<H>>
     requires { IsTrue (is_good offset name.now (names_in scope.now)) }
     ensures { Finds result (entries_of scope.now) (cells_of global.now.cells)
-        (target_of (cells_of global.now.cells) global.now.lib name.now pos (entries_of scope.now)) }
+        (target_of (globals_in offered.now) (surroundings_of global.now) (entries_of scope.now)
+        (variable_named name.now namespace.now pos)) }
 {
-    let Some(index) = place_of_variable(global, scope, offset, name) else {
-        return Err(no_variable(global.lib.as_slice(), name, pos));
-    };
-    let value = scope.value_at(index);
-    let mode = value.access_mode();
-    match &value.value {
-        Union::Cell(id) => find_in_cell(&global.cells, mode, *id, name, pos),
-        _ => unless_constant(is_constant(mode, mode), Place::InEntry(index), name, pos),
+    match entry_of_variable(global, scope, offset, name, namespace) {
+        Some(index) => entry_target(&global.cells, index, scope.value_at(index), name, pos),
+        None => Err(no_target(alloc, offered, global, name, namespace, pos)),
     }
 }
 

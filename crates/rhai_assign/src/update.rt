@@ -228,10 +228,10 @@ pub(crate) fn assign_lent<H: Host, T: NativeTable<H>>(
     requires own { IsOwnCell cell (cells_of global.old.cells) }
     requires free { IsFree target.old }
     ensures keeps { Charges global.old global.new }
-    ensures runs { (offer : _) (scope : _) (held : _) (name : _) (place : _) →
+    ensures runs { (offer : _) (scope : _) (held : _) (path : _) (name : _) (place : _) →
         offer.fast_operators ≡ fast → IsLentFrom place cell →
         FollowsAssign (rules_of limits.now H.name_of offer T.natives)
-        (record { name = name; at = pos; op = op }) (target_in place target.old) value
+        (record { path = path; name = name; at = pos; op = op }) (target_in place target.old) value
         (placed place target.old (state_of (T.state table.old) global.old scope held))
         result (placed place target.new (state_of (T.state table.new) global.new scope held)) }
 {
@@ -298,9 +298,9 @@ pub(crate) fn store<H: Host, T: NativeTable<H>>(
     requires stands { stands_at place scope.old global.old.cells ≡ true }
     requires writable { is_constant (standing_at place scope.old global.old.cells).mode ≡ false }
     ensures keeps { Keeps global.old global.new scope.old scope.new }
-    ensures runs { (offer : _) (held : _) (name : _) → offer.fast_operators ≡ fast →
+    ensures runs { (offer : _) (held : _) (path : _) (name : _) → offer.fast_operators ≡ fast →
         FollowsAssign (rules_of limits.now H.name_of offer T.natives)
-        (record { name = name; at = pos; op = op })
+        (record { path = path; name = name; at = pos; op = op })
         (target_in (place_in place) (standing_at place scope.old global.old.cells)) value
         (state_of (T.state table.old) global.old scope.old held)
         result (state_of (T.state table.new) global.new scope.new held) }

@@ -12,7 +12,6 @@ use Rattle.rhai_tree.specs.declared.expr.FnCallExpr.{FnCallExpr}
 use Rattle.rhai_tree.specs.declared.expr.Namespace.{Namespace}
 use Rattle.rhai_tree.specs.declared.position.Position.{Position}
 use Rattle.rhai_tree.specs.declared.token.Token.{Token}
-use Rattle.rhai_tree.specs.Forms.{is_unqualified}
 use Rattle.rhai_tree.specs.Frame.{all_resolve_exprs, resolves_call, resolves_expr, tests_of}
 use Rattle.rhai_tree.specs.Names.{Name}
 use Rattle.rhai_values.specs.declared.base.value.Dynamic.{Dynamic}
@@ -26,15 +25,17 @@ use Rattle.rhai_state.specs.declared.scope.ScopeEntry.{ScopeEntry}
 use Rattle.rhai_state.specs.declared.state.GlobalRuntimeState.{GlobalRuntimeState}
 use Rattle.rhai_state.specs.declared.limits.Limits.{Limits}
 use Rattle.rhai_state.specs.Native.{Gives, MayLeave, Named, Obeys, Reply, request}
-use Rattle.rhai_state.specs.Scope.{entries_of, index_of, name_of, revalued, value_in}
+use Rattle.rhai_state.specs.Scope.{entries_of, name_of, revalued, value_in}
 use Rattle.rhai_machine.specs.machine.Machine.{Charge, Go}
 use Rattle.rhai_machine.specs.machine.Memory.{here, ◌⨾◌}
-use Rattle.rhai_machine.specs.language.Setting.{Rules, limit_under}
+use Rattle.rhai_machine.specs.language.Setting.{Rules, globals_of, limit_under}
 use Rattle.rhai_machine.specs.language.State.{Answers, HasMemory, Held, State}
 use Rattle.rhai_machine.specs.language.Values.{Cells, is_handle}
 use Rattle.rhai_machine.specs.language.Places.{is_constant}
 use Rattle.rhai_machine.specs.language.Calls.{is_held, plainly, replied}
-use Rattle.rhai_machine.specs.language.Arguments.{arguments_core, function_of}
+use Rattle.rhai_machine.specs.language.Variables.{Variable, variable_named}
+use Rattle.rhai_machine.specs.language.Names.{entry_named}
+use Rattle.rhai_machine.specs.language.Arguments.{arguments_core, function_move, function_of}
 use Rattle.rhai_machine.specs.language.Frames.{Ask, Call, Control, Frame, FromEntry, OpenExpr, Operation, ToCallOn}
 use Rattle.rhai_machine.specs.language.Frames.{ended, marked}
 use Rattle.rhai_machine.specs.language.Runs.{Goes, Runs, Steps, at, with_core}
@@ -196,42 +197,45 @@ module _ {H : Type 0} where
   plain_end (Err e) = tt
 
 module _ {S H : Type 0} (rules : Rules S H) (call : FnCallExpr) (arg : Expr) (lone : IsLone call arg) (pos : Position)
-    (unqualified : is_unqualified call.namespace.path ≡ true) (offset : Option NonZeroUsize) (name : List ℕ) (namespace : Namespace)
-    (where_ : Position) (form : out-Expr arg ≡ layer.Variable offset name namespace where_)
-    (plainly_named : is_unqualified namespace.path ≡ true) (t : S) (old mid : GlobalRuntimeState H) (scope : Scope H) (held : Held H)
+    (offset : Option NonZeroUsize) (name : List ℕ) (namespace : Namespace) (where_ : Position)
+    (form : out-Expr arg ≡ layer.Variable offset name namespace where_) (t : S) (old mid : GlobalRuntimeState H) (scope : Scope H) (held : Held H)
     (room : old.num_operations < limit_under rules) (charged : mid ≡ record old { num_operations = old.num_operations + 1 }) where
   abbrev operation : Operation
   operation = record { name = call.name; token = None; at = pos }
 
+  abbrev variable : Variable
+  variable = variable_named name namespace where_
+
   abbrev leads : Leading
-  leads = record { offset = offset; name = name; at = where_; rest = [] }
+  leads = record { offset = offset; name = name; namespace = namespace; at = where_; rest = [] }
 
   -- it comes first
   first_leads : lent_first (by_value {H = H} [] call.capture_parent_scope (entries_of scope)) call.args ≡ Some leads
-  first_leads = rw (lone.captures, lone.alone, form, plainly_named) refl
+  first_leads = rw (lone.captures, lone.alone, form) refl
 
   -- the call begins, and its variable is charged
   begins : (k : List (Frame H)) →
       Goes rules (at (OpenExpr (layer.Expr::FnCall call pos)) k (state_of t old scope held))
-      (with_core (arguments_core rules.setting (ToCallOn operation name where_ (plainly false false)) [] [] k (local_of mid scope held))
+      (with_core (arguments_core rules.setting (ToCallOn operation variable (plainly false false)) [] [] k (local_of mid scope held))
       (state_of t mid scope held))
   begins k =
       let written : Operation = record { name = call.name; token = call.op_token; at = pos } in
       let same : written ≡ operation = ap (λ (token : Option Token). record operation { token = token }) lone.token in
       step_by rules _ _ (Go (function_of call pos k (local_of old scope held)))
-      (function_goes rules.setting.offer.fast_operators call.op_token call call.args pos k (local_of old scope held)
-      (no_operator rules.setting.offer.fast_operators call.op_token call.args lone.token) ∙ rw unqualified refl)
+      (function_goes rules.setting rules.setting.offer.fast_operators call.op_token call call.args pos k (local_of old scope held)
+      (no_operator rules.setting.offer.fast_operators call.op_token call.args lone.token)
+      ∙ ap (λ (unqualified : Bool). function_move rules.setting unqualified call pos k (local_of old scope held)) lone.path)
       (rw (
         plain_named call.op_token call.name written call.args call.capture_parent_scope k (local_of old scope held) lone.token
             lone.meaning,
         same,
       )
-      (step_by rules _ _ (Charge where_ (arguments_core rules.setting (ToCallOn operation name where_ (plainly false false)) [] [] k
+      (step_by rules _ _ (Charge where_ (arguments_core rules.setting (ToCallOn operation variable (plainly false false)) [] [] k
       (local_of old scope held)))
       (variable_goes rules.setting operation [] call.args call.capture_parent_scope false k (local_of old scope held) leads first_leads)
       (rw (lt-ltb _ _ room, charged) here)))
 
-  module _ (index : ℕ) (v : Dynamic H) (there : index_of name (entries_of scope) ≡ Some index)
+  module _ (index : ℕ) (v : Dynamic H) (there : entry_named namespace.path name (entries_of scope) ≡ Some index)
       (stands : value_in (entries_of scope) (Some index) ≡ Some v) (lends : is_lendable v ≡ true)
       (native : is_some (plain_found rules.setting.offer (surroundings_of old) call.name 1) ≡ false) where
     abbrev lent : Call H
@@ -263,5 +267,6 @@ module _ {S H : Type 0} (rules : Rules S H) (call : FnCallExpr) (arg : Expr) (lo
         calls_ended rules (state_of t mid scope held) new (plainly false false) lent (with_mark false q) q (plain_end q) (unmarks_itself q)
         asks in
         begins k
-        ⨾ on_called rules operation name where_ (plainly false false) [] (state_of t mid scope held) lent
-        (on_lent cells where_ mid.lib (entries_of scope) operation name [] index v there stands free lends) (called.Ended q) new ends k
+        ⨾ on_called rules operation variable (plainly false false) [] (state_of t mid scope held) lent
+        (on_lent (globals_of rules.setting.offer) (surroundings_of mid) (entries_of scope) variable operation [] index v there stands free
+        lends) (called.Ended q) new ends k

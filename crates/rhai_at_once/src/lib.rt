@@ -20,7 +20,8 @@ ghost use Rattle.rhai_machine.specs.language.Setting.{rules_of};
 ghost use Rattle.rhai_machine.specs.language.State.{Answers, HasMemory};
 ghost use Rattle.rhai_steps.specs.States.{state_of, surroundings_of};
 ghost use Rattle.rhai_context.specs.Ends.{came};
-ghost use Rattle.rhai_calls.specs.Dispatch.{Offers, plain_found};
+ghost use Rattle.rhai_calls.specs.Dispatch.{plain_found};
+ghost use Rattle.rhai_steps.specs.Offers.{Offers};
 ghost use Rattle.rhai_calls.specs.Lending.{lent_call};
 ghost use Rattle.rhai_dispatch.specs.Variables.{is_lendable as is_lent};
 ghost use Rattle.rhai_at_once.specs.AtOnce.{IsLone};
@@ -31,7 +32,7 @@ use rhai_dispatch::variable::is_lendable;
 use rhai_functions::function::Offered;
 use rhai_functions::key::FnKey;
 use rhai_functions::lookup::find_function;
-use rhai_plain::callee::has_own_meaning;
+use rhai_plain::callee::{has_own_meaning, is_by_name};
 use rhai_state::error::EvalAltResult;
 use rhai_state::limits::Limits;
 use rhai_state::scope::Scope;
@@ -39,7 +40,7 @@ use rhai_state::state::GlobalRuntimeState;
 use rhai_state::table::{Answer, NativeTable};
 use rhai_steps::charges::charge_one;
 use rhai_steps::replies::replied;
-use rhai_steps::variables::place_of_variable;
+use rhai_steps::variables::entry_of_variable;
 use rhai_tree::expr::{Expr, FnCallExpr};
 use rhai_tree::position::Position;
 use rhai_values::base::value::{AccessMode, Dynamic, Host, Union};
@@ -57,13 +58,12 @@ fn only(args: &[Expr]) -> Option<&Expr>
     Some(arg)
 }
 
-/// The argument of a call by name that has no other. None where an operator was written, where the variables of the
-/// caller are captured, and where the name means something besides functions.
+/// The argument of a call by its name alone that has no other. None where the name means something besides functions.
 #[inline(always)]
 fn lone_argument(call: &FnCallExpr) -> Option<&Expr>
     ensures { IfSome (option_copied result) (λ arg. IsLone call.now arg) }
 {
-    if call.op_token.is_some() || call.capture_parent_scope {
+    if !is_by_name(call) {
         return None;
     }
     if has_own_meaning(call.name.get().as_str()) {
@@ -78,12 +78,12 @@ fn has_no_modules<H: Host>(offered: &Offered<'_, H>, global: &GlobalRuntimeState
     ensures libraries { IsTrue result → global.now.lib ≡ [] }
     ensures modules { IsTrue result → offered.now.global_modules.now ≡ [] }
     ensures imports { IsTrue result → global.now.imports ≡ [] }
-    ensures named { IsTrue result → offered.now.global_sub_modules.now ≡ [] }
+    ensures named { IsTrue result → offered.now.global_sub_modules.now.1 ≡ [] }
 {
     global.lib.is_empty()
         && offered.global_modules.is_empty()
         && global.imports.is_empty()
-        && offered.global_sub_modules.is_empty()
+        && offered.global_sub_modules.values().is_empty()
 }
 
 /// Whether a function of a script has a name and one parameter.
@@ -105,7 +105,7 @@ fn is_found<H: Host>(offered: &Offered<'_, H>, global: &GlobalRuntimeState<H>, n
         global.lib.as_slice(),
         offered.global_modules,
         global.imports.as_slice(),
-        offered.global_sub_modules,
+        offered.global_sub_modules.values(),
     );
     found.is_some()
 }
@@ -236,9 +236,9 @@ fn call_entry<H: Host, T: NativeTable<H>>(
 }
 
 /// A call by name of a native whose one argument is a variable, which is read and lent at once. None where that is
-/// not so: where an operator was written or variables are captured, where the name means something besides functions
-/// or a function of a script, where the argument is no variable or a constant's or a handle's, and where the limit
-/// has no room for the variable; then nothing is charged or changed. How it ended stands in the run. Asked: the call
+/// not so: where an operator was written, a path stands in front or variables are captured, where the name means
+/// something besides functions or a function of a script, where no entry has the argument or it is a constant's or a
+/// handle's, and where the limit has no room for the variable; then nothing is charged or changed. How it ended stands in the run. Asked: the call
 /// resolves to the names of the scope.
 ///
 /// # Errors
@@ -270,10 +270,16 @@ pub fn call_at_once<H: Host, T: NativeTable<H>>(
     let Some(arg) = lone_argument(call) else {
         return None;
     };
-    let Expr::Variable { offset, name, .. } = arg else {
+    let Expr::Variable {
+        offset,
+        name,
+        namespace,
+        ..
+    } = arg
+    else {
         return None;
     };
-    let Some(index) = place_of_variable(global, scope, *offset, name) else {
+    let Some(index) = entry_of_variable(global, scope, *offset, name, namespace) else {
         return None;
     };
     let value = scope.value_at(index);

@@ -5,7 +5,8 @@ use Rattle.rhai_bench.specs.declared.settings.Settings.{Settings}
 use Rattle.rhai_bench.specs.declared.settings.Setting.{Setting}
 use Rattle.rhai_bench.specs.declared.settings.Setting.TheVariants.{Usual, MaxOperations, MaxVariables, MaxArraySize, MaxCallLevels}
 use Rattle.rhai_bench.specs.declared.settings.Setting.TheVariants.{WithoutFastOperators, WithoutShadowing, FailingOnMissingKeys}
-use Rattle.rhai_bench.specs.declared.settings.Setting.TheVariants.{WithModules, MaxModules}
+use Rattle.rhai_bench.specs.declared.settings.Setting.TheVariants.{WithModules, MaxModules, MaxOperationsWithModules}
+use Rattle.rhai_bench.specs.declared.settings.Setting.TheVariants.{MaxCallLevelsWithModules, WithGlobalModules}
 
 -- no limits of operations and of data, fast operators, and no modules
 abbrev pub usual_limits : Limits
@@ -27,6 +28,7 @@ usual = record {
   fail_on_invalid_map_property = false;
   map_exit_to_return_value = false;
   has_modules = false;
+  has_global_modules = false;
 }
 
 -- but for the limit of operations, of variables, of an array's items, or of how deep calls are
@@ -42,9 +44,9 @@ under_array_size size = record usual { limits = record usual_limits { max_array_
 abbrev pub under_call_levels : (levels : ℕ) → Settings
 under_call_levels levels = record usual { limits = record usual_limits { max_call_levels = levels } }
 
--- with modules to import, and a limit of them
-abbrev pub under_modules : (count : ℕ) → Settings
-under_modules count = record usual { limits = record usual_limits { max_modules = count }; has_modules = true }
+-- with modules to import, and with limits
+abbrev pub with_modules : Limits → Settings
+with_modules limits = record usual { limits = limits; has_modules = true }
 
 -- all that is set with it: beside it the usual
 abbrev pub settings_of : Setting → Settings
@@ -56,5 +58,8 @@ settings_of (MaxCallLevels levels) = under_call_levels levels
 settings_of WithoutFastOperators = record usual { fast_operators = false }
 settings_of WithoutShadowing = record usual { allow_shadowing = false }
 settings_of FailingOnMissingKeys = record usual { fail_on_invalid_map_property = true }
-settings_of WithModules = record usual { has_modules = true }
-settings_of (MaxModules count) = under_modules count
+settings_of WithModules = with_modules usual_limits
+settings_of (MaxModules count) = with_modules (record usual_limits { max_modules = count })
+settings_of (MaxOperationsWithModules count) = with_modules (record usual_limits { max_operations = count })
+settings_of (MaxCallLevelsWithModules levels) = with_modules (record usual_limits { max_call_levels = levels })
+settings_of WithGlobalModules = record usual { has_modules = true; has_global_modules = true }

@@ -1,27 +1,64 @@
-//! The modules that there are to import.
+//! The modules that there are to import, and those that an engine has.
 
 use rhai::library_of;
 use rhai_build::functions::TreeParts;
-use rhai_eval::base::{Dynamic, Shared, Table, Text, Union};
+use rhai_eval::base::{Boxed, Dynamic, Items, Shared, Table, Text, Union};
 use rhai_eval::check::{CheckedTree, check_tree};
 use rhai_eval::state::{Module, ModuleFn, ModuleTable};
-use rhai_samples::imports::{FUNCTIONS_OF_M, FUNCTIONS_OF_N};
+use rhai_samples::globals::FUNCTIONS_OF_A_GLOBAL_MODULE;
+use rhai_samples::imports::{FUNCTIONS_OF_D, FUNCTIONS_OF_M, FUNCTIONS_OF_N};
 use rhai_samples::parts::{Part, tree_of};
 use rhai_tables::host::Pair;
 use std::alloc::{AllocError, Global};
 
-/// Under `m` a module with a constant `K` of 7, its functions, and a module `s` within it, whose `K` is 9; under
-/// `n` a module of functions alone. Every function but `two` is marked global.
+/// Under `m` a module with a constant `K` of 7, its functions, and a module `s` within it, whose `K` is 8; under `n`
+/// one with a constant `A` of `[1, 2]`, its functions, and in a module `s` a module `d` with a constant `E` of 10 and
+/// a function. Every function but `two` is marked global.
 pub fn modules_to_import(alloc: Global) -> Result<ModuleTable<Pair>, AllocError> {
     let mut modules = Table::new(alloc);
     add_module(alloc, &mut modules, "m", module_m(alloc)?)?;
-    add_module(alloc, &mut modules, "n", module_of(alloc, FUNCTIONS_OF_N)?)?;
+    add_module(alloc, &mut modules, "n", module_n(alloc)?)?;
     Ok(ModuleTable { modules })
+}
+
+/// Modules whose names are not needed: one with a constant `X` of `[1]`, and one with an `X` of 2, a `Y` of 3 and a
+/// function that is not marked.
+pub fn global_modules(alloc: Global) -> Result<Items<Shared<Module<Pair>>>, AllocError> {
+    let mut first = Module::new(alloc);
+    add_constant(alloc, &mut first, "X", integers(alloc, &[1])?)?;
+    let tree = checked(alloc, tree_of(alloc, FUNCTIONS_OF_A_GLOBAL_MODULE)?)?;
+    let mut second = library_of(alloc, &tree)?;
+    add_constant(alloc, &mut second, "X", integer(2))?;
+    add_constant(alloc, &mut second, "Y", integer(3))?;
+    let mut modules = Items::new(alloc);
+    modules.push(Shared::new(alloc, first)?)?;
+    modules.push(Shared::new(alloc, second)?)?;
+    Ok(modules)
+}
+
+/// Under `g` the module that is imported as `m`.
+pub fn global_sub_modules(alloc: Global) -> Result<Table<Shared<Module<Pair>>>, AllocError> {
+    let mut modules = Table::new(alloc);
+    add_module(alloc, &mut modules, "g", module_m(alloc)?)?;
+    Ok(modules)
 }
 
 /// A shared copy of a text.
 fn shared(alloc: Global, text: &str) -> Result<Shared<Text>, AllocError> {
     Shared::new(alloc, Text::from_str(alloc, text)?)
+}
+
+fn integer(value: i64) -> Dynamic<Pair> {
+    Dynamic::new(Union::Int(value))
+}
+
+/// An array of integers.
+fn integers(alloc: Global, values: &[i64]) -> Result<Dynamic<Pair>, AllocError> {
+    let mut items = Items::new(alloc);
+    for value in values {
+        items.push(integer(*value))?;
+    }
+    Ok(Dynamic::new(Union::Array(Boxed::new(alloc, items)?)))
 }
 
 /// Adds a module under a name.
@@ -35,20 +72,34 @@ fn add_module(
     modules.insert(shared(alloc, name)?, module)
 }
 
-/// Gives a module the constant `K`.
-fn add_constant(alloc: Global, module: &mut Module<Pair>, value: i64) -> Result<(), AllocError> {
-    let name = shared(alloc, "K")?;
-    module
-        .constants
-        .insert(name, Dynamic::new(Union::Int(value)))
+/// Gives a module a constant.
+fn add_constant(
+    alloc: Global,
+    module: &mut Module<Pair>,
+    name: &str,
+    value: Dynamic<Pair>,
+) -> Result<(), AllocError> {
+    module.constants.insert(shared(alloc, name)?, value)
 }
 
-/// The module with another within it.
+/// The module under `m`.
 fn module_m(alloc: Global) -> Result<Module<Pair>, AllocError> {
     let mut module = module_of(alloc, FUNCTIONS_OF_M)?;
-    add_constant(alloc, &mut module, 7)?;
+    add_constant(alloc, &mut module, "K", integer(7))?;
     let mut within = Module::new(alloc);
-    add_constant(alloc, &mut within, 9)?;
+    add_constant(alloc, &mut within, "K", integer(8))?;
+    add_module(alloc, &mut module.sub_modules, "s", within)?;
+    Ok(module)
+}
+
+/// The module under `n`.
+fn module_n(alloc: Global) -> Result<Module<Pair>, AllocError> {
+    let mut module = module_of(alloc, FUNCTIONS_OF_N)?;
+    add_constant(alloc, &mut module, "A", integers(alloc, &[1, 2])?)?;
+    let mut inmost = module_of(alloc, FUNCTIONS_OF_D)?;
+    add_constant(alloc, &mut inmost, "E", integer(10))?;
+    let mut within = Module::new(alloc);
+    add_module(alloc, &mut within.sub_modules, "d", inmost)?;
     add_module(alloc, &mut module.sub_modules, "s", within)?;
     Ok(module)
 }

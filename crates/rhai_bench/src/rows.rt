@@ -6,6 +6,7 @@ use rhai_tables::host::Pair;
 use std::alloc::{AllocError, Global};
 
 mod around;
+mod called;
 mod calls;
 mod caught;
 mod cells;
@@ -15,11 +16,14 @@ mod choices;
 mod data;
 mod exports;
 mod functions;
+mod globals;
 mod imports;
 mod loops;
+mod modules;
 mod operators;
 mod order;
 mod pairs;
+mod paths;
 mod slices;
 mod thrown;
 mod variables;
@@ -41,6 +45,7 @@ pub fn scripts(row: &str) -> Option<&'static [Sample]> {
 /// The scripts of a row by its number, or of a list that no row has by its name.
 pub fn scripts_of(list: &str) -> Option<&'static [Sample]> {
     let found = [
+        called::scripts_of(list),
         calls::scripts_of(list),
         caught::scripts_of(list),
         cells::scripts_of(list),
@@ -50,11 +55,14 @@ pub fn scripts_of(list: &str) -> Option<&'static [Sample]> {
         data::scripts_of(list),
         exports::scripts_of(list),
         functions::scripts_of(list),
+        globals::scripts_of(list),
         imports::scripts_of(list),
         loops::scripts_of(list),
+        modules::scripts_of(list),
         operators::scripts_of(list),
         order::scripts_of(list),
         pairs::scripts_of(list),
+        paths::scripts_of(list),
         slices::scripts_of(list),
         thrown::scripts_of(list),
         variables::scripts_of(list),

@@ -1,12 +1,12 @@
 //! What is set for a run.
 
-ghost use Rattle.std.specs.Prelude.{◌≡◌, [], IfOk};
+ghost use Rattle.std.specs.Prelude.{◌≡◌, [], IfOk, false};
 ghost use Rattle.rhai_state.specs.Caches.{depth_of, is_on};
 ghost use Rattle.rhai_state.specs.Limits.{limit_of};
 ghost use Rattle.rhai_eval.specs.States.{limits_of};
-ghost use Rattle.rhai_bench.specs.Settings.{settings_of, usual};
+ghost use Rattle.rhai_bench.specs.Settings.{settings_of, usual, usual_limits, with_modules};
 
-use crate::modules::modules_to_import;
+use crate::modules::{global_modules, global_sub_modules, modules_to_import};
 use rhai_eval::base::Table;
 use rhai_eval::engine::Engine;
 use rhai_eval::state::{Caches, Limits, ModuleTable};
@@ -24,6 +24,8 @@ pub struct Settings {
     pub map_exit_to_return_value: bool,
     /// Whether there are modules to import.
     pub has_modules: bool,
+    /// Whether the engine has modules of its own.
+    pub has_global_modules: bool,
 }
 
 impl Settings {
@@ -43,6 +45,7 @@ impl Settings {
         fail_on_invalid_map_property: false,
         map_exit_to_return_value: false,
         has_modules: false,
+        has_global_modules: false,
     };
 
     /// The usual settings, but for their limits.
@@ -55,7 +58,18 @@ impl Settings {
         }
     }
 
-    /// An engine with these limits and switches. It has no modules but those to import, if there are to be any.
+    /// The usual settings with modules to import, but for their limits.
+    fn with_modules(limits: Limits) -> Settings
+        ensures { result ≡ with_modules limits }
+    {
+        Settings {
+            limits,
+            has_modules: true,
+            ..Settings::USUAL
+        }
+    }
+
+    /// An engine with these limits and switches, and with the modules that there are to be.
     pub fn engine(&self, alloc: Global) -> Result<Engine<Pair>, AllocError>
         ensures limits { IfOk result (λ engine. limits_of engine ≡ record self.now.limits
             { max_operations = limit_of self.now.limits.max_operations }) }
@@ -63,8 +77,10 @@ impl Settings {
         ensures shadowing { IfOk result (λ engine. engine.allow_shadowing ≡ self.now.allow_shadowing) }
         ensures map_property { IfOk result (λ engine. engine.fail_on_invalid_map_property
             ≡ self.now.fail_on_invalid_map_property) }
-        ensures global_modules { IfOk result (λ engine. engine.global_modules ≡ []) }
-        ensures global_sub_modules { IfOk result (λ engine. engine.global_sub_modules ≡ ([], [])) }
+        ensures global_modules { self.now.has_global_modules ≡ false →
+            IfOk result (λ engine. engine.global_modules ≡ []) }
+        ensures global_sub_modules { self.now.has_global_modules ≡ false →
+            IfOk result (λ engine. engine.global_sub_modules ≡ ([], [])) }
     {
         let modules = self.modules(alloc)?;
         let mut engine = Engine::new(alloc);
@@ -79,6 +95,11 @@ impl Settings {
         engine.allow_shadowing = self.allow_shadowing;
         engine.fail_on_invalid_map_property = self.fail_on_invalid_map_property;
         drop(replace(&mut engine.modules, modules));
+        if self.has_global_modules {
+            let named = global_sub_modules(alloc)?;
+            drop(replace(&mut engine.global_modules, global_modules(alloc)?));
+            drop(replace(&mut engine.global_sub_modules, named));
+        }
         Ok(engine)
     }
 
@@ -91,6 +112,46 @@ impl Settings {
                 modules: Table::new(alloc),
             })
         }
+    }
+}
+
+/// The usual limits, but for that of operations.
+fn operations(max_operations: u64) -> Limits
+    ensures { result ≡ record usual_limits { max_operations = max_operations } }
+{
+    Limits {
+        max_operations,
+        ..Settings::USUAL.limits
+    }
+}
+
+/// The usual limits, but for that of variables.
+fn variables(max_variables: usize) -> Limits
+    ensures { result ≡ record usual_limits { max_variables = max_variables } }
+{
+    Limits {
+        max_variables,
+        ..Settings::USUAL.limits
+    }
+}
+
+/// The usual limits, but for that of an array's items.
+fn array_size(max_array_size: usize) -> Limits
+    ensures { result ≡ record usual_limits { max_array_size = max_array_size } }
+{
+    Limits {
+        max_array_size,
+        ..Settings::USUAL.limits
+    }
+}
+
+/// The usual limits, but for that of how deep calls are.
+fn call_levels(max_call_levels: usize) -> Limits
+    ensures { result ≡ record usual_limits { max_call_levels = max_call_levels } }
+{
+    Limits {
+        max_call_levels,
+        ..Settings::USUAL.limits
     }
 }
 
@@ -115,6 +176,12 @@ pub enum Setting {
     WithModules,
     /// There are modules to import, and a limit of them.
     MaxModules(usize),
+    /// There are modules to import, and a limit of operations.
+    MaxOperationsWithModules(u64),
+    /// There are modules to import, and a limit of how deep calls are.
+    MaxCallLevelsWithModules(usize),
+    /// There are modules to import, and the engine has some of its own.
+    WithGlobalModules,
 }
 
 impl Setting {
@@ -124,22 +191,10 @@ impl Setting {
     {
         match self {
             Setting::Usual => Settings::USUAL,
-            Setting::MaxOperations(max_operations) => Settings::under(Limits {
-                max_operations,
-                ..Settings::USUAL.limits
-            }),
-            Setting::MaxVariables(max_variables) => Settings::under(Limits {
-                max_variables,
-                ..Settings::USUAL.limits
-            }),
-            Setting::MaxArraySize(max_array_size) => Settings::under(Limits {
-                max_array_size,
-                ..Settings::USUAL.limits
-            }),
-            Setting::MaxCallLevels(max_call_levels) => Settings::under(Limits {
-                max_call_levels,
-                ..Settings::USUAL.limits
-            }),
+            Setting::MaxOperations(count) => Settings::under(operations(count)),
+            Setting::MaxVariables(count) => Settings::under(variables(count)),
+            Setting::MaxArraySize(size) => Settings::under(array_size(size)),
+            Setting::MaxCallLevels(levels) => Settings::under(call_levels(levels)),
             Setting::WithoutFastOperators => Settings {
                 fast_operators: false,
                 ..Settings::USUAL
@@ -152,16 +207,20 @@ impl Setting {
                 fail_on_invalid_map_property: true,
                 ..Settings::USUAL
             },
-            Setting::WithModules => Settings {
+            Setting::WithModules => Settings::with_modules(Settings::USUAL.limits),
+            Setting::MaxModules(max_modules) => Settings::with_modules(Limits {
+                max_modules,
+                ..Settings::USUAL.limits
+            }),
+            Setting::MaxOperationsWithModules(count) => {
+                Settings::with_modules(operations(count))
+            }
+            Setting::MaxCallLevelsWithModules(levels) => {
+                Settings::with_modules(call_levels(levels))
+            }
+            Setting::WithGlobalModules => Settings {
                 has_modules: true,
-                ..Settings::USUAL
-            },
-            Setting::MaxModules(max_modules) => Settings {
-                limits: Limits {
-                    max_modules,
-                    ..Settings::USUAL.limits
-                },
-                has_modules: true,
+                has_global_modules: true,
                 ..Settings::USUAL
             },
         }

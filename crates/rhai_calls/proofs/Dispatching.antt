@@ -14,8 +14,9 @@ use Rattle.rhai_machine.specs.machine.Memory.{here, wanting}
 use Rattle.rhai_machine.specs.language.Setting.{Setting, Rules}
 use Rattle.rhai_machine.specs.language.State.{State, Local}
 use Rattle.rhai_machine.specs.language.Values.{bool_value, through}
+use Rattle.rhai_machine.specs.language.Variables.{no_path}
 use Rattle.rhai_machine.specs.language.Frames.{Operation, Dispatch, Call, Frame, Core, core, ended, marked, Ask, Back, Fail}
-use Rattle.rhai_machine.specs.language.Calls.{asks_function, call_of, called_core, called_function, dispatch_core, found_core}
+use Rattle.rhai_machine.specs.language.Calls.{asks_function, by_name_core, call_of, called_core, called_function, dispatch_core, found_core}
 use Rattle.rhai_machine.specs.language.Calls.{knows_asked, knows_function, named_core, names_function, plainly, call_races}
 use Rattle.rhai_machine.specs.language.Runs.{at, with_core, Goes, Steps}
 use Rattle.rhai_steps.proofs.Operating.{dispatch_wants}
@@ -83,7 +84,7 @@ module _ {H : Type 0} (k : List (Frame H)) (l : Local H) where
 module _ {H : Type 0} where
   function_by : (s : Setting H) (alone of_method on_scope : Bool) (call : Call H) (l : Local H) →
       script_function s.offer l.around s.host_type (record { of_method = of_method; natives_alone = alone }) call.operation.name call.args
-      ≡ called_function s (record { of_method = of_method; natives_alone = alone; on_scope = on_scope }) call l
+      ≡ called_function s (record { of_method = of_method; natives_alone = alone; on_scope = on_scope; path = no_path }) call l
   function_by s true of_method on_scope call l = refl
   function_by s false true on_scope call l = refl
   function_by s false false on_scope call l = refl
@@ -123,13 +124,13 @@ module _ {H : Type 0} where
     abbrev race : Core H
     race = core (Fail (error.ErrorDataRace call.operation.name call.operation.at)) k l
 
-    dispatch_races : call_races how.of_method l.around.cells call.args ≡ true → dispatch_core s how call k l ≡ race
-    dispatch_races is = ap (λ (b : Bool). if b then race else named_core s how call.args call k l) is
+    name_races : call_races how.of_method l.around.cells call.args ≡ true → by_name_core s how call k l ≡ race
+    name_races is = ap (λ (b : Bool). if b then race else named_core s how call.args call k l) is
 
-    dispatch_is : call_races how.of_method l.around.cells call.args ≡ false →
-        dispatch_core s how call k l
+    name_is : call_races how.of_method l.around.cells call.args ≡ false →
+        by_name_core s how call k l
         ≡ leads_to k l (meant s.offer l.around call.operation s.host_type call.args) (called_core s how call k l)
-    dispatch_is is =
+    name_is is =
         ap (λ (b : Bool). if b then race else named_core s how call.args call k l) is ∙ named_is s how call.args call k l
 
 module _ {S H : Type 0} (rules : Rules S H) (how : Dispatch) (call : Call H) (s : State S H) where
@@ -138,14 +139,6 @@ module _ {S H : Type 0} (rules : Rules S H) (how : Dispatch) (call : Call H) (s 
   unfolding Calls
   calls_want at k =
       wanting {at = at} (rw (dispatch_wants rules.setting how call k s.local at) here)
-
-  -- an argument's cell is held
-  dispatch_held : call_races how.of_method s.local.around.cells call.args ≡ true → (e : EvalAltResult H) →
-      (is_out_of_memory e ≡ false → e ≡ error.ErrorDataRace call.operation.name call.operation.at) →
-      Dispatches rules how call s (Ended (Err e)) s
-  unfolding Dispatches
-  dispatch_held is e race_told k = rw (dispatch_races rules.setting how call k s.local is)
-      (faulted rules e (error.ErrorDataRace call.operation.name call.operation.at) race_told k s)
 
   -- what a name means is not marked
   not_marked : (r : Result (Dynamic H) (EvalAltResult H)) → marked (with_mark false r) ≡ ended r
@@ -157,15 +150,6 @@ module _ {S H : Type 0} (rules : Rules S H) (how : Dispatch) (call : Call H) (s 
   means_one None r means c k = absurd means
   means_one (Some x) r means c k = told rules r x means k s
 
-  -- the name means no function
-  dispatch_means : call_races how.of_method s.local.around.cells call.args ≡ false → (r : Result (Dynamic H) (EvalAltResult H)) →
-      (q : Result (Dynamic H × Bool) (EvalAltResult H)) → q ≡ with_mark false r →
-      Means (Some r) (meant rules.setting.offer s.local.around call.operation rules.setting.host_type call.args) →
-      Dispatches rules how call s (Ended q) s
-  unfolding Dispatches
-  dispatch_means free r q is means k =
-      rw (is, not_marked r, dispatch_is rules.setting how call k s.local free) (means_one _ r means _ k)
-
 module _ {S H : Type 0} (rules : Rules S H) (seeks : Seeks) (on_scope : Bool) (call : Call H) (s : State S H) where
   abbrev meaning : Option (Result (Dynamic H) (EvalAltResult H))
   meaning = meant rules.setting.offer s.local.around call.operation rules.setting.host_type call.args
@@ -173,19 +157,30 @@ module _ {S H : Type 0} (rules : Rules S H) (seeks : Seeks) (on_scope : Bool) (c
   abbrev wanted : Option (Function H)
   wanted = script_function rules.setting.offer s.local.around rules.setting.host_type seeks call.operation.name call.args
 
+  -- an argument's cell is held
+  dispatch_held : call_races seeks.of_method s.local.around.cells call.args ≡ true → (e : EvalAltResult H) →
+      (is_out_of_memory e ≡ false → e ≡ error.ErrorDataRace call.operation.name call.operation.at) →
+      Dispatches rules (how_of seeks on_scope) call s (Ended (Err e)) s
+  unfolding Dispatches
+  dispatch_held is e race_told k = rw (name_races rules.setting (how_of seeks on_scope) call k s.local is)
+      (faulted rules e (error.ErrorDataRace call.operation.name call.operation.at) race_told k s)
+
   -- a call that fails, or that has no memory
   pub resolved_fails : (e : EvalAltResult H) → (is_out_of_memory e ≡ false → (call_races seeks.of_method s.local.around.cells call.args ≡ true)
       × (e ≡ error.ErrorDataRace call.operation.name call.operation.at)) → Dispatches rules (how_of seeks on_scope) call s (Ended (Err e)) s
   unfolding Dispatches
   resolved_fails (error.ErrorOutOfMemory at) h k = wanting {at = at}
       (rw (dispatch_wants rules.setting (how_of seeks on_scope) call k s.local at) here)
-  resolved_fails e h k = dispatch_held rules (how_of seeks on_scope) call s (h refl).0 e (λ m. (h refl).1) k
+  resolved_fails e h k = dispatch_held (h refl).0 e (λ m. (h refl).1) k
 
   -- one whose name means no function
   pub resolved_means : (r : Result (Dynamic H) (EvalAltResult H)) (q : Result (Dynamic H × Bool) (EvalAltResult H)) →
       q ≡ with_mark false r → (call_races seeks.of_method s.local.around.cells call.args ≡ false) × Means (Some r) meaning →
       Dispatches rules (how_of seeks on_scope) call s (Ended q) s
-  resolved_means r q is h = dispatch_means rules (how_of seeks on_scope) call s h.0 r q is h.1
+  unfolding Dispatches
+  resolved_means r q is h k =
+      let how : Dispatch = how_of seeks on_scope in
+      rw (is, not_marked rules how call s r, name_is rules.setting how call k s.local h.0) (means_one rules how call s _ r h.1 _ k)
 
   means_none : (o : Option (Result (Dynamic H) (EvalAltResult H))) → Means None o → o ≡ None
   means_none None means = refl
@@ -196,7 +191,7 @@ module _ {S H : Type 0} (rules : Rules S H) (seeks : Seeks) (on_scope : Bool) (c
       (k : List (Frame H)) → dispatch_core rules.setting (how_of seeks on_scope) call k s.local
       ≡ found_core rules.setting found (how_of seeks on_scope) call k s.local
   looked_for found free means is k =
-      dispatch_is rules.setting (how_of seeks on_scope) call k s.local free
+      name_is rules.setting (how_of seeks on_scope) call k s.local free
       ∙ ap (λ o. leads_to k s.local o (called_core rules.setting (how_of seeks on_scope) call k s.local)) (means_none meaning means)
       ∙ ap (λ o. found_core rules.setting o (how_of seeks on_scope) call k s.local)
       (sym (is ∙ function_is rules.setting seeks on_scope call s.local))

@@ -12,11 +12,11 @@ use Rattle.rhai_state.specs.Errors.{is_out_of_memory}
 use Rattle.rhai_values.specs.Copy.{plain}
 use Rattle.rhai_values.specs.TypeNames.{type_name_of}
 use Rattle.rhai_functions.specs.declared.function.Function.{Function}
-use Rattle.rhai_functions.specs.declared.function.Offered.{Offered}
 use Rattle.rhai_machine.specs.language.Setting.{Offer, Rules}
 use Rattle.rhai_machine.specs.language.State.{Local, State, Surroundings, Answers}
 use Rattle.rhai_machine.specs.language.Values.{Cells, bool_value, through}
 use Rattle.rhai_machine.specs.language.Functions.{found_function, key_by}
+use Rattle.rhai_machine.specs.language.Variables.{no_path}
 use Rattle.rhai_machine.specs.language.Frames.{Operation, Dispatch, Call, Frame, Core, core, marked}
 use Rattle.rhai_machine.specs.language.Calls.{call_races, dispatch_core, enter_core, first_type, signature, types_of}
 use Rattle.rhai_machine.specs.language.Runs.{with_core, Goes}
@@ -28,14 +28,9 @@ use Rattle.rhai_calls.specs.declared.dispatch.Seeks.{Seeks}
 
 -- a call that looks for these functions of scripts is dispatched so
 abbrev pub how_of : Seeks → (on_scope : Bool) → Dispatch
-how_of seeks on_scope = record { of_method = seeks.of_method; natives_alone = seeks.natives_alone; on_scope = on_scope }
+how_of seeks on_scope = record { of_method = seeks.of_method; natives_alone = seeks.natives_alone; on_scope = on_scope; path = no_path }
 
 module _ {H : Type 0} where
-  -- the modules of an engine are these
-  abbrev pub Offers : Offer H → Offered H → Type 0
-  Offers offer offered =
-      (offer.global_modules ≡ offered.global_modules.now) × (offer.global_sub_modules.1 ≡ offered.global_sub_modules.now)
-
   -- ---- what a name means
 
   abbrev pub text_of : Union H → Option (List ℕ)

@@ -19,7 +19,8 @@ ghost use Rattle.rhai_calls.specs.Called.{Calls, with_args};
 ghost use Rattle.rhai_calls.specs.Dispatch.{knows, meant, meant_of, meant_of_two, method_found, plain_found};
 ghost use Rattle.rhai_calls.specs.Dispatch.{script_function, seen_number, seen_text, how_of};
 ghost use Rattle.rhai_calls.specs.Dispatch.{Dispatches, IfEnded, IfFound};
-ghost use Rattle.rhai_calls.specs.Dispatch.{Means, Offers, ResolvesCall};
+ghost use Rattle.rhai_calls.specs.Dispatch.{Means, ResolvesCall};
+ghost use Rattle.rhai_steps.specs.Offers.{Offers};
 ghost use Rattle.rhai_calls.specs.Marks.{MarkedRuns};
 ghost use Rattle.rhai_calls.specs.Lending.{back_in, passed_call, Stands};
 
@@ -193,7 +194,7 @@ fn is_defined<H: Host>(
         global.lib.as_slice(),
         offered.global_modules,
         global.imports.as_slice(),
-        offered.global_sub_modules,
+        offered.global_sub_modules.values(),
     );
     found.is_some()
 }

@@ -6,7 +6,7 @@ ghost use Rattle.rhai_machine.specs.language.Calls.{call_at, plainly};
 ghost use Rattle.rhai_machine.specs.language.Setting.{rules_of};
 ghost use Rattle.rhai_steps.specs.States.{state_of};
 ghost use Rattle.rhai_calls.specs.Called.{Calls, with_args};
-ghost use Rattle.rhai_calls.specs.Dispatch.{Offers};
+ghost use Rattle.rhai_steps.specs.Offers.{Offers};
 ghost use Rattle.rhai_calls.specs.Operates.{Operates};
 
 use crate::dispatch::{Called, call_all};

@@ -166,7 +166,8 @@ pub fn caught_value<H: Host>(
 /// Whether an error throws `()`, which in a branch raises the caught error again. A value in a cell that is
 /// held counts as none.
 fn throws_unit<H: Host>(cells: &CellStore<H>, error: &EvalAltResult<H>) -> bool
-    ensures { (caught : _) → raised_by (cells_of cells.now) caught error.now ≡ raised_if result caught error.now }
+    ensures { (caught : _) → raised_by (cells_of cells.now) caught error.now
+        ≡ raised_if result caught error.now }
 {
     let EvalAltResult::ErrorRuntime(value, _) = error else {
         return false;

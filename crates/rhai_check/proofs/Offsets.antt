@@ -2,14 +2,15 @@
 use Rattle.std.proofs.Common.{◌≡◌, ◌<◌, ◌≤◌, arith, ℕ, zero, suc, ◌+◌, Bool, true, false, IsTrue, List, [], ◌∷◌, ◌++◌, length, take}
 use Rattle.std.proofs.Common.{get_or, refl, sym, ap, ◌∙◌, add-one, length-append}
 use Rattle.std.specs.Str.{bytes_eq}
-use Rattle.std.proofs.lemmas.Bool.{eqb-true, eq-eqb}
+use Rattle.std.proofs.lemmas.Bool.{eqb-true, eq-eqb, ne_eqb}
 use Rattle.std.proofs.Math.Seq.{take-suc}
-use Rattle.std.specs.Prelude.{Option, Some, None}
+use Rattle.std.specs.Prelude.{Option, Some, None, if◌then◌else◌, is_some, not}
 use Rattle.std.specs.Int.NonZero.{non_zero_usize_get}
 use Rattle.std.specs.declared.num.NonZeroUsize.{NonZeroUsize}
 use Rattle.rhai_tree.specs.Forms.{is_unqualified}
 use Rattle.rhai_tree.specs.Names.{Name, further, offset_of, stands, is_good}
-use Rattle.rhai_tree.specs.Reading.{sound, found_in_variable}
+use Rattle.rhai_tree.specs.Frame.{variable_resolves}
+use Rattle.rhai_tree.specs.declared.expr.Namespace.{Namespace}
 use Rattle.rhai_tree.specs.declared.position.Position.{Position}
 
 -- the offset after one more name
@@ -70,13 +71,35 @@ pub good_above : (base : List Name) (offset : Option NonZeroUsize) (name : Name)
 good_above base None name names e = refl
 good_above base (Some offset) name names e = stands_above base name (non_zero_usize_get offset) names e
 
-unqualified : (path : List Name) → length path ≤ 0 → is_unqualified path ≡ true
-unqualified [] none = refl
-unqualified (root ∷ path) none = absurd (omega arith)
+-- so is one that is looked for above no names, as behind a path
+among_above : (base : List Name) (offset : Option NonZeroUsize) (name : Name) (path names : List Name)
+    → is_good offset name (if is_unqualified path then names else []) ≡ true
+    → is_good offset name (if is_unqualified path then (base ++ names) else []) ≡ true
+among_above base offset name [] names e = good_above base offset name names e
+among_above base offset name (root ∷ path) names e = e
 
--- a good offset is good above more names
-pub variable_above : (base : List Name) (path : List Name) (offset : Option NonZeroUsize) (name : Name) (names : List Name)
-    (pos : Position) → length path ≤ 0 → is_good offset name names ≡ true
-    → found_in_variable sound offset name path pos (base ++ names) ≡ true
-variable_above base path offset name names pos none good =
-    rw (unqualified path none, good_above base offset name names good) refl
+-- a variable that may run above some names may run above more
+pub variable_above : (base : List Name) (offset : Option NonZeroUsize) (name : Name) (namespace : Namespace) (pos : Position)
+    (names : List Name) → is_good offset name (if is_unqualified namespace.path then names else []) ≡ true
+    → variable_resolves offset name namespace pos (base ++ names) ≡ true
+variable_above base offset name namespace pos names e = rw (among_above base offset name namespace.path names e) refl
+
+-- behind a path an offset is good where there is none
+apart : (k : ℕ) → zero ≡ suc k → ⊥
+apart k e = omega arith
+
+none_stands : (name : Name) (k : ℕ) → false ≡ stands name k []
+none_stands name zero = refl
+none_stands name (suc k) = sym (ne_eqb zero (suc k) (apart k))
+
+none_good : (offset : Option NonZeroUsize) (name : Name) (none : Bool) → is_some offset ≡ not none → none ≡ is_good offset name []
+none_good None name true e = refl
+none_good None name false e = e
+none_good (Some offset) name true e = cc
+none_good (Some offset) name false e = none_stands name (non_zero_usize_get offset)
+
+pub none_behind : (path names : List Name) (offset : Option NonZeroUsize) (name : Name) (empty none : Bool)
+    → (path ≡ [] → IsTrue empty) → empty ≡ false → is_some offset ≡ not none
+    → none ≡ is_good offset name (if is_unqualified path then names else [])
+none_behind [] names offset name empty none there is e = let clash : true ≡ false = sym (there refl) ∙ is in cc
+none_behind (root ∷ path) names offset name empty none there is e = none_good offset name none e

@@ -6,6 +6,7 @@ use Rattle.std.specs.Result.{IfErr, OnOk}
 use Rattle.std.specs.declared.num.NonZeroUsize.{NonZeroUsize}
 use Rattle.rhai_tree.specs.declared.fault.CheckFault.{CheckFault}
 use Rattle.rhai_tree.specs.declared.fault.CheckFault.TheVariants.{BadAssignment, LoopControlOutside}
+use Rattle.rhai_check.specs.declared.check.declared.Declared.{Declared}
 use Rattle.rhai_check.specs.declared.check.place.Place.{Place}
 use Rattle.rhai_tree.specs.declared.expr.Expr.{Expr, out-Expr}
 use Rattle.rhai_tree.specs.declared.expr.Ident.{Ident}
@@ -13,7 +14,7 @@ use Rattle.rhai_tree.specs.declared.expr.Stmt.{Stmt, out-Stmt}
 use Rattle.rhai_tree.specs.declared.flags.ASTFlags.{ASTFlags}
 use Rattle.rhai_tree.specs.declared.position.Position.{Position}
 use Rattle.rhai_tree.specs.Layers.{ExprLayer, StmtLayer}
-use Rattle.rhai_tree.specs.Context.{Context}
+use Rattle.rhai_tree.specs.Context.{Context, importing}
 use Rattle.rhai_check.specs.Around.{around}
 use Rattle.rhai_check.specs.Declares as declares
 use Rattle.rhai_check.specs.Declares.{declares_expr, declares_stmt}
@@ -66,14 +67,14 @@ resolved_stmt_at r s l names new is h = subst
     (λ (f : walk.SeenStmt sound). OnOk r ((base : List Name) → f (base ++ names) ≡ (true, base ++ new))) (sym (resolves-stmt s l is)) h
 
 -- a statement that declares nothing may run where what it stands on may
-pub runs_stmt_at : {A : Type 0} (r : Result A CheckFault) (s : Stmt) (l : StmtLayer) (value : walk.Finds sound) (names new : List Name)
+pub runs_stmt_at : {A : Type 0} (r : Result A CheckFault) (s : Stmt) (l : StmtLayer) (value : walk.Finds sound) (d new : Declared)
     → out-Stmt s ≡ l → ((ns : List Name) → walk.stmt_step sound (stmt_tests l) ns ≡ (value ns, ns))
-    → OnOk r ((base : List Name) → IsTrue (value (base ++ names))) → OnOk r (new ≡ names)
-    → OnOk r ((base : List Name) → resolves_stmt s (base ++ names) ≡ (true, base ++ new))
-runs_stmt_at (Ok x) s l value names new is whole h same = λ base.
-    ap (λ (f : walk.SeenStmt sound). f (base ++ names)) (resolves-stmt s l is) ∙ whole (base ++ names)
-    ∙ (λ i. (h base i, base ++ sym same i))
-runs_stmt_at (Err e) s l value names new is whole h same = tt
+    → OnOk r ((base : List Name) → IsTrue (value (base ++ d.names))) → OnOk r (new ≡ d)
+    → OnOk r ((base : List Name) → resolves_stmt s (base ++ d.names) ≡ (true, base ++ new.names))
+runs_stmt_at (Ok x) s l value d new is whole h same = λ base.
+    ap (λ (f : walk.SeenStmt sound). f (base ++ d.names)) (resolves-stmt s l is) ∙ whole (base ++ d.names)
+    ∙ (λ i. (h base i, base ++ sym (ap (λ (e : Declared). e.names) same) i))
+runs_stmt_at (Err e) s l value d new is whole h same = tt
 
 -- two parts that may run
 pub both_run : {A : Type 0} (r : Result A CheckFault) (f g : walk.Finds sound) (names : List Name)
@@ -106,17 +107,30 @@ value_of_var_refused s index ident options pos c declares e same h = refuses_mor
 
 -- a variable, with what surrounds the next statement
 pub var_passes : {A : Type 0} (r : Result A CheckFault) (faults : List CheckFault) (index : Option NonZeroUsize) (name : Name)
-    (place : Place) (names new : List Name) → OnOk r (faults ≡ []) → OnOk r (new ≡ var_names index name names)
-    → OnOk r (◌≡◌ {A = List CheckFault × Context} (faults, walk.after_var faulty index name (around names place)) ([], around new place))
-var_passes (Ok x) faults index name place names new none is = rw (none, around_var index name names place, is) refl
-var_passes (Err e) faults index name place names new none is = tt
+    (place : Place) (d new : Declared) → OnOk r (faults ≡ []) → OnOk r (new ≡ record d { names = var_names index name d.names })
+    → OnOk r (◌≡◌ {A = List CheckFault × Context} (faults, walk.after_var faulty index name (around d place)) ([], around new place))
+var_passes (Ok x) faults index name place d new none is = rw (none, around_var index name d place, is) refl
+var_passes (Err e) faults index name place d new none is = tt
 
 pub var_runs : {A : Type 0} (r : Result A CheckFault) (value : walk.Finds sound) (index : Option NonZeroUsize) (name : Name)
-    (names new : List Name) → OnOk r ((base : List Name) → IsTrue (value (base ++ names))) → OnOk r (new ≡ var_names index name names)
+    (d new : Declared) → OnOk r ((base : List Name) → IsTrue (value (base ++ d.names))) → OnOk r (new ≡ record d { names = var_names index name d.names })
     → OnOk r ((base : List Name) →
-    ◌≡◌ {A = Bool × List Name} (value (base ++ names), var_names index name (base ++ names)) (true, base ++ new))
-var_runs (Ok x) value index name names new h is = λ base. rw (h base, above_var index name base names, is) refl
-var_runs (Err e) value index name names new h is = tt
+    ◌≡◌ {A = Bool × List Name} (value (base ++ d.names), var_names index name (base ++ d.names)) (true, base ++ new.names))
+var_runs (Ok x) value index name d new h is = λ base. rw (h base, above_var index name base d.names, is) refl
+var_runs (Err e) value index name d new h is = tt
+
+-- an import, with what surrounds the next statement
+pub import_passes : {A : Type 0} (r : Result A CheckFault) (faults : List CheckFault) (name : Name) (place : Place) (d new : Declared)
+    → faults ≡ [] → OnOk r (new ≡ record d { imports = d.imports ++ name ∷ [] })
+    → OnOk r (◌≡◌ {A = List CheckFault × Context} (faults, importing name (around d place)) ([], around new place))
+import_passes (Ok x) faults name place d new none is = rw (none, is) refl
+import_passes (Err e) faults name place d new none is = tt
+
+pub import_runs : {A : Type 0} (r : Result A CheckFault) (value : walk.Finds sound) (name : Name) (d new : Declared)
+    → ((base : List Name) → IsTrue (value (base ++ d.names))) → OnOk r (new ≡ record d { imports = d.imports ++ name ∷ [] })
+    → OnOk r ((base : List Name) → ◌≡◌ {A = Bool × List Name} (value (base ++ d.names), base ++ d.names) (true, base ++ new.names))
+import_runs (Ok x) value name d new h is = λ base. rw (h base, is) refl
+import_runs (Err e) value name d new h is = tt
 
 -- a `break` or a `continue` in a loop
 pub control_passes : {A : Type 0} (r : Result A CheckFault) (pos : Position) (c : Context) (fs : List CheckFault) → c.in_loop ≡ true
@@ -131,8 +145,8 @@ control_refused r pos c fs declares inside h = subst
     (λ (b : Bool). IfErr r (λ fault. Refuses ((if b then [] else LoopControlOutside pos ∷ []) ++ fs) declares fault)) (sym inside) h
 
 -- a loop whose condition and body pass
-pub loop_passes : {A : Type 0} (r : Result A CheckFault) (test body : List CheckFault) (place : Place) (names new : List Name)
-    → test ≡ [] → OnOk r (body ≡ []) → OnOk r (new ≡ names)
-    → OnOk r (◌≡◌ {A = List CheckFault × Context} (test ++ body, around names place) ([], around new place))
-loop_passes (Ok x) test body place names new t b same = rw (t, b, same) refl
-loop_passes (Err e) test body place names new t b same = tt
+pub loop_passes : {A : Type 0} (r : Result A CheckFault) (test body : List CheckFault) (place : Place) (d new : Declared)
+    → test ≡ [] → OnOk r (body ≡ []) → OnOk r (new ≡ d)
+    → OnOk r (◌≡◌ {A = List CheckFault × Context} (test ++ body, around d place) ([], around new place))
+loop_passes (Ok x) test body place d new t b same = rw (t, b, same) refl
+loop_passes (Err e) test body place d new t b same = tt

@@ -8,7 +8,7 @@ use Rattle.std.proofs.Math.Seq.{drop-cons}
 use Rattle.rhai_tree.specs.declared.fault.CheckFault.{CheckFault}
 use Rattle.rhai_tree.specs.declared.fault.CheckFault.TheVariants.{BadOffset, BadImportOffset, BadChain, BadAssignment, BadSwitch}
 use Rattle.rhai_tree.specs.declared.fault.CheckFault.TheVariants.{BadMapKey, BadCatch, LoopControlOutside, ExportNotGlobal, EvalCall}
-use Rattle.rhai_tree.specs.declared.fault.CheckFault.TheVariants.{NotAnExpression, QualifiedMethod, NoMemory, NotYet}
+use Rattle.rhai_tree.specs.declared.fault.CheckFault.TheVariants.{NotAnExpression, QualifiedMethod, NoMemory}
 use Rattle.rhai_tree.specs.declared.expr.Expr.{Expr}
 use Rattle.rhai_tree.specs.declared.expr.Stmt.{Stmt}
 use Rattle.rhai_tree.specs.Context.{Context}
@@ -40,7 +40,6 @@ refuses_more fs gs a b (ExportNotGlobal pos) f g h = f h
 refuses_more fs gs a b (EvalCall pos) f g h = f h
 refuses_more fs gs a b (NotAnExpression pos) f g h = f h
 refuses_more fs gs a b (QualifiedMethod pos) f g h = f h
-refuses_more fs gs a b (NotYet pos) f g h = f h
 refuses_more fs gs a b NoMemory f g h = g h
 
 first_of : (fs gs : List CheckFault) (e : CheckFault) → IsFirst fs e → IsFirst (fs ++ gs) e
@@ -116,7 +115,6 @@ stands faults declares (ExportNotGlobal pos) h not = stands_first faults (Export
 stands faults declares (EvalCall pos) h not = stands_first faults (EvalCall pos) h
 stands faults declares (NotAnExpression pos) h not = stands_first faults (NotAnExpression pos) h
 stands faults declares (QualifiedMethod pos) h not = stands_first faults (QualifiedMethod pos) h
-stands faults declares (NotYet pos) h not = stands_first faults (NotYet pos) h
 stands faults declares NoMemory h not = absurd (not refl)
 
 -- a fault of a later part that is handed on stands in the whole

@@ -1,11 +1,12 @@
--- The names that a variable declares for what follows, a `for` for its body, and a catch variable for its branch.
+-- What is forgotten at the end of a block. The names that a variable declares for what follows, a `for` for its body, and a catch variable for its branch.
 use Rattle.std.proofs.Common.{◌≡◌, ap, refl, sym, ◌∙◌, subst, Bool, true, ◌||◌, IsTrue, List, [], ◌∷◌, ◌++◌, length, take}
 use Rattle.std.proofs.Common.{append_assoc}
-use Rattle.std.proofs.Math.Seq.{take-append_seam, take-length}
+use Rattle.std.proofs.Math.Seq.{take-append_seam}
 use Rattle.std.proofs.lemmas.List.{append-nil}
 use Rattle.std.specs.Prelude.{Option, Some, None, option_map, IsSomeAnd}
 use Rattle.std.specs.declared.num.NonZeroUsize.{NonZeroUsize}
 use Rattle.rhai_tree.specs.declared.fault.CheckFault.{CheckFault}
+use Rattle.rhai_check.specs.declared.check.declared.Declared.{Declared}
 use Rattle.rhai_check.specs.declared.check.place.Place.{Place}
 use Rattle.rhai_tree.specs.declared.expr.Expr.{Expr, out-Expr}
 use Rattle.rhai_tree.specs.declared.expr.Expr.TheOpen as layer
@@ -15,7 +16,7 @@ use Rattle.rhai_tree.specs.declared.position.Position.{Position}
 use Rattle.rhai_tree.specs.Layers.{ExprLayer}
 use Rattle.rhai_tree.specs.Positions.{position_of}
 use Rattle.rhai_tree.specs.Context.{Context, looping, declaring}
-use Rattle.rhai_check.specs.Around.{around}
+use Rattle.rhai_check.specs.Around.{around, cut, marked, Continues}
 use Rattle.rhai_check.specs.Declares.{declares_block, declares_catch, names_a_catch, needs_of}
 use Rattle.rhai_tree.specs.Forms.{catch_name, catch_of}
 use Rattle.rhai_tree.specs.Frame.{with_name, turn_names, var_names, resolves_block, turns_resolve, catch_resolves}
@@ -32,13 +33,37 @@ use Rattle.rhai_check.proofs.Refused.{refuses_more, refuses_later}
 abbrev pub in_loop : Place → Place
 in_loop place = record place { in_loop = true }
 
+-- ---- what is declared since a mark is forgotten
+
+taken : (old new : List Name) → Begins old new → take (length old) new ≡ old
+taken old new (added, is) = ap (take (length old)) is ∙ take-append_seam old added
+
+pub restored : (d new : Declared) → Continues d new → cut (marked d) new ≡ d
+restored d new (names, imports) = λ i. record { names = taken d.names new.names names i; imports = taken d.imports new.imports imports i }
+
+pub continues_same : (d new : Declared) → new ≡ d → Continues d new
+continues_same d new is = (
+  ([], ap (λ (e : Declared). e.names) is ∙ sym (append-nil d.names)),
+  ([], ap (λ (e : Declared). e.imports) is ∙ sym (append-nil d.imports)),
+)
+
+-- where names alone are declared
+with_names : (d new : Declared) (names : List Name) → Begins d.names names → new ≡ record d { names = names } → Continues d new
+with_names d new names (added, begins) is =
+    ((added, ap (λ (e : Declared). e.names) is ∙ begins), ([], ap (λ (e : Declared). e.imports) is ∙ sym (append-nil d.imports)))
+
+-- where there is a new import
+pub continues_import : (d new : Declared) (name : Name) → new ≡ record d { imports = d.imports ++ name ∷ [] } → Continues d new
+continues_import d new name is =
+    (([], ap (λ (e : Declared). e.names) is ∙ sym (append-nil d.names)), (name ∷ [], ap (λ (e : Declared). e.imports) is))
+
 -- ---- a variable, which declares its name where it overwrites no other
 
 module _ (index : Option NonZeroUsize) (name : Name) where
-  pub around_var : (names : List Name) (place : Place) →
-      walk.after_var faulty index name (around names place) ≡ around (var_names index name names) place
-  around_var names place =
-      elim index as (λ i. walk.after_var faulty i name (around names place) ≡ around (var_names i name names) place) [
+  pub around_var : (d : Declared) (place : Place) →
+      walk.after_var faulty index name (around d place) ≡ around (record d { names = var_names index name d.names }) place
+  around_var d place = elim index as
+      (λ i. walk.after_var faulty i name (around d place) ≡ around (record d { names = var_names i name d.names }) place) [
         | None ↦ refl
         | Some offset ↦ refl
       ]
@@ -49,110 +74,121 @@ module _ (index : Option NonZeroUsize) (name : Name) where
     | Some offset ↦ refl
   ]
 
-  pub begins_var : (names new : List Name) → new ≡ var_names index name names → Begins names new
-  begins_var names new is = elim index as (λ i. new ≡ var_names i name names → Begins names new) [
-    | None ↦ λ is. (name ∷ [], is)
-    | Some offset ↦ λ is. ([], is ∙ sym (append-nil names))
-  ] is
+  begins_var : (names : List Name) → Begins names (var_names index name names)
+  begins_var names = elim index as (λ i. Begins names (var_names i name names)) [
+    | None ↦ (name ∷ [], refl)
+    | Some offset ↦ ([], sym (append-nil names))
+  ]
+
+  pub continues_var : (d new : Declared) → new ≡ record d { names = var_names index name d.names } → Continues d new
+  continues_var d new is = with_names d new (var_names index name d.names) (begins_var d.names) is
 
 -- ---- the body of a `for`
 
-module _ (variable : Ident) (counter : Option Ident) (names : List Name) where
+module _ (variable : Ident) (counter : Option Ident) (d : Declared) where
+  -- what is declared for it
+  abbrev pub turned : Declared
+  turned = record d { names = turn_names variable counter d.names }
+
   -- what surrounds it
   around_turn : (place : Place) →
-      looping (declaring variable.name (walk.after faulty (option_map (walk.name_in faulty) counter) (around names place)))
-      ≡ around (turn_names variable counter names) (in_loop place)
+      looping (declaring variable.name (walk.after faulty (option_map (walk.name_in faulty) counter) (around d place)))
+      ≡ around turned (in_loop place)
   around_turn place = elim counter as (λ (o : Option Ident).
-      looping (declaring variable.name (walk.after faulty (option_map (walk.name_in faulty) o) (around names place)))
-      ≡ around (turn_names variable o names) (in_loop place)) [ None ↦ refl | Some ident ↦ refl ]
+      looping (declaring variable.name (walk.after faulty (option_map (walk.name_in faulty) o) (around d place)))
+      ≡ around (record d { names = turn_names variable o d.names }) (in_loop place)) [ None ↦ refl | Some ident ↦ refl ]
 
   -- its names stand above the names before it
-  above_turn : (base : List Name) → turn_names variable counter (base ++ names) ≡ base ++ turn_names variable counter names
-  above_turn base = elim counter as (λ (o : Option Ident). turn_names variable o (base ++ names) ≡ base ++ turn_names variable o names) [
-    | None ↦ append_assoc base names (variable.name ∷ [])
-    | Some ident ↦ simp append_assoc
+  above_turn : (base : List Name) → turn_names variable counter (base ++ d.names) ≡ base ++ turn_names variable counter d.names
+  above_turn base = elim counter as
+      (λ (o : Option Ident). turn_names variable o (base ++ d.names) ≡ base ++ turn_names variable o d.names) [
+        | None ↦ append_assoc base d.names (variable.name ∷ [])
+        | Some ident ↦ simp append_assoc
+      ]
+
+  begins_turn : Begins d.names (turn_names variable counter d.names)
+  begins_turn = elim counter as (λ (o : Option Ident). Begins d.names (turn_names variable o d.names)) [
+    | None ↦ (variable.name ∷ [], refl)
+    | Some ident ↦ (ident.name ∷ variable.name ∷ [], append_assoc d.names (ident.name ∷ []) (variable.name ∷ []))
   ]
 
   -- and are taken back
-  pub take_turn : take (length names) (turn_names variable counter names) ≡ names
-  take_turn = elim counter as (λ (o : Option Ident). take (length names) (turn_names variable o names) ≡ names) [
-    | None ↦ take-append_seam names (variable.name ∷ [])
-    | Some ident ↦ ap (take (length names)) (append_assoc names (ident.name ∷ []) (variable.name ∷ [])) ∙ take-append_seam names (ident.name ∷ variable.name ∷ [])
-  ]
+  pub turn_back : cut (marked d) turned ≡ d
+  turn_back = restored d turned (with_names d turned (turn_names variable counter d.names) begins_turn refl)
 
   module _ (body : StmtBlock) where
-    turn_body : (place : Place) → turn_faults variable counter body (around names place)
-        ≡ (seen_block body).value (around (turn_names variable counter names) (in_loop place))
+    turn_body : (place : Place) →
+        turn_faults variable counter body (around d place) ≡ (seen_block body).value (around turned (in_loop place))
     turn_body place = ap (λ (c : Context). (seen_block body).value c) (around_turn place)
 
-    pub turn_passes : (place : Place) → (seen_block body).value (around (turn_names variable counter names) (in_loop place)) ≡ [] →
-        turn_faults variable counter body (around names place) ≡ []
+    pub turn_passes : (place : Place) → (seen_block body).value (around turned (in_loop place)) ≡ [] →
+        turn_faults variable counter body (around d place) ≡ []
     turn_passes place h = turn_body place ∙ h
 
-    pub turn_runs : ((base : List Name) → IsTrue (resolves_block body (base ++ turn_names variable counter names))) →
-        (base : List Name) → IsTrue (turns_resolve variable counter body (base ++ names))
+    pub turn_runs : ((base : List Name) → IsTrue (resolves_block body (base ++ turned.names))) →
+        (base : List Name) → IsTrue (turns_resolve variable counter body (base ++ d.names))
     turn_runs h base = ap (resolves_block body) (above_turn base) ∙ h base
 
     pub turn_refused : (place : Place) (declares : Bool) (fault : CheckFault) →
-        Refuses ((seen_block body).value (around (turn_names variable counter names) (in_loop place))) declares fault →
-        Refuses (turn_faults variable counter body (around names place)) true fault
+        Refuses ((seen_block body).value (around turned (in_loop place))) declares fault →
+        Refuses (turn_faults variable counter body (around d place)) true fault
     turn_refused place declares fault h = refuses_more _ _ declares true fault
         (λ k. subst (λ (fs : List CheckFault). IsFirst fs fault) (sym (turn_body place)) k) (λ k. refl) h
 
 -- ---- a branch behind its catch variable
 
 -- what surrounds what stands after a name that may be left out
-around_name : (name : Option Name) (names : List Name) (place : Place) →
-    walk.after faulty name (around names place) ≡ around (with_name name names) place
-around_name None names place = refl
-around_name (Some name) names place = refl
+around_name : (name : Option Name) (d : Declared) (place : Place) →
+    walk.after faulty name (around d place) ≡ around (record d { names = with_name name d.names }) place
+around_name None d place = refl
+around_name (Some name) d place = refl
 
 above_name : (name : Option Name) (base names : List Name) → with_name name (base ++ names) ≡ base ++ with_name name names
 above_name None base names = refl
 above_name (Some name) base names = append_assoc base names (name ∷ [])
 
-take_name : (name : Option Name) (names : List Name) → take (length names) (with_name name names) ≡ names
-take_name None names = take-length names
-take_name (Some name) names = take-append_seam names (name ∷ [])
+begins_name : (name : Option Name) (names : List Name) → Begins names (with_name name names)
+begins_name None names = ([], sym (append-nil names))
+begins_name (Some name) names = (name ∷ [], refl)
 
--- the names behind a catch variable
-abbrev pub Caught : (catch : Option (Option Name)) → (names new : List Name) → Type 0
-Caught catch names new = IsSomeAnd catch (λ name. new ≡ with_name name names)
+-- what is declared behind a catch variable
+abbrev pub Caught : (catch : Option (Option Name)) → (d new : Declared) → Type 0
+Caught catch d new = IsSomeAnd catch (λ name. new ≡ record d { names = with_name name d.names })
 
--- they are taken back
-pub take_caught : (catch : Option (Option Name)) (names new : List Name) → Caught catch names new → take (length names) new ≡ names
-take_caught (Some name) names new is = ap (take (length names)) is ∙ take_name name names
-take_caught None names new is = absurd is
+-- it is taken back
+pub caught_back : (catch : Option (Option Name)) (d new : Declared) → Caught catch d new → cut (marked d) new ≡ d
+caught_back (Some name) d new is = restored d new (with_names d new (with_name name d.names) (begins_name name d.names) is)
+caught_back None d new is = absurd is
 
 -- a good one has no fault, and the branch is found above its name
-caught : (catch : Option (Option Name)) (pos : Position) (branch : walk.Finds faulty) (names new : List Name) (place : Place) →
-    Caught catch names new → walk.found_in_catch faulty catch pos branch (around names place) ≡ branch (around new place)
-caught (Some name) pos branch names new place is =
-    ap branch (around_name name names place) ∙ ap (λ ns. branch (around ns place)) (sym is)
-caught None pos branch names new place is = absurd is
+caught : (catch : Option (Option Name)) (pos : Position) (branch : walk.Finds faulty) (d new : Declared) (place : Place) →
+    Caught catch d new → walk.found_in_catch faulty catch pos branch (around d place) ≡ branch (around new place)
+caught (Some name) pos branch d new place is =
+    ap branch (around_name name d place) ∙ ap (λ (e : Declared). branch (around e place)) (sym is)
+caught None pos branch d new place is = absurd is
 
-caught_runs : (catch : Option (Option Name)) (pos : Position) (branch : walk.Finds sound) (names new : List Name) →
-    Caught catch names new → ((base : List Name) → IsTrue (branch (base ++ new))) →
-    (base : List Name) → IsTrue (walk.found_in_catch sound catch pos branch (base ++ names))
-caught_runs (Some name) pos branch names new is h base =
-    ap branch (above_name name base names ∙ ap (λ ns. base ++ ns) (sym is)) ∙ h base
-caught_runs None pos branch names new is h base = absurd is
+caught_runs : (catch : Option (Option Name)) (pos : Position) (branch : walk.Finds sound) (d new : Declared) →
+    Caught catch d new → ((base : List Name) → IsTrue (branch (base ++ new.names))) →
+    (base : List Name) → IsTrue (walk.found_in_catch sound catch pos branch (base ++ d.names))
+caught_runs (Some name) pos branch d new is h base =
+    ap branch (above_name name base d.names ∙ ap (λ (e : Declared). base ++ e.names) (sym is)) ∙ h base
+caught_runs None pos branch d new is h base = absurd is
 
-module _ (variable : Expr) (branch : StmtBlock) (names new : List Name) (is : Caught (catch_of variable) names new) where
+module _ (variable : Expr) (branch : StmtBlock) (d new : Declared) (is : Caught (catch_of variable) d new) where
   pub branch_passes : (place : Place) → (seen_block branch).value (around new place) ≡ [] →
-      catch_faults variable branch (around names place) ≡ []
-  branch_passes place h = caught (catch_of variable) (position_of variable) (seen_block branch).value names new place is ∙ h
+      catch_faults variable branch (around d place) ≡ []
+  branch_passes place h = caught (catch_of variable) (position_of variable) (seen_block branch).value d new place is ∙ h
 
-  pub branch_runs : ((base : List Name) → IsTrue (resolves_block branch (base ++ new))) →
-      (base : List Name) → IsTrue (catch_resolves variable branch (base ++ names))
-  branch_runs h base = caught_runs (catch_of variable) (position_of variable) (resolves_block branch) names new is h base
+  pub branch_runs : ((base : List Name) → IsTrue (resolves_block branch (base ++ new.names))) →
+      (base : List Name) → IsTrue (catch_resolves variable branch (base ++ d.names))
+  branch_runs h base = caught_runs (catch_of variable) (position_of variable) (resolves_block branch) d new is h base
 
   pub branch_refused : (place : Place) (fault : CheckFault) →
       Refuses ((seen_block branch).value (around new place)) (declares_block branch) fault →
-      Refuses (catch_faults variable branch (around names place)) (declares_catch variable branch) fault
+      Refuses (catch_faults variable branch (around d place)) (declares_catch variable branch) fault
   branch_refused place fault h =
-      let found : catch_faults variable branch (around names place) ≡ (seen_block branch).value (around new place) =
-      caught (catch_of variable) (position_of variable) (seen_block branch).value names new place is in
+      let found : catch_faults variable branch (around d place) ≡ (seen_block branch).value (around new place) =
+      caught (catch_of variable) (position_of variable) (seen_block branch).value d new place is in
       subst (λ (fs : List CheckFault). Refuses fs (declares_catch variable branch) fault) (sym found)
       (refuses_later [] ((seen_block branch).value (around new place)) (names_a_catch (catch_of variable)) (declares_block branch) fault
       refl h)

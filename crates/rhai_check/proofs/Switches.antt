@@ -15,6 +15,7 @@ use Rattle.rhai_tree.specs.declared.expr.Stmt.{Stmt, out-Stmt}
 use Rattle.rhai_tree.specs.declared.expr.SwitchCase.{SwitchCase}
 use Rattle.rhai_tree.specs.declared.position.Position.{Position}
 use Rattle.rhai_tree.specs.Layers.{StmtLayer}
+use Rattle.rhai_check.specs.declared.check.declared.Declared.{Declared}
 use Rattle.rhai_check.specs.declared.check.place.Place.{Place}
 use Rattle.rhai_check.specs.Around.{around}
 use Rattle.rhai_tree.specs.Cases.{is_switch}
@@ -58,53 +59,53 @@ cases_found r parts cases ranges default pos c good is =
 
 -- a statement that is a `switch`
 module _ (s : Stmt) (expr : Expr) (parts : List ConditionalExpr) (cases : List SwitchCase) (ranges : List RangeCase) (default : Option ℕ)
-    (pos : Position) (names : List Name) (place : Place) (is : out-Stmt s ≡ layer.Switch expr parts cases ranges default pos)
+    (pos : Position) (d : Declared) (place : Place) (is : out-Stmt s ≡ layer.Switch expr parts cases ranges default pos)
   where
     abbrev form : StmtLayer
     form = layer.Switch expr parts cases ranges default pos
 
     abbrev behind : List CheckFault
-    behind = (seen_expr expr).value (around names place) ++ faults_in_conditionals (map seen_conditional parts) (around names place)
+    behind = (seen_expr expr).value (around d place) ++ faults_in_conditionals (map seen_conditional parts) (around d place)
 
     pub switch_bad : is_switch (length parts) cases ranges default ≡ false →
-        Refuses (seen_stmt s (around names place)).0 (declares_stmt s) (BadSwitch pos)
-    switch_bad bad = refuses_stmt_at s form (around names place) (BadSwitch pos) is
+        Refuses (seen_stmt s (around d place)).0 (declares_stmt s) (BadSwitch pos)
+    switch_bad bad = refuses_stmt_at s form (around d place) (BadSwitch pos) is
         (subst (λ (fs : List CheckFault). IsFirst (fs ++ behind) (BadSwitch pos))
-        (sym (cases_found faulty parts cases ranges default pos (around names place) false bad)) refl)
+        (sym (cases_found faulty parts cases ranges default pos (around d place) false bad)) refl)
 
     module _ (good : is_switch (length parts) cases ranges default ≡ true) where
       refuses_behind_cases : (e : CheckFault) → Refuses behind (declares_expr expr || any_of (map declares_conditional parts)) e →
-          Refuses (seen_stmt s (around names place)).0 (declares_stmt s) e
-      refuses_behind_cases e h = refuses_stmt_at s form (around names place) e is
-          (refuses_later _ behind false _ e (cases_found faulty parts cases ranges default pos (around names place) true good) h)
+          Refuses (seen_stmt s (around d place)).0 (declares_stmt s) e
+      refuses_behind_cases e h = refuses_stmt_at s form (around d place) e is
+          (refuses_later _ behind false _ e (cases_found faulty parts cases ranges default pos (around d place) true good) h)
 
-      pub value_refused : (e : CheckFault) → Refuses ((seen_expr expr).value (around names place)) (declares_expr expr) e →
-          Refuses (seen_stmt s (around names place)).0 (declares_stmt s) e
+      pub value_refused : (e : CheckFault) → Refuses ((seen_expr expr).value (around d place)) (declares_expr expr) e →
+          Refuses (seen_stmt s (around d place)).0 (declares_stmt s) e
       value_refused e h = refuses_behind_cases e (refuses_first _ _ _ _ e h)
 
-      module _ (none : (seen_expr expr).value (around names place) ≡ []) where
+      module _ (none : (seen_expr expr).value (around d place) ≡ []) where
         pub parts_refused : (e : CheckFault) →
-            Refuses (faults_in_conditionals (map seen_conditional parts) (around names place)) (any_of (map declares_conditional parts)) e →
-            Refuses (seen_stmt s (around names place)).0 (declares_stmt s) e
+            Refuses (faults_in_conditionals (map seen_conditional parts) (around d place)) (any_of (map declares_conditional parts)) e →
+            Refuses (seen_stmt s (around d place)).0 (declares_stmt s) e
         parts_refused e h = refuses_behind_cases e (refuses_later _ _ _ _ e none h)
 
-        pub switch_passes : {A : Type 0} (r : Result A CheckFault) (new : List Name) →
-            OnOk r (faults_in_conditionals (map seen_conditional parts) (around names place) ≡ []) → OnOk r (new ≡ names) →
-            OnOk r (seen_stmt s (around names place) ≡ ([], around new place))
-        switch_passes r new h same = exact_stmt_at r s form (around names place) (around new place) is
-            (loop_passes r _ behind place names new (cases_found faulty parts cases ranges default pos (around names place) true good)
+        pub switch_passes : {A : Type 0} (r : Result A CheckFault) (new : Declared) →
+            OnOk r (faults_in_conditionals (map seen_conditional parts) (around d place) ≡ []) → OnOk r (new ≡ d) →
+            OnOk r (seen_stmt s (around d place) ≡ ([], around new place))
+        switch_passes r new h same = exact_stmt_at r s form (around d place) (around new place) is
+            (loop_passes r _ behind place d new (cases_found faulty parts cases ranges default pos (around d place) true good)
             (ok_then r (λ rest. ap (λ (fs : List CheckFault).
-            fs ++ faults_in_conditionals (map seen_conditional parts) (around names place)) none ∙ rest) h) same)
+            fs ++ faults_in_conditionals (map seen_conditional parts) (around d place)) none ∙ rest) h) same)
 
-      pub switch_runs : {A : Type 0} (r : Result A CheckFault) (new : List Name) →
-          ((base : List Name) → IsTrue (resolves_expr expr (base ++ names))) →
-          OnOk r ((base : List Name) → IsTrue (conditionals_resolve (map resolves_conditional parts) (base ++ names))) →
-          OnOk r (new ≡ names) → OnOk r ((base : List Name) → resolves_stmt s (base ++ names) ≡ (true, base ++ new))
+      pub switch_runs : {A : Type 0} (r : Result A CheckFault) (new : Declared) →
+          ((base : List Name) → IsTrue (resolves_expr expr (base ++ d.names))) →
+          OnOk r ((base : List Name) → IsTrue (conditionals_resolve (map resolves_conditional parts) (base ++ d.names))) →
+          OnOk r (new ≡ d) → OnOk r ((base : List Name) → resolves_stmt s (base ++ d.names) ≡ (true, base ++ new.names))
       switch_runs r new one h same = runs_stmt_at r s form
-          (λ ns. resolves_expr expr ns && conditionals_resolve (map resolves_conditional parts) ns) names new is
+          (λ ns. resolves_expr expr ns && conditionals_resolve (map resolves_conditional parts) ns) d new is
           (λ ns i. (
             cases_found sound parts cases ranges default pos ns true good i
                 && (resolves_expr expr ns && conditionals_resolve (map resolves_conditional parts) ns),
             ns,
           ))
-          (both_run r (resolves_expr expr) (conditionals_resolve (map resolves_conditional parts)) names one h) same
+          (both_run r (resolves_expr expr) (conditionals_resolve (map resolves_conditional parts)) d.names one h) same

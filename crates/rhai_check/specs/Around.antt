@@ -1,9 +1,23 @@
 -- What surrounds a form at the place where the checker stands.
-use Rattle.std.specs.Prelude.{List, []}
+use Rattle.std.specs.Prelude.{length, take}
+use Rattle.rhai_check.specs.declared.check.declared.Declared.{Declared}
+use Rattle.rhai_check.specs.declared.check.declared.Mark.{Mark}
 use Rattle.rhai_check.specs.declared.check.place.Place.{Place}
 use Rattle.rhai_tree.specs.Context.{Context}
-use Rattle.rhai_tree.specs.Names.{Name}
+use Rattle.rhai_tree.specs.Names.{Begins}
 
--- what surrounds a form at a place after these names
-abbrev pub around : List Name → Place → Context
-around names place = record { names = names; imports = []; in_loop = place.in_loop; in_top = place.in_top }
+-- what surrounds a form at a place after what is declared
+abbrev pub around : Declared → Place → Context
+around d place = record { names = d.names; imports = d.imports; in_loop = place.in_loop; in_top = place.in_top }
+
+-- how much is declared
+abbrev pub marked : Declared → Mark
+marked d = record { names = length d.names; imports = length d.imports }
+
+-- only so much of it
+abbrev pub cut : Mark → Declared → Declared
+cut mark d = record { names = take mark.names d.names; imports = take mark.imports d.imports }
+
+-- what is declared later begins with what is declared
+abbrev pub Continues : Declared → Declared → Type 0
+Continues old new = Begins old.names new.names × Begins old.imports new.imports

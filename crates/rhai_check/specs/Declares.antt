@@ -1,4 +1,5 @@
--- Whether a part of a tree declares a variable, makes a map or is a chain: the checker needs memory for names, keys and links alone.
+-- Whether a part of a tree declares a variable, imports a module, makes a map or is a chain: the checker needs memory for names, keys and
+-- links alone.
 use Rattle.std.specs.Prelude.{Bool, true, false, ◌||◌, List, [], ◌∷◌, map, Option, Some, None}
 use Rattle.rhai_tree.specs.Forms.{any_of, catch_name, catch_of}
 use Rattle.rhai_tree.specs.Names.{Name}
@@ -53,7 +54,7 @@ conditional_step conditional = conditional.condition.declares || conditional.exp
 abbrev pub block_step : layer.StmtBlock-F Needs Bool Bool Bool (Unit {0}) Bool → Bool
 block_step block = any_of block.statements
 
--- a `let` may declare its name, and anything else asks as its parts do
+-- a `let` may declare its name, an `import` its alias, and anything else asks as its parts do
 abbrev pub stmt_step : layer.Stmt-F Needs Bool Bool Bool (Unit {0}) Bool → Bool
 stmt_step (layer.Noop pos) = false
 stmt_step (layer.Expr expr) = expr.declares
@@ -69,7 +70,7 @@ stmt_step (layer.For name counter expr body pos) = true
 stmt_step (layer.BreakLoop expr options pos) = in_option expr
 stmt_step (layer.TryCatch body variable branch pos) = body || (variable.in_catch || branch)
 stmt_step (layer.Return expr options pos) = in_option expr
-stmt_step (layer.Import expr alias pos) = expr.declares
+stmt_step (layer.Import expr alias pos) = true
 stmt_step (layer.Export name alias pos) = false
 stmt_step (layer.Share variables) = false
 
@@ -101,6 +102,6 @@ abbrev pub has_functions : List ScriptFuncDef → Bool
 has_functions [] = false
 has_functions (def ∷ defs) = true
 
--- the check of a tree needs memory only where the tree declares a variable, makes a map, has a chain or has functions
+-- the check of a tree needs memory only where the tree declares a variable, imports a module, makes a map, has a chain or has functions
 abbrev pub needs_memory : List Stmt → List ScriptFuncDef → Bool
 needs_memory statements functions = any_of (map declares_stmt statements) || has_functions functions

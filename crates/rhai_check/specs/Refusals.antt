@@ -3,7 +3,7 @@ use Rattle.std.specs.Prelude.{◌≡◌, Bool, IsTrue, List, [], ◌∷◌}
 use Rattle.rhai_check.specs.Types.{CheckFault}
 use Rattle.rhai_tree.specs.declared.fault.CheckFault.TheVariants.{BadOffset, BadImportOffset, BadChain, BadAssignment, BadSwitch}
 use Rattle.rhai_tree.specs.declared.fault.CheckFault.TheVariants.{BadMapKey, BadCatch, LoopControlOutside, ExportNotGlobal, EvalCall}
-use Rattle.rhai_tree.specs.declared.fault.CheckFault.TheVariants.{NotAnExpression, QualifiedMethod, NoMemory, NotYet}
+use Rattle.rhai_tree.specs.declared.fault.CheckFault.TheVariants.{NotAnExpression, QualifiedMethod, NoMemory}
 
 -- the first of some faults
 abbrev pub IsFirst : List CheckFault → CheckFault → Type 0
@@ -25,4 +25,3 @@ Refuses faults declares (EvalCall pos) = IsFirst faults (EvalCall pos)
 Refuses faults declares (NotAnExpression pos) = IsFirst faults (NotAnExpression pos)
 Refuses faults declares (QualifiedMethod pos) = IsFirst faults (QualifiedMethod pos)
 Refuses faults declares NoMemory = IsTrue declares
-Refuses faults declares (NotYet pos) = IsFirst faults (NotYet pos)

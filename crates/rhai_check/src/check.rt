@@ -7,6 +7,7 @@ ghost use Rattle.rhai_tree.specs.WellFormed.{Stands, faults_in_function, IsForme
 
 mod cases;
 mod chain;
+mod declared;
 mod expr;
 mod function;
 mod keys;
@@ -14,6 +15,7 @@ mod names;
 mod place;
 mod stmt;
 
+use crate::check::declared::Declared;
 use crate::check::function::{check_def, check_functions};
 use crate::check::place::Place;
 use crate::check::stmt::check_statements;
@@ -25,8 +27,8 @@ use rhai_tree::function::ScriptFuncDef;
 use std::alloc::Global;
 
 /// Passes a tree with the functions that stand beside it, where it is well formed. Otherwise it
-/// answers one of the faults that stand in it. Where the tree declares a variable, makes a map, has a
-/// chain or has functions it may answer `NoMemory`.
+/// answers one of the faults that stand in it. Where the tree declares a variable, imports a module,
+/// makes a map, has a chain or has functions it may answer `NoMemory`.
 pub fn check_tree(
     alloc: Global,
     statements: Items<Stmt>,
@@ -41,8 +43,8 @@ pub fn check_tree(
     ensures memory { IfErr result (λ fault. fault ≡ CheckFault.NoMemory →
         IsTrue (needs_memory statements functions)) }
 {
-    let mut names = Items::new(alloc);
-    check_statements(&mut names, Place::TOP, statements.as_slice())?;
+    let mut declared = Declared::new(alloc);
+    check_statements(&mut declared, Place::TOP, statements.as_slice())?;
     let functions = check_functions(alloc, functions)?;
     Ok(CheckedTree::new(statements, functions))
 }

@@ -3,7 +3,6 @@
 ghost use Rattle.rhai_tree.specs.Frame.{all_resolve, resolves_stmt};
 ghost use Rattle.rhai_tree.specs.Names.{Begins};
 ghost use Rattle.rhai_eval.specs.Places.{with_place};
-ghost use Rattle.rhai_eval.specs.Plain.{Plain};
 ghost use Rattle.rhai_eval.specs.States.{under};
 ghost use Rattle.rhai_laws.specs.Kept.{Grown, Kept};
 ghost use Rattle.rhai_methods.specs.Targets.{StaysAlike, stands};
@@ -36,7 +35,6 @@ pub fn eval_stmt_block<H: Host, T: NativeTable<H>>(
     restore_orig_state: bool,
 ) -> Result<Dynamic<H>, EvalAltResult<H>>
     requires resolves { IsTrue (all_resolve (map resolves_stmt statements.now) (names_in scope.old)).0 }
-    requires plain { Plain engine.now global.old }
     ensures kept { Grown (under H.name_of engine.now T.natives)
         (state_of (T.state table.old) global.old scope.old (holding (Some this.old)))
         (state_of (T.state table.new) global.new scope.new (holding (Some this.new))) }

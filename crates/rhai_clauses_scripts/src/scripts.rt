@@ -2,7 +2,6 @@
 
 ghost use Rattle.rhai_tree.specs.Names.{Begins};
 ghost use Rattle.rhai_cycle.specs.Memory.{may_ask};
-ghost use Rattle.rhai_eval.specs.Plain.{Plain};
 ghost use Rattle.rhai_eval.specs.States.{under};
 ghost use Rattle.rhai_laws.specs.Kept.{Grown, Kept};
 ghost use Rattle.rhai_state.specs.Errors.{is_out_of_memory};
@@ -32,7 +31,6 @@ pub fn eval_global_statements<H: Host, T: NativeTable<H>>(
     tree: &CheckedTree,
     map_exit_to_return_value: bool,
 ) -> Result<Dynamic<H>, EvalAltResult<H>>
-    requires plain { Plain engine.now global.old }
     ensures memory { IfErr result (λ error. is_out_of_memory error ≡ true → IsTrue (may_ask tree.now.0)) }
     ensures kept { Grown (under H.name_of engine.now T.natives)
         (state_of (T.state table.old) global.old scope.old (holding None))
@@ -68,7 +66,6 @@ pub fn call_script_fn<H: Host, T: NativeTable<H>>(
     rewind_scope: bool,
     pos: Position,
 ) -> Result<Dynamic<H>, EvalAltResult<H>>
-    requires plain { Plain engine.now global.old }
     ensures kept { Kept (under H.name_of engine.now T.natives)
         (state_of (T.state table.old) global.old scope.old (holding (Some this.old)))
         (state_of (T.state table.new) global.new scope.new (holding (Some this.new))) }

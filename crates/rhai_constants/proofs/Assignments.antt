@@ -9,7 +9,6 @@ use Rattle.rhai_tree.specs.declared.expr.Expr.TheOpen as layer
 use Rattle.rhai_tree.specs.Layers.{ExprLayer}
 use Rattle.rhai_values.specs.declared.base.value.AccessMode.{AccessMode}
 use Rattle.rhai_values.specs.declared.base.value.AccessMode.TheVariants.{ReadWrite, ReadOnly}
-use Rattle.rhai_tree.specs.Forms.{is_unqualified}
 use Rattle.rhai_values.specs.declared.base.value.Dynamic.{Dynamic}
 use Rattle.rhai_values.specs.declared.base.value.Union.{Union}
 use Rattle.rhai_values.specs.declared.base.value.Union.TheVariants as value
@@ -17,20 +16,19 @@ use Rattle.rhai_state.specs.declared.error.EvalAltResult.{EvalAltResult}
 use Rattle.rhai_values.specs.Cells.{IsNoHandle, value_of_cell}
 use Rattle.rhai_values.specs.Modes.{with_mode}
 use Rattle.rhai_state.specs.Native.{Reply, Missing, Gives, Faults}
-use Rattle.rhai_state.specs.Scope.{index_of, found}
 use Rattle.rhai_operators.specs.Answers.{Answer, op_assign_of}
-use Rattle.rhai_machine.specs.language.Setting.{Setting}
+use Rattle.rhai_machine.specs.language.Setting.{Globals, Setting, globals_of}
 use Rattle.rhai_machine.specs.language.State.{Local}
-use Rattle.rhai_machine.specs.language.Functions.{meant_function}
-use Rattle.rhai_machine.specs.language.Names.{bound_this}
+use Rattle.rhai_machine.specs.language.Variables.{Variable, no_path}
+use Rattle.rhai_machine.specs.language.Names.{Meaning, AtEntry, AsTemporary, bound_this, meant}
 use Rattle.rhai_machine.specs.language.Places.{Place, InEntry, InCell, InThis, InFocus, Target, target, is_constant, unless_constant}
-use Rattle.rhai_machine.specs.language.Places.{target_in_cell, target_at, no_variable, target_found, target_of, focus_in_cell, focus_at}
+use Rattle.rhai_machine.specs.language.Places.{target_in_cell, target_at, target_meant, target_of, focus_in_cell, focus_at}
 use Rattle.rhai_machine.specs.language.Places.{focus_target, this_at, this_target, put}
 use Rattle.rhai_machine.specs.language.Frames.{Attempt, InPlace, AsValue, Assignment, Update, Frame}
 use Rattle.rhai_machine.specs.language.Frames.{Core, core, where_there, QuestionUpdate}
 use Rattle.rhai_machine.specs.language.Frames.{FireUpdate}
 use Rattle.rhai_machine.specs.language.Calls.{sized, applied, replied, placed_if_none}
-use Rattle.rhai_machine.specs.language.Assignment.{store_this, to_this}
+use Rattle.rhai_machine.specs.language.Assignment.{store_this, to_this, variable_of_assignment}
 use Rattle.rhai_machine.specs.language.Assignment.{assignment_move, written_core, done, if_fast, says_missing, operation_of}
 use Rattle.rhai_machine.specs.language.Assignment.{native_of, left_in, update_core, assign_core, store_core, changed_core, fault_core}
 use Rattle.rhai_machine.specs.language.Assignment.{value_core, answered_core, lent_core, barred_core, fire_update}
@@ -38,6 +36,7 @@ use Rattle.std.specs.Option.{unwrap_or}
 use Rattle.rhai_state.specs.Scope.{value_in}
 use Rattle.rhai_machine.specs.language.Values.{unit_value}
 use Rattle.rhai_machine.specs.language.Handles.{focus_of}
+use Rattle.rhai_machine.proofs.MeantLaws.{meant_entry}
 use Rattle.rhai_constants.specs.Constants.{is_bottom}
 use Rattle.rhai_constants.proofs.ConstantLemmas.{constant_mode}
 use Rattle.rhai_constants.proofs.Keeping.{Told, telling, IsDue, IsFree, IsConstantDue, calm, due, constant_due, Settled, Writable, Keeps}
@@ -81,17 +80,19 @@ module _ {H : Type 0} (a : Told H) (k : List (Frame H)) (l : Local H) (settled :
   at_writable name pos i _ v t there is =
       unless_writable (is_constant v.mode) name pos (target (InEntry i) v) t is (λ never. not_constant i v there never)
 
-  found_writable : (otherwise : EvalAltResult H) (name : List ℕ) (pos : Position) (index : Option ℕ) (there : Option (Dynamic H))
-      (t : Target H) → value_in l.scope index ≡ there → target_found l.around.cells otherwise name pos index there ≡ Ok t →
-      Writable a.of t.place k
-  found_writable otherwise name pos (Some i) (Some v) t there is = at_writable name pos i v.value v t there is
-  found_writable otherwise name pos (Some i) None t there is = cc
-  found_writable otherwise name pos None there t known is = cc
+  meant_writable : (name : List ℕ) (pos : Position) (r : Result (Meaning H) (EvalAltResult H)) (t : Target H) →
+      ((i : ℕ) (v : Dynamic H) → r ≡ Ok (AtEntry i v) → value_in l.scope (Some i) ≡ Some v) →
+      target_meant l.around.cells name pos r ≡ Ok t → Writable a.of t.place k
+  meant_writable name pos (Ok (AtEntry i v)) t there is = at_writable name pos i v.value v t (there i v refl) is
+  meant_writable name pos (Ok (AsTemporary v)) t there is = cc
+  meant_writable name pos (Err e) t there is = cc
 
-  pub target_writable : (name : List ℕ) (pos : Position) (t : Target H) →
-      target_of l.around.cells l.around.lib name pos l.scope ≡ Ok t → Writable a.of t.place k
-  target_writable name pos t is = found_writable (no_variable (meant_function l.around.lib name) name pos) name pos (index_of name l.scope)
-      (found name l.scope) t refl is
+  pub target_writable : (globals : Globals H) (variable : Variable) (t : Target H) →
+      target_of globals l.around l.scope variable ≡ Ok t → Writable a.of t.place k
+  target_writable globals variable t is = meant_writable variable.name variable.at (meant globals l.around l.scope variable) t
+      (λ i v means.
+      let entry = meant_entry globals l.around l.scope i v variable means in
+      ap (value_in l.scope) (sym entry.0) ∙ entry.1) is
 
   -- ---- the focus of a chain, and `this`
 
@@ -143,8 +144,7 @@ module _ {H : Type 0} (a : Told H) where
 
   pub assignment_keeps : (form : ExprLayer) (op : OpAssignment) (rhs : Expr) (c : Core H) (k : List (Frame H)) (l : Local H) →
       Keeps a c (calm k l) → Moves a c (assignment_move form op rhs k l)
-  assignment_keeps (layer.Variable offset name namespace pos) op rhs c k l h =
-      there_keeps (is_unqualified namespace.path) c _ (through a h (same a tt (λ h. h.1)))
+  assignment_keeps (layer.Variable offset name namespace pos) op rhs c k l h = through a h (same a tt (λ h. h.1))
   assignment_keeps (layer.ThisPtr pos) op rhs c k l h = through a h (to_this_keeps (bound_this pos l.this) op pos rhs k l)
   assignment_keeps (layer.Index lhs rest options pos) op rhs c k l h = through a h (same a tt (λ h. h.1))
   assignment_keeps (layer.Dot lhs rest options pos) op rhs c k l h = through a h (same a tt (λ h. h.1))
@@ -191,16 +191,15 @@ module _ {H : Type 0} (a : Told H) where
     stored_keeps (Err e) assignment v k l stands = same a tt (λ h. h.1)
 
     pub store_keeps : (r : Result (Target H) (EvalAltResult H)) (assignment : Assignment) (v : Dynamic H)
-        (k : List (Frame H)) (l : Local H) →
-        target_of l.around.cells l.around.lib assignment.name assignment.at l.scope ≡ r →
+        (k : List (Frame H)) (l : Local H) → target_of (globals_of s.offer) l.around l.scope (variable_of_assignment assignment) ≡ r →
         Keeps a (calm k l) (store_core s r assignment v k l)
-    store_keeps r assignment v k l is =
-        knowing a (λ h. stored_keeps r assignment v k l (λ t ok. target_writable a k l h.1.1 assignment.name assignment.at t (is ∙ ok)))
+    store_keeps r assignment v k l is = knowing a (λ h. stored_keeps r assignment v k l
+        (λ t ok. target_writable a k l h.1.1 (globals_of s.offer) (variable_of_assignment assignment) t (is ∙ ok)))
 
     pub store_this_keeps : (op : OpAssignment) (pos : Position) (v : Dynamic H) (k : List (Frame H)) (l : Local H) →
         Keeps a (calm k l) (store_this s op pos v k l)
     store_this_keeps op pos v k l = knowing a (λ h.
-        stored_keeps (this_target l.around.cells pos l.this) (record { name = []; at = pos; op = op }) v k l
+        stored_keeps (this_target l.around.cells pos l.this) (record { path = no_path; name = []; at = pos; op = op }) v k l
         (λ t ok. this_writable a k l h.1.1 pos l.this t refl ok))
 
     changed_keeps : (r : Result (Dynamic H) (EvalAltResult H)) (u : Update H) (k : List (Frame H)) (l : Local H) →

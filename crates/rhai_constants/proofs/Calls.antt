@@ -14,48 +14,40 @@ use Rattle.rhai_values.specs.declared.base.value.Union.TheVariants as value
 use Rattle.rhai_values.specs.declared.base.value.FnPtr.{FnPtr, out-FnPtr}
 use Rattle.rhai_values.specs.declared.base.value.FnPtrKind.{FnPtrKind}
 use Rattle.rhai_values.specs.declared.base.value.FnPtrKind.TheVariants as kind
-use Rattle.rhai_values.specs.Cells.{value_of_cell}
+use Rattle.rhai_values.specs.Copy.{copy_of}
 use Rattle.rhai_state.specs.declared.error.EvalAltResult.{EvalAltResult}
-use Rattle.rhai_machine.specs.language.Setting.{Setting}
+use Rattle.rhai_machine.specs.language.Setting.{Globals, Setting, globals_of}
 use Rattle.rhai_machine.specs.language.State.{Local}
 use Rattle.rhai_functions.specs.declared.function.Function.{Function}
-use Rattle.rhai_machine.specs.language.Names.{bound_this}
+use Rattle.rhai_machine.specs.language.Variables.{Path, Variable, path_of, variable_in}
+use Rattle.rhai_machine.specs.language.Names.{Meaning, AtEntry, AsTemporary, bound_this, meant}
 use Rattle.rhai_machine.specs.language.Frames.{Operation, Dispatch, Call, Frame, Core, core}
 use Rattle.rhai_machine.specs.language.Frames.{changed, on_value, CallNamed, OpenExpr}
 use Rattle.rhai_state.specs.Native.{Reply, Missing, Gives, Faults}
 use Rattle.rhai_machine.specs.language.Frames.{Purpose, ToCall, ToCallOn, ToCallOnThis, ToCallNumber, ToCallFunction, ToCurry, ToChain}
 use Rattle.rhai_machine.specs.language.Frames.{Keyword, CallPointer, MakePointer, Curry, IsShared, IsDefinedVariable}
 use Rattle.rhai_machine.specs.language.Expressions.{call_move}
-use Rattle.rhai_machine.specs.language.Calls.{call_of, plainly, races}
-use Rattle.rhai_machine.specs.language.Calls.{answered, dispatch_core, operator_core, applied}
+use Rattle.rhai_machine.specs.language.Calls.{behind_path, call_of, plainly, races}
+use Rattle.rhai_machine.specs.language.Calls.{answered, dispatch_behind, dispatch_core, function_behind, operator_core, applied}
 use Rattle.rhai_machine.specs.language.Arguments.{call_on, lent_this, this_in, is_captured, linked_to, numbered_core, arguments_there}
 use Rattle.rhai_machine.specs.language.Arguments.{arguments_core, on_variable, on_this, captured_move, named_move, operation_named}
 use Rattle.rhai_machine.specs.language.Arguments.{pointer_of, pointer_wanted, text_wanted, unlinked_core, pointer_core}
-use Rattle.rhai_machine.specs.language.Arguments.{keyword_core, keyword_of, function_core, function_of, variable_in}
+use Rattle.rhai_machine.specs.language.Arguments.{keyword_core, keyword_of, function_core, function_move, behind_move, operation_in}
 use Rattle.std.proofs.Common.{sym, ◌∙◌}
-use Rattle.std.specs.Option.{option_or}
 use Rattle.std.specs.Str.{bytes_eq}
-use Rattle.rhai_machine.specs.Types.{Module, ScopeEntry}
-use Rattle.rhai_state.specs.Scope.{found, index_of, value_in}
+use Rattle.rhai_state.specs.Scope.{value_in}
 use Rattle.rhai_machine.specs.language.Values.{Cells, flat, through as seen_through}
-use Rattle.rhai_machine.specs.language.Functions.{meant_function}
-use Rattle.rhai_machine.specs.language.Names.{entered, looked_up, meant, variable_of}
 use Rattle.rhai_machine.specs.language.Places.{is_constant}
 use Rattle.rhai_machine.specs.language.Calls.{asks_function, call_races, called_function, enter_core, found_core, named_core}
 use Rattle.rhai_machine.specs.language.Arguments.{linked_core, passed, passed_as, passed_flat, passed_seen}
+use Rattle.rhai_machine.proofs.MeantLaws.{meant_entry}
 use Rattle.rhai_constants.specs.Constants.{is_bottom}
 use Rattle.rhai_constants.proofs.ConstantLemmas.{constant_mode}
-use Rattle.rhai_constants.proofs.Keeping.{Told, IsDue, PurposeFlat, Loan, Marks, calm, due, Open, Settled, Calls, Inv, Keeps, through, after}
+use Rattle.rhai_constants.proofs.Keeping.{Told, IsDue, PurposeFlat, Loan, Marks, calm, due, Open, Settled, Calls, Inv, Keeps, through}
 use Rattle.rhai_constants.proofs.Keeping.{knowing, Moves}
 use Rattle.rhai_constants.proofs.Settling.{same, ended_keeps}
-use Rattle.rhai_constants.proofs.Assignments.{there_keeps}
 
 module _ {H : Type 0} where
-  entered_is : (name : List ℕ) (at : Position) (v : Dynamic H) (there : Option (Dynamic H)) (w : Dynamic H) →
-      entered name at v there ≡ Ok w → v ≡ w
-  entered_is name at v (Some inner) w is = cc
-  entered_is name at v None w is = cc
-
   pub loan_of : (wanted : Option (Dynamic H)) (v : Dynamic H) (args : List (Dynamic H)) → IsDue wanted (Some v) →
       Loan wanted true (v ∷ args)
   loan_of None v args d = tt
@@ -80,19 +72,6 @@ module _ {H : Type 0} (a : Told H) where
   function_keeps (Some keyword) operation (arg ∷ args) captures k l = same a tt (λ h. h.1)
   function_keeps _ operation args captures k l = same a tt (λ h. h.1)
 
-  pub call_keeps : (fast : Bool) (token : Option Token) (call : FnCallExpr) (args : List Expr) (pos : Position) (form : ExprLayer)
-      (k : List (Frame H)) (l : Local H) →
-      Moves a (core (OpenExpr form) k l) (call_move fast token call args pos k l)
-  call_keeps true (Some token) call (operand ∷ []) pos form k l = same a tt (λ h. h.1)
-  call_keeps true (Some token) call (left ∷ right ∷ []) pos form k l = same a tt (λ h. h.1)
-  call_keeps _ _ call args pos form k l =
-      there_keeps a (is_unqualified call.namespace.path) (core (OpenExpr form) k l) (function_of call pos k l)
-      (after a (calm k l) (λ t. t) (function_keeps (keyword_of call.op_token call.name (length call.args)) (record {
-        name = call.name;
-        token = call.op_token;
-        at = pos;
-      }) call.args call.capture_parent_scope k l))
-
   -- an answer, which may say that the first argument may have changed
   changed_keeps : (r : Result (Dynamic H) (EvalAltResult H)) (k : List (Frame H)) (l : Local H) → Open a.of k →
       Keeps a (calm k l) (core (changed r) k l)
@@ -106,27 +85,14 @@ module _ {H : Type 0} (a : Told H) where
   answered_keeps true Missing r k l o = ended_keeps a r k l
   answered_keeps true (Faults e) r k l o = ended_keeps a r k l
 
-  -- what a name means that stands where the constant does
-  looked_up_is : (cells : Cells H) (name : List ℕ) (at : Position) (u : Union H) (v w : Dynamic H) → looked_up cells name at u v ≡ Ok w → v ≡ w
-  looked_up_is cells name at (value.Cell id) v w is = entered_is name at v (value_of_cell cells id.number) w is
-  looked_up_is cells name at _ v w is = cc
-
-  pub variable_is : (cells : Cells H) (lib : List (Module H)) (name : List ℕ) (pos : Position) (scope : List (ScopeEntry H)) (at : ℕ)
-      (v w : Dynamic H) → value_in scope (Some at) ≡ Some w → index_of name scope ≡ Some at →
-      variable_of cells name pos (meant lib name scope) ≡ Ok v → v ≡ w
-  variable_is cells lib name pos scope at v w there is ok =
-      let found_there : found name scope ≡ Some w = ap (value_in scope) is ∙ there in
-      let known : variable_of cells name pos (option_or (Some w) (meant_function lib name)) ≡ Ok v
-      = rw found_there at ok in
-      sym (looked_up_is cells name pos w.value w v known)
-
-  -- the constant is what a name means
-  pub meant_is : (name : List ℕ) (pos : Position) (at : ℕ) (v : Dynamic H) (k : List (Frame H)) (l : Local H) → Settled a.of k l →
-      is_bottom k ≡ true → a.of.index ≡ at → index_of name l.scope ≡ Some at →
-      variable_of l.around.cells name pos (meant l.around.lib name l.scope) ≡ Ok v → v ≡ a.of.value
-  meant_is name pos at v k l s b e is ok =
+  -- the constant is what a variable means that means its entry
+  pub meant_is : (globals : Globals H) (variable : Variable) (at : ℕ) (v : Dynamic H) (k : List (Frame H)) (l : Local H) →
+      Settled a.of k l → is_bottom k ≡ true → a.of.index ≡ at → meant globals l.around l.scope variable ≡ Ok (AtEntry at v) → v ≡ a.of.value
+  meant_is globals variable at v k l s b e is =
+      let entry = meant_entry globals l.around l.scope at v variable is in
       let there : value_in l.scope (Some at) ≡ Some a.of.value = rw e at (s.0 b) in
-      variable_is l.around.cells l.around.lib name pos l.scope at v a.of.value there is ok
+      let both : Some v ≡ Some a.of.value = sym entry.1 ∙ (ap (value_in l.scope) entry.0 ∙ there) in
+      cc
 
   -- what a value leads to keeps it, where it is known what gave the value
   pub known_keeps : {A : Type 0} (r : Result A (EvalAltResult H)) (go : A → Core H) (k : List (Frame H)) (l : Local H) →
@@ -139,14 +105,13 @@ module _ {H : Type 0} (a : Told H) where
       Settled a.of k l → bound_this pos l.this ≡ Ok v → Calls a.of (lent_this operation args v) k
   lends_this operation args v pos k l s is = (loan_of (due a.of k).this v args (due_bound (due a.of k).this pos l.this v is s.1.1), tt)
 
-  passed_calls : (constant : Bool) (operation : Operation) (args : List (Dynamic H)) (entry : Option ℕ) (v : Dynamic H) (k : List (Frame H)) →
-      ((at : ℕ) → entry ≡ Some at → is_bottom k ≡ true → a.of.index ≡ at → v ≡ a.of.value) → is_constant v.mode ≡ constant →
-      Calls a.of (passed_as constant operation args entry v) k
-  passed_calls true operation args entry v k h is = (tt, tt)
-  passed_calls false operation args None v k h is = (tt, tt)
-  passed_calls false operation args (Some at) v k h is = (
+  passed_calls : (constant : Bool) (operation : Operation) (args : List (Dynamic H)) (at : ℕ) (v : Dynamic H) (k : List (Frame H)) →
+      (is_bottom k ≡ true → a.of.index ≡ at → v ≡ a.of.value) → is_constant v.mode ≡ constant →
+      Calls a.of (passed_as constant operation args at v) k
+  passed_calls true operation args at v k h is = (tt, tt)
+  passed_calls false operation args at v k h is = (
     λ b e.
-        let constant : is_constant v.mode ≡ true = rw (h at refl b e) (constant_mode a.of.value a.of.constant) in
+        let constant : is_constant v.mode ≡ true = rw (h b e) (constant_mode a.of.value a.of.constant) in
         let both : true ≡ false = sym constant ∙ is in
         cc,
     tt,
@@ -158,30 +123,30 @@ module _ {H : Type 0} (a : Told H) where
       let made : call_of operation (v ∷ args) ≡ call = cc in subst (λ (c : Call H). Calls a.of c k) made (tt, tt)
   flat_calls operation args (Err e) call k is = cc
 
-  union_calls : (cells : Cells H) (pos : Position) (operation : Operation) (args : List (Dynamic H)) (entry : Option ℕ) (u : Union H)
-      (v : Dynamic H) (call : Call H) (k : List (Frame H)) →
-      ((at : ℕ) → entry ≡ Some at → is_bottom k ≡ true → a.of.index ≡ at → v ≡ a.of.value) →
-      passed cells pos operation args entry u v ≡ Ok call → Calls a.of call k
-  union_calls cells pos operation args entry (value.Cell id) v call k h is = flat_calls operation args (flat cells v pos) call k is
-  union_calls cells pos operation args entry _ v call k h is =
-      let made : passed_as (is_constant v.mode) operation args entry v ≡ call = cc in
-      subst (λ (c : Call H). Calls a.of c k) made (passed_calls (is_constant v.mode) operation args entry v k h refl)
+  union_calls : (cells : Cells H) (pos : Position) (operation : Operation) (args : List (Dynamic H)) (at : ℕ) (u : Union H)
+      (v : Dynamic H) (call : Call H) (k : List (Frame H)) → (is_bottom k ≡ true → a.of.index ≡ at → v ≡ a.of.value) →
+      passed cells pos operation args at u v ≡ Ok call → Calls a.of call k
+  union_calls cells pos operation args at (value.Cell id) v call k h is = flat_calls operation args (flat cells v pos) call k is
+  union_calls cells pos operation args at _ v call k h is =
+      let made : passed_as (is_constant v.mode) operation args at v ≡ call = cc in
+      subst (λ (c : Call H). Calls a.of c k) made (passed_calls (is_constant v.mode) operation args at v k h refl)
 
-  seen_calls : (cells : Cells H) (pos : Position) (operation : Operation) (args : List (Dynamic H)) (entry : Option ℕ)
-      (r : Result (Dynamic H) (EvalAltResult H)) (call : Call H) (k : List (Frame H)) →
-      ((v : Dynamic H) (at : ℕ) → r ≡ Ok v → entry ≡ Some at → is_bottom k ≡ true → a.of.index ≡ at → v ≡ a.of.value) →
-      passed_seen cells pos operation args entry r ≡ Ok call → Calls a.of call k
-  seen_calls cells pos operation args entry (Ok v) call k h is =
-      union_calls cells pos operation args entry v.value v call k (λ at. h v at refl) is
-  seen_calls cells pos operation args entry (Err e) call k h is = cc
+  seen_calls : (cells : Cells H) (pos : Position) (operation : Operation) (args : List (Dynamic H))
+      (r : Result (Meaning H) (EvalAltResult H)) (call : Call H) (k : List (Frame H)) →
+      ((at : ℕ) (v : Dynamic H) → r ≡ Ok (AtEntry at v) → is_bottom k ≡ true → a.of.index ≡ at → v ≡ a.of.value) →
+      passed_seen cells pos operation args r ≡ Ok call → Calls a.of call k
+  seen_calls cells pos operation args (Ok (AtEntry at v)) call k h is =
+      union_calls cells pos operation args at v.value v call k (h at v refl) is
+  seen_calls cells pos operation args (Ok (AsTemporary v)) call k h is =
+      flat_calls operation args (flat cells (copy_of v) pos) call k is
+  seen_calls cells pos operation args (Err e) call k h is = cc
 
   -- a variable that is read last is lent, where it is no constant
-  pub variable_calls : (operation : Operation) (variable : List ℕ) (pos : Position) (args : List (Dynamic H)) (call : Call H)
-      (k : List (Frame H)) (l : Local H) → Settled a.of k l →
-      call_on l.around.cells l.around.lib l.scope operation variable pos args ≡ Ok call → Calls a.of call k
-  variable_calls operation variable pos args call k l s is = seen_calls l.around.cells pos operation args (index_of variable l.scope)
-      (variable_of l.around.cells variable pos (meant l.around.lib variable l.scope)) call k
-      (λ v at ok entry b e. meant_is variable pos at v k l s b e entry ok) is
+  pub variable_calls : (globals : Globals H) (operation : Operation) (variable : Variable) (args : List (Dynamic H)) (call : Call H)
+      (k : List (Frame H)) (l : Local H) → Settled a.of k l → call_on globals l.around l.scope operation variable args ≡ Ok call →
+      Calls a.of call k
+  variable_calls globals operation variable args call k l s is = seen_calls l.around.cells variable.at operation args
+      (meant globals l.around l.scope variable) call k (λ at v means b e. meant_is globals variable at v k l s b e means) is
 
   module _ (s : Setting H) where
     -- a call whose arguments are there
@@ -211,10 +176,17 @@ module _ {H : Type 0} (a : Told H) where
         (same a tt (λ h. h.1)) (found_keeps (called_function s how call l) how call k l c)
     called_keeps (v ∷ w ∷ x ∷ args) how call k l c = found_keeps (called_function s how call l) how call k l c
 
+    -- by its name alone, or behind a path
+    behind_keeps : (path : List (List ℕ)) (how : Dispatch) (call : Call H) (k : List (Frame H)) (l : Local H) → Calls a.of call k →
+        Keeps a (calm k l) (dispatch_behind s path how call k l)
+    behind_keeps [] how call k l c = if_keeps (call_races how.of_method l.around.cells call.args) _ _ k l (same a tt (λ h. h.1))
+        (called_keeps call.args how call k l c)
+    behind_keeps (root ∷ path) how call k l c =
+        on_keeps (function_behind s root path how call l) _ k l (λ f. enter_keeps false f how call k l)
+
     pub dispatch_keeps : (how : Dispatch) (call : Call H) (k : List (Frame H)) (l : Local H) → Calls a.of call k →
         Keeps a (calm k l) (dispatch_core s how call k l)
-    dispatch_keeps how call k l c = if_keeps (call_races how.of_method l.around.cells call.args) _ _ k l (same a tt (λ h. h.1))
-        (called_keeps call.args how call k l c)
+    dispatch_keeps how call k l c = behind_keeps how.path.names how call k l c
 
     pub linked_keeps : (f : Function H) (at : Position) (args : List (Dynamic H)) (k : List (Frame H)) (l : Local H) →
         Keeps a (calm k l) (linked_core f at args k l)
@@ -233,9 +205,9 @@ module _ {H : Type 0} (a : Told H) where
     arguments_there_keep : (purpose : Purpose H) (args : List (Dynamic H)) (k : List (Frame H)) (l : Local H) → PurposeFlat purpose args →
         Keeps a (calm k l) (arguments_there s purpose args k l)
     arguments_there_keep (ToCall operation curried how) args k l f = dispatch_keeps how (call_of operation (curried ++ args)) k l (tt, tt)
-    arguments_there_keep (ToCallOn operation variable variable_at how) args k l f =
-        known_keeps (call_on l.around.cells l.around.lib l.scope operation variable variable_at args) _ k l
-        (λ h call ok. dispatch_keeps how call k l (variable_calls operation variable variable_at args call k l h.1.1 ok))
+    arguments_there_keep (ToCallOn operation variable how) args k l f =
+        known_keeps (call_on (globals_of s.offer) l.around l.scope operation variable args) _ k l
+        (λ h call ok. dispatch_keeps how call k l (variable_calls (globals_of s.offer) operation variable args call k l h.1.1 ok))
     arguments_there_keep (ToCallOnThis operation this_at how) args k l f = known_keeps (bound_this this_at l.this) _ k l
         (λ h v ok. dispatch_keeps how (lent_this operation args v) k l (lends_this operation args v this_at k l h.1.1 ok))
     arguments_there_keep (ToCallFunction function at curried) args k l f = linked_keeps function at (curried ++ args) k l
@@ -250,11 +222,11 @@ module _ {H : Type 0} (a : Told H) where
     arguments_keep purpose made [] k l f = arguments_there_keep purpose made k l f
     arguments_keep purpose made (arg ∷ args) k l f = same a tt (λ h. ((f, h.1.0), h.1.1))
 
-    variable_keeps : (variable : Option (List ℕ × Position)) (c : Core H) (operation : Operation) (how : Dispatch) (arg : Expr)
+    variable_keeps : (variable : Option Variable) (c : Core H) (operation : Operation) (how : Dispatch) (arg : Expr)
         (args : List Expr) (k : List (Frame H)) (l : Local H) → Keeps a c (calm k l) →
         Moves a c (on_variable s variable operation how arg args k l)
-    variable_keeps (Some (variable, variable_at)) c operation how arg args k l h =
-        through a h (arguments_keep (ToCallOn operation variable variable_at how) [] args k l tt)
+    variable_keeps (Some variable) c operation how arg args k l h =
+        through a h (arguments_keep (ToCallOn operation variable how) [] args k l tt)
     variable_keeps None c operation how arg args k l h = through a h (arguments_keep (ToCall operation [] how) [] (arg ∷ args) k l tt)
 
     this_keeps : (there : Option Position) (c : Core H) (operation : Operation) (how : Dispatch) (arg : Expr) (args : List Expr)
@@ -287,6 +259,26 @@ module _ {H : Type 0} (a : Told H) where
         (named_move s operation curried args captures alone k l)
     named_keeps operation curried args captures alone k l = named_move_keeps (core (CallNamed operation curried args captures alone) k l)
         operation curried args captures alone k l (same a tt (λ h. h.1))
+
+    -- a call behind a path
+    path_keeps : (path : Path) (c : Core H) (operation : Operation) (args : List Expr) (k : List (Frame H)) (l : Local H) →
+        Keeps a c (calm k l) → Moves a c (behind_move s path operation args k l)
+    path_keeps path c operation [] k l h = through a h (arguments_keep (ToCall operation [] (behind_path path)) [] [] k l tt)
+    path_keeps path c operation (arg ∷ args) k l h =
+        this_keeps (this_in (out-Expr arg) l.this) c operation (behind_path path) arg args k l h
+
+    unqualified_keeps : (is_unqualified : Bool) (c : Core H) (call : FnCallExpr) (pos : Position) (k : List (Frame H)) (l : Local H) →
+        Keeps a c (calm k l) → Moves a c (function_move s is_unqualified call pos k l)
+    unqualified_keeps true c call pos k l h = through a h (function_keeps
+        (keyword_of call.op_token call.name (length call.args)) (operation_in call pos) call.args call.capture_parent_scope k l)
+    unqualified_keeps false c call pos k l h = path_keeps (path_of call.namespace) c (operation_in call pos) call.args k l h
+
+    pub call_keeps : (fast : Bool) (token : Option Token) (call : FnCallExpr) (args : List Expr) (pos : Position) (form : ExprLayer)
+        (k : List (Frame H)) (l : Local H) → Moves a (core (OpenExpr form) k l) (call_move s fast token call args pos k l)
+    call_keeps true (Some token) call (operand ∷ []) pos form k l = same a tt (λ h. h.1)
+    call_keeps true (Some token) call (left ∷ right ∷ []) pos form k l = same a tt (λ h. h.1)
+    call_keeps _ _ call args pos form k l = unqualified_keeps (is_unqualified call.namespace.path) (core (OpenExpr form) k l) call pos k l
+        (same a tt (λ h. h.1))
 
     -- the first argument of a keyword
     unlinked_keeps : (of : FnPtrKind H) (pointer : FnPtr H) (pos : Position) (args : List Expr) (captures : Bool) (k : List (Frame H))

@@ -8,7 +8,6 @@ use Rattle.rhai_tree.specs.declared.expr.Expr.{Expr, out-Expr}
 use Rattle.rhai_tree.specs.declared.expr.Expr.TheOpen as layer
 use Rattle.rhai_tree.specs.Layers.{ExprLayer}
 use Rattle.rhai_tree.specs.Positions.{position_of, start_of}
-use Rattle.rhai_tree.specs.Forms.{is_unqualified}
 use Rattle.rhai_values.specs.declared.base.value.Dynamic.{Dynamic}
 use Rattle.rhai_values.specs.declared.base.value.Union.{Union}
 use Rattle.rhai_values.specs.declared.base.value.Union.TheVariants as value
@@ -17,11 +16,11 @@ use Rattle.rhai_state.specs.declared.error.EvalAltResult.{EvalAltResult}
 use Rattle.rhai_places.specs.declared.spot.Spot.{Spot}
 use Rattle.rhai_places.specs.declared.spot.Spot.TheVariants as spot
 use Rattle.rhai_places.specs.Parts.{part_of, value_at}
-use Rattle.rhai_machine.specs.machine.Machine.{Move, Halt}
-use Rattle.rhai_machine.specs.language.Setting.{Setting}
+use Rattle.rhai_machine.specs.language.Setting.{Globals, Setting}
 use Rattle.rhai_machine.specs.language.State.{Local}
 use Rattle.rhai_machine.specs.language.Values.{is_handle, through_union, through as seen_through, unit_value}
-use Rattle.rhai_machine.specs.language.Names.{bound_this, meant, variable_of}
+use Rattle.rhai_machine.specs.language.Variables.{Variable, no_path}
+use Rattle.rhai_machine.specs.language.Names.{Meaning, AtEntry, AsTemporary, bound_this, meant}
 use Rattle.rhai_machine.specs.language.Places.{focus_target}
 use Rattle.rhai_machine.specs.language.Links.{Link, LinkForm, AtIndex, AtProperty, AtMethod, asked_by, first_position, link_of, name_in}
 use Rattle.rhai_machine.specs.language.Frames.{Lender, NewValue, Chain, Member, Property, Item, MemberAccess, ToChain, Frame, Core, core}
@@ -33,7 +32,7 @@ use Rattle.rhai_machine.specs.language.Handles.{entered, entered_by}
 use Rattle.rhai_machine.specs.language.Members.{focus_of, focused_on, got_by, set_core, set_by, unless_ignored, getter_missing}
 use Rattle.rhai_machine.specs.language.Members.{setter_missing, indexer_missing, named, set_item}
 use Rattle.rhai_machine.specs.language.Located.{index_by, is_indexed, is_map, is_place_spot, is_unit, spot_of}
-use Rattle.rhai_machine.specs.language.Chains.{ready, opened_core, open_move, asked_move, root_move, read_root_core}
+use Rattle.rhai_machine.specs.language.Chains.{ready, opened_core, open_move, asked_move, root_move, meant_core, read_root_core}
 use Rattle.rhai_machine.specs.language.Chains.{behind_link, after_method, kept_access, is_property, after_set, unless_barred}
 use Rattle.rhai_machine.specs.language.Chains.{method_of, assign_member, member_core, assign_focus, measured_place, assign_spot, part_form}
 use Rattle.rhai_machine.specs.language.Chains.{part_core, descend, spot_core, indexed_core, locate_core, property_move, form_move}
@@ -54,7 +53,6 @@ use Rattle.rhai_values.specs.declared.base.value.Union.TheVariants.{rolls-Cell, 
 use Rattle.rhai_values.specs.Cells.{IsNoHandle}
 use Rattle.rhai_values.specs.Layers.{UnionLayer}
 use Rattle.rhai_values.specs.Literals.{literal_step, value_of_literal}
-use Rattle.rhai_state.specs.Scope.{index_of}
 use Rattle.rhai_places.specs.declared.spot.Access.{Access}
 use Rattle.rhai_places.specs.declared.spot.Refusal.{Refusal}
 use Rattle.rhai_places.specs.Found.{through_layer, through as through_index, with_key, without_key, settled as settled_at, found_by, found, IsKeyless}
@@ -276,11 +274,6 @@ module _ {H : Type 0} (a : Told H) where
   open_keeps (Some link) chain k l = after a (calm k l) (λ t. t) (opened_keeps link.behind (ready link.form) chain k l (ready_flat link.form))
   open_keeps None chain k l = tt
 
-  -- a move that may not be there
-  if_there : (there : Bool) (c : Core H) (m : Move H (Core H)) → Moves a c m → Moves a c (if there then m else Halt)
-  if_there true c m h = h
-  if_there false c m h = tt
-
   -- a chain begins on a value that its root's lender has
   begun_keeps : (in_place : Bool) (lender : Option Lender) (v : Dynamic H) (chain : Chain H) (k : List (Frame H)) (l : Local H) →
       AreFlat chain.args → Where (due_root a.of lender (is_bottom k) (due a.of k)) in_place →
@@ -295,21 +288,19 @@ module _ {H : Type 0} (a : Told H) where
   entry_due true false v h = tt
   entry_due false is_here v h = tt
 
-  read_by : (index : Option ℕ) (name : List ℕ) (pos : Position) (v : Dynamic H) (chain : Chain H) (k : List (Frame H)) (l : Local H) →
-      AreFlat chain.args → index_of name l.scope ≡ index →
-      variable_of l.around.cells name pos (meant l.around.lib name l.scope) ≡ Ok v →
-      Keeps a (calm k l) (begun_core (is_some index) (option_map FromEntry index) v chain k l)
-  read_by None name pos v chain k l f is ok = begun_keeps false None v chain k l f tt (λ s. tt)
-  read_by (Some at) name pos v chain k l f is ok = begun_keeps true (Some (FromEntry at)) v chain k l f
+  meaning_keeps : (globals : Globals H) (variable : Variable) (meaning : Meaning H) (chain : Chain H) (k : List (Frame H)) (l : Local H) →
+      AreFlat chain.args → meant globals l.around l.scope variable ≡ Ok meaning → Keeps a (calm k l) (meant_core meaning chain k l)
+  meaning_keeps globals variable (AtEntry at v) chain k l f ok = begun_keeps true (Some (FromEntry at)) v chain k l f
       (where_true (due_root a.of (Some (FromEntry at)) (is_bottom k) (due a.of k)))
       (λ s. entry_due (is_bottom k) (nat_eq a.of.index at) v
-      (λ b e. meant_is a name pos at v k l s b (grind (arith, e, nat_tests)) is ok))
+      (λ b e. meant_is a globals variable at v k l s b (grind (arith, e, nat_tests)) ok))
+  meaning_keeps globals variable (AsTemporary v) chain k l f ok = begun_keeps false None v chain k l f tt (λ s. tt)
 
-  pub read_root_keeps : (name : List ℕ) (pos : Position) (chain : Chain H) (k : List (Frame H)) (l : Local H) →
-      Keeps a (core (ReadRoot name pos chain) k l) (read_root_core name pos chain k l)
-  read_root_keeps name pos chain k l = knowing a (λ h. after a (calm k l) (λ t. (tt, t.1))
-      (known_keeps a (variable_of l.around.cells name pos (meant l.around.lib name l.scope)) _ k l
-      (λ t v ok. read_by (index_of name l.scope) name pos v chain k l h.0 refl ok)))
+  pub read_root_keeps : (globals : Globals H) (variable : Variable) (chain : Chain H) (k : List (Frame H)) (l : Local H) →
+      Keeps a (core (ReadRoot variable chain) k l) (read_root_core globals variable chain k l)
+  read_root_keeps globals variable chain k l = knowing a (λ h. after a (calm k l) (λ t. (tt, t.1))
+      (known_keeps a (meant globals l.around l.scope variable) _ k l
+      (λ t meaning ok. meaning_keeps globals variable meaning chain k l h.0 ok)))
 
   this_keeps : (pos : Position) (chain : Chain H) (k : List (Frame H)) (l : Local H) → AreFlat chain.args →
       Keeps a (calm k l) (this_root_core pos chain k l)
@@ -320,8 +311,7 @@ module _ {H : Type 0} (a : Told H) where
 
   pub root_keeps : (form : ExprLayer) (chain : Chain H) (k : List (Frame H)) (l : Local H) → AreFlat chain.args →
       Moves a (core (ChainRoot chain) k l) (root_move form chain k l)
-  root_keeps (layer.Variable offset name namespace pos) chain k l f =
-      if_there (is_unqualified namespace.path) (core (ChainRoot chain) k l) _ (same a f (λ h. h.1))
+  root_keeps (layer.Variable offset name namespace pos) chain k l f = same a f (λ h. h.1)
   root_keeps (layer.ThisPtr pos) chain k l f = after a (calm k l) (λ t. (tt, t.1)) (this_keeps pos chain k l f)
   root_keeps _ chain k l f =
       there_keeps a (is_none chain.new) (core (ChainRoot chain) k l) _ (same a tt (λ h. ((f, h.1.0), h.1.1)))
@@ -516,7 +506,7 @@ module _ {H : Type 0} (a : Told H) where
         Keeps a (calm k l) (assign_focus s root new k l)
     assign_focus_keeps root new k l = knowing a (λ h.
         stored_keeps a s (focus_target l.around.cells (name_in (out-Expr root)) (start_of root) (focus_of l))
-        (record { name = name_in (out-Expr root); at = position_of root; op = new.op }) new.value k l
+        (record { path = no_path; name = name_in (out-Expr root); at = position_of root; op = new.op }) new.value k l
         (λ t is. focus_writable a k l h.1.1 (name_in (out-Expr root)) (start_of root) t is))
 
     set_after_keeps : (member : Member H) (access : MemberAccess H) (v : Dynamic H) (k : List (Frame H)) (l : Local H) →
@@ -573,6 +563,7 @@ module _ {H : Type 0} (a : Told H) where
         let refusal = refused_at l.around.cells (name_in (out-Expr root)) (start_of root) (part_of source at).value (part_of source at)
         leaf.1.0 leaf.0 in
         subst (λ (r : Result (Target H) (EvalAltResult H)). Keeps a (calm k l) (store_core s r (record {
+          path = no_path;
           name = name_in (out-Expr root);
           at = position_of root;
           op = new.op;

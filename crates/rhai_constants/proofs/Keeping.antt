@@ -291,7 +291,7 @@ module _ {H : Type 0} (a : Told H) where
   At (ForItem loop item rest turn base) k l = Longer a.of k base
   At (ChainArguments chain rest made) k l = AreFlat made
   At (ChainRoot chain) k l = AreFlat chain.args
-  At (ReadRoot name at chain) k l = AreFlat chain.args
+  At (ReadRoot variable chain) k l = AreFlat chain.args
   At (Walk chain) k l = Walks a.of chain k
   At (Locate link chain) k l = Walks a.of chain k
   At (Changed v) k l = Open a.of k

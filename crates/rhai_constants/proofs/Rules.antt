@@ -15,7 +15,7 @@ use Rattle.rhai_tree.specs.declared.expr.Expr.TheOpen as layer
 use Rattle.rhai_tree.specs.Layers.{ExprLayer, StmtLayer}
 use Rattle.rhai_tree.specs.Positions.{position_of}
 use Rattle.rhai_values.specs.Modes.{with_mode}
-use Rattle.rhai_tree.specs.Forms.{is_unqualified, is_exported}
+use Rattle.rhai_tree.specs.Forms.{is_exported}
 use Rattle.rhai_tree.specs.Keys.{key_of}
 use Rattle.rhai_values.specs.declared.base.value.Dynamic.{Dynamic}
 use Rattle.rhai_values.specs.declared.base.value.Union.{Union}
@@ -25,10 +25,12 @@ use Rattle.rhai_state.specs.declared.error.EvalAltResult.TheVariants as error
 use Rattle.rhai_state.specs.Errors.{is_catchable, is_system}
 use Rattle.rhai_state.specs.Scope.{index_of, new_entry}
 use Rattle.rhai_places.specs.PutBack.{put_back}
-use Rattle.rhai_machine.specs.language.Setting.{Setting}
+use Rattle.rhai_machine.specs.language.Setting.{Setting, globals_of}
 use Rattle.rhai_machine.specs.language.State.{Local}
 use Rattle.rhai_machine.specs.language.Values.{copied, flat, through as seen_through, truth, unit_value}
+use Rattle.rhai_machine.specs.language.Variables.{variable_named}
 use Rattle.rhai_machine.specs.language.Names.{bound_this, read}
+use Rattle.rhai_machine.specs.language.Assignment.{variable_of_assignment}
 use Rattle.rhai_machine.specs.language.Activations.{Entered}
 use Rattle.rhai_machine.specs.language.Frames.{on_value}
 use Rattle.rhai_machine.specs.language.Frames.{Operation, Control, Frame, Core, core, Eval, Exec, Ask, Assign, AskUpdate, Argument}
@@ -76,7 +78,7 @@ use Rattle.rhai_constants.specs.Constants.{is_bottom, overwrites, replaces_at, A
 use Rattle.rhai_constants.proofs.Keeping.{Told, PurposeFlat, calm, Inv, Keeps, through, after, knowing, Moves}
 use Rattle.rhai_constants.proofs.Settling.{same, given, ended_keeps, step_left, chain_left, call_left, function_entered, list_entered, scope_left}
 use Rattle.rhai_constants.proofs.Settling.{newer, put_keeps}
-use Rattle.rhai_constants.proofs.Assignments.{there_keeps, assignment_keeps, store_keeps, store_this_keeps, barred_keeps, fire_update_keeps}
+use Rattle.rhai_constants.proofs.Assignments.{assignment_keeps, store_keeps, store_this_keeps, barred_keeps, fire_update_keeps}
 use Rattle.rhai_constants.proofs.Calls.{on_keeps, known_keeps, call_keeps, operator_keeps, arguments_keep, named_keeps, keyword_keeps}
 use Rattle.rhai_constants.proofs.Firing.{question_keeps, fire_keeps}
 use Rattle.rhai_constants.proofs.Methods.{focus_keeps}
@@ -185,31 +187,6 @@ module _ {H : Type 0} (a : Told H) where
   parts_keep text [] k l = same a tt (λ h. h.1)
   parts_keep text (part ∷ parts) k l = same a tt (λ h. h.1)
 
-  expr_keeps : (fast : Bool) (form : ExprLayer) (k : List (Frame H)) (l : Local H) →
-      Moves a (core (OpenExpr form) k l) (expr_move fast form k l)
-  expr_keeps fast (layer.DynamicConstant literal pos) k l = same a tt (λ h. h.1)
-  expr_keeps fast (layer.BoolConstant b pos) k l = same a tt (λ h. h.1)
-  expr_keeps fast (layer.IntegerConstant n pos) k l = same a tt (λ h. h.1)
-  expr_keeps fast (layer.CharConstant letter pos) k l = same a tt (λ h. h.1)
-  expr_keeps fast (layer.StringConstant text pos) k l = same a tt (λ h. h.1)
-  expr_keeps fast (layer.Unit pos) k l = same a tt (λ h. h.1)
-  expr_keeps fast (layer.Variable offset name namespace pos) k l =
-      there_keeps a (is_unqualified namespace.path) (core (OpenExpr (layer.Variable offset name namespace pos)) k l) _
-      (after a (calm k l) (λ h. (tt, h.1)) (ended_keeps a (read l.around.cells l.around.lib name pos l.scope) k l))
-  expr_keeps fast (layer.ThisPtr pos) k l = after a (calm k l) (λ h. (tt, h.1)) (ended_keeps a (copied (bound_this pos l.this)) k l)
-  expr_keeps fast (layer.Expr::FnCall call pos) k l = call_keeps a fast call.op_token call call.args pos (layer.Expr::FnCall call pos) k l
-  expr_keeps fast (layer.Stmt block) k l = same a tt (λ h. h.1)
-  expr_keeps fast (layer.InterpolatedString parts pos) k l = after a (calm k l) (λ h. (tt, h.1)) (parts_keep [] parts k l)
-  expr_keeps fast (layer.Array items pos) k l = after a (calm k l) (λ h. (tt, h.1)) (items_keep [] items k l)
-  expr_keeps fast (layer.Map entries template pos) k l =
-      after a (calm k l) (λ h. (tt, h.1)) (entries_keep (map key_of entries) [] entries k l)
-  expr_keeps fast (layer.And parts pos) k l = after a (calm k l) (λ h. (tt, h.1)) (and_keeps parts k l)
-  expr_keeps fast (layer.Or parts pos) k l = after a (calm k l) (λ h. (tt, h.1)) (or_keeps parts k l)
-  expr_keeps fast (layer.Coalesce parts pos) k l = after a (calm k l) (λ h. (tt, h.1)) (coalesce_keeps unit_value parts k l)
-  expr_keeps fast (layer.Index lhs rhs options pos) k l = same a tt (λ h. h.1)
-  expr_keeps fast (layer.Dot lhs rhs options pos) k l = same a tt (λ h. h.1)
-  expr_keeps fast _ k l = tt
-
   -- loops, and the ways out of them
   while_keeps : (endless : Bool) (stmts : List Stmt) (test : Expr) (body : StmtBlock) (k : List (Frame H)) (l : Local H) →
       Moves a (core (WhileTurn test body) k l) (while_move endless stmts test body k l)
@@ -309,6 +286,32 @@ module _ {H : Type 0} (a : Told H) where
   defined_keeps (Err e) ident index options restoring v k l fine = same a tt (λ h. h.1)
 
   module _ (s : Setting H) where
+    -- an expression
+    expr_keeps : (fast : Bool) (form : ExprLayer) (k : List (Frame H)) (l : Local H) →
+        Moves a (core (OpenExpr form) k l) (expr_move s fast form k l)
+    expr_keeps fast (layer.DynamicConstant literal pos) k l = same a tt (λ h. h.1)
+    expr_keeps fast (layer.BoolConstant b pos) k l = same a tt (λ h. h.1)
+    expr_keeps fast (layer.IntegerConstant n pos) k l = same a tt (λ h. h.1)
+    expr_keeps fast (layer.CharConstant letter pos) k l = same a tt (λ h. h.1)
+    expr_keeps fast (layer.StringConstant text pos) k l = same a tt (λ h. h.1)
+    expr_keeps fast (layer.Unit pos) k l = same a tt (λ h. h.1)
+    expr_keeps fast (layer.Variable offset name namespace pos) k l = after a (calm k l) (λ h. (tt, h.1))
+        (ended_keeps a (read (globals_of s.offer) l.around l.scope (variable_named name namespace pos)) k l)
+    expr_keeps fast (layer.ThisPtr pos) k l = after a (calm k l) (λ h. (tt, h.1)) (ended_keeps a (copied (bound_this pos l.this)) k l)
+    expr_keeps fast (layer.Expr::FnCall call pos) k l =
+        call_keeps a s fast call.op_token call call.args pos (layer.Expr::FnCall call pos) k l
+    expr_keeps fast (layer.Stmt block) k l = same a tt (λ h. h.1)
+    expr_keeps fast (layer.InterpolatedString parts pos) k l = after a (calm k l) (λ h. (tt, h.1)) (parts_keep [] parts k l)
+    expr_keeps fast (layer.Array items pos) k l = after a (calm k l) (λ h. (tt, h.1)) (items_keep [] items k l)
+    expr_keeps fast (layer.Map entries template pos) k l =
+        after a (calm k l) (λ h. (tt, h.1)) (entries_keep (map key_of entries) [] entries k l)
+    expr_keeps fast (layer.And parts pos) k l = after a (calm k l) (λ h. (tt, h.1)) (and_keeps parts k l)
+    expr_keeps fast (layer.Or parts pos) k l = after a (calm k l) (λ h. (tt, h.1)) (or_keeps parts k l)
+    expr_keeps fast (layer.Coalesce parts pos) k l = after a (calm k l) (λ h. (tt, h.1)) (coalesce_keeps unit_value parts k l)
+    expr_keeps fast (layer.Index lhs rhs options pos) k l = same a tt (λ h. h.1)
+    expr_keeps fast (layer.Dot lhs rhs options pos) k l = same a tt (λ h. h.1)
+    expr_keeps fast _ k l = tt
+
     -- the operands of an operator
     operated_keeps : (operation : Operation) (args : List (Dynamic H)) (k : List (Frame H)) (l : Local H) →
         Keeps a (calm k l) (operated s operation args k l)
@@ -579,7 +582,7 @@ module _ {H : Type 0} (a : Told H) where
     move_keeps named (Run stmts restoring last) k l fine sealed = run_keeps stmts restoring last k l
     move_keeps named (Store assignment v) k l fine sealed =
         after a (calm k l) (λ h. (tt, h.1))
-        (store_keeps a s (target_of l.around.cells l.around.lib assignment.name assignment.at l.scope) assignment v k l refl)
+        (store_keeps a s (target_of (globals_of s.offer) l.around l.scope (variable_of_assignment assignment)) assignment v k l refl)
     move_keeps named (StoreThis op pos v) k l fine sealed = after a (calm k l) (λ h. (tt, h.1)) (store_this_keeps a s op pos v k l)
     move_keeps named (WhileTurn test body) k l fine sealed = while_keeps (is_endless (out-Expr test)) body.statements test body k l
     move_keeps named (DoTurn test body options) k l fine sealed = same a tt (λ h. h.1)
@@ -594,7 +597,7 @@ module _ {H : Type 0} (a : Told H) where
     move_keeps named (ChainArguments chain rest made) k l fine sealed = moves_knowing _ _
         (λ h. asked_keeps a s (link_of rest) chain rest made k l h.0)
     move_keeps named (ChainRoot chain) k l fine sealed = moves_knowing _ _ (λ h. root_keeps a (out-Expr chain.root) chain k l h.0)
-    move_keeps named (ReadRoot name pos chain) k l fine sealed = read_root_keeps a name pos chain k l
+    move_keeps named (ReadRoot variable chain) k l fine sealed = read_root_keeps a (globals_of s.offer) variable chain k l
     move_keeps named (Walk chain) k l fine sealed = moves_knowing _ _ (λ h. walk_keeps a s (link_of chain.rest) chain k l h.0)
     move_keeps named (Locate link chain) k l fine sealed = knowing a (λ h. locate_keeps a s link chain k l h.0)
     move_keeps named (Changed v) [] l fine sealed = same a tt (λ h. h.1)

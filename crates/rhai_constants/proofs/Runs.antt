@@ -1,24 +1,28 @@
 -- Constants stay through whole runs, want of memory included.
 use Rattle.std.proofs.Common.{refl, subst, inl, inr}
-use Rattle.std.specs.Prelude.{◌≡◌, ◌⊎◌, ⊤, ℕ, Bool, true, false, List, [], Option, Some, None}
+use Rattle.std.specs.Prelude.{◌≡◌, ◌⊎◌, ⊤, ℕ, Bool, true, false, List, [], ◌∷◌, Option, Some, None}
 use Rattle.rhai_machine.specs.Types.{Dynamic, EvalAltResult, Position}
 use Rattle.rhai_state.specs.declared.error.EvalAltResult.TheVariants as error
 use Rattle.rhai_state.specs.Native.{Request, Reply, Faults, Lawful, MayLeave}
 use Rattle.rhai_machine.specs.machine.Machine.{Move, Halt, Go, Charge, Native, AskPure}
-use Rattle.rhai_machine.specs.machine.Point.{Point, paid, moved, after}
-use Rattle.rhai_machine.specs.machine.Memory.{Leads, here, next, wanting, starved}
+use Rattle.rhai_machine.specs.machine.Point.{Point, Reaches, here as stop, next as step, paid, moved, after}
+use Rattle.rhai_machine.specs.machine.Memory.{Leads, here, next, wanting, starved, starved_at, OutOfMemory, before_step, in_native, RunsOut}
 use Rattle.rhai_machine.specs.language.Setting.{Rules, cut}
-use Rattle.rhai_machine.specs.language.State.{Local}
+use Rattle.rhai_machine.specs.language.State.{Local, State}
 use Rattle.rhai_machine.specs.language.Places.{Place, InEntry, InCell, InThis, InFocus}
-use Rattle.rhai_machine.specs.language.Frames.{Lender, FromEntry, FromThis, FromFocus, Call, Control, Core, core, Ask, Question, Fire, AskUpdate}
-use Rattle.rhai_machine.specs.language.Frames.{QuestionUpdate, FireUpdate, ForTurn, ForItem, ChainArguments, ChainRoot, ReadRoot, Walk, Locate, Fail}
-use Rattle.rhai_machine.specs.language.Language.{machine, move}
-use Rattle.rhai_machine.specs.language.Runs.{at, Steps}
+use Rattle.rhai_machine.specs.language.Frames.{Lender, FromEntry, FromThis, FromFocus, Call, Control, Core, core, Ask, Question, Fire}
+use Rattle.rhai_machine.specs.language.Frames.{AskUpdate, QuestionUpdate, FireUpdate, ForTurn, ForItem, Share, ChainArguments, ChainRoot, ReadRoot}
+use Rattle.rhai_machine.specs.language.Frames.{Walk, Locate, Back, Fail, Frame, DefineValue}
+use Rattle.rhai_machine.specs.language.Language.{machine, move, move_at}
+use Rattle.rhai_machine.specs.language.Memory.{IsWanting, UpToMemory}
+use Rattle.rhai_machine.specs.language.Runs.{at, with_core}
+use Rattle.rhai_laws.proofs.MemoryLaws.{wants_on}
+use Rattle.rhai_laws.proofs.WantLaws.{wants}
 use Rattle.rhai_fits.specs.Sealed.{Sealed}
 use Rattle.rhai_fits.proofs.Runs.{runs_keep}
-use Rattle.rhai_constants.specs.Constants.{IsConstant, HasEntry, replaces, IsOther, LendsOther, Spares}
-use Rattle.rhai_constants.specs.Laws.{IsReplaced, ConstantsStay}
-use Rattle.rhai_constants.proofs.Keeping.{Told, Marks, Lent, Writable, LentNow, At, Inv, Moves, IsShielded}
+use Rattle.rhai_constants.specs.Constants.{IsConstant, HasEntry, replaces, replaces_at, IsOther, LendsOther, Spares}
+use Rattle.rhai_constants.specs.Laws.{IsReplaced, own_end, ConstantsStay}
+use Rattle.rhai_constants.proofs.Keeping.{Told, Marks, Lent, Writable, LentNow, At, Inv, Keeps, Moves, IsShielded, calm, quiet}
 use Rattle.rhai_constants.proofs.Settling.{failed, kept_by}
 use Rattle.rhai_constants.proofs.Rules.{move_keeps}
 
@@ -34,7 +38,7 @@ known false = fails_so refl
 module _ {S H : Type 0} (rules : Rules S H) (lawful : Lawful rules.setting.host_type rules.natives) (index : ℕ) (v : Dynamic H)
     (constant : IsConstant v) where
   -- the constant, and what a state of the table says
-  abbrev told : S → Told H
+  abbrev pub told : S → Told H
   told state = record {
     of = record { index = index; value = v; constant = constant; host = rules.setting.host_type };
     pure = rules.natives.pure state;
@@ -101,47 +105,69 @@ module _ {S H : Type 0} (rules : Rules S H) (lawful : Lawful rules.setting.host_
         (native_left (move rules.setting p.core) q f p is (rules_at p fine s) s.kept e first state may);
   }
 
-  -- ---- a run
+  -- ---- the machine's own steps
 
   abbrev Ends : (p q : Point S (Core H)) → Type 0
   Ends p q = Stays q ⊎ IsReplaced rules index p q
 
-  later : {p r q : Point S (Core H)} →
-      ((m : Point S (Core H)) → Leads (machine rules) (cut rules) r m → Leads (machine rules) (cut rules) p m) → Ends r q → Ends p q
-  later step (inl s) = inl s
-  later step (inr e) = inr (record { point = e.point; before = step e.point e.before; replaced = e.replaced; behind = e.behind })
+  later : {p q : Point S (Core H)} → Ends (after (machine rules) (cut rules) p) q → Ends p q
+  later (inl s) = inl s
+  later (inr e) = inr (record { point = e.point; before = step e.before; replaced = e.replaced; behind = e.behind })
 
   next_by : (p : Point S (Core H)) {q : Point S (Core H)} → Known (replaces index p.core) →
-      Leads (machine rules) (cut rules) (after (machine rules) (cut rules) p) q →
+      Reaches (machine rules) (cut rules) (after (machine rules) (cut rules) p) q →
       (replaces index p.core ≡ false → Ends (after (machine rules) (cut rules) p) q) → Ends p q
-  next_by p (holds_so is) r go = inr (record { point = p; before = here; replaced = is; behind = next r })
-  next_by p (fails_so is) r go = later (λ m b. next b) (go is)
+  next_by p (holds_so is) r go = inr (record { point = p; before = stop; replaced = is; behind = r })
+  next_by p (fails_so is) r go = later (go is)
 
-  -- where a native finds no memory
-  abbrev left_at : Point S (Core H) → (Reply H → Option (Dynamic H) → Core H) → Position → (e : EvalAltResult H) →
-      (first : Option (Dynamic H)) → S → Point S (Core H)
-  left_at p f pos e first state = record p {
-    core = core (Fail (error.ErrorOutOfMemory pos)) (f (Faults e) first).stack (f (Faults e) first).local;
-    table = state;
-  }
+  own_stays : {p q : Point S (Core H)} → Reaches (machine rules) (cut rules) p q → Stays p → Ends p q
+  own_stays stop s = inl s
+  own_stays (step {p = p} r) s = next_by p (known (replaces index p.core)) r (λ fine. own_stays r (step_stays p fine s))
 
-  starved_by : (p : Point S (Core H)) (q : Request H) (f : Reply H → Option (Dynamic H) → Core H) (pos : Position) {end : Point S (Core H)} →
+  -- ---- where memory runs out
+
+  -- the steps that replace the constant call no native
+  no_native : (c : Control H) (k : List (Frame H)) (l : Local H) (q : Request H) (f : Reply H → Option (Dynamic H) → Core H) →
+      replaces_at index c k l ≡ true → move_at rules.setting c k l ≡ Native q f → ⊥
+  no_native (Share (variable ∷ rest)) k l q f is move = cc
+  no_native (Back v) (DefineValue ident (Some offset) options restoring value_at ∷ k) l q f is move = cc
+  no_native _ k l q f is move = cc
+
+  starved_by : (p : Point S (Core H)) (q : Request H) (f : Reply H → Option (Dynamic H) → Core H) (pos : Position) →
       Known (replaces index p.core) → (is : move rules.setting p.core ≡ Native q f) (e : EvalAltResult H) (first : Option (Dynamic H))
-      (state : S) (may : MayLeave rules.setting.host_type rules.natives p.table q first state) →
-      Leads (machine rules) (cut rules) (left_at p f pos e first state) end →
-      (replaces index p.core ≡ false → Ends (left_at p f pos e first state) end) → Ends p end
-  starved_by p q f pos (holds_so is_replaced) is e first state may r go =
-      inr (record { point = p; before = here; replaced = is_replaced; behind = starved {at = pos} is e first state may r })
-  starved_by p q f pos (fails_so fine) is e first state may r go =
-      later (λ m b. starved {at = pos} is e first state may b) (go fine)
+      (state : S) (may : MayLeave rules.setting.host_type rules.natives p.table q first state) → Stays p →
+      Stays (starved_at (machine rules) pos f e first state p)
+  starved_by p q f pos (holds_so is_replaced) is e first state may s =
+      absurd (no_native p.core.control p.core.stack p.core.local q f is_replaced is)
+  starved_by p q f pos (fails_so fine) is e first state may s = starved_stays p q f pos is e first state may fine s
 
-  run_stays : {p q : Point S (Core H)} → Leads (machine rules) (cut rules) p q → Stays p → Ends p q
-  run_stays here s = inl s
-  run_stays (next {p = p} r) s = next_by p (known (replaces index p.core)) r (λ fine. run_stays r (step_stays p fine s))
-  run_stays (wanting {p = p} {at = pos} r) s = later (λ m b. wanting {at = pos} b) (run_stays r (want_stays pos p s))
-  run_stays (starved {p = p} {call = q} {f = f} {at = pos} is e first state may r) s =
-      starved_by p q f pos (known (replaces index p.core)) is e first state may r
-      (λ fine. run_stays r (starved_stays p q f pos is e first state may fine s))
+  out_stays : {p since : Point S (Core H)} → OutOfMemory (machine rules) (cut rules) p since → Stays p → Stays since
+  out_stays {p} (before_step pos) s = want_stays pos p s
+  out_stays {p} (in_native {call = q} {f = f} is pos e first state may) s =
+      starved_by p q f pos (known (replaces index p.core)) is e first state may s
+
+  wanting_spares : (c : Core H) → IsWanting c → replaces index c ≡ false
+  wanting_spares c is = rw is.1 refl
+
+  -- its error only unwinds
+  unwound : {p q : Point S (Core H)} → Leads (machine rules) (cut rules) p q → IsWanting p.core → Stays p → Stays q
+  unwound here w s = s
+  unwound (next {p = p} r) w s = unwound r (wants_on (machine rules) (cut rules) IsWanting (wants rules) (next here) w)
+      (step_stays p (wanting_spares p.core w) s)
+  unwound (wanting {p = p} {at = pos} r) w s = unwound r (pos, refl) (want_stays pos p s)
+  unwound (starved {p = p} {call = q} {f = f} {at = pos} is e first state may r) w s =
+      unwound r (pos, refl) (starved_stays p q f pos is e first state may (wanting_spares p.core w) s)
+
+  -- ---- a run
+
+  out_by : {p q : Point S (Core H)} (out : RunsOut (machine rules) (cut rules) IsWanting p q) → Ends p out.before →
+      Stays q ⊎ IsReplaced rules index p out.before
+  out_by out (inl s) = inl (unwound out.unwinds out.wants (out_stays out.runs_out s))
+  out_by out (inr e) = inr e
+
+  run_stays : {p q : Point S (Core H)} (run : UpToMemory rules p q) → Stays p → Stays q ⊎ IsReplaced rules index p (own_end rules run)
+  run_stays (inl r) s = own_stays r s
+  run_stays (inr out) s = out_by out (own_stays out.steps s)
 
   -- ---- the start
 
@@ -184,24 +210,32 @@ module _ {S H : Type 0} (rules : Rules S H) (lawful : Lawful rules.setting.host_
   control_start (ForItem loop item rest turn base) l state h = λ b. h
   control_start (ChainArguments chain rest made) l state h = h
   control_start (ChainRoot chain) l state h = h
-  control_start (ReadRoot name pos chain) l state h = h
+  control_start (ReadRoot variable chain) l state h = h
   control_start (Walk chain) l state h = (tt, (tt, h))
   control_start (Locate link chain) l state h = (tt, (tt, h))
   control_start _ l state h = tt
 
 module _ {S H : Type 0} (rules : Rules S H) (lawful : Lawful rules.setting.host_type rules.natives) where
-  ended : (index : ℕ) (v : Dynamic H) (constant : IsConstant v) (p q : Point S (Core H)) → q.core.stack ≡ [] →
-      Stays rules lawful index v constant q ⊎ IsReplaced rules index p q → HasEntry index v q.core.local ⊎ IsReplaced rules index p q
-  ended index v constant p q is (inl s) = inl (s.kept.1.1.0 (rw is refl))
-  ended index v constant p q is (inr e) = inr e
+  module _ (index : ℕ) (v : Dynamic H) (constant : IsConstant v) where
+    ended : (p q m : Point S (Core H)) → q.core.stack ≡ [] → Stays rules lawful index v constant q ⊎ IsReplaced rules index p m →
+        HasEntry index v q.core.local ⊎ IsReplaced rules index p m
+    ended p q m is (inl s) = inl (s.kept.1.1.0 (rw is refl))
+    ended p q m is (inr e) = inr e
+
+    -- from a core to which a rule leads
+    pub core_stays : (c : Core H) (d : Control H) (old new : State S H) → Sealed c → HasEntry index v old.local →
+        Keeps (told rules lawful index v constant old.table) (calm [] old.local) c →
+        (run : UpToMemory rules (with_core c old) (at d [] new)) →
+        HasEntry index v new.local ⊎ IsReplaced rules index (with_core c old) (own_end rules run)
+    core_stays c d old new sealed has keeps run = ended (with_core c old) (at d [] new) (own_end rules run) refl
+        (run_stays rules lawful index v constant run
+        (record { sealed = sealed; kept = keeps.holds (tt, (tt, (λ b. has, (tt, tt)))) }))
 
   pub constants_stay : ConstantsStay rules
-  unfolding Steps
-  constants_stay index v c d old new constant has spares control_sealed cells steps =
-      ended index v constant (at c [] old) (at d [] new) refl (run_stays rules lawful index v constant (steps []) (record {
-        sealed = record { control = control_sealed; stack = tt; goes_back = tt; cells = cells };
-        kept = (
-          control_start rules lawful index v constant c old.local old.table spares,
-          (kept_by (told rules lawful index v constant old.table) c [] tt, (λ b. has, (tt, tt))),
-        );
-      }))
+  constants_stay index v c d old new constant has spares control_sealed cells run =
+      core_stays index v constant (core c [] old.local) d old new
+      (record { control = control_sealed; stack = tt; goes_back = tt; cells = cells }) has
+      (quiet (told rules lawful index v constant old.table) (λ i. (
+        control_start rules lawful index v constant c old.local old.table spares,
+        (kept_by (told rules lawful index v constant old.table) c [] tt, i.1.1),
+      ))) run

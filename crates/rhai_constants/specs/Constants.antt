@@ -88,7 +88,7 @@ module _ {H : Type 0} where
   Spares index (ForItem loop item rest turn base) = index < base
   Spares index (ChainArguments chain rest made) = AreFlat made
   Spares index (ChainRoot chain) = AreFlat chain.args
-  Spares index (ReadRoot name at chain) = AreFlat chain.args
+  Spares index (ReadRoot variable chain) = AreFlat chain.args
   Spares index (Walk chain) = AreFlat chain.args
   Spares index (Locate link chain) = AreFlat chain.args
   Spares index _ = ⊤

@@ -1,15 +1,18 @@
 -- What every run leaves of a constant among the variables, want of memory included.
+use Rattle.std.proofs.Common.{inl, inr}
 use Rattle.std.specs.Prelude.{◌≡◌, ◌⊎◌, ℕ, true, List, [], Some}
 use Rattle.rhai_values.specs.declared.base.value.AccessMode.TheVariants.{ReadOnly}
 use Rattle.rhai_values.specs.declared.base.value.Dynamic.{Dynamic}
 use Rattle.rhai_state.specs.Scope.{new_entry}
 use Rattle.rhai_places.specs.declared.spot.Spot.{Spot}
 use Rattle.rhai_places.specs.Parts.{value_at}
-use Rattle.rhai_machine.specs.machine.Point.{Point}
-use Rattle.rhai_machine.specs.language.Setting.{Rules}
+use Rattle.rhai_machine.specs.machine.Point.{Point, Reaches, after}
+use Rattle.rhai_machine.specs.language.Setting.{Rules, cut}
 use Rattle.rhai_machine.specs.language.State.{State}
 use Rattle.rhai_machine.specs.language.Frames.{Control, Core}
-use Rattle.rhai_machine.specs.language.Runs.{at, Goes, Steps}
+use Rattle.rhai_machine.specs.language.Language.{machine}
+use Rattle.rhai_machine.specs.language.Memory.{UpToMemory}
+use Rattle.rhai_machine.specs.language.Runs.{at}
 use Rattle.rhai_fits.specs.Sealed.{AreSealed, ControlSealed}
 use Rattle.rhai_constants.specs.Constants.{IsConstant, HasEntry, replaces, Spares}
 
@@ -26,16 +29,21 @@ abbrev pub ConstantIsReadOnly : Type 0 → Type 0
 ConstantIsReadOnly H = (v : Dynamic H) → IsConstant v → ReadOnlyThroughout v
 
 module _ {S H : Type 0} (rules : Rules S H) where
-  -- on a run there is a point whose step shares the entry at a place, or writes it by a `let` with an index
+  -- one of the machine's own steps from a point to another shares the entry at a place, or writes it by a `let` with an index
   pub record IsReplaced (index : ℕ) (p q : Point S (Core H)) : Type 0 where
     pub point : Point S (Core H)
-    pub before : Goes rules p point
+    pub before : Reaches (machine rules) (cut rules) p point
     pub replaced : replaces index point.core ≡ true
-    pub behind : Goes rules point q
+    pub behind : Reaches (machine rules) (cut rules) (after (machine rules) (cut rules) point) q
 
-  -- Constants stay: a variable that is read-only throughout at the start has the same value at the end, unless it was replaced on the way.
-  -- The control is not about to write it and assigns no handle, and no cell has a bare handle.
+  -- up to where the machine takes the steps of a run by itself: to its end, or to where memory runs out
+  abbrev pub own_end : {p q : Point S (Core H)} → UpToMemory rules p q → Point S (Core H)
+  own_end {p} {q} (inl steps) = q
+  own_end (inr out) = out.before
+
+  -- Constants stay: a variable that is read-only throughout at the start has the same value at the end, unless this run replaced it. The
+  -- control is not about to write it and assigns no handle, and no cell has a bare handle.
   abbrev pub ConstantsStay : Type 0
   ConstantsStay = (index : ℕ) (v : Dynamic H) (c d : Control H) (old new : State S H) → IsConstant v → HasEntry index v old.local →
-      Spares index c → ControlSealed c → AreSealed old.local.around.cells → Steps rules c old d new
-      → HasEntry index v new.local ⊎ IsReplaced index (at c [] old) (at d [] new)
+      Spares index c → ControlSealed c → AreSealed old.local.around.cells → (run : UpToMemory rules (at c [] old) (at d [] new))
+      → HasEntry index v new.local ⊎ IsReplaced index (at c [] old) (own_end run)

@@ -19,8 +19,9 @@ pub fn constant_is_read_only<H: Host>(of: PhantomData<H>)
     ensures { ConstantIsReadOnly H }
 {}
 
-/// A variable that is read-only throughout when a run starts has the same value when it ends, unless a
-/// step on the way shared that entry, or a `let` with an index wrote it.
+/// A variable that is read-only throughout when a run starts has the same value when it ends, unless one
+/// of the steps that the machine took by itself on that run shared the entry, or wrote it by a `let` with
+/// an index.
 pub fn script_constants_stay<H: Host, T: NativeTable<H>>(of: PhantomData<(H, T)>)
     ensures { (limits : Limits) (offer : Offer H) →
         ConstantsStay (rules_of limits H.name_of offer T.natives) }

@@ -60,7 +60,8 @@ pub fn take<H: Host>(
     global: &mut GlobalRuntimeState<H>,
     scope: &mut Scope<H>,
 ) -> Context<H>
-    ensures run { result ≡ record { global = global.old; scope = scope.old; this = None; value = unit; error = None; spare = tt } }
+    ensures run { result
+        ≡ record { global = global.old; scope = scope.old; this = None; value = unit; error = None; spare = tt } }
     ensures search { global.new.always_search_scope ≡ global.old.always_search_scope }
 {
     let empty = nothing(alloc, global.always_search_scope);

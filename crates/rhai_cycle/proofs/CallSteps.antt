@@ -81,7 +81,7 @@ module _ {S H : Type 0} (rules : Rules S H) where
     begins_call =
         step_by rules _ _ (Go (called (record { name = call.name; token = call.op_token; at = pos }) call.args call.capture_parent_scope k
         s.local))
-        (function_goes rules.setting.offer.fast_operators call.op_token call call.args pos k s.local form ∙ rw plain refl) here
+        (function_goes rules.setting rules.setting.offer.fast_operators call.op_token call call.args pos k s.local form ∙ rw plain refl) here
 
   -- without arguments there is no keyword
   module _ (operation : Operation) (captures : Bool) (k : List (Frame H)) (l : Local H) where

@@ -11,7 +11,6 @@ use Rattle.rhai_tree.specs.declared.expr.OpAssignment.{OpAssignment}
 use Rattle.rhai_tree.specs.declared.position.Position.{Position}
 use Rattle.rhai_tree.specs.Layers.{ExprLayer}
 use Rattle.rhai_tree.specs.Positions.{position_of}
-use Rattle.rhai_tree.specs.Forms.{is_unqualified}
 use Rattle.rhai_tree.specs.Frame.{resolves_expr}
 use Rattle.rhai_tree.specs.Names.{Name}
 use Rattle.rhai_tree.specs.Reading as walk
@@ -32,6 +31,7 @@ use Rattle.rhai_machine.specs.language.Arguments.{arguments_core, arguments_ther
 use Rattle.rhai_machine.specs.language.Assignment.{assignment_move}
 use Rattle.rhai_machine.specs.language.Chains.{asked_move, open_move, opened_core, ready, root_move}
 use Rattle.rhai_machine.specs.language.Chains.{this_root_core}
+use Rattle.rhai_machine.specs.language.Variables.{variable_named}
 use Rattle.rhai_machine.specs.language.Expressions.{literal_of}
 use Rattle.rhai_machine.specs.language.Language.{move}
 use Rattle.rhai_machine.specs.language.Runs.{at, with_core, Goes}
@@ -217,11 +217,10 @@ module _ {S H : Type 0} (rules : Rules S H) where
 
   -- a variable is charged, and read then
   pub variable_root : (root : Expr) (offset : Option NonZeroUsize) (name : Name) (namespace : Namespace) (pos : Position) →
-      out-Expr root ≡ layer.Variable offset name namespace pos → is_unqualified namespace.path ≡ true → (chain : Chain H) →
-      chain.root ≡ root → (k : List (Frame H)) (l : Local H) →
-      move rules.setting (core (ChainRoot chain) k l) ≡ Charge pos (core (ReadRoot name pos chain) k l)
-  variable_root root offset name namespace pos is plain chain same k l =
-      ap (λ (x : Expr). root_move (out-Expr x) chain k l) same ∙ ap (λ (x : ExprLayer). root_move x chain k l) is ∙ rw plain refl
+      out-Expr root ≡ layer.Variable offset name namespace pos → (chain : Chain H) → chain.root ≡ root → (k : List (Frame H)) (l : Local H) →
+      move rules.setting (core (ChainRoot chain) k l) ≡ Charge pos (core (ReadRoot (variable_named name namespace pos) chain) k l)
+  variable_root root offset name namespace pos is chain same k l =
+      ap (λ (x : Expr). root_move (out-Expr x) chain k l) same ∙ ap (λ (x : ExprLayer). root_move x chain k l) is
 
   -- and so is `this`
   pub this_root : (root : Expr) (pos : Position) → out-Expr root ≡ layer.ThisPtr pos → (chain : Chain H) → chain.root ≡ root →

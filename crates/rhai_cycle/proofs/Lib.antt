@@ -16,6 +16,7 @@ mod ImportSteps
 mod LoopSteps
 mod NameLemmas
 mod PlainLemmas
+mod QualifiedLemmas
 mod RootLemmas
 mod SwitchSteps
 mod ThisSteps

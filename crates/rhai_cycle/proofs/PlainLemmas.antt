@@ -8,7 +8,6 @@ use Rattle.rhai_tree.specs.declared.expr.Expr.{Expr}
 use Rattle.rhai_tree.specs.declared.expr.FnCallExpr.{FnCallExpr}
 use Rattle.rhai_tree.specs.declared.expr.Expr.TheOpen as layer
 use Rattle.rhai_tree.specs.declared.function.ScriptFuncDef.{ScriptFuncDef}
-use Rattle.rhai_tree.specs.Forms.{is_unqualified}
 use Rattle.rhai_tree.specs.Frame.{all_resolve, resolves_stmt, ResolvesFunction}
 use Rattle.rhai_tree.specs.Positions.{position_of}
 use Rattle.rhai_values.specs.declared.base.value.Dynamic.{Dynamic}
@@ -206,12 +205,12 @@ module _ {S H : Type 0} (rules : Rules S H) where
     starts k l = arguments_core rules.setting purpose [] call.args k l
 
     -- it begins with its arguments
-    pub plain_begins : (k : List (Frame H)) (s : State S H) → is_unqualified call.namespace.path ≡ true →
+    pub plain_begins : (k : List (Frame H)) (s : State S H) →
         is_operator_form rules.setting.offer.fast_operators call.op_token call.args ≡ false →
         Goes rules (at (OpenExpr (layer.Expr::FnCall call pos)) k s) (with_core (starts k s.local) s)
-    plain_begins k s unqualified form =
+    plain_begins k s form =
         let written : Operation = record { name = call.name; token = call.op_token; at = pos } in
-        begins_call rules call pos k s unqualified form
+        begins_call rules call pos k s plain.path form
         ⨾ rw (plain_named call.op_token call.name written call.args call.capture_parent_scope k s.local plain.token plain.meaning)
         (step_by rules _ _ (Go (arguments_core rules.setting (ToCall written [] (plainly false false)) [] call.args k s.local))
         (plain_moves rules.setting written call.args call.capture_parent_scope k s.local plain.captures plain.by_value)

@@ -1,7 +1,6 @@
 -- The root of a chain: where its walk begins, and how its end comes back.
 use Rattle.std.proofs.Common.{◌≡◌, ℕ, Bool, true, false, not, List, [], ◌∷◌, Option, Some, None, Result, Ok, Err, slice_get, is_some}
 use Rattle.std.proofs.Common.{refl, sym, ap, map, subst, ◌∙◌}
-use Rattle.std.specs.Option.{option_map, option_or}
 use Rattle.rhai_tree.specs.Positions.{position_of}
 use Rattle.rhai_tree.specs.declared.position.Position.{Position}
 use Rattle.rhai_values.specs.declared.base.value.Dynamic.{Dynamic}
@@ -14,30 +13,30 @@ use Rattle.rhai_state.specs.declared.state.GlobalRuntimeState.{GlobalRuntimeStat
 use Rattle.rhai_state.specs.declared.error.EvalAltResult.{EvalAltResult}
 use Rattle.rhai_state.specs.declared.error.EvalAltResult.TheVariants as error
 use Rattle.rhai_state.specs.Errors.{is_out_of_memory}
-use Rattle.rhai_state.specs.Scope.{entries_of, index_of, name_of, names_in, revalued, value_in}
+use Rattle.rhai_state.specs.Scope.{entries_of, name_of, names_in, revalued, value_in}
 use Rattle.rhai_machine.specs.machine.Machine.{Go}
 use Rattle.rhai_machine.specs.machine.Memory.{here, wanting, ◌⨾◌}
-use Rattle.rhai_machine.specs.language.Setting.{Rules}
+use Rattle.rhai_machine.specs.language.Setting.{Globals, Rules, globals_of}
 use Rattle.rhai_machine.specs.language.State.{Held, Local, State}
-use Rattle.rhai_machine.specs.language.Values.{Cells, copied, flat, through, through_union, used}
-use Rattle.rhai_machine.specs.language.Functions.{meant_function, pointer_to}
-use Rattle.rhai_functions.specs.Functions.{named_in}
-use Rattle.rhai_machine.specs.language.Names.{bound_this, entered, looked_up, variable_of}
+use Rattle.rhai_machine.specs.language.Values.{Cells, flat, through, through_union, used}
+use Rattle.rhai_machine.specs.language.Variables.{Variable}
+use Rattle.rhai_machine.specs.language.Names.{Meaning, bound_this, entered, entry_named, looked_up, meant, of_entry, temporary}
+use Rattle.rhai_machine.specs.language.Names.{value_beside}
+use Rattle.rhai_machine.proofs.MeantLaws.{meant_at, meant_beside}
 use Rattle.rhai_machine.specs.language.Calls.{is_held}
-use Rattle.rhai_machine.specs.language.Chains.{begun_core, read_root_core, this_begun, this_root_core}
+use Rattle.rhai_machine.specs.language.Chains.{begun_core, meant_core, read_root_core, this_begun, this_root_core}
 use Rattle.rhai_machine.specs.language.Frames.{Lender, FromEntry, FromThis, Chain, Frame, Core, core, ended, marked, on_value, Back, Fail, ReadRoot, RootValue, ChainEnd}
 use Rattle.rhai_machine.specs.language.Members.{focused_on}
 use Rattle.rhai_machine.specs.language.Runs.{at, with_core, Goes, Runs, Steps}
 use Rattle.rhai_machine.specs.language.Unwinding.{ended_chain, up_core}
 use Rattle.rhai_steps.specs.States.{local_of, state_of}
-use Rattle.rhai_steps.proofs.FunctionNames.{copied_itself}
 use Rattle.rhai_steps.proofs.Pieces.{faulted, step_by}
 use Rattle.rhai_assign.proofs.Places.{revalued_twice}
 use Rattle.rhai_calls.specs.Marks.{without_mark}
 use Rattle.rhai_steps.specs.Marked.{lending, RunsFrom}
 use Rattle.rhai_chains.specs.Chains.{WalkRuns}
 use Rattle.rhai_cycle.specs.Calls.{RunsUnder, StartsAs}
-use Rattle.rhai_cycle.specs.Roots.{GoesBack, LendsName, RefusesName, RefusesThis}
+use Rattle.rhai_cycle.specs.Roots.{GoesBack, LendsVariable, RefusesThis, RefusesVariable}
 use Rattle.rhai_context.specs.Ends.{unit}
 use Rattle.rhai_dispatch.proofs.Lending.{lent_names}
 use Rattle.rhai_cycle.proofs.FocusSteps.{through_held}
@@ -61,9 +60,10 @@ module _ {H : Type 0} (cells : Cells H) (name : List ℕ) (at : Position) where
   looked_free (value.Cell id) v is = entered_free v (value_of_cell cells id.number) is
   looked_free _ v is = refl
 
-module _ {H : Type 0} (global : GlobalRuntimeState H) (name : List ℕ) (pos : Position) (old mid new : Scope H) (v w : Dynamic H) where
+module _ {H : Type 0} (globals : Globals H) (global : GlobalRuntimeState H) (variable : Variable) (old mid new : Scope H)
+    (v w : Dynamic H) where
   -- the variables keep their names
-  pub lent_back : (index : Option ℕ) → LendsName global name pos (entries_of old) (Ok (index, v)) (entries_of mid) →
+  pub lent_back : (index : Option ℕ) → LendsVariable globals global variable (entries_of old) (Ok (index, v)) (entries_of mid) →
       GoesBack index w (entries_of mid) (entries_of new) → names_in new ≡ names_in old
   lent_back (Some i) lends gives = lent_names old mid new i unit w lends.1.1.1 gives
   lent_back None lends gives = ap (λ (entries : List (ScopeEntry H)). map name_of entries) (gives ∙ lends.1.1)
@@ -179,114 +179,99 @@ module _ {S H : Type 0} (rules : Rules S H) where
 
   -- ---- a variable
 
-  module _ (name : List ℕ) (pos : Position) (chain : Chain H) (s : State S H) where
-    -- what a name is read as, with who lends it
-    abbrev reads : Option ℕ → Result (Dynamic H) (EvalAltResult H) → List (Frame H) → Core H
-    reads entry v k = on_value v (λ x. begun_core (is_some entry) (option_map FromEntry entry) x chain k s.local) k s.local
+  module _ (variable : Variable) (chain : Chain H) (s : State S H) where
+    abbrev globals : Globals H
+    globals = globals_of rules.setting.offer
 
-    -- by where the newest entry of the name stands
-    abbrev read_at : Option ℕ → List (Frame H) → Core H
-    read_at entry k = reads entry (variable_of s.local.around.cells name pos
-        (option_or (value_in s.local.scope entry) (meant_function s.local.around.lib name))) k
+    -- what comes of a variable by what it means
+    abbrev reads : Result (Meaning H) (EvalAltResult H) → List (Frame H) → Core H
+    reads r k = on_value r (λ meaning. meant_core meaning chain k s.local) k s.local
 
-    read_as : (c : List (Frame H) → Core H) (new : State S H) (r : Result (Dynamic H) (EvalAltResult H)) →
-        ((k : List (Frame H)) → read_root_core name pos chain k s.local ≡ c k) →
-        ((k : List (Frame H)) → Goes rules (with_core (c k) s) (at (ended r) k new)) → Runs rules (ReadRoot name pos chain) s r new
+    read_as : (x : Result (Meaning H) (EvalAltResult H)) → meant globals s.local.around s.local.scope variable ≡ x → (new : State S H)
+        (r : Result (Dynamic H) (EvalAltResult H)) → ((k : List (Frame H)) → Goes rules (with_core (reads x k) s) (at (ended r) k new)) →
+        Runs rules (ReadRoot variable chain) s r new
     unfolding Steps
-    read_as c new r same goes k = step_by rules _ _ (Go (read_root_core name pos chain k s.local)) refl
-        (subst (λ (x : Core H). Goes rules (with_core x s) (at (ended r) k new)) (sym (same k)) (goes k))
+    read_as x is new r goes k = step_by rules _ _ (Go (read_root_core globals variable chain k s.local)) refl
+        (subst (λ (y : Result (Meaning H) (EvalAltResult H)). Goes rules (with_core (reads y k) s) (at (ended r) k new)) (sym is) (goes k))
 
-    -- there is none of the name, and a function is meant, or nothing is
-    module _ (missing : index_of name s.local.scope ≡ None) where
-      abbrev found_function : Result (Dynamic H) (EvalAltResult H)
-      found_function = variable_of s.local.around.cells name pos (meant_function s.local.around.lib name)
+    -- it means no entry
+    module _ (missing : entry_named variable.path.names variable.name s.local.scope ≡ None) where
+      abbrev beside : Result (Dynamic H) (EvalAltResult H)
+      beside = value_beside globals s.local.around variable
 
-      by_function : (x : Result (Dynamic H) (EvalAltResult H)) → found_function ≡ x → (k : List (Frame H)) →
-          read_root_core name pos chain k s.local ≡ reads None x k
-      by_function x is k = ap (λ (o : Option ℕ). read_at o k) missing
-          ∙ ap (λ (y : Result (Dynamic H) (EvalAltResult H)). reads None y k) is
+      means_temporary : (x : Result (Dynamic H) (EvalAltResult H)) → x ≡ beside →
+          meant globals s.local.around s.local.scope variable ≡ temporary x
+      means_temporary x is = meant_beside globals s.local.around s.local.scope variable missing ∙ ap temporary (sym is)
 
-      -- a pointer to a function is its own copy
-      own_copy : (arity : Option ℕ) → copied (variable_of s.local.around.cells name pos (option_map (pointer_to name) arity))
-          ≡ variable_of s.local.around.cells name pos (option_map (pointer_to name) arity)
-      own_copy None = refl
-      own_copy (Some n) = ap Ok (copied_itself name n)
-
-      uncopied : (r : Result (Dynamic H) (EvalAltResult H)) → r ≡ copied found_function → found_function ≡ r
-      uncopied r is = sym (own_copy (named_in name s.local.around.lib)) ∙ sym is
-
-      -- the walk begins on a pointer to the function, as a temporary
-      pub function_begins : (v : Dynamic H) (new : State S H) (r : Result (Dynamic H) (EvalAltResult H)) → Ok v ≡ copied found_function →
-          StartsAs rules (begun_core false None v chain) s r new → Runs rules (ReadRoot name pos chain) s r new
+      -- the walk begins on a temporary
+      pub temporary_begins : (v : Dynamic H) (new : State S H) (r : Result (Dynamic H) (EvalAltResult H)) → Ok v ≡ beside →
+          StartsAs rules (begun_core false None v chain) s r new → Runs rules (ReadRoot variable chain) s r new
       unfolding StartsAs
-      function_begins v new r is runs =
-          read_as (λ k. begun_core false None v chain k s.local) new r (by_function (Ok v) (uncopied (Ok v) is)) runs
+      temporary_begins v new r is runs = read_as (temporary (Ok v)) (means_temporary (Ok v) is) new r runs
 
       -- or there is none
-      pub function_missing : (e : EvalAltResult H) → (is_out_of_memory e ≡ false → Err e ≡ copied found_function) →
-          Runs rules (ReadRoot name pos chain) s (Err e) s
+      pub temporary_missing : (e : EvalAltResult H) → (is_out_of_memory e ≡ false → Err e ≡ beside) →
+          Runs rules (ReadRoot variable chain) s (Err e) s
       unfolding Steps
-      function_missing (error.ErrorOutOfMemory p) told k = wanting {at = p} here
-      function_missing e told k =
-          step_by rules _ _ (Go (read_root_core name pos chain k s.local)) refl
-          (subst (λ (x : Core H). Goes rules (with_core x s) (at (Fail e) k s)) (sym (by_function (Err e) (uncopied (Err e) (told refl)) k))
-          here)
+      temporary_missing (error.ErrorOutOfMemory p) told k = wanting {at = p} here
+      temporary_missing e told k = read_as (temporary (Err e)) (means_temporary (Err e) (told refl)) s (Err e) (λ k. here) k
 
-    module _ (i : ℕ) (v : Dynamic H) (there : index_of name s.local.scope ≡ Some i)
+    module _ (i : ℕ) (v : Dynamic H) (there : entry_named variable.path.names variable.name s.local.scope ≡ Some i)
         (stands : value_in s.local.scope (Some i) ≡ Some v) where
-      seen : (k : List (Frame H)) →
-          read_root_core name pos chain k s.local ≡ reads (Some i) (looked_up s.local.around.cells name pos v.value v) k
-      seen k =
-          ap (λ (o : Option ℕ). read_at o k) there
-          ∙ ap (λ (o : Option (Dynamic H)).
-          reads (Some i) (variable_of s.local.around.cells name pos (option_or o (meant_function s.local.around.lib name))) k) stands
+      means_entry : (x : Result (Dynamic H) (EvalAltResult H)) →
+          looked_up s.local.around.cells variable.name variable.at v.value v ≡ x →
+          meant globals s.local.around s.local.scope variable ≡ of_entry i x
+      means_entry x is = meant_at globals s.local.around s.local.scope variable i v there stands ∙ ap (of_entry i) is
 
       -- its cell is held
       pub root_held : (e : EvalAltResult H) (held : Bool) → held ≡ is_held s.local.around.cells v.value → held ≡ true →
-          (is_out_of_memory e ≡ false → e ≡ error.ErrorDataRace name pos) → Runs rules (ReadRoot name pos chain) s (Err e) s
-      root_held e held says is told = read_as (λ k. core (Fail (error.ErrorDataRace name pos)) k s.local) s (Err e)
-          (λ k. seen k ∙ ap (λ (x : Result (Dynamic H) (EvalAltResult H)). reads (Some i) x k)
-          (looked_held s.local.around.cells name pos v.value v (sym says ∙ is)))
-          (λ k. faulted rules e (error.ErrorDataRace name pos) told k s)
+          (is_out_of_memory e ≡ false → e ≡ error.ErrorDataRace variable.name variable.at) →
+          Runs rules (ReadRoot variable chain) s (Err e) s
+      root_held e held says is told = read_as (of_entry i (Err (error.ErrorDataRace variable.name variable.at)))
+          (means_entry (Err (error.ErrorDataRace variable.name variable.at))
+          (looked_held s.local.around.cells variable.name variable.at v.value v (sym says ∙ is))) s (Err e)
+          (λ k. faulted rules e (error.ErrorDataRace variable.name variable.at) told k s)
 
       -- the walk begins on its value
       pub root_begins : (new : State S H) (r : Result (Dynamic H) (EvalAltResult H)) (held : Bool) →
           held ≡ is_held s.local.around.cells v.value → held ≡ false →
-          StartsAs rules (begun_core true (Some (FromEntry i)) v chain) s r new → Runs rules (ReadRoot name pos chain) s r new
+          StartsAs rules (begun_core true (Some (FromEntry i)) v chain) s r new → Runs rules (ReadRoot variable chain) s r new
       unfolding StartsAs
-      root_begins new r held says is runs = read_as (λ k. begun_core true (Some (FromEntry i)) v chain k s.local) new r
-          (λ k. seen k ∙ ap (λ (x : Result (Dynamic H) (EvalAltResult H)). reads (Some i) x k)
-          (looked_free s.local.around.cells name pos v.value v (sym says ∙ is))) runs
+      root_begins new r held says is runs = read_as (of_entry i (Ok v))
+          (means_entry (Ok v) (looked_free s.local.around.cells variable.name variable.at v.value v (sym says ∙ is))) new r runs
 
-  -- no walk begins on a name
-  module _ (name : List ℕ) (pos : Position) (chain : Chain H) (t : S) (global : GlobalRuntimeState H) (scope : Scope H) (held : Held H)
+  -- no walk begins on a variable
+  module _ (variable : Variable) (chain : Chain H) (t : S) (global : GlobalRuntimeState H) (scope : Scope H) (held : Held H)
       (e : EvalAltResult H) where
-    refused_at : (at : Option ℕ) → index_of name (entries_of scope) ≡ at → RefusesName global name pos (entries_of scope) at e →
-        Runs rules (ReadRoot name pos chain) (state_of t global scope held) (Err e) (state_of t global scope held)
-    refused_at None missing told = function_missing name pos chain (state_of t global scope held) missing e told
-    refused_at (Some i) there seen = root_held name pos chain (state_of t global scope held) i seen.0 there seen.1.0 e true
+    refused_at : (at : Option ℕ) → entry_named variable.path.names variable.name (entries_of scope) ≡ at →
+        RefusesVariable (globals_of rules.setting.offer) global variable (entries_of scope) at e →
+        Runs rules (ReadRoot variable chain) (state_of t global scope held) (Err e) (state_of t global scope held)
+    refused_at None missing told = temporary_missing variable chain (state_of t global scope held) missing e told
+    refused_at (Some i) there seen = root_held variable chain (state_of t global scope held) i seen.0 there seen.1.0 e true
         (sym seen.1.1.0) refl seen.1.1.1
 
-    pub name_refused : RefusesName global name pos (entries_of scope) (index_of name (entries_of scope)) e →
-        Runs rules (ReadRoot name pos chain) (state_of t global scope held) (Err e) (state_of t global scope held)
-    name_refused told = refused_at (index_of name (entries_of scope)) refl told
+    pub variable_refused : RefusesVariable (globals_of rules.setting.offer) global variable (entries_of scope)
+        (entry_named variable.path.names variable.name (entries_of scope)) e →
+        Runs rules (ReadRoot variable chain) (state_of t global scope held) (Err e) (state_of t global scope held)
+    variable_refused told = refused_at (entry_named variable.path.names variable.name (entries_of scope)) refl told
 
-  -- on what a name leads to, which goes back to where it was lent from
-  module _ (name : List ℕ) (pos : Position) (chain : Chain H) (answer : Result (Dynamic H × Bool) (EvalAltResult H))
+  -- on what a variable means, which goes back to where it was lent from
+  module _ (variable : Variable) (chain : Chain H) (answer : Result (Dynamic H × Bool) (EvalAltResult H))
       (r : Result (Dynamic H) (EvalAltResult H)) (same : r ≡ without_mark answer) (old mid new : Scope H) (v w : Dynamic H)
       (before left : S) (was is : GlobalRuntimeState H) (held : Held H) where
-    pub name_runs : (index : Option ℕ) → LendsName was name pos (entries_of old) (Ok (index, v)) (entries_of mid) →
+    pub variable_runs : (index : Option ℕ) →
+        LendsVariable (globals_of rules.setting.offer) was variable (entries_of old) (Ok (index, v)) (entries_of mid) →
         GoesBack index w (entries_of mid) (entries_of new) →
         WalkRuns rules (record chain { in_place = is_some index }) (state_of before was old (lending held v)) answer
         (state_of left is old (lending held w)) →
-        Runs rules (ReadRoot name pos chain) (state_of before was old held) r (state_of left is new held)
-    name_runs (Some i) lends gives runs = root_begins name pos chain (state_of before was old held) i v lends.0 lends.1.0
+        Runs rules (ReadRoot variable chain) (state_of before was old held) r (state_of left is new held)
+    variable_runs (Some i) lends gives runs = root_begins variable chain (state_of before was old held) i v lends.0 lends.1.0
         (state_of left is new held) r false (sym lends.1.1.0) refl
         (lent_begins chain answer r same old mid new i unit v w lends.1.1.1 gives before left was is held runs)
-    name_runs None lends gives runs =
-        subst (λ (entries : List (ScopeEntry H)). Runs rules (ReadRoot name pos chain) (state_of before was old held) r
+    variable_runs None lends gives runs =
+        subst (λ (entries : List (ScopeEntry H)). Runs rules (ReadRoot variable chain) (state_of before was old held) r
         (record (state_of left is old held) { local = record (local_of is old held) { scope = entries } })) (sym (gives ∙ lends.1.1))
-        (function_begins name pos chain (state_of before was old held) lends.0 v (state_of left is old held) r lends.1.0
+        (temporary_begins variable chain (state_of before was old held) lends.0 v (state_of left is old held) r lends.1.0
         (begins chain answer r same false None v (state_of before was old held) (state_of left is old (lending held w)) runs))
 
   -- ---- any other value

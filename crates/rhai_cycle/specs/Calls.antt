@@ -1,7 +1,10 @@
 -- How the parts of a call are told.
 use Rattle.std.specs.Prelude.{◌≡◌, ◌+◌, ℕ, Bool, true, List, [], ◌∷◌, Option, Result, Ok, Err, IsTrue, codes, length}
 use Rattle.rhai_tree.specs.declared.expr.Expr.{Expr}
+use Rattle.rhai_tree.specs.declared.expr.FnCallExpr.{FnCallExpr}
+use Rattle.rhai_tree.specs.declared.expr.Namespace.{Namespace}
 use Rattle.rhai_tree.specs.declared.position.Position.{Position}
+use Rattle.rhai_tree.specs.declared.token.Token.{Token}
 use Rattle.rhai_values.specs.declared.base.value.Dynamic.{Dynamic}
 use Rattle.rhai_values.specs.declared.base.value.FnPtr.{FnPtr, out-FnPtr}
 use Rattle.rhai_state.specs.declared.error.EvalAltResult.{EvalAltResult}
@@ -67,3 +70,8 @@ module _ {H : Type 0} where
   purpose_of (code.Curry pointer) at = ToCurry pointer
   purpose_of (code.Linked function curried) at = ToCallFunction function at curried
   purpose_of (code.Number id curried) at = ToCallNumber id.number (operation_named (codes "call") at) curried
+
+-- a call, told by its parts
+abbrev pub in_parts : Namespace → (name : List ℕ) → List Expr → Option Token → (captures : Bool) → FnCallExpr
+in_parts path name args token captures =
+    record { namespace = path; name = name; args = args; op_token = token; capture_parent_scope = captures }

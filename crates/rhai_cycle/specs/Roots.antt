@@ -1,4 +1,4 @@
--- Where the walk of a chain begins: on a variable's value, on a pointer to a function that a name means, or on `this`.
+-- Where the walk of a chain begins: on the value of a variable, which may be a temporary, or on `this`.
 use Rattle.std.specs.Prelude.{◌≡◌, ℕ, true, false, List, [], Option, Some, None, Result, Ok, Err, slice_get}
 use Rattle.rhai_tree.specs.declared.position.Position.{Position}
 use Rattle.rhai_values.specs.declared.base.value.Dynamic.{Dynamic}
@@ -8,31 +8,33 @@ use Rattle.rhai_state.specs.declared.error.EvalAltResult.TheVariants as error
 use Rattle.rhai_state.specs.declared.scope.ScopeEntry.{ScopeEntry}
 use Rattle.rhai_state.specs.declared.state.GlobalRuntimeState.{GlobalRuntimeState}
 use Rattle.rhai_state.specs.Errors.{is_out_of_memory}
-use Rattle.rhai_state.specs.Scope.{index_of, revalued, value_in}
+use Rattle.rhai_state.specs.Scope.{revalued, value_in}
 use Rattle.rhai_machine.specs.language.Calls.{is_held}
-use Rattle.rhai_machine.specs.language.Functions.{meant_function}
-use Rattle.rhai_machine.specs.language.Names.{variable_of}
-use Rattle.rhai_machine.specs.language.Values.{Cells, copied}
+use Rattle.rhai_machine.specs.language.Setting.{Globals}
+use Rattle.rhai_machine.specs.language.Variables.{Variable}
+use Rattle.rhai_machine.specs.language.Names.{entry_named, value_beside}
+use Rattle.rhai_machine.specs.language.Values.{Cells}
+use Rattle.rhai_steps.specs.States.{surroundings_of}
 use Rattle.rhai_context.specs.Ends.{unit}
 
 module _ {H : Type 0} where
-  -- what a name means that is no variable's
-  abbrev pub meant_by : GlobalRuntimeState H → List ℕ → Position → Result (Dynamic H) (EvalAltResult H)
-  meant_by global name at = copied (variable_of (cells_of global.cells) name at (meant_function global.lib name))
+  module _ (globals : Globals H) (global : GlobalRuntimeState H) (variable : Variable) where
+    -- why no walk begins on a variable, by the entry that it means: it means nothing, or the entry is the handle of a held cell
+    abbrev pub RefusesVariable : List (ScopeEntry H) → Option ℕ → EvalAltResult H → Type 0
+    RefusesVariable entries None e = is_out_of_memory e ≡ false → Err e ≡ value_beside globals (surroundings_of global) variable
+    RefusesVariable entries (Some i) e = (v : Dynamic H) × ((value_in entries (Some i) ≡ Some v)
+        × ((is_held (cells_of global.cells) v.value ≡ true)
+        × (is_out_of_memory e ≡ false → e ≡ error.ErrorDataRace variable.name variable.at)))
 
-  -- why no walk begins on a name, by where its newest variable stands: it means nothing, or the variable is the handle of a held cell
-  abbrev pub RefusesName : GlobalRuntimeState H → List ℕ → Position → List (ScopeEntry H) → Option ℕ → EvalAltResult H → Type 0
-  RefusesName global name at entries None e = is_out_of_memory e ≡ false → Err e ≡ meant_by global name at
-  RefusesName global name at entries (Some i) e = (v : Dynamic H) × ((value_in entries (Some i) ≡ Some v)
-      × ((is_held (cells_of global.cells) v.value ≡ true) × (is_out_of_memory e ≡ false → e ≡ error.ErrorDataRace name at)))
-
-  -- a walk begins on the value of a variable, which has `()` meanwhile, or on a pointer; or on nothing
-  abbrev pub LendsName : GlobalRuntimeState H → List ℕ → Position → (old : List (ScopeEntry H)) →
-      Result (Option ℕ × Dynamic H) (EvalAltResult H) → (new : List (ScopeEntry H)) → Type 0
-  LendsName global name at old (Ok (Some i, v)) new = (index_of name old ≡ Some i) × ((value_in old (Some i) ≡ Some v)
-      × ((is_held (cells_of global.cells) v.value ≡ false) × (new ≡ revalued old i (slice_get old i) unit)))
-  LendsName global name at old (Ok (None, v)) new = (index_of name old ≡ None) × ((Ok v ≡ meant_by global name at) × (new ≡ old))
-  LendsName global name at old (Err e) new = RefusesName global name at old (index_of name old) e
+    -- a walk begins on the value of an entry, which has `()` meanwhile, or on a temporary; or on nothing
+    abbrev pub LendsVariable : (old : List (ScopeEntry H)) → Result (Option ℕ × Dynamic H) (EvalAltResult H) →
+        (new : List (ScopeEntry H)) → Type 0
+    LendsVariable old (Ok (Some i, v)) new = (entry_named variable.path.names variable.name old ≡ Some i)
+        × ((value_in old (Some i) ≡ Some v)
+        × ((is_held (cells_of global.cells) v.value ≡ false) × (new ≡ revalued old i (slice_get old i) unit)))
+    LendsVariable old (Ok (None, v)) new = (entry_named variable.path.names variable.name old ≡ None)
+        × ((Ok v ≡ value_beside globals (surroundings_of global) variable) × (new ≡ old))
+    LendsVariable old (Err e) new = RefusesVariable old (entry_named variable.path.names variable.name old) e
 
   -- what a walk began on goes back to where it was lent from
   abbrev pub GoesBack : Option ℕ → Dynamic H → (old new : List (ScopeEntry H)) → Type 0

@@ -15,8 +15,8 @@ module _ {H : Type 0} where
     fast_operators = evaluator.fast_operators;
     allow_shadowing = evaluator.allow_shadowing;
     fail_on_invalid_map_property = evaluator.fail_on_invalid_map_property;
-    global_modules = evaluator.global_modules.now;
-    global_sub_modules = evaluator.global_sub_modules.now;
+    global_modules = evaluator.offered.global_modules.now;
+    global_sub_modules = evaluator.offered.global_sub_modules.now;
     modules = evaluator.modules.now.modules;
   }
 

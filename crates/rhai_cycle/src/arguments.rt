@@ -12,7 +12,7 @@ ghost use Rattle.rhai_machine.specs.language.Calls.{plainly};
 ghost use Rattle.rhai_machine.specs.language.Frames.{CallNamed, ToCall, ToCallOn, ToCallOnThis};
 ghost use Rattle.rhai_machine.specs.language.Runs.{Runs};
 ghost use Rattle.rhai_calls.specs.Called.{with_args};
-ghost use Rattle.rhai_pointers.specs.Leading.{all_args};
+ghost use Rattle.rhai_pointers.specs.Leading.{all_args, seen, variable_read};
 ghost use Rattle.rhai_dispatch.specs.Going.{GoesOut};
 ghost use Rattle.rhai_context.specs.Ends.{came};
 ghost use Rattle.rhai_cycle.specs.Calls.{Collects, StartsAs};
@@ -165,15 +165,14 @@ impl<'e, H: Host> Evaluator<'e, H> {
         ensures names { names run.new ≡ names run.old }
         ensures runs { GoesOut (under H.name_of self.now T.natives)
             (ToCallOn (record { name = name.now; token = token; at = pos })
-            variable.entry.name.now variable.entry.pos
+            (variable_read (seen variable.entry))
             (plainly natives_alone false)) values.old true pos (state_in (T.state table.old) run.old)
             (with_args result values.new) (state_in (T.state table.new) run.new) }
     {
-        let offered = self.offered();
         call_on_variable(
             self.limits,
             alloc,
-            &offered,
+            &self.offered,
             &mut run.global,
             table,
             &mut run.scope,
@@ -182,6 +181,7 @@ impl<'e, H: Host> Evaluator<'e, H> {
             token,
             variable.offset,
             variable.name,
+            variable.namespace,
             variable.pos,
             values,
             pos,
@@ -208,11 +208,10 @@ impl<'e, H: Host> Evaluator<'e, H> {
             (plainly natives_alone false)) values.old true pos (state_in (T.state table.old) run.old)
             (with_args result values.new) (state_in (T.state table.new) run.new) }
     {
-        let offered = self.offered();
         call_on_this(
             self.limits,
             alloc,
-            &offered,
+            &self.offered,
             &mut run.global,
             table,
             &mut run.this,
@@ -242,14 +241,14 @@ impl<'e, H: Host> Evaluator<'e, H> {
         ensures scope { run.new.scope ≡ run.old.scope }
         ensures runs { (on_scope : _) → GoesOut (under H.name_of self.now T.natives)
             (ToCall (record { name = name.now; token = token; at = pos }) curried
-            (plainly natives_alone on_scope)) values.old (not on_scope) pos (state_in (T.state table.old) run.old)
+            (plainly natives_alone on_scope)) values.old (not on_scope) pos
+            (state_in (T.state table.old) run.old)
             (with_args result values.new) (state_in (T.state table.new) run.new) }
     {
-        let offered = self.offered();
         call_values(
             self.limits,
             alloc,
-            &offered,
+            &self.offered,
             &mut run.global,
             table,
             natives_alone,

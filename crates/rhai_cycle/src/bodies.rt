@@ -13,12 +13,11 @@ ghost use Rattle.rhai_machine.specs.language.Runs.{Runs};
 ghost use Rattle.rhai_machine.specs.language.State.{HasMemory};
 ghost use Rattle.rhai_steps.specs.States.{local_of, state_of};
 ghost use Rattle.rhai_calls.specs.Called.{came_out, with_args};
-ghost use Rattle.rhai_calls.specs.Dispatch.{Offers};
 ghost use Rattle.rhai_context.specs.Ends.{came, came_marked};
 ghost use Rattle.rhai_steps.specs.Marked.{lending, RunsFrom};
 ghost use Rattle.rhai_cycle.specs.Bodies.{args_left, behind_call, entered, is_entered};
 ghost use Rattle.rhai_cycle.specs.Calls.{StartsAs};
-ghost use Rattle.rhai_cycle.specs.States.{names, offer_of, state_in, under};
+ghost use Rattle.rhai_cycle.specs.States.{names, state_in, under};
 
 use crate::evaluator::Evaluator;
 use rhai_bodies::callers::{body_of, capture, end_fresh, release};
@@ -29,7 +28,7 @@ use rhai_context::ends::{put_unit, settle, settle_marked, stop, unchanged};
 use rhai_context::outcomes::charge;
 use rhai_context::{Context, put_aside};
 use rhai_few::Few;
-use rhai_functions::function::{Function, Offered};
+use rhai_functions::function::Function;
 use rhai_methods::calls::MethodCall;
 use rhai_methods::methods::call_method;
 use rhai_state::table::NativeTable;
@@ -40,16 +39,6 @@ use rhai_walk::focus::{enter_focus, leave_focus, lend_focus};
 use std::alloc::Global;
 
 impl<'e, H: Host> Evaluator<'e, H> {
-    /// The modules of the engine that functions are found in.
-    pub fn offered(&self) -> Offered<'e, H>
-        ensures { Offers (offer_of self.now) result }
-    {
-        Offered {
-            global_modules: self.global_modules.as_slice(),
-            global_sub_modules: self.global_sub_modules.values(),
-        }
-    }
-
     /// A function that is entered at a level, on the variables and with the `this` that the run has, its call
     /// charged first. `()` is left of its arguments where its body is entered. Its variables stay. How it ended
     /// stands in the run.
@@ -175,7 +164,8 @@ impl<'e, H: Host> Evaluator<'e, H> {
     ) -> bool
         ensures counts { run.old.global.num_operations ≤ run.new.global.num_operations }
         ensures names { IsTrue result → names run.new ≡ names run.old }
-        ensures runs { StartsAs (under H.name_of self.now T.natives) (came_out is_fresh pos (with_args called args.old))
+        ensures runs { StartsAs (under H.name_of self.now T.natives)
+            (came_out is_fresh pos (with_args called args.old))
             (state_in (T.state table.old) run.old)
             (came result run.new.value run.new.error) (state_in (T.state table.new) run.new) }
     {
@@ -254,11 +244,10 @@ impl<'e, H: Host> Evaluator<'e, H> {
             (state_of (T.state table.new) run.new.global scope (lending held focus.new)) }
     {
         let (limits, global) = (self.limits, &mut run.global);
-        let offered = self.offered();
         match call_method(
             limits,
             alloc,
-            &offered,
+            &self.offered,
             global,
             table,
             name,

@@ -49,6 +49,7 @@ use rhai_pointers::pointers::{
 use rhai_state::error::EvalAltResult;
 use rhai_state::table::NativeTable;
 use rhai_steps::values::let_go;
+use rhai_steps::variables::is_plain;
 use rhai_tree::Items;
 use rhai_tree::expr::{Expr, FnCallExpr};
 use rhai_tree::literal::NativeId;
@@ -174,11 +175,22 @@ impl<'e, H: Host> Evaluator<'e, H> {
         if let Some(function) = plain_callee(&run.global, call) {
             return self.run_plain_call(alloc, run, table, call, function, pos);
         }
-        let offered = self.offered();
+        if !is_plain(&call.namespace) {
+            let (path, name) = (&call.namespace, call.name.get().as_str());
+            return self.run_qualified_call(
+                alloc,
+                run,
+                table,
+                path,
+                name,
+                call.args.as_slice(),
+                pos,
+            );
+        }
         let at_once = call_at_once(
             self.limits,
             alloc,
-            &offered,
+            &self.offered,
             &mut run.global,
             table,
             &mut run.scope,
@@ -393,7 +405,8 @@ impl<'e, H: Host> Evaluator<'e, H> {
     ) -> Called<H>
         ensures counts { run.old.global.num_operations ≤ run.new.global.num_operations }
         ensures scope { run.new.scope ≡ run.old.scope }
-        ensures runs { GoesOut (under H.name_of self.now T.natives) (purpose_of pointer pos) values.old true pos
+        ensures runs { GoesOut (under H.name_of self.now T.natives)
+            (purpose_of pointer pos) values.old true pos
             (state_in (T.state table.old) run.old) (with_args result values.new)
             (state_in (T.state table.new) run.new) }
     {
@@ -467,12 +480,11 @@ impl<'e, H: Host> Evaluator<'e, H> {
             (call_at call.now.name token pos (run.old.value ∷ [])) (state_in (T.state table.old) run.old)
             (with_args result operands.new) (state_in (T.state table.new) run.new) }
     {
-        let offered = self.offered();
         let (global, out) = (&mut run.global, &mut run.value);
         operate_one(
             self.limits,
             alloc,
-            &offered,
+            &self.offered,
             global,
             table,
             call,
@@ -501,15 +513,15 @@ impl<'e, H: Host> Evaluator<'e, H> {
         ensures counts { run.old.global.num_operations ≤ run.new.global.num_operations }
         ensures scope { run.new.scope ≡ run.old.scope }
         ensures runs { Operates (under H.name_of self.now T.natives)
-            (call_at call.now.name token pos (left ∷ run.old.value ∷ [])) (state_in (T.state table.old) run.old)
+            (call_at call.now.name token pos (left ∷ run.old.value ∷ []))
+            (state_in (T.state table.old) run.old)
             (with_args result operands.new) (state_in (T.state table.new) run.new) }
     {
-        let offered = self.offered();
         let (global, out) = (&mut run.global, &mut run.value);
         operate_two(
             self.limits,
             alloc,
-            &offered,
+            &self.offered,
             global,
             table,
             call,

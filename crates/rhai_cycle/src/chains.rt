@@ -226,15 +226,15 @@ impl<'e, H: Host> Evaluator<'e, H> {
             Expr::Variable {
                 offset,
                 name,
+                namespace,
                 pos,
-                ..
             } => {
                 if !charge(self.limits, &mut run.global, &mut run.error, *pos) {
                     drop(new);
                     return false;
                 }
                 self.walk_variable(
-                    alloc, run, table, *offset, name, *pos, root, chain, args, new,
+                    alloc, run, table, *offset, name, namespace, *pos, root, chain, args, new,
                 )
             }
             Expr::ThisPtr(pos) => {

@@ -1,8 +1,8 @@
 //! What a run reads of an engine.
 
+use rhai_functions::function::Offered;
 use rhai_state::limits::Limits;
-use rhai_tree::{Items, Shared, Table};
-use rhai_values::base::value::{Module, ModuleTable};
+use rhai_values::base::value::ModuleTable;
 
 /// What a run reads of an engine: its limits and switches, and the modules that it offers.
 #[derive(Drop)]
@@ -11,10 +11,8 @@ pub struct Evaluator<'e, H> {
     pub fast_operators: bool,
     pub allow_shadowing: bool,
     pub fail_on_invalid_map_property: bool,
-    /// Modules whose constants and functions are found without their names.
-    pub global_modules: &'e Items<Shared<Module<H>>>,
-    /// Modules that are found by their names.
-    pub global_sub_modules: &'e Table<Shared<Module<H>>>,
+    /// The modules that names lead to.
+    pub offered: Offered<'e, H>,
     /// Modules that an `import` finds.
     pub modules: &'e ModuleTable<H>,
 }

@@ -109,6 +109,7 @@ impl<'e, H: Host> Evaluator<'e, H> {
             _ => read_expr(
                 alloc,
                 &run.global,
+                &self.offered,
                 &run.scope,
                 &run.this,
                 &mut run.value,

@@ -13,6 +13,7 @@ pub mod evaluator;
 pub mod expr;
 mod loops;
 mod plain;
+mod qualified;
 mod roots;
 pub mod stmt;
 mod switch;

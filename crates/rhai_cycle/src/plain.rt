@@ -47,7 +47,8 @@ impl<'e, H: Host> Evaluator<'e, H> {
         ensures names { IsTrue result → names run.new ≡ names run.old }
         ensures runs { let rules = under H.name_of self.now T.natives in
             StartsAs rules (arguments_core rules.setting
-            (ToCall (record { name = call.now.name; token = None; at = pos }) [] (plainly false false)) [] call.now.args)
+            (ToCall (record { name = call.now.name; token = None; at = pos })
+            [] (plainly false false)) [] call.now.args)
             (state_in (T.state table.old) run.old)
             (came result run.new.value run.new.error) (state_in (T.state table.new) run.new) }
     {

@@ -16,11 +16,13 @@ ghost use Rattle.rhai_machine.specs.language.Frames.{Back, ReadRoot, RootValue};
 ghost use Rattle.rhai_machine.specs.language.Runs.{Runs};
 ghost use Rattle.rhai_machine.specs.language.State.{Answers};
 ghost use Rattle.rhai_machine.specs.language.Values.{flat};
+ghost use Rattle.rhai_machine.specs.language.Variables.{variable_named};
+ghost use Rattle.rhai_steps.specs.Offers.{globals_in};
 ghost use Rattle.rhai_steps.specs.States.{state_of};
 ghost use Rattle.rhai_chains.specs.Chains.{chain_at, Walks};
 ghost use Rattle.rhai_cycle.specs.Calls.{RunsUnder, StartsAs};
 ghost use Rattle.rhai_context.specs.Ends.{came, came_some, error_in};
-ghost use Rattle.rhai_cycle.specs.Roots.{GoesBack, LendsName, RefusesThis};
+ghost use Rattle.rhai_cycle.specs.Roots.{GoesBack, LendsVariable, RefusesThis};
 ghost use Rattle.rhai_cycle.specs.States.{names, under};
 
 use crate::evaluator::Evaluator;
@@ -29,14 +31,15 @@ use rhai_chains::chain::NewValue;
 use rhai_context::Context;
 use rhai_context::ends::{stop, take_value};
 use rhai_context::outcomes::flatten_at;
+use rhai_functions::function::Offered;
 use rhai_state::error::EvalAltResult;
 use rhai_state::scope::Scope;
 use rhai_state::state::GlobalRuntimeState;
 use rhai_state::table::NativeTable;
 use rhai_steps::errors::{data_race, data_race_of};
 use rhai_steps::values::{let_go, unit_value};
-use rhai_steps::variables::{place_of_variable, read_function};
-use rhai_tree::expr::Expr;
+use rhai_steps::variables::{entry_of_variable, read_beside};
+use rhai_tree::expr::{Expr, Namespace};
 use rhai_tree::position::Position;
 use rhai_tree::{Shared, Text};
 use rhai_values::base::value::{Dynamic, Host};
@@ -64,30 +67,32 @@ pub(crate) fn refuses_held<H: Host>(
     is_anothers
 }
 
-/// Takes out what the walk of a chain begins on that a name leads to: a variable's value, with the place that has
-/// `()` meanwhile, or a pointer to a function of the libraries. Asked: the offset leads to the newest variable of the
-/// name.
+/// Takes out what the walk of a chain begins on that a variable means: an entry's value, with the place that has `()`
+/// meanwhile, or a temporary. Asked: the offset leads to the newest variable of the name.
 ///
 /// # Errors
-/// At the name `ErrorVariableNotFound`, and `ErrorDataRace` for a variable that is the handle of a cell that is held.
-/// It goes into its place, and the variables stay.
+/// `ErrorDataRace` at the name for an entry that is the handle of a cell that is held, and those of `read_beside`. It
+/// goes into its place, and the variables stay.
 fn lend_variable<H: Host>(
     alloc: Global,
+    offered: &Offered<'_, H>,
     global: &GlobalRuntimeState<H>,
     scope: &mut Scope<H>,
     place: &mut Option<EvalAltResult<H>>,
     offset: Option<NonZeroUsize>,
     name: &Shared<Text>,
+    namespace: &Namespace,
     pos: Position,
 ) -> Option<(Option<usize>, Dynamic<H>)>
     requires { IsTrue (is_good offset name.now (names_in scope.old)) }
-    ensures lends { LendsName global.now name.now pos (entries_of scope.old) (came_some result place.new)
+    ensures lends { LendsVariable (globals_in offered.now) global.now
+        (variable_named name.now namespace.now pos) (entries_of scope.old) (came_some result place.new)
         (entries_of scope.new) }
     ensures within { IfSome result (λ lent. IfSome lent.0 (λ at. at < length (entries_of scope.new))) }
     ensures kept { result ≡ None → scope.new ≡ scope.old }
 {
-    match place_of_variable(global, scope, offset, name) {
-        None => match read_function(alloc, global.lib.as_slice(), name, pos) {
+    match entry_of_variable(global, scope, offset, name, namespace) {
+        None => match read_beside(alloc, offered, global, name, namespace, pos) {
             Ok(value) => Some((None, value)),
             Err(error) => {
                 stop(place, error);
@@ -193,14 +198,12 @@ pub(crate) fn take_flat<H: Host>(
 }
 
 impl<'e, H: Host> Evaluator<'e, H> {
-    /// A chain from a variable, which is charged already, its arguments there. The variable's value is taken
-    /// out of its entry, walked on in place, and put back on every way out. A name that is no variable's means a
-    /// pointer to a function of the libraries, on which the walk begins as a temporary. Asked: the offset leads
-    /// to the newest variable of the name.
+    /// A chain from a variable, which is charged already, its arguments there. The value of an entry is taken out,
+    /// walked on in place, and put back on every way out; on what is no entry the walk begins as on a temporary. Asked:
+    /// the offset leads to the newest variable of the name.
     ///
     /// # Errors
-    /// At the variable: `ErrorVariableNotFound`, and `ErrorDataRace` where it is the handle of a cell that is
-    /// held. All others are those of `walk_chain`.
+    /// Those of `lend_variable` and of `walk_chain`.
     #[cycle(eval)]
     pub(crate) fn walk_variable<T: NativeTable<H>>(
         &self,
@@ -209,6 +212,7 @@ impl<'e, H: Host> Evaluator<'e, H> {
         table: &mut T,
         offset: Option<NonZeroUsize>,
         name: &Shared<Text>,
+        namespace: &Namespace,
         pos: Position,
         root: &Expr,
         rest: &Expr,
@@ -221,14 +225,25 @@ impl<'e, H: Host> Evaluator<'e, H> {
         ensures names { names run.new ≡ names run.old }
         ensures this { run.new.this ≡ run.old.this }
         ensures runs { (held : _) (in_place : _) → Runs (under H.name_of self.now T.natives)
-            (ReadRoot name.now pos (chain_at root.now (out-Expr rest.now) args.old new in_place))
+            (ReadRoot (variable_named name.now namespace.now pos)
+            (chain_at root.now (out-Expr rest.now) args.old new in_place))
             (state_of (T.state table.old) run.old.global run.old.scope held)
             (came result run.new.value run.new.error)
             (state_of (T.state table.new) run.new.global run.new.scope held) }
     {
         let (global, scope, place) = (&run.global, &mut run.scope, &mut run.error);
-        let Some((index, value)) = lend_variable(alloc, global, scope, place, offset, name, pos)
-        else {
+        let lent = lend_variable(
+            alloc,
+            &self.offered,
+            global,
+            scope,
+            place,
+            offset,
+            name,
+            namespace,
+            pos,
+        );
+        let Some((index, value)) = lent else {
             drop(new);
             return false;
         };

@@ -301,8 +301,8 @@ impl<'e, H: Host> Evaluator<'e, H> {
             Expr::Variable {
                 offset,
                 name,
+                namespace,
                 pos,
-                ..
             } => {
                 if !self.run_expr(alloc, run, table, rhs) {
                     return false;
@@ -314,6 +314,7 @@ impl<'e, H: Host> Evaluator<'e, H> {
                 assign_left(
                     self.limits,
                     alloc,
+                    &self.offered,
                     &mut run.global,
                     table,
                     &mut run.scope,
@@ -321,6 +322,7 @@ impl<'e, H: Host> Evaluator<'e, H> {
                     &mut run.error,
                     *offset,
                     name,
+                    namespace,
                     *pos,
                     op,
                     self.fast_operators,
@@ -369,7 +371,8 @@ impl<'e, H: Host> Evaluator<'e, H> {
         pos: Position,
         restoring: bool,
     ) -> bool
-        requires resolves { IsTrue (var_resolves index ident.now (tests_of value.now) options pos (names run.old)) }
+        requires resolves { IsTrue (var_resolves index ident.now (tests_of value.now)
+            options pos (names run.old)) }
         ensures counts { IsTrue result → run.old.global.num_operations ≤ run.new.global.num_operations }
         ensures names { IsTrue result → names run.new ≡ var_names index ident.now.name (names run.old) }
         ensures runs { Runs (under H.name_of self.now T.natives)

@@ -79,7 +79,8 @@ impl<H: Host> ArrayItems<H> {
         requires measured { IsMeasured self.old }
         ensures measured { IsMeasured self.new }
         ensures added { IsTrue result → item_added limits.now self.old.items
-            (flat (cells_of cells.now) out.old (position_of item.now)) (position_of item.now) ≡ Ok self.new.items }
+            (flat (cells_of cells.now) out.old (position_of item.now)) (position_of item.now)
+            ≡ Ok self.new.items }
         ensures refused { result ≡ false → is_out_of_memory (error_in place.new) ≡ false →
             item_added limits.now self.old.items (flat (cells_of cells.now) out.old (position_of item.now))
             (position_of item.now) ≡ Err (error_in place.new) }

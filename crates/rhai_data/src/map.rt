@@ -101,7 +101,8 @@ impl<H: Host> EntryValues<H> {
         requires counted { IsCounted self.old }
         ensures counted { IsCounted self.new }
         ensures added { IsTrue result → value_added limits.now self.old.values
-            (flat (cells_of cells.now) out.old (position_of item.now)) (position_of item.now) ≡ Ok self.new.values }
+            (flat (cells_of cells.now) out.old (position_of item.now)) (position_of item.now)
+            ≡ Ok self.new.values }
         ensures refused { result ≡ false → is_out_of_memory (error_in place.new) ≡ false →
             value_added limits.now self.old.values (flat (cells_of cells.now) out.old (position_of item.now))
             (position_of item.now) ≡ Err (error_in place.new) }

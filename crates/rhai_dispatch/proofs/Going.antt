@@ -9,8 +9,9 @@ use Rattle.rhai_state.specs.declared.error.EvalAltResult.TheVariants as error
 use Rattle.rhai_state.specs.Errors.{is_out_of_memory}
 use Rattle.rhai_functions.specs.declared.function.Function.{Function}
 use Rattle.rhai_machine.specs.machine.Memory.{◌⨾◌, here, wanting}
-use Rattle.rhai_machine.specs.language.Setting.{Rules}
+use Rattle.rhai_machine.specs.language.Setting.{Rules, globals_of}
 use Rattle.rhai_machine.specs.language.State.{Local, State}
+use Rattle.rhai_machine.specs.language.Variables.{Variable}
 use Rattle.rhai_machine.specs.language.Activations.{NoObject}
 use Rattle.rhai_machine.specs.language.Frames.{Operation, Lender, Dispatch, Call, Purpose, ToCall, ToCallOn, ToCallFunction, ToCallNumber}
 use Rattle.rhai_machine.specs.language.Frames.{Frame, core, on_value, ended, EnterFunction, Question, Fail}
@@ -129,14 +130,13 @@ module _ {S H : Type 0} (rules : Rules S H) where
 
   -- ---- a variable that comes first
 
-  module _ (operation : Operation) (variable : List ℕ) (variable_at : Position) (how : Dispatch) (args : List (Dynamic H))
-      (old : State S H) where
+  module _ (operation : Operation) (variable : Variable) (how : Dispatch) (args : List (Dynamic H)) (old : State S H) where
     -- what the call is
     abbrev asked : Result (Call H) (EvalAltResult H)
-    asked = call_on old.local.around.cells old.local.around.lib old.local.scope operation variable variable_at args
+    asked = call_on (globals_of rules.setting.offer) old.local.around old.local.scope operation variable args
 
     pub on_called : (call : Call H) → asked ≡ Ok call → (called : Outcome H) (new : State S H) → Calls rules how call old called new →
-        GoesOut rules (ToCallOn operation variable variable_at how) args (not how.on_scope) call.operation.at old called new
+        GoesOut rules (ToCallOn operation variable how) args (not how.on_scope) call.operation.at old called new
     unfolding GoesOut Calls
     on_called call is called new runs k =
         subst (λ (x : Result (Call H) (EvalAltResult H)).
@@ -146,7 +146,7 @@ module _ {S H : Type 0} (rules : Rules S H) where
 
     -- or why there is none
     pub on_refused : (x e : EvalAltResult H) → asked ≡ Err x → (is_out_of_memory e ≡ false → e ≡ x) → (is_fresh : Bool) (pos : Position) →
-        GoesOut rules (ToCallOn operation variable variable_at how) args is_fresh pos old (Ended (Err e)) old
+        GoesOut rules (ToCallOn operation variable how) args is_fresh pos old (Ended (Err e)) old
     unfolding GoesOut
     on_refused x e is told is_fresh pos k =
         subst (λ (y : Result (Call H) (EvalAltResult H)).
@@ -156,7 +156,7 @@ module _ {S H : Type 0} (rules : Rules S H) where
 
     -- or memory runs out in its place
     pub on_failed : (e : EvalAltResult H) → (is_out_of_memory e ≡ false → asked ≡ Err e) → (is_fresh : Bool) (pos : Position) →
-        GoesOut rules (ToCallOn operation variable variable_at how) args is_fresh pos old (Ended (Err e)) old
+        GoesOut rules (ToCallOn operation variable how) args is_fresh pos old (Ended (Err e)) old
     on_failed (error.ErrorOutOfMemory there) is is_fresh pos =
-        there_wants_out (ToCallOn operation variable variable_at how) args is_fresh pos old (error.ErrorOutOfMemory there) refl
+        there_wants_out (ToCallOn operation variable how) args is_fresh pos old (error.ErrorOutOfMemory there) refl
     on_failed e is is_fresh pos = on_refused e e (is refl) (λ m. refl) is_fresh pos

@@ -1,5 +1,5 @@
 -- Where a call goes on once its arguments are there, the stack and the state stay: so memory may as well run out there.
-use Rattle.std.proofs.Common.{◌≡◌, ◌&&◌, Bool, true, false, List, [], ◌∷◌, ◌++◌, Option, Some, None, Result, Ok, Err, refl}
+use Rattle.std.proofs.Common.{◌≡◌, ◌&&◌, ℕ, Bool, true, false, List, [], ◌∷◌, ◌++◌, Option, Some, None, Result, Ok, Err, refl}
 use Rattle.std.specs.Prelude.{codes, if◌then◌else◌}
 use Rattle.std.specs.Str.{bytes_eq}
 use Rattle.rhai_tree.specs.declared.position.Position.{Position}
@@ -8,15 +8,15 @@ use Rattle.rhai_state.specs.declared.error.EvalAltResult.{EvalAltResult}
 use Rattle.rhai_state.specs.declared.error.EvalAltResult.TheVariants as error
 use Rattle.rhai_machine.specs.machine.Memory.{here, wanting}
 use Rattle.rhai_functions.specs.declared.function.Function.{Function}
-use Rattle.rhai_machine.specs.language.Setting.{Setting, Rules}
+use Rattle.rhai_machine.specs.language.Setting.{Setting, Rules, globals_of}
 use Rattle.rhai_machine.specs.language.State.{Local, State}
 use Rattle.rhai_machine.specs.language.Values.{through}
 use Rattle.rhai_machine.specs.language.Names.{bound_this}
 use Rattle.rhai_machine.specs.language.Activations.{NoObject}
 use Rattle.rhai_machine.specs.language.Frames.{Dispatch, Call, Purpose, ToCall, ToCallOn, ToCallOnThis, ToCallFunction, ToCallNumber, ToCurry}
 use Rattle.rhai_machine.specs.language.Frames.{ToChain, Frame, Core, core, on_value, EnterFunction, Question, Fail}
-use Rattle.rhai_machine.specs.language.Calls.{asks_function, call_of, called_function, dispatch_core, enter_core, entry_of, found_core}
-use Rattle.rhai_machine.specs.language.Calls.{call_races, named_core, races}
+use Rattle.rhai_machine.specs.language.Calls.{asks_function, by_name_core, call_of, called_function, dispatch_behind, dispatch_core}
+use Rattle.rhai_machine.specs.language.Calls.{call_races, enter_core, entry_of, found_core, function_behind, named_core, races}
 use Rattle.rhai_machine.specs.language.Arguments.{arguments_there, call_on, lent_this, linked_core, numbered_core}
 use Rattle.rhai_machine.specs.language.Runs.{at, with_core, Goes}
 
@@ -54,9 +54,17 @@ module _ {H : Type 0} (k : List (Frame H)) (l : Local H) where
         (record { stack = refl; local = refl }) (found_level (called_function s how call l) how call)
     named_level how (v ∷ w ∷ x ∷ args) call = found_level (called_function s how call l) how call
 
-    pub dispatch_level : (how : Dispatch) (call : Call H) → IsLevel k l (dispatch_core s how call k l)
-    dispatch_level how call =
+    by_name_level : (how : Dispatch) (call : Call H) → IsLevel k l (by_name_core s how call k l)
+    by_name_level how call =
         either (call_races how.of_method l.around.cells call.args) _ _ (record { stack = refl; local = refl }) (named_level how call.args call)
+
+    behind_level : (path : List (List ℕ)) (how : Dispatch) (call : Call H) → IsLevel k l (dispatch_behind s path how call k l)
+    behind_level [] how call = by_name_level how call
+    behind_level (root ∷ path) how call =
+        on_level (function_behind s root path how call l) (λ f. enter_core false f how call k l) (λ f. entered_level false f how call)
+
+    pub dispatch_level : (how : Dispatch) (call : Call H) → IsLevel k l (dispatch_core s how call k l)
+    dispatch_level how call = behind_level how.path.names how call
 
     pub number_level : (call : Call H) → IsLevel k l (numbered_core call k l)
     number_level call = either (races l.around.cells call.args)
@@ -70,8 +78,8 @@ module _ {H : Type 0} (k : List (Frame H)) (l : Local H) where
 
     pub there_level : (purpose : Purpose H) (args : List (Dynamic H)) → IsLevel k l (arguments_there s purpose args k l)
     there_level (ToCall operation curried how) args = dispatch_level how (call_of operation (curried ++ args))
-    there_level (ToCallOn operation variable variable_at how) args =
-        on_level (call_on l.around.cells l.around.lib l.scope operation variable variable_at args) (λ call. dispatch_core s how call k l)
+    there_level (ToCallOn operation variable how) args =
+        on_level (call_on (globals_of s.offer) l.around l.scope operation variable args) (λ call. dispatch_core s how call k l)
         (λ call. dispatch_level how call)
     there_level (ToCallOnThis operation this_at how) args =
         on_level (bound_this this_at l.this) (λ v. dispatch_core s how (lent_this operation args v) k l)

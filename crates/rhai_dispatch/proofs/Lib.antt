@@ -1,3 +1,4 @@
+pub mod Behind
 pub mod Going
 pub mod Lending
 pub mod Levels

@@ -1,10 +1,11 @@
-//! Calls whose arguments are there: by a name, with a variable that is read last or with `this`, of a
+//! Calls whose arguments are there: by a name, with a variable that is read last or with `this`, behind a path, of a
 //! function that a pointer is linked to, and by a native's number. Ports what upstream's `func/call.rs` does
 //! once it has the arguments. The contracts cite the machine's specs/language/Arguments.antt and the crate's
 //! own specs/.
 #![tactic(auto)]
 
 pub mod arguments;
+pub mod path;
 pub mod pointer;
 pub mod this;
 pub mod variable;
@@ -16,7 +17,7 @@ ghost use Rattle.rhai_machine.specs.language.Frames.{ToCall, ToCallNumber};
 ghost use Rattle.rhai_machine.specs.language.Setting.{rules_of};
 ghost use Rattle.rhai_steps.specs.States.{state_of};
 ghost use Rattle.rhai_calls.specs.Called.{with_args};
-ghost use Rattle.rhai_calls.specs.Dispatch.{Offers};
+ghost use Rattle.rhai_steps.specs.Offers.{Offers};
 ghost use Rattle.rhai_dispatch.specs.Going.{GoesOn, GoesOut};
 ghost use Rattle.rhai_dispatch.specs.Linked.{linked_call, Comes};
 

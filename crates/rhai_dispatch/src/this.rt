@@ -6,7 +6,7 @@ ghost use Rattle.rhai_machine.specs.language.Frames.{ToCallOnThis};
 ghost use Rattle.rhai_machine.specs.language.Setting.{rules_of};
 ghost use Rattle.rhai_steps.specs.States.{state_of};
 ghost use Rattle.rhai_calls.specs.Called.{with_args};
-ghost use Rattle.rhai_calls.specs.Dispatch.{Offers};
+ghost use Rattle.rhai_steps.specs.Offers.{Offers};
 ghost use Rattle.rhai_dispatch.specs.Going.{GoesOut};
 
 use crate::variable::call_first;

@@ -1,22 +1,24 @@
 //! A call by name whose first argument is a variable, which is read last.
 
-ghost use Rattle.std.specs.Prelude.{◌≡◌, ◌≤◌, ◌<◌, ◌∷◌, IsTrue, None, Some, length, not, true};
+ghost use Rattle.std.specs.Prelude.{◌≡◌, ◌≤◌, ◌<◌, ◌∷◌, IsTrue, None, Some, false, length, not, true};
 ghost use Rattle.rhai_tree.specs.Names.{is_good};
 ghost use Rattle.rhai_values.specs.Cells.{cells_of};
 ghost use Rattle.rhai_values.specs.Copy.{copy_of};
-ghost use Rattle.rhai_state.specs.Scope.{entries_of, index_of, names_in, value_in};
+ghost use Rattle.rhai_state.specs.Scope.{entries_of, names_in, value_in};
 ghost use Rattle.rhai_machine.specs.language.State.{Answers};
 ghost use Rattle.rhai_machine.specs.language.Values.{flat};
 ghost use Rattle.rhai_machine.specs.language.Calls.{plainly};
 ghost use Rattle.rhai_machine.specs.language.Frames.{FromEntry, ToCallOn};
+ghost use Rattle.rhai_machine.specs.language.Names.{entry_named, value_beside};
 ghost use Rattle.rhai_machine.specs.language.Setting.{rules_of};
-ghost use Rattle.rhai_steps.specs.States.{local_of, state_of};
+ghost use Rattle.rhai_machine.specs.language.Variables.{Path, variable_named};
+ghost use Rattle.rhai_steps.specs.Offers.{Offers, globals_in};
+ghost use Rattle.rhai_steps.specs.States.{local_of, state_of, surroundings_of};
 ghost use Rattle.rhai_calls.specs.Called.{Calls, Enters, with_args};
-ghost use Rattle.rhai_calls.specs.Dispatch.{Offers};
 ghost use Rattle.rhai_calls.specs.Lending.{back_in, lent_call, Stands};
 ghost use Rattle.rhai_dispatch.specs.Going.{GoesOut};
 ghost use Rattle.rhai_dispatch.specs.Linked.{Comes};
-ghost use Rattle.rhai_dispatch.specs.Variables.{is_lendable as lendable};
+ghost use Rattle.rhai_dispatch.specs.Variables.{copy_passed, is_lendable as lendable};
 
 use rhai_calls::dispatch::{Called, Dispatched, Seeks, is_held, pass_call};
 use rhai_calls::native::{Passing, unmarked};
@@ -29,7 +31,8 @@ use rhai_state::state::GlobalRuntimeState;
 use rhai_state::table::NativeTable;
 use rhai_steps::errors::data_race_of;
 use rhai_steps::values::{copy, flatten, is_bare_handle, let_go, unit_value};
-use rhai_steps::variables::{place_of_variable, read_function};
+use rhai_steps::variables::{entry_of_variable, read_beside};
+use rhai_tree::expr::Namespace;
 use rhai_tree::position::Position;
 use rhai_tree::token::Token;
 use rhai_tree::{Shared, Text};
@@ -50,7 +53,7 @@ pub fn is_lendable<H: Host>(value: &Dynamic<H>) -> bool
 }
 
 /// A variable's value as it is passed by itself: a copy, of a handle one of the cell's value.
-fn passed_value<H: Host>(
+pub(crate) fn passed_value<H: Host>(
     alloc: Global,
     cells: &CellStore<H>,
     value: &Dynamic<H>,
@@ -60,6 +63,25 @@ fn passed_value<H: Host>(
 {
     let value = copy(alloc, value, pos)?;
     flatten(alloc, cells, value, pos)
+}
+
+/// What a variable means that is no entry, as it is passed by itself.
+pub(crate) fn passed_beside<H: Host>(
+    alloc: Global,
+    offered: &Offered<'_, H>,
+    global: &GlobalRuntimeState<H>,
+    variable: &Shared<Text>,
+    namespace: &Namespace,
+    pos: Position,
+) -> Result<Dynamic<H>, EvalAltResult<H>>
+    ensures { Answers result (copy_passed (cells_of global.now.cells) pos
+        (value_beside (globals_in offered.now) (surroundings_of global.now)
+        (variable_named variable.now namespace.now pos))) }
+{
+    let value = read_beside(alloc, offered, global, variable, namespace, pos)?;
+    let passed = passed_value(alloc, &global.cells, &value, pos);
+    let_go(value);
+    passed
 }
 
 /// A function of a script that gets a value before the other arguments, if there is memory for it in their list.
@@ -185,7 +207,7 @@ pub(crate) fn call_first<H: Host, T: NativeTable<H>>(
     }
 }
 
-/// A call by name with a value of its own before the other arguments, which may be guarded.
+/// A call by name with a value of its own before the other arguments.
 fn call_passed<H: Host, T: NativeTable<H>>(
     limits: &Limits,
     alloc: Global,
@@ -197,13 +219,12 @@ fn call_passed<H: Host, T: NativeTable<H>>(
     token: Option<Token>,
     first: Dynamic<H>,
     args: &mut Few<Dynamic<H>>,
-    guarded: bool,
     pos: Position,
 ) -> Called<H>
     ensures counts { global.old.num_operations ≤ global.new.num_operations }
     ensures runs { (offer : _) (scope : _) (held : _) (on_scope : _) → Offers offer offered.now →
         Calls (rules_of limits.now H.name_of offer T.natives) (plainly natives_alone on_scope)
-        (lent_call (record { name = name.now; token = token; at = pos }) None guarded (first ∷ args.old))
+        (lent_call (record { name = name.now; token = token; at = pos }) None false (first ∷ args.old))
         (state_of (T.state table.old) global.old scope held)
         (with_args result args.new) (state_of (T.state table.new) global.new scope held) }
 {
@@ -213,7 +234,7 @@ fn call_passed<H: Host, T: NativeTable<H>>(
         natives_alone,
     };
     let passing = Passing {
-        guarded,
+        guarded: false,
         marks: false,
     };
     let rest = args.as_slice();
@@ -248,11 +269,12 @@ fn call_found<H: Host, T: NativeTable<H>>(
     requires { index < length (entries_of scope.old) }
     ensures counts { global.old.num_operations ≤ global.new.num_operations }
     ensures names { names_in scope.new ≡ names_in scope.old }
-    ensures runs { (offer : _) (held : _) (on_scope : _) → Offers offer offered.now →
-        index_of variable.now (entries_of scope.old) ≡ Some index →
+    ensures runs { (offer : _) (held : _) (on_scope : _) (path : Path) → Offers offer offered.now →
+        entry_named path.names variable.now (entries_of scope.old) ≡ Some index →
         GoesOut (rules_of limits.now H.name_of offer T.natives)
-        (ToCallOn (record { name = name.now; token = token; at = pos }) variable.now variable_at
-        (plainly natives_alone on_scope)) args.old (not on_scope) pos
+        (ToCallOn (record { name = name.now; token = token; at = pos })
+        (record { path = path; name = variable.now; at = variable_at }) (plainly natives_alone on_scope))
+        args.old (not on_scope) pos
         (state_of (T.state table.old) global.old scope.old held)
         (with_args result args.new) (state_of (T.state table.new) global.new scope.new held) }
 {
@@ -288,15 +310,14 @@ fn call_found<H: Host, T: NativeTable<H>>(
             token,
             first,
             args,
-            false,
             pos,
         ),
         Err(error) => Called::Ended(Err(error)),
     }
 }
 
-/// A call on what a name means that is no variable's: a pointer to a function of the libraries.
-fn call_on_function<H: Host, T: NativeTable<H>>(
+/// A call on a variable that no entry has: a constant or a function that its name means, or a constant behind its path.
+fn call_beside<H: Host, T: NativeTable<H>>(
     limits: &Limits,
     alloc: Global,
     offered: &Offered<'_, H>,
@@ -306,20 +327,22 @@ fn call_on_function<H: Host, T: NativeTable<H>>(
     name: &str,
     token: Option<Token>,
     variable: &Shared<Text>,
+    namespace: &Namespace,
     variable_at: Position,
     args: &mut Few<Dynamic<H>>,
     pos: Position,
 ) -> Called<H>
     ensures counts { global.old.num_operations ≤ global.new.num_operations }
     ensures runs { (offer : _) (scope : _) (held : _) (on_scope : _) → Offers offer offered.now →
-        index_of variable.now (entries_of scope) ≡ None →
+        entry_named namespace.now.path variable.now (entries_of scope) ≡ None →
         GoesOut (rules_of limits.now H.name_of offer T.natives)
-        (ToCallOn (record { name = name.now; token = token; at = pos }) variable.now variable_at
-        (plainly natives_alone on_scope)) args.old (not on_scope) pos
+        (ToCallOn (record { name = name.now; token = token; at = pos })
+        (variable_named variable.now namespace.now variable_at) (plainly natives_alone on_scope))
+        args.old (not on_scope) pos
         (state_of (T.state table.old) global.old scope held)
         (with_args result args.new) (state_of (T.state table.new) global.new scope held) }
 {
-    match read_function(alloc, global.lib.as_slice(), variable, variable_at) {
+    match passed_beside(alloc, offered, &*global, variable, namespace, variable_at) {
         Ok(first) => call_passed(
             limits,
             alloc,
@@ -331,7 +354,6 @@ fn call_on_function<H: Host, T: NativeTable<H>>(
             token,
             first,
             args,
-            true,
             pos,
         ),
         Err(error) => Called::Ended(Err(error)),
@@ -340,13 +362,13 @@ fn call_on_function<H: Host, T: NativeTable<H>>(
 
 /// A call by name with a variable before its arguments, which are there. The variable is read now: a
 /// constant or a handle is passed as a copy, and any other is lent, so that a native may change it. A function
-/// of a script gets a copy, and is for the caller to enter. A name that no variable has means a function of the
-/// libraries, if there is one. Asked: the offset leads to the newest variable of the name. Ports what upstream's
+/// of a script gets a copy, and is for the caller to enter. Of a variable that no entry has, by itself or behind a
+/// path, a copy is passed. Asked: the offset leads to the newest variable of the name. Ports what upstream's
 /// `make_function_call` does with a variable that comes first.
 ///
 /// # Errors
-/// At the variable: `ErrorVariableNotFound`, and `ErrorDataRace` where it is the handle of a cell that is
-/// held. All others are those of `rhai_calls::dispatch::pass_call`.
+/// At the variable: `ErrorDataRace` where it is the handle of a cell that is held, and those of
+/// `rhai_steps::variables::read_beside`. All others are those of `rhai_calls::dispatch::pass_call`.
 pub fn call_on_variable<H: Host, T: NativeTable<H>>(
     limits: &Limits,
     alloc: Global,
@@ -359,6 +381,7 @@ pub fn call_on_variable<H: Host, T: NativeTable<H>>(
     token: Option<Token>,
     offset: Option<NonZeroUsize>,
     variable: &Shared<Text>,
+    namespace: &Namespace,
     variable_at: Position,
     args: &mut Few<Dynamic<H>>,
     pos: Position,
@@ -368,13 +391,14 @@ pub fn call_on_variable<H: Host, T: NativeTable<H>>(
     ensures names { names_in scope.new ≡ names_in scope.old }
     ensures runs { (offer : _) (held : _) (on_scope : _) → Offers offer offered.now →
         GoesOut (rules_of limits.now H.name_of offer T.natives)
-        (ToCallOn (record { name = name.now; token = token; at = pos }) variable.now variable_at
-        (plainly natives_alone on_scope)) args.old (not on_scope) pos
+        (ToCallOn (record { name = name.now; token = token; at = pos })
+        (variable_named variable.now namespace.now variable_at) (plainly natives_alone on_scope))
+        args.old (not on_scope) pos
         (state_of (T.state table.old) global.old scope.old held)
         (with_args result args.new) (state_of (T.state table.new) global.new scope.new held) }
 {
-    match place_of_variable(global, scope, offset, variable) {
-        None => call_on_function(
+    match entry_of_variable(&*global, &*scope, offset, variable, namespace) {
+        None => call_beside(
             limits,
             alloc,
             offered,
@@ -384,6 +408,7 @@ pub fn call_on_variable<H: Host, T: NativeTable<H>>(
             name,
             token,
             variable,
+            namespace,
             variable_at,
             args,
             pos,

@@ -5,7 +5,6 @@ pub mod Ends
 pub mod Entering
 pub mod Indexing
 pub mod Lends
-pub mod Plain
 pub mod Search
 pub mod States
 pub mod Places

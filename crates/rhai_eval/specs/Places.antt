@@ -4,6 +4,7 @@ use Rattle.std.specs.Borrow.{MutBor}
 use Rattle.std.specs.Prelude.{◌⊎◌, Bool, true, false, List, [], ◌∷◌, Option, Some, None}
 use Rattle.rhai_values.specs.declared.base.value.Dynamic.{Dynamic}
 use Rattle.rhai_machine.specs.language.State.{Held}
+use Rattle.rhai_machine.specs.language.Variables.{no_path}
 use Rattle.rhai_machine.specs.language.Frames.{Operation, FromFocus, Call, Dispatch}
 use Rattle.rhai_calls.specs.Lending.{passed_call}
 
@@ -19,7 +20,7 @@ left_of (inr (inr never)) = None
 
 -- how a call by name is dispatched, which may be a method's, and may run a function on a scope
 abbrev pub by_name : (of_method on_scope : Bool) → Dispatch
-by_name of_method on_scope = record { of_method = of_method; natives_alone = false; on_scope = on_scope }
+by_name of_method on_scope = record { of_method = of_method; natives_alone = false; on_scope = on_scope; path = no_path }
 
 module _ {H : Type 0} where
   -- `this` in hand, and a value at which the call works

@@ -1,22 +1,35 @@
 -- What a variable's name finds in a scope, and beside it.
-use Rattle.std.specs.Prelude.{ℕ, Bool, true, false, List, Option, Some, None, Result, Ok, Err}
+use Rattle.std.specs.Prelude.{ℕ, ◌-◌, Bool, true, false, List, [], ◌∷◌, length, slice_get, Option, Some, None, Result, Ok, Err}
+use Rattle.std.specs.Int.NonZero.{non_zero_usize_get}
+use Rattle.std.specs.Option.{option_map}
+use Rattle.std.specs.declared.num.NonZeroUsize.{NonZeroUsize}
 use Rattle.rhai_tree.specs.declared.expr.Expr.TheOpen as layer
 use Rattle.rhai_tree.specs.declared.position.Position.{Position}
+use Rattle.rhai_tree.specs.Forms.{is_unqualified}
 use Rattle.rhai_tree.specs.Layers.{ExprLayer}
 use Rattle.rhai_values.specs.declared.base.value.Dynamic.{Dynamic}
+use Rattle.rhai_values.specs.declared.base.value.Import.{Import, out-Import}
 use Rattle.rhai_values.specs.declared.base.value.Module.{Module}
 use Rattle.rhai_state.specs.declared.scope.ScopeEntry.{ScopeEntry}
 use Rattle.rhai_state.specs.declared.error.EvalAltResult.{EvalAltResult}
 use Rattle.rhai_state.specs.Scope.{found_by, in_use}
+use Rattle.rhai_functions.specs.Namespaces.{root_in}
 use Rattle.rhai_places.specs.declared.target.Part.{Part}
 use Rattle.rhai_places.specs.declared.target.Part.TheVariants as part
-use Rattle.rhai_machine.specs.language.Functions.{meant_function}
-use Rattle.rhai_machine.specs.language.State.{Answers}
-use Rattle.rhai_machine.specs.language.Values.{Cells, copied, unit_value}
-use Rattle.rhai_machine.specs.language.Names.{variable_of}
+use Rattle.rhai_machine.specs.language.Setting.{Globals}
+use Rattle.rhai_machine.specs.language.State.{Answers, Surroundings}
+use Rattle.rhai_machine.specs.language.Values.{Cells, unit_value}
+use Rattle.rhai_machine.specs.language.Variables.{Variable, variable_named}
+use Rattle.rhai_machine.specs.language.Names.{value_beside, variable_of}
 
+-- a variable, behind a path or not
+abbrev pub names_variable : ExprLayer → Bool
+names_variable (layer.Variable offset name namespace pos) = true
+names_variable _ = false
+
+-- one without a path
 abbrev pub is_variable : ExprLayer → Bool
-is_variable (layer.Variable offset name namespace pos) = true
+is_variable (layer.Variable offset name namespace pos) = is_unqualified namespace.path
 is_variable _ = false
 
 module _ {H : Type 0} where
@@ -32,31 +45,57 @@ module _ {H : Type 0} where
   in_place (Ok v) = Ok (v, part.Whole)
   in_place (Err e) = Err e
 
-  -- and of a function: a pointer that stands in no place, beside a place that has `()`
+  -- and of what no variable is: a value that stands in no place, beside a place that has `()`
   abbrev pub beside : Result (Dynamic H) (EvalAltResult H) → Result (Dynamic H × Part H) (EvalAltResult H)
   beside (Ok v) = Ok (unit_value, part.Temporary v)
   beside (Err e) = Err e
 
-  -- what a name means: a variable, or else the first function of the libraries that has it
-  abbrev pub named : Cells H → List (Module H) → (name : List ℕ) → Position → Option (Dynamic H) →
-      Result (Dynamic H × Part H) (EvalAltResult H)
-  named cells lib name pos (Some v) = in_place (variable_of cells name pos (Some v))
-  named cells lib name pos None = beside (copied (variable_of cells name pos (meant_function lib name)))
+  -- what a name means: a variable of the scope, or else what it means beside those
+  abbrev pub named : Globals H → Surroundings H → Variable → Option (Dynamic H) → Result (Dynamic H × Part H) (EvalAltResult H)
+  named globals around variable (Some v) = in_place (variable_of around.cells variable.name variable.at (Some v))
+  named globals around variable None = beside (value_beside globals around variable)
 
   -- what the search for a variable's name finds, by its offset where it has one that is in use
-  abbrev pub searched : Bool → ExprLayer → Cells H → List (Module H) → List (ScopeEntry H) →
+  abbrev pub searched : Bool → ExprLayer → Globals H → Surroundings H → List (ScopeEntry H) →
       Option (Result (Dynamic H × Part H) (EvalAltResult H))
-  searched searches (layer.Variable offset name namespace pos) cells lib entries =
-      Some (named cells lib name pos (found_by (in_use searches offset) name entries))
-  searched searches _ cells lib entries = None
+  searched searches (layer.Variable offset name namespace pos) globals around entries = Some
+      (named globals around (variable_named name namespace pos) (found_by (in_use searches offset) name entries))
+  searched searches _ globals around entries = None
+
+  -- what the scope has of a name stands there for a name without a path alone
+  abbrev pub without_path : (path : List (List ℕ)) → Option (Dynamic H) → Option (Dynamic H)
+  without_path [] there = there
+  without_path (root ∷ path) there = None
+
+  -- what the search for any variable finds
+  abbrev pub found_behind : Bool → ExprLayer → Globals H → Surroundings H → List (ScopeEntry H) →
+      Option (Result (Dynamic H × Part H) (EvalAltResult H))
+  found_behind searches (layer.Variable offset name namespace pos) globals around entries = Some
+      (named globals around (variable_named name namespace pos)
+      (without_path namespace.path (found_by (in_use searches offset) name entries)))
+  found_behind searches _ globals around entries = None
+
+  abbrev pub module_of : Import H → Module H
+  module_of i = (out-Import H i).«module»
+
+  -- the module of the import at an offset from the newest
+  abbrev pub import_at : List (Import H) → ℕ → Option (Module H)
+  import_at imports offset = option_map module_of (slice_get imports (length imports - offset))
+
+  -- the root of a path: by its offset among the imports where one is in use, and else by its name
+  abbrev pub root_searched : Option NonZeroUsize → (path : List (List ℕ)) → List (Import H) → (named : List (List ℕ) × List (Module H)) →
+      Option (Module H)
+  root_searched (Some offset) path imports named = import_at imports (non_zero_usize_get offset)
+  root_searched None [] imports named = None
+  root_searched None (root ∷ path) imports named = root_in root imports named
 
   -- the value of the variable, if a scope has it
   abbrev pub value_there : Bool → ExprLayer → List (ScopeEntry H) → Option (Dynamic H)
   value_there searches (layer.Variable offset name namespace pos) entries = found_by (in_use searches offset) name entries
   value_there searches _ entries = None
 
-  -- what reading the function comes to that a name means where no variable has it
-  abbrev pub IsNamedBy : Cells H → List (Module H) → ExprLayer → Result (Dynamic H) (EvalAltResult H) → Type 0
-  IsNamedBy cells lib (layer.Variable offset name namespace pos) result =
-      Answers result (copied (variable_of cells name pos (meant_function lib name)))
-  IsNamedBy cells lib _ result = ⊥
+  -- what comes of reading what a name means that no variable of the scope has
+  abbrev pub IsBeside : Globals H → Surroundings H → ExprLayer → Result (Dynamic H) (EvalAltResult H) → Type 0
+  IsBeside globals around (layer.Variable offset name namespace pos) result =
+      Answers result (value_beside globals around (variable_named name namespace pos))
+  IsBeside globals around _ result = ⊥

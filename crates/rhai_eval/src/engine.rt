@@ -3,10 +3,13 @@
 ghost use Rattle.std.specs.Prelude.{◌≡◌, ◌<◌, ◌≤◌, ◌+◌, ◌-◌, ◌^◌, OnOk, IfErr, [], true, false};
 ghost use Rattle.rhai_state.specs.declared.error.EvalAltResult.TheVariants as error;
 ghost use Rattle.rhai_state.specs.Limits.{limit_of};
+ghost use Rattle.rhai_machine.specs.language.Setting.{globals_of};
+ghost use Rattle.rhai_steps.specs.Offers.{globals_in};
 ghost use Rattle.rhai_cycle.specs.States.{offer_of as offered};
 ghost use Rattle.rhai_eval.specs.States.{limits_of, offer_of, unlimited};
 
 use rhai_cycle::evaluator::Evaluator;
+use rhai_functions::function::Offered;
 use rhai_state::error::EvalAltResult;
 use rhai_state::limits::{Limits, operation_limit};
 use rhai_state::state::GlobalRuntimeState;
@@ -92,6 +95,16 @@ impl<H: Host> Engine<H> {
         }
     }
 
+    /// The engine's modules that names lead to.
+    pub(crate) fn offered(&self) -> Offered<'_, H>
+        ensures { globals_in result ≡ globals_of (offer_of self.now) }
+    {
+        Offered {
+            global_modules: self.global_modules.as_slice(),
+            global_sub_modules: &self.global_sub_modules,
+        }
+    }
+
     /// What a run reads of the engine, with the engine's own limits.
     pub(crate) fn evaluator<'e>(&'e self, limits: &'e Limits) -> Evaluator<'e, H>
         requires { limits.now ≡ limits_of self.now }
@@ -103,8 +116,10 @@ impl<H: Host> Engine<H> {
             fast_operators: self.fast_operators,
             allow_shadowing: self.allow_shadowing,
             fail_on_invalid_map_property: self.fail_on_invalid_map_property,
-            global_modules: &self.global_modules,
-            global_sub_modules: &self.global_sub_modules,
+            offered: Offered {
+                global_modules: self.global_modules.as_slice(),
+                global_sub_modules: &self.global_sub_modules,
+            },
             modules: &self.modules,
         }
     }

@@ -2,7 +2,6 @@
 use Rattle.std.proofs.Common.{◌≡◌, ℕ, List, [], ◌∷◌, refl, sym, subst}
 use Rattle.std.specs.Prelude.{Bool, true, false, Option, Some, None, Result, Ok, Err}
 use Rattle.rhai_tree.specs.declared.expr.Expr.TheOpen as layer
-use Rattle.rhai_tree.specs.Forms.{is_unqualified}
 use Rattle.rhai_tree.specs.Layers.{ExprLayer}
 use Rattle.rhai_machine.specs.Types.{Dynamic, EvalAltResult, Expr, OpAssignment, Position, Token, Union}
 use Rattle.rhai_values.specs.declared.base.value.AccessMode.TheVariants.{ReadWrite}
@@ -54,8 +53,8 @@ module _ {H : Type 0} (own : H → List Reached) (P : Reached → Type 0) (least
 
   pub assignment_good : (form : ExprLayer) (op : OpAssignment) (rhs : Expr) (k : List (Frame H)) (l : Local H) → Below k l →
       Moves own P least (assignment_move form op rhs k l)
-  assignment_good (layer.Variable offset name namespace pos) op rhs k l b = there_good (is_unqualified namespace.path) _
-      (to own P least _ _ l tt tt (push own P least _ k l tt tt b.back b))
+  assignment_good (layer.Variable offset name namespace pos) op rhs k l b =
+      to own P least _ _ l tt tt (push own P least _ k l tt tt b.back b)
   assignment_good (layer.ThisPtr pos) op rhs k l b =
       to_this_good (bound_this pos l.this) op pos rhs k l (bound_gives own P least pos l.this b.local.this) b
   assignment_good (layer.Index lhs rest options pos) op rhs k l b = to own P least _ _ l tt tt (push own P least _ k l tt tt b.back b)

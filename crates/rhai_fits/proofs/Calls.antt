@@ -1,8 +1,10 @@
 -- The rules of calls lead to cores that fit: built-in operators, functions of scripts, and natives.
-use Rattle.std.proofs.Common.{◌+◌, ℕ, List, [], ◌∷◌, ◌++◌, length, drop, take}
+use Rattle.std.proofs.Common.{◌+◌, ◌-◌, ℕ, List, [], ◌∷◌, ◌++◌, length, drop, take}
 use Rattle.std.specs.Prelude.{Bool, true, false, ◌&&◌, nat_lt, if◌then◌else◌, Option, Some, None, Result, Ok, Err, codes}
+use Rattle.std.specs.Option.{option_and_then}
 use Rattle.std.specs.Str.{bytes_eq}
-use Rattle.rhai_machine.specs.Types.{Dynamic, EncapsulatedEnviron, EvalAltResult, Limits, Position, ScopeEntry, Stmt, Token, Union}
+use Rattle.rhai_machine.specs.Types.{Dynamic, EncapsulatedEnviron, out-EncapsulatedEnviron, EvalAltResult, Limits, Module, ModuleFn}
+use Rattle.rhai_machine.specs.Types.{Position, ScopeEntry, Stmt, Token, Union}
 use Rattle.rhai_values.specs.declared.base.value.AccessMode.TheVariants.{ReadWrite}
 use Rattle.rhai_values.specs.declared.base.value.Union.TheVariants as value
 use Rattle.rhai_values.specs.DataSize.{data_sizes}
@@ -10,10 +12,12 @@ use Rattle.rhai_state.specs.declared.error.EvalAltResult.TheVariants as error
 use Rattle.rhai_state.specs.Errors.{is_system}
 use Rattle.rhai_state.specs.Reach.{Reached}
 use Rattle.rhai_functions.specs.Entering.{parameters}
+use Rattle.rhai_functions.specs.Functions.{FunctionKey}
+use Rattle.rhai_functions.specs.Namespaces.{down, public_in, root_in}
 use Rattle.rhai_machine.specs.language.Setting.{Setting}
 use Rattle.rhai_machine.specs.language.State.{Local}
 use Rattle.rhai_machine.specs.language.Values.{through, unit_value}
-use Rattle.rhai_machine.specs.language.Functions.{Function}
+use Rattle.rhai_machine.specs.language.Functions.{Function, key_by}
 use Rattle.rhai_machine.specs.language.Activations.{Object, NoObject, OwnThis, TheFocus, Entered, CallExit, Variables, Caller, UpTo}
 use Rattle.rhai_machine.specs.language.Activations.{Without}
 use Rattle.rhai_machine.specs.language.Handles.{focus_of, entered_by, entered}
@@ -23,16 +27,19 @@ use Rattle.rhai_machine.specs.language.Bodies.{left_by_error, returned}
 use Rattle.rhai_machine.specs.language.Frames.{Lender, Dispatch, Call, Frame, Core, CallEnd}
 use Rattle.rhai_machine.specs.language.Calls.{builtin_of, sized, applied, args_given, inside_core, focus_core, enter_core, races}
 use Rattle.rhai_machine.specs.language.Calls.{call_races, asks_function, called_function, found_core, called_core, named_core}
-use Rattle.rhai_machine.specs.language.Calls.{dispatch_core, operator_core, plainly}
-use Rattle.rhai_fits.specs.Contents.{of_values, of_maybe, of_result, of_scope, of_variables}
+use Rattle.rhai_machine.specs.language.Calls.{dispatch_core, dispatch_behind, by_name_core, operator_core, plainly, first_type, types_of}
+use Rattle.rhai_machine.specs.language.Calls.{found_by, found_method, function_behind, public_from, public_or_unknown}
+use Rattle.rhai_fits.specs.Contents.{of_values, of_maybe, of_result, of_scope, of_environ, of_variables}
 use Rattle.rhai_fits.specs.Sealed.{GoesBack}
 use Rattle.rhai_fits.proofs.Values.{fit_unit, fit_bool, fit_text}
 use Rattle.rhai_fits.proofs.Copies.{fit_copy, fit_mode}
 use Rattle.rhai_fits.proofs.Errors.{FitError, fit_error, fit_at, fit_in_call, error_fits}
-use Rattle.rhai_fits.proofs.Fitting.{AllFit, FitLocal, FitBelow, FitCore, Gives, Flat, to, back, fail, unit, on, ended_fits, goes_back}
-use Rattle.rhai_fits.proofs.Fitting.{focus_there, values_dropped, scope_joined, scope_taken, scope_dropped, with_cell_set, with_focus}
-use Rattle.rhai_fits.proofs.Fitting.{focus_of_fits}
+use Rattle.rhai_fits.proofs.Modules.{FitModule, FitFunction}
+use Rattle.rhai_fits.proofs.Fitting.{AllFit, FitLocal, FitBelow, FitCore, FitOffer, Gives, Flat, to, back, fail, unit, on, ended_fits}
+use Rattle.rhai_fits.proofs.Fitting.{goes_back, focus_there, values_dropped, scope_joined, scope_taken, scope_dropped, modules_joined}
+use Rattle.rhai_fits.proofs.Fitting.{modules_taken, imports_joined, imports_taken, with_cell_set, with_focus, focus_of_fits}
 use Rattle.rhai_fits.proofs.Seeing.{through_gives, flat_fits, within_sizes_gives}
+use Rattle.rhai_fits.proofs.Lookups.{There, FitFound, found_fits, function_found, or_there, public_fits, root_found}
 use Rattle.rhai_fits.proofs.Operators.{Answers as BuiltIn, unary_answers, binary_answers}
 
 module _ {H : Type 0} (own : H → List Reached) (P : Reached → Type 0) (least : ℕ) where
@@ -84,15 +91,32 @@ module _ {H : Type 0} (own : H → List Reached) (P : Reached → Type 0) (least
   this_fits OwnThis l h = h.this
   this_fits TheFocus l h = h.focus
 
-  -- an environment brings no cells
+  -- an environment brings its libraries and its imports
   in_environ : (environ : Option (EncapsulatedEnviron H)) (scope : List (ScopeEntry H)) (this : Option (Dynamic H)) (level : ℕ)
-      (l : Local H) → FitLocal own P least l → AllFit own P least (of_scope scope) → AllFit own P least (of_maybe this) →
-      FitLocal own P least
+      (l : Local H) → AllFit own P least (of_environ environ) → FitLocal own P least l → AllFit own P least (of_scope scope) →
+      AllFit own P least (of_maybe this) → FitLocal own P least
       (record l { scope = scope; this = this; focus = None; around = record (with_environ environ l.around) { level = level } })
-  in_environ None scope this level l h s t =
-      record { scope = s; this = t; focus = tt; cells = h.cells; sealed = h.sealed; enough = h.enough }
-  in_environ (Some environ) scope this level l h s t =
-      record { scope = s; this = t; focus = tt; cells = h.cells; sealed = h.sealed; enough = h.enough }
+  in_environ None scope this level l e h s t = record {
+    scope = s;
+    this = t;
+    focus = tt;
+    cells = h.cells;
+    around = h.around;
+    sealed = h.sealed;
+    enough = h.enough;
+  }
+  in_environ (Some environ) scope this level l e h s t = record {
+    scope = s;
+    this = t;
+    focus = tt;
+    cells = h.cells;
+    around = (
+      modules_joined own P least l.around.lib (out-EncapsulatedEnviron H environ).lib h.around.0 e.0,
+      (imports_joined own P least l.around.imports (out-EncapsulatedEnviron H environ).imports h.around.1.0 e.1, h.around.1.1),
+    );
+    sealed = h.sealed;
+    enough = h.enough;
+  }
 
   after_fits : (is_fresh restores : Bool) (scope : List (ScopeEntry H)) (count : ℕ) → AllFit own P least (of_scope scope) →
       AllFit own P least (of_variables (variables_after is_fresh restores scope count))
@@ -107,7 +131,12 @@ module _ {H : Type 0} (own : H → List Reached) (P : Reached → Type 0) (least
   call_goes_back OwnThis k l h = h
   call_goes_back TheFocus k l h = h
 
-  body_good : (stmts : List Stmt) (e : Entered H) (k : List (Frame H)) (l : Local H) → All e.args → Below k l → Good (body_core stmts e k l)
+  -- the arguments of a function, and the environment that it may have
+  abbrev pub FitEntered : Entered H → Type 0
+  FitEntered e = All e.args × AllFit own P least (of_environ e.environ)
+
+  body_good : (stmts : List Stmt) (e : Entered H) (k : List (Frame H)) (l : Local H) → FitEntered e → Below k l →
+      Good (body_core stmts e k l)
   body_good [] e k l h b = unit own P least k l b
   body_good (stmt ∷ stmts) e k l h b = to own P least _ _ _ tt tt (record {
     stack = (
@@ -117,20 +146,20 @@ module _ {H : Type 0} (own : H → List Reached) (P : Reached → Type 0) (least
     sealed = (tt, b.sealed);
     back = call_goes_back e.object k l b.back;
     local = in_environ e.environ (variables_before e.is_fresh l.scope ++ parameters e.def.params e.args) (this_by e.object l) e.level l
-        b.local (scope_joined own P least (variables_before e.is_fresh l.scope) (parameters e.def.params e.args)
-        (before_fits e.is_fresh l.scope b.local.scope) (parameters_fit e.def.params e.args h)) (this_fits e.object l b.local);
+        h.1 b.local (scope_joined own P least (variables_before e.is_fresh l.scope) (parameters e.def.params e.args)
+        (before_fits e.is_fresh l.scope b.local.scope) (parameters_fit e.def.params e.args h.0)) (this_fits e.object l b.local);
   })
 
-  full_good : (full : Bool) (e : Entered H) (k : List (Frame H)) (l : Local H) → All e.args → Below k l → Good (unless_full full e k l)
+  full_good : (full : Bool) (e : Entered H) (k : List (Frame H)) (l : Local H) → FitEntered e → Below k l → Good (unless_full full e k l)
   full_good true e k l h b = fail own P least _ k l (fit_error own P _ tt) b
   full_good false e k l h b = body_good (statements_of e.def.body) e k l h b
 
-  deep_good : (deep full : Bool) (e : Entered H) (k : List (Frame H)) (l : Local H) → All e.args → Below k l →
+  deep_good : (deep full : Bool) (e : Entered H) (k : List (Frame H)) (l : Local H) → FitEntered e → Below k l →
       Good (unless_deep deep full e k l)
   deep_good true full e k l h b = fail own P least _ k l (fit_error own P _ tt) b
   deep_good false full e k l h b = full_good full e k l h b
 
-  pub function_good : (limits : Limits) (e : Entered H) (k : List (Frame H)) (l : Local H) → All e.args → Below k l →
+  pub function_good : (limits : Limits) (e : Entered H) (k : List (Frame H)) (l : Local H) → FitEntered e → Below k l →
       Good (opened_function limits e k l)
   function_good limits e k l h b = deep_good (nat_lt limits.max_call_levels e.level)
       (nat_lt limits.max_variables (length (variables_before e.is_fresh l.scope) + length e.def.params)) e k l h b
@@ -167,6 +196,10 @@ module _ {H : Type 0} (own : H → List Reached) (P : Reached → Type 0) (least
       this = back_fits exit.object exit.this l.this b.stack.0.1.0 b.local.this;
       focus = focus_back_fits exit.object exit.focus l.this b.stack.0.1.1 b.local.this;
       cells = b.local.cells;
+      around = (
+        modules_taken own P least exit.lib_length l.around.lib b.local.around.0,
+        (imports_taken own P least exit.imports_length l.around.imports b.local.around.1.0, b.local.around.1.1),
+      );
       sealed = b.local.sealed;
       enough = b.local.enough;
     };
@@ -184,15 +217,15 @@ module _ {H : Type 0} (own : H → List Reached) (P : Reached → Type 0) (least
   -- ---- a function on the focus
 
   inside_good : (function : Function H) (is_fresh : Bool) (args : List (Dynamic H)) (at : Position) (k : List (Frame H)) (l : Local H) →
-      All args → Below k l → Good (inside_core function is_fresh args at k l)
-  inside_good function is_fresh args at k l h b = if_good (races l.around.cells args) _ _
-      (fail own P least _ k l (fit_error own P _ tt) b) (to own P least _ k l h tt b)
+      FitFound own P least function → All args → Below k l → Good (inside_core function is_fresh args at k l)
+  inside_good function is_fresh args at k l f h b = if_good (races l.around.cells args) _ _
+      (fail own P least _ k l (fit_error own P _ tt) b) (to own P least _ k l (h, f) tt b)
 
   pub focus_good : (function : Function H) (is_fresh : Bool) (args : List (Dynamic H)) (at : Position) (k : List (Frame H)) (l : Local H) →
-      All args → Below k l → Good (focus_core function is_fresh args at k l)
-  focus_good function is_fresh args at k l h b = on own P least (Flat own P least) (through l.around.cells (focus_of l) at) _ k l
+      FitFound own P least function → All args → Below k l → Good (focus_core function is_fresh args at k l)
+  focus_good function is_fresh args at k l g h b = on own P least (Flat own P least) (through l.around.cells (focus_of l) at) _ k l
       (through_gives own P least l (focus_of l) at b.local (focus_of_fits own P least l b.local)) b
-      (λ inner f. entered_good inner _ k l b f (λ k l b. inside_good function is_fresh args at k l h b))
+      (λ inner f. entered_good inner _ k l b f (λ k l b. inside_good function is_fresh args at k l g h b))
 
   -- ---- dispatch
 
@@ -202,19 +235,55 @@ module _ {H : Type 0} (own : H → List Reached) (P : Reached → Type 0) (least
   given_fit (Some lender) (v ∷ args) h = (fit_copy own P v h.0, h.1)
 
   enter_good : (of_method : Bool) (function : Function H) (how : Dispatch) (call : Call H) (k : List (Frame H)) (l : Local H) →
-      All call.args → Below k l → Good (enter_core of_method function how call k l)
-  enter_good true function how call k l h b = to own P least _ k l (values_dropped own P least 1 call.args h) tt b
-  enter_good false function how call k l h b = to own P least _ k l (given_fit call.lender call.args h) tt b
+      FitFound own P least function → All call.args → Below k l → Good (enter_core of_method function how call k l)
+  enter_good true function how call k l f h b = to own P least _ k l (values_dropped own P least 1 call.args h, f) tt b
+  enter_good false function how call k l f h b = to own P least _ k l (given_fit call.lender call.args h, f) tt b
 
-  module _ (s : Setting H) where
-    found_good : (function : Option (Function H)) (how : Dispatch) (call : Call H) (k : List (Frame H)) (l : Local H) → All call.args →
-        Below k l → Good (found_core s function how call k l)
-    found_good (Some function) how call k l h b = enter_good how.of_method function how call k l h b
-    found_good None how call k l h b = to own P least _ k l h tt b
+  -- ---- functions behind a path
+
+  public_gives : (found : Option (ModuleFn H)) (path : List (List ℕ)) (name : List ℕ) (types : List (List ℕ)) (at : Position) →
+      There own P least (FitFunction own P) found →
+      Gives own P least (FitFound own P least) (public_or_unknown found path name types at)
+  public_gives (Some f) path name types at h = found_fits own P least f h
+  public_gives None path name types at h = fit_error own P _ tt
+
+  public_from_gives : (root : Option (Module H)) (path rest : List (List ℕ)) (path_at : Position) (key : FunctionKey)
+      (types : List (List ℕ)) (at : Position) → There own P least (FitModule own P) root →
+      Gives own P least (FitFound own P least) (public_from root path rest path_at key types at)
+  public_from_gives (Some root) path rest path_at key types at h =
+      public_gives (option_and_then (public_in key) (down rest (Some root))) path key.name types at
+      (public_fits own P least root rest key h)
+  public_from_gives None path rest path_at key types at h = fit_error own P _ tt
+
+  -- where the engine's modules fit
+  module _ (s : Setting H) (o : FitOffer own P least s.offer) where
+    method_found : (name type : List ℕ) (count : ℕ) (l : Local H) → FitLocal own P least l →
+        There own P least (FitFound own P least) (found_method s name type count l.around)
+    method_found name type count l h = or_there own P least (FitFound own P least) _ _
+        (function_found own P least (key_by name count (Some type)) s.offer l.around o h.around)
+        (function_found own P least (key_by name count None) s.offer l.around o h.around)
+
+    by_found : (of_method : Bool) (call : Call H) (l : Local H) → FitLocal own P least l →
+        There own P least (FitFound own P least) (found_by s of_method call l)
+    by_found true call l h =
+        method_found call.operation.name (first_type s.host_type l.around.cells call.args) (length call.args - 1) l h
+    by_found false call l h =
+        function_found own P least (key_by call.operation.name (length call.args) None) s.offer l.around o h.around
+
+    unless_there : (alone : Bool) (found : Option (Function H)) → There own P least (FitFound own P least) found →
+        There own P least (FitFound own P least) (if alone then None else found)
+    unless_there true found h = tt
+    unless_there false found h = h
+
+    found_good : (function : Option (Function H)) (how : Dispatch) (call : Call H) (k : List (Frame H)) (l : Local H) →
+        There own P least (FitFound own P least) function → All call.args → Below k l → Good (found_core s function how call k l)
+    found_good (Some function) how call k l f h b = enter_good how.of_method function how call k l f h b
+    found_good None how call k l f h b = to own P least _ k l h tt b
 
     called_good : (how : Dispatch) (call : Call H) (k : List (Frame H)) (l : Local H) → All call.args → Below k l →
         Good (called_core s how call k l)
-    called_good how call k l h b = found_good (called_function s how call l) how call k l h b
+    called_good how call k l h b = found_good (called_function s how call l) how call k l
+        (unless_there how.natives_alone (found_by s how.of_method call l) (by_found how.of_method call l b.local)) h b
 
     named_good : (how : Dispatch) (args : List (Dynamic H)) (call : Call H) (k : List (Frame H)) (l : Local H) → All call.args →
         Below k l → Good (named_core s how args call k l)
@@ -229,10 +298,23 @@ module _ {H : Type 0} (own : H → List Reached) (P : Reached → Type 0) (least
         (back own P least _ k l (fit_bool own P _) b) (called_good how call k l h b)
     named_good how (v ∷ w ∷ x ∷ args) call k l h b = called_good how call k l h b
 
+    by_name_good : (how : Dispatch) (call : Call H) (k : List (Frame H)) (l : Local H) → All call.args → Below k l →
+        Good (by_name_core s how call k l)
+    by_name_good how call k l h b = if_good (call_races how.of_method l.around.cells call.args) _ _
+        (fail own P least _ k l (fit_error own P _ tt) b) (named_good how call.args call k l h b)
+
+    behind_good : (path : List (List ℕ)) (how : Dispatch) (call : Call H) (k : List (Frame H)) (l : Local H) → All call.args → Below k l →
+        Good (dispatch_behind s path how call k l)
+    behind_good [] how call k l h b = by_name_good how call k l h b
+    behind_good (root ∷ path) how call k l h b = on own P least (FitFound own P least) (function_behind s root path how call l) _ k l
+        (public_from_gives (root_in root l.around.imports s.offer.global_sub_modules) (root ∷ path) path how.path.at
+        (key_by call.operation.name (length call.args) None) (types_of s.host_type l.around.cells call.args) call.operation.at
+        (root_found own P least root s.offer l.around o b.local.around)) b
+        (λ function f. enter_good false function how call k l f h b)
+
     pub dispatch_good : (how : Dispatch) (call : Call H) (k : List (Frame H)) (l : Local H) → All call.args → Below k l →
         Good (dispatch_core s how call k l)
-    dispatch_good how call k l h b = if_good (call_races how.of_method l.around.cells call.args) _ _
-        (fail own P least _ k l (fit_error own P _ tt) b) (named_good how call.args call k l h b)
+    dispatch_good how call k l h b = behind_good how.path.names how call k l h b
 
   -- ---- built-in operators
 
@@ -252,9 +334,8 @@ module _ {H : Type 0} (own : H → List Reached) (P : Reached → Type 0) (least
     applied_gives (Ok v) at h = sized_gives v at h
     applied_gives (Err e) at h = fit_at own P at e h
 
-  pub operator_good : (s : Setting H) (r : Option (Result (Dynamic H) (EvalAltResult H))) (call : Call H) (k : List (Frame H)) (l : Local
-      H) →
-      BuiltIn own P least r → All call.args → Below k l → Good (operator_core s r call k l)
-  operator_good s (Some r) call k l a h b = ended_fits own P least (applied s.limits r call.operation.at) k l
+  pub operator_good : (s : Setting H) (r : Option (Result (Dynamic H) (EvalAltResult H))) (call : Call H) (k : List (Frame H))
+      (l : Local H) → FitOffer own P least s.offer → BuiltIn own P least r → All call.args → Below k l → Good (operator_core s r call k l)
+  operator_good s (Some r) call k l o a h b = ended_fits own P least (applied s.limits r call.operation.at) k l
       (flat_fits own P least _ (applied_gives s.limits r call.operation.at a)) b
-  operator_good s None call k l a h b = dispatch_good s (plainly false false) call k l h b
+  operator_good s None call k l o a h b = dispatch_good s o (plainly false false) call k l h b

@@ -1,24 +1,22 @@
 -- The rules of chains lead to cores that fit.
 use Rattle.std.proofs.Common.{◌≡◌, ℕ, List, [], ◌∷◌, length, take, refl, subst}
-use Rattle.std.specs.Prelude.{⊤, Bool, true, false, ◌&&◌, ◌||◌, if◌then◌else◌, Option, Some, None, Result, Ok, Err, option_map, is_some}
+use Rattle.std.specs.Prelude.{⊤, Bool, true, false, ◌&&◌, ◌||◌, Option, Some, None, Result, Ok, Err, option_map, is_some}
 use Rattle.std.specs.Prelude.{is_none}
 use Rattle.rhai_tree.specs.declared.expr.Expr.TheOpen as layer
-use Rattle.rhai_tree.specs.Forms.{is_unqualified}
 use Rattle.rhai_tree.specs.Layers.{ExprLayer}
 use Rattle.rhai_tree.specs.Positions.{start_of}
 use Rattle.rhai_machine.specs.Types.{Dynamic, EvalAltResult, Expr, out-Expr, Position, Token}
 use Rattle.rhai_values.specs.Cells.{IsNoHandle}
 use Rattle.rhai_values.specs.Layers.{layer_of}
 use Rattle.rhai_state.specs.Reach.{Reached}
-use Rattle.rhai_state.specs.Scope.{index_of}
 use Rattle.rhai_places.specs.declared.spot.Spot.{Spot}
 use Rattle.rhai_places.specs.declared.spot.Spot.TheVariants as spot
 use Rattle.rhai_places.specs.Parts.{part_of, value_at}
-use Rattle.rhai_machine.specs.machine.Machine.{Move}
-use Rattle.rhai_machine.specs.language.Setting.{Setting}
+use Rattle.rhai_machine.specs.language.Setting.{Globals, Setting}
 use Rattle.rhai_machine.specs.language.State.{Local}
 use Rattle.rhai_machine.specs.language.Values.{unit_value, is_handle, through}
-use Rattle.rhai_machine.specs.language.Names.{bound_this, meant, variable_of}
+use Rattle.rhai_machine.specs.language.Variables.{Variable}
+use Rattle.rhai_machine.specs.language.Names.{Meaning, AtEntry, AsTemporary, bound_this, meant}
 use Rattle.rhai_machine.specs.language.Places.{focus_target}
 use Rattle.rhai_machine.specs.language.Links.{Link, LinkForm, AtIndex, AtProperty, AtMethod, asked_by, first_position, link_of, name_in}
 use Rattle.rhai_machine.specs.language.Frames.{Lender, FromEntry, FromThis, NewValue, Chain, Member, Property, Item, MemberAccess, ToChain}
@@ -26,21 +24,22 @@ use Rattle.rhai_machine.specs.language.Frames.{Frame, Core, ChainEnd}
 use Rattle.rhai_machine.specs.language.Members.{focus_of, focused_on}
 use Rattle.rhai_machine.specs.language.Located.{bars_key, index_by, is_indexed, is_map, is_place_spot, is_unit, spot_of, access_by}
 use Rattle.rhai_machine.specs.language.Expressions.{literal_of}
-use Rattle.rhai_machine.specs.language.Chains.{ready, opened_core, open_move, asked_move, begun_core, read_root_core, this_begun}
-use Rattle.rhai_machine.specs.language.Chains.{this_root_core, root_move, behind_link, after_method, way_back, kept_member, is_property}
+use Rattle.rhai_machine.specs.language.Chains.{ready, opened_core, open_move, asked_move, begun_core, meant_core, read_root_core}
+use Rattle.rhai_machine.specs.language.Chains.{this_begun, this_root_core, root_move, behind_link, after_method, way_back, kept_member}
 use Rattle.rhai_machine.specs.language.Chains.{after_set, unless_barred_by, unless_barred, method_of, method_entered, assign_member}
 use Rattle.rhai_machine.specs.language.Chains.{member_core, assign_focus, measured_place, assign_spot, part_form, part_core, descend}
 use Rattle.rhai_machine.specs.language.Chains.{spot_core, indexed_core, locate_core, property_move, form_move, stop_move, seen_move}
-use Rattle.rhai_machine.specs.language.Chains.{walk_move}
+use Rattle.rhai_machine.specs.language.Chains.{is_property, walk_move}
 use Rattle.rhai_fits.specs.Contents.{of_values, of_maybe, of_new, of_chain, of_member, of_way_back, of_frame}
 use Rattle.rhai_fits.specs.Sealed.{NewSealed, FrameSealed, this_after, GoesBack}
 use Rattle.rhai_fits.proofs.Values.{Fit, fit_unit, fit_text}
 use Rattle.rhai_fits.proofs.Copies.{fit_copy}
 use Rattle.rhai_fits.proofs.Literals.{FitsMaybe, fit_literal_of}
 use Rattle.rhai_fits.proofs.Errors.{fit_error}
-use Rattle.rhai_fits.proofs.Fitting.{AllFit, FitBelow, FitCore, Gives, Flat, to, back, fail, unit, push, on, goes_back, values_taken}
-use Rattle.rhai_fits.proofs.Fitting.{values_dropped, with_focus, focus_of_fits}
-use Rattle.rhai_fits.proofs.Seeing.{FitValue, FitTarget, through_gives, meant_fits, variable_gives, focus_gives}
+use Rattle.rhai_fits.proofs.Fitting.{AllFit, FitBelow, FitCore, FitOffer, Gives, Flat, to, back, fail, unit, push, on, goes_back}
+use Rattle.rhai_fits.proofs.Fitting.{values_taken, values_dropped, with_focus, focus_of_fits}
+use Rattle.rhai_fits.proofs.Seeing.{FitTarget, through_gives, focus_gives}
+use Rattle.rhai_fits.proofs.Names.{FitGlobals, FitMeaning, meant_gives}
 use Rattle.rhai_fits.proofs.Spots.{value_at_fits, part_fits, FlatSource, found_gives, taken_fits}
 use Rattle.rhai_fits.proofs.Natives.{Moves}
 use Rattle.rhai_fits.proofs.Calls.{entered_good}
@@ -99,19 +98,15 @@ module _ {H : Type 0} (own : H → List Reached) (P : Reached → Type 0) (least
       Good (begun_core false None v chain k l)
   begun_alone v chain k l f h b = begun_good false None v chain k l f h b.back b
 
-  entry_back : (index : Option ℕ) (v : Dynamic H) (k : List (Frame H)) (l : Local H) → Below k l →
-      GoesBack k l.focus (this_after (option_map FromEntry index) (Some v) l.this)
-  entry_back None v k l b = b.back
-  entry_back (Some index) v k l b = b.back
+  meant_good : (meaning : Meaning H) (chain : Chain H) (k : List (Frame H)) (l : Local H) → FitMeaning own P least meaning →
+      FitChain chain → Below k l → Good (meant_core meaning chain k l)
+  meant_good (AtEntry index v) chain k l f h b = begun_good true (Some (FromEntry index)) v chain k l f h b.back b
+  meant_good (AsTemporary v) chain k l f h b = begun_alone v chain k l f h b
 
-  pub read_root_good : (name : List ℕ) (at : Position) (chain : Chain H) (k : List (Frame H)) (l : Local H) → FitChain chain → Below k l →
-      Good (read_root_core name at chain k l)
-  read_root_good name at chain k l h b = on own P least (FitValue own P least)
-      (variable_of l.around.cells name at (meant l.around.lib name l.scope)) _ k l
-      (variable_gives own P least l.around.cells name at (meant l.around.lib name l.scope)
-      (meant_fits own P least l.around.lib name l b.local)) b
-      (λ v f. begun_good (is_some (index_of name l.scope)) (option_map FromEntry (index_of name l.scope)) v chain k l f h
-      (entry_back (index_of name l.scope) v k l b) b)
+  pub read_root_good : (globals : Globals H) (variable : Variable) (chain : Chain H) (k : List (Frame H)) (l : Local H) →
+      FitGlobals own P least globals → FitChain chain → Below k l → Good (read_root_core globals variable chain k l)
+  read_root_good globals variable chain k l g h b = on own P least (FitMeaning own P least) (meant globals l.around l.scope variable) _ k l
+      (meant_gives own P least globals g variable l b.local) b (λ meaning f. meant_good meaning chain k l f h b)
 
   -- `this` is that value
   abbrev IsThis : Option (Dynamic H) → Dynamic H → Type 0
@@ -132,14 +127,9 @@ module _ {H : Type 0} (own : H → List Reached) (P : Reached → Type 0) (least
   this_root_good at chain k l h b = on own P least (IsThis l.this) (bound_this at l.this) _ k l (bound_is at l.this b.local.this) b
       (λ v t. this_begun_good (through l.around.cells v at) v chain k l (through_gives own P least l v at b.local t.0) t h b)
 
-  if_moves : (c : Bool) (m n : Move H (Core H)) → Moves own P least m → Moves own P least n → Moves own P least (if c then m else n)
-  if_moves true m n h g = h
-  if_moves false m n h g = g
-
   pub root_good : (form : ExprLayer) (chain : Chain H) (k : List (Frame H)) (l : Local H) → FitChain chain → Below k l →
       Moves own P least (root_move form chain k l)
-  root_good (layer.Variable offset name namespace pos) chain k l h b =
-      if_moves (is_unqualified namespace.path) _ _ (to own P least _ k l (h.new, h.args) h.sealed b) tt
+  root_good (layer.Variable offset name namespace pos) chain k l h b = to own P least _ k l (h.new, h.args) h.sealed b
   root_good (layer.ThisPtr pos) chain k l h b = this_root_good pos chain k l h b
   root_good _ chain k l h b = there_good own P least (is_none chain.new) _
       (to own P least _ _ l tt tt (push own P least _ k l (h.new, h.args) h.sealed b.back b))
@@ -172,10 +162,10 @@ module _ {H : Type 0} (own : H → List Reached) (P : Reached → Type 0) (least
   open_good None chain k l h b = tt
 
   pub asked_good : (s : Setting H) (link : Option Link) (chain : Chain H) (made : List (Dynamic H)) (k : List (Frame H)) (l : Local H) →
-      FitChain chain → All made → Below k l → Moves own P least (asked_move s link chain made k l)
-  asked_good s (Some link) chain made k l h m b =
-      arguments_good own P least s (ToChain chain link.behind) made (asked_by link.form) k l (h.new, h.args) h.sealed m b
-  asked_good s None chain made k l h m b = tt
+      FitOffer own P least s.offer → FitChain chain → All made → Below k l → Moves own P least (asked_move s link chain made k l)
+  asked_good s (Some link) chain made k l o h m b =
+      arguments_good own P least s o (ToChain chain link.behind) made (asked_by link.form) k l (h.new, h.args) h.sealed m b
+  asked_good s None chain made k l o h m b = tt
 
   -- ---- what is behind a link
 
@@ -221,12 +211,12 @@ module _ {H : Type 0} (own : H → List Reached) (P : Reached → Type 0) (least
   barred_by_gives true root r h = fit_error own P _ tt
   barred_by_gives false root r h = h
 
-  module _ (s : Setting H) where
+  module _ (s : Setting H) (o : FitOffer own P least s.offer) where
     -- ---- methods
 
     method_of_good : (name : List ℕ) (args : List Expr) (at : Position) (was_handle : Bool) (chain : Chain H) (k : List (Frame H))
         (l : Local H) → FitChain chain → Below k l → Good (method_of s name args at was_handle chain k l)
-    method_of_good name args at was_handle chain k l h b = method_good own P least s
+    method_of_good name args at was_handle chain k l h b = method_good own P least s o
         (record { name = name; at = at; first_at = first_position args; was_handle = was_handle })
         (take (length args) chain.args) (focus_of l) k l (values_taken own P least (length args) chain.args h.args) (focus_of_fits own P
         least l b.local) b

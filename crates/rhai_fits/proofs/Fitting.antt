@@ -2,11 +2,12 @@
 use Rattle.std.proofs.Common.{◌≡◌, ◌≤◌, ℕ, zero, suc, List, [], ◌∷◌, ◌++◌, length, take, drop, refl, ap}
 use Rattle.std.specs.Prelude.{⊤, Option, Some, None, Result, Ok, Err, slice_get, slice_set}
 use Rattle.std.specs.Option.{unwrap_or}
-use Rattle.rhai_machine.specs.Types.{Dynamic, EvalAltResult, ScopeEntry}
+use Rattle.rhai_machine.specs.Types.{Dynamic, EncapsulatedEnviron, out-EncapsulatedEnviron, EvalAltResult, Import, Module, ScopeEntry}
 use Rattle.rhai_values.specs.Cells.{IsNoHandle, value_of_cell}
 use Rattle.rhai_state.specs.Native.{HasNoHandle}
 use Rattle.rhai_state.specs.Reach.{Reached}
 use Rattle.rhai_places.specs.Paths.{ToPlace, ToCell}
+use Rattle.rhai_machine.specs.language.Setting.{Offer}
 use Rattle.rhai_machine.specs.language.State.{Local}
 use Rattle.rhai_machine.specs.language.Values.{Cells, unit_value}
 use Rattle.rhai_machine.specs.language.Bodies.{back_by, focus_back}
@@ -14,11 +15,13 @@ use Rattle.rhai_machine.specs.language.Activations.{Object, NoObject, OwnThis, T
 use Rattle.rhai_machine.specs.language.Frames.{Lender, FromThis, FromEntry, FromFocus, Control, Frame, Core, core, on_value, ended, Back}
 use Rattle.rhai_machine.specs.language.Frames.{Fail, ChainEnd, StepDown, Temporary, PartMethod, PartAssigned, MemberOperated, CallEnd}
 use Rattle.rhai_machine.specs.language.Handles.{focus_of}
-use Rattle.rhai_fits.specs.Contents.{Contents, Nothing, OneValue, OneError, Both, of_values, of_maybe, of_result, of_scope, of_cells}
-use Rattle.rhai_fits.specs.Contents.{of_control, of_frame, of_stack}
+use Rattle.rhai_fits.specs.Contents.{Contents, Nothing, OneValue, OneError, OneModule, Both, of_values, of_maybe, of_result, of_scope}
+use Rattle.rhai_fits.specs.Contents.{of_cells, of_modules, of_imports, of_tables, of_environ, of_around, of_offer, of_control, of_frame}
+use Rattle.rhai_fits.specs.Contents.{of_stack}
 use Rattle.rhai_fits.specs.Sealed.{AreSealed, ControlSealed, FrameSealed, StackSealed, this_after, GoesBack}
-use Rattle.rhai_fits.proofs.Values.{Fit, fit_unit}
+use Rattle.rhai_fits.proofs.Values.{Fit, Fits, fit_unit}
 use Rattle.rhai_fits.proofs.Errors.{FitError}
+use Rattle.rhai_fits.proofs.Modules.{FitModule, FitModules, FitImports, FitEnviron}
 
 module _ {H : Type 0} where
   -- what goes back is no handle where it was none before
@@ -71,14 +74,16 @@ module _ {H : Type 0} (own : H → List Reached) (P : Reached → Type 0) (least
   AllFit Nothing = ⊤
   AllFit (OneValue v) = Fit own P v
   AllFit (OneError e) = FitError own P e
+  AllFit (OneModule m) = FitModule own P m
   AllFit (Both a b) = AllFit a × AllFit b
 
-  -- variables, `this`, focus and cells; there are at least so many cells
+  -- variables, `this`, focus, cells and what is around them; there are at least so many cells
   pub record FitLocal (l : Local H) : Type 0 where
     pub scope : AllFit (of_scope l.scope)
     pub this : AllFit (of_maybe l.this)
     pub focus : AllFit (of_maybe l.focus)
     pub cells : AllFit (of_cells l.around.cells)
+    pub around : AllFit (of_around l.around)
     pub sealed : AreSealed l.around.cells
     pub enough : least ≤ length l.around.cells
 
@@ -93,6 +98,10 @@ module _ {H : Type 0} (own : H → List Reached) (P : Reached → Type 0) (least
     pub control : AllFit (of_control c.control)
     pub sealed : ControlSealed c.control
     pub below : FitBelow c.stack c.local
+
+  -- the modules of an engine
+  abbrev pub FitOffer : Offer H → Type 0
+  FitOffer offer = AllFit (of_offer offer)
 
   -- a result that has a property, or an error that fits
   abbrev pub Gives : {A : Type 0} → (A → Type 0) → Result A (EvalAltResult H) → Type 0
@@ -141,6 +150,15 @@ module _ {H : Type 0} (own : H → List Reached) (P : Reached → Type 0) (least
 
   -- ---- lists
 
+  -- the two ways to say that values fit
+  pub all_fit : (vs : List (Dynamic H)) → Fits own P vs → AllFit (of_values vs)
+  all_fit [] h = tt
+  all_fit (v ∷ vs) h = (h.0, all_fit vs h.1)
+
+  pub fit_all : (vs : List (Dynamic H)) → AllFit (of_values vs) → Fits own P vs
+  fit_all [] h = tt
+  fit_all (v ∷ vs) h = (h.0, fit_all vs h.1)
+
   pub values_joined : (a b : List (Dynamic H)) → AllFit (of_values a) → AllFit (of_values b) → AllFit (of_values (a ++ b))
   values_joined [] b h g = g
   values_joined (v ∷ a) b h g = (h.0, values_joined a b h.1 g)
@@ -186,6 +204,59 @@ module _ {H : Type 0} (own : H → List Reached) (P : Reached → Type 0) (least
   scope_set (w ∷ es) zero e h g = (g, h.1)
   scope_set (w ∷ es) (suc n) e h g = (h.0, scope_set es n e h.1 g)
 
+  -- ---- modules
+
+  pub modules_fit : (ms : List (Module H)) → FitModules own P ms → AllFit (of_modules ms)
+  modules_fit [] h = tt
+  modules_fit (m ∷ ms) h = (h.0, modules_fit ms h.1)
+
+  imports_fit : (imports : List (Import H)) → FitImports own P imports → AllFit (of_imports imports)
+  imports_fit [] h = tt
+  imports_fit (i ∷ imports) h = (h.0, imports_fit imports h.1)
+
+  pub environ_fits : (environ : Option (EncapsulatedEnviron H)) → FitEnviron own P environ → AllFit (of_environ environ)
+  environ_fits None h = tt
+  environ_fits (Some environ) h = (
+    modules_fit (out-EncapsulatedEnviron H environ).lib h.0,
+    imports_fit (out-EncapsulatedEnviron H environ).imports h.1,
+  )
+
+  pub modules_joined : (a b : List (Module H)) → AllFit (of_modules a) → AllFit (of_modules b) → AllFit (of_modules (a ++ b))
+  modules_joined [] b h g = g
+  modules_joined (m ∷ a) b h g = (h.0, modules_joined a b h.1 g)
+
+  pub modules_taken : (n : ℕ) (ms : List (Module H)) → AllFit (of_modules ms) → AllFit (of_modules (take n ms))
+  modules_taken zero ms h = tt
+  modules_taken (suc n) [] h = tt
+  modules_taken (suc n) (m ∷ ms) h = (h.0, modules_taken n ms h.1)
+
+  pub imports_joined : (a b : List (Import H)) → AllFit (of_imports a) → AllFit (of_imports b) → AllFit (of_imports (a ++ b))
+  imports_joined [] b h g = g
+  imports_joined (i ∷ a) b h g = (h.0, imports_joined a b h.1 g)
+
+  pub imports_taken : (n : ℕ) (imports : List (Import H)) → AllFit (of_imports imports) → AllFit (of_imports (take n imports))
+  imports_taken zero imports h = tt
+  imports_taken (suc n) [] h = tt
+  imports_taken (suc n) (i ∷ imports) h = (h.0, imports_taken n imports h.1)
+
+  -- ---- tables of constants
+
+  -- the values of a table that may be there
+  abbrev pub FitTable : Option (List (List ℕ) × List (Dynamic H)) → Type 0
+  FitTable None = ⊤
+  FitTable (Some table) = AllFit (of_values table.1)
+
+  pub table_at : (tables : List (List (List ℕ) × List (Dynamic H))) (n : ℕ) → AllFit (of_tables tables) → FitTable (slice_get tables n)
+  table_at [] n h = tt
+  table_at (table ∷ tables) zero h = h.0
+  table_at (table ∷ tables) (suc n) h = table_at tables n h.1
+
+  pub tables_set : (tables : List (List (List ℕ) × List (Dynamic H))) (n : ℕ) (table : List (List ℕ) × List (Dynamic H)) →
+      AllFit (of_tables tables) → AllFit (of_values table.1) → AllFit (of_tables (slice_set tables n table))
+  tables_set [] n table h g = tt
+  tables_set (t ∷ tables) zero table h g = (g, h.1)
+  tables_set (t ∷ tables) (suc n) table h g = (h.0, tables_set tables n table h.1 g)
+
   -- ---- cells
 
   pub cell_fits : (cells : Cells H) (n : ℕ) → AllFit (of_cells cells) → AreSealed cells → FlatMaybe (value_of_cell cells n)
@@ -227,6 +298,7 @@ module _ {H : Type 0} (own : H → List Reached) (P : Reached → Type 0) (least
     this = h.this;
     focus = h.focus;
     cells = cells_set l.around.cells n cell h.cells g;
+    around = h.around;
     sealed = sealed_set l.around.cells n cell h.sealed s;
     enough = rw length_set h.enough;
   }
@@ -240,6 +312,7 @@ module _ {H : Type 0} (own : H → List Reached) (P : Reached → Type 0) (least
     this = h.this;
     focus = h.focus;
     cells = h.cells;
+    around = h.around;
     sealed = h.sealed;
     enough = h.enough;
   }
@@ -250,6 +323,7 @@ module _ {H : Type 0} (own : H → List Reached) (P : Reached → Type 0) (least
     this = h.this;
     focus = g;
     cells = h.cells;
+    around = h.around;
     sealed = h.sealed;
     enough = h.enough;
   }
@@ -260,6 +334,7 @@ module _ {H : Type 0} (own : H → List Reached) (P : Reached → Type 0) (least
     this = g;
     focus = h.focus;
     cells = h.cells;
+    around = h.around;
     sealed = h.sealed;
     enough = h.enough;
   }

@@ -38,9 +38,8 @@ use Rattle.rhai_fits.proofs.Values.{Fit, FitUnion, FitLayer, fit_out, fit_unit, 
 use Rattle.rhai_fits.proofs.Copies.{fit_copy, fit_mode}
 use Rattle.rhai_fits.proofs.Errors.{FitError, fit_error, FitsMaybe, thrown_fits}
 use Rattle.rhai_fits.proofs.Fitting.{AllFit, FitBelow, FitCore, FitLocal, Gives, Flat, to, fail, unit, push, on, scope_joined, with_scope}
-use Rattle.rhai_fits.proofs.Fitting.{cells_added, sealed_added}
+use Rattle.rhai_fits.proofs.Fitting.{all_fit, fit_all, cells_added, sealed_added}
 use Rattle.rhai_fits.proofs.Seeing.{Any, flat_gives, found_gives, put_entry, put_below}
-use Rattle.rhai_fits.proofs.Arguments.{all_fit, fit_all}
 use Rattle.rhai_fits.proofs.Spots.{entry_fits}
 use Rattle.rhai_fits.proofs.Natives.{Moves}
 
@@ -257,6 +256,7 @@ module _ {H : Type 0} (own : H → List Reached) (P : Reached → Type 0) (least
     this = h.this;
     focus = h.focus;
     cells = cells_added own P least l.around.cells v h.cells f.0;
+    around = h.around;
     sealed = sealed_added own P least l.around.cells v h.sealed f.1;
     enough = omega (arith, h.enough, one_longer l.around.cells (Some v));
   }

@@ -28,7 +28,7 @@ use Rattle.rhai_fits.specs.Sealed.{GoesBack}
 use Rattle.rhai_fits.proofs.Values.{Fit, fit_unit}
 use Rattle.rhai_fits.proofs.Errors.{FitError, fit_error, fit_at, error_fits}
 use Rattle.rhai_fits.proofs.Fitting.{AllFit, FitBelow, FitCore, Gives, to, fail, push, on, goes_back, focus_there, scope_taken}
-use Rattle.rhai_fits.proofs.Fitting.{with_cell_set, with_scope, with_focus, with_this, focus_of_fits}
+use Rattle.rhai_fits.proofs.Fitting.{imports_taken, with_cell_set, with_scope, with_focus, with_this, focus_of_fits}
 use Rattle.rhai_fits.proofs.Seeing.{FitValue, Any, within_sizes_gives, put_entry, rebound_fits}
 use Rattle.rhai_fits.proofs.Spots.{set_no_handle, set_fits, Whole}
 use Rattle.rhai_fits.proofs.Calls.{call_left}
@@ -114,6 +114,10 @@ module _ {H : Type 0} (own : H → List Reached) (P : Reached → Type 0) (least
       this = b.local.this;
       focus = b.local.focus;
       cells = b.local.cells;
+      around = (
+        b.local.around.0,
+        (imports_taken own P least saved.imports_length l.around.imports b.local.around.1.0, b.local.around.1.1),
+      );
       sealed = b.local.sealed;
       enough = b.local.enough;
     };

@@ -3,8 +3,11 @@ pub mod Values
 pub mod Copies
 pub mod Literals
 pub mod Errors
+pub mod Modules
 pub mod Fitting
 pub mod Seeing
+pub mod Lookups
+pub mod Names
 pub mod Operators
 pub mod Natives
 pub mod Calls

@@ -27,12 +27,12 @@ use Rattle.rhai_fits.specs.Contents.{of_values, of_maybe, of_member, of_result}
 use Rattle.rhai_fits.proofs.Values.{Fit, FitLayer, FitPointer, fit_out, fit_pointer, fit_rolled, fit_bool, fit_text, fit_unit}
 use Rattle.rhai_fits.proofs.Copies.{fits_copy}
 use Rattle.rhai_fits.proofs.Errors.{FitError, fit_error}
-use Rattle.rhai_fits.proofs.Fitting.{AllFit, FitBelow, FitCore, FitLocal, Gives, Flat, to, back, fail, push, on, ended_fits, values_joined}
-use Rattle.rhai_fits.proofs.Fitting.{focus_of_fits}
+use Rattle.rhai_fits.proofs.Fitting.{AllFit, FitBelow, FitCore, FitLocal, FitOffer, Gives, Flat, to, back, fail, push, on, ended_fits}
+use Rattle.rhai_fits.proofs.Fitting.{all_fit, fit_all, values_joined, focus_of_fits}
 use Rattle.rhai_fits.proofs.Seeing.{through_gives}
-use Rattle.rhai_fits.proofs.Spots.{value_of_fits}
+use Rattle.rhai_fits.proofs.Lookups.{There, FitFound, linked_to_fits, value_of_fits}
 use Rattle.rhai_fits.proofs.Calls.{if_good, dispatch_good}
-use Rattle.rhai_fits.proofs.Arguments.{all_fit, fit_all, pointer_gives, linked_good, numbered_good}
+use Rattle.rhai_fits.proofs.Arguments.{pointer_gives, linked_good, numbered_good}
 
 module _ {H : Type 0} (own : H → List Reached) (P : Reached → Type 0) (least : ℕ) where
   abbrev Good : Core H → Type 0
@@ -93,7 +93,7 @@ module _ {H : Type 0} (own : H → List Reached) (P : Reached → Type 0) (least
   own_gives l method focus h f = own_in_gives l (entry_seen method.name (through l.around.cells focus method.at)) method.at h
       (entry_seen_fits method.name (through l.around.cells focus method.at) (through_gives own P least l focus method.at h f))
 
-  module _ (s : Setting H) where
+  module _ (s : Setting H) (o : FitOffer own P least s.offer) where
     -- ---- pointers that are called
 
     unlinked_on_good : (k' : FnPtrKind H) (pointer : FnPtr H) (method : Method) (called : List ℕ) (args : List (Dynamic H))
@@ -102,27 +102,28 @@ module _ {H : Type 0} (own : H → List Reached) (P : Reached → Type 0) (least
     unlinked_on_good (kind.Native id) pointer method called args focus k l h f b =
         numbered_on_good id.number (operation_named called method.at) args focus k l h f b
     unlinked_on_good _ pointer method called args focus k l h f b =
-        dispatch_good own P least s (as_method (natives_alone (out-FnPtr H pointer).name))
+        dispatch_good own P least s o (as_method (natives_alone (out-FnPtr H pointer).name))
         (on_focus (operation_named (out-FnPtr H pointer).name method.at) args focus) k l (f, h) b
 
     pointer_on_good : (function : Option (Function H)) (pointer : FnPtr H) (method : Method) (called : List ℕ) (args : List (Dynamic H))
-        (focus : Dynamic H) (k : List (Frame H)) (l : Local H) → All args → Fit own P focus → Below k l →
-        Good (pointer_on s function pointer method called args focus k l)
-    pointer_on_good (Some function) pointer method called args focus k l h f b = to own P least _ k l h tt b
-    pointer_on_good None pointer method called args focus k l h f b =
+        (focus : Dynamic H) (k : List (Frame H)) (l : Local H) → There own P least (FitFound own P least) function → All args →
+        Fit own P focus → Below k l → Good (pointer_on s function pointer method called args focus k l)
+    pointer_on_good (Some function) pointer method called args focus k l e h f b = to own P least _ k l (h, e) tt b
+    pointer_on_good None pointer method called args focus k l e h f b =
         unlinked_on_good (out-FnPtr H pointer).kind pointer method called args focus k l h f b
 
     unlinked_alone_good : (k' : FnPtrKind H) (pointer : FnPtr H) (at : Position) (args : List (Dynamic H)) (k : List (Frame H))
         (l : Local H) → All args → Below k l → Good (unlinked_alone s k' pointer at args k l)
     unlinked_alone_good (kind.Native id) pointer at args k l h b = numbered_good own P least _ k l h b
     unlinked_alone_good _ pointer at args k l h b =
-        dispatch_good own P least s (plainly (natives_alone (out-FnPtr H pointer).name) false)
+        dispatch_good own P least s o (plainly (natives_alone (out-FnPtr H pointer).name) false)
         (record (call_of (operation_named (out-FnPtr H pointer).name at) args) { marks = true }) k l h b
 
     pointer_alone_good : (function : Option (Function H)) (pointer : FnPtr H) (at : Position) (args : List (Dynamic H)) (k : List (Frame H))
-        (l : Local H) → All args → Below k l → Good (pointer_alone s function pointer at args k l)
-    pointer_alone_good (Some function) pointer at args k l h b = linked_good own P least function at args k l h b
-    pointer_alone_good None pointer at args k l h b = unlinked_alone_good (out-FnPtr H pointer).kind pointer at args k l h b
+        (l : Local H) → There own P least (FitFound own P least) function → All args → Below k l →
+        Good (pointer_alone s function pointer at args k l)
+    pointer_alone_good (Some function) pointer at args k l e h b = linked_good own P least function at args k l e h b
+    pointer_alone_good None pointer at args k l e h b = unlinked_alone_good (out-FnPtr H pointer).kind pointer at args k l h b
 
     -- ---- words
 
@@ -133,13 +134,16 @@ module _ {H : Type 0} (own : H → List Reached) (P : Reached → Type 0) (least
         (pointer_wanted s.host_type l.around.cells first (argument_at method)) _ k l
         (pointer_gives own P least s.host_type l first (argument_at method) b.local h.0) b
         (λ pointer p. pointer_on_good (linked_to pointer (length ((out-FnPtr H pointer).curry ++ rest)) l.around.lib) pointer method
-        (codes "call") ((out-FnPtr H pointer).curry ++ rest) focus k l (values_joined own P least (out-FnPtr H pointer).curry rest
+        (codes "call") ((out-FnPtr H pointer).curry ++ rest) focus k l
+        (linked_to_fits own P least pointer (length ((out-FnPtr H pointer).curry ++ rest)) l.around.lib p b.local.around.0)
+        (values_joined own P least (out-FnPtr H pointer).curry rest
         (all_fit own P least (out-FnPtr H pointer).curry p.curry) h.1) f b)
 
     call_word_good : (u : UnionLayer H) (method : Method) (args : List (Dynamic H)) (seen focus : Dynamic H) (k : List (Frame H))
         (l : Local H) → FitLayer own P u → All args → Fit own P focus → Below k l → Good (call_core s u method args seen focus k l)
     call_word_good (union.FnPtr pointer) method args seen focus k l p h f b = pointer_alone_good
         (linked_to pointer (length (copied_before pointer args)) l.around.lib) pointer method.at (copied_before pointer args) k l
+        (linked_to_fits own P least pointer (length (copied_before pointer args)) l.around.lib p b.local.around.0)
         (copied_fits pointer args p h) b
     call_word_good _ method args seen focus k l p h f b = argument_good method args seen focus k l h f b
 
@@ -152,9 +156,11 @@ module _ {H : Type 0} (own : H → List Reached) (P : Reached → Type 0) (least
         (l : Local H) → MaybePointer pointer → All args → Fit own P focus → Below k l → Good (entry_core s pointer method args focus k l)
     entry_good (Some pointer) method args focus k l p h f b = pointer_on_good
         (linked_to pointer (length (copied_before pointer args)) l.around.lib) pointer method (out-FnPtr H pointer).name
-        (copied_before pointer args) focus k l (copied_fits pointer args p h) f b
+        (copied_before pointer args) focus k l
+        (linked_to_fits own P least pointer (length (copied_before pointer args)) l.around.lib p b.local.around.0)
+        (copied_fits pointer args p h) f b
     entry_good None method args focus k l p h f b =
-        dispatch_good own P least s (as_method false) (on_focus (operation_named method.name method.at) args focus) k l (f, h) b
+        dispatch_good own P least s o (as_method false) (on_focus (operation_named method.name method.at) args focus) k l (f, h) b
 
     own_good : (method : Method) (args : List (Dynamic H)) (focus : Dynamic H) (k : List (Frame H)) (l : Local H) → All args →
         Fit own P focus → Below k l → Good (own_core s method args focus k l)

@@ -4,13 +4,14 @@ use Rattle.std.specs.Prelude.{Some, None}
 use Rattle.rhai_machine.specs.Types.{Dynamic, Position}
 use Rattle.rhai_values.specs.declared.base.value.AccessMode.TheVariants.{ReadWrite}
 use Rattle.rhai_places.specs.Paths.{ToCell}
-use Rattle.rhai_machine.specs.language.Setting.{Setting}
+use Rattle.rhai_machine.specs.language.Setting.{Setting, globals_of}
 use Rattle.rhai_machine.specs.language.State.{Local, Surroundings}
 use Rattle.rhai_machine.specs.language.Values.{unit_value}
 use Rattle.rhai_machine.specs.language.Places.{target_of}
+use Rattle.rhai_machine.specs.language.Variables.{no_path}
 use Rattle.rhai_machine.specs.language.Sharing.{handle_of}
 use Rattle.rhai_machine.specs.language.Frames.{Assignment, StepDown}
-use Rattle.rhai_machine.specs.language.Assignment.{store_core}
+use Rattle.rhai_machine.specs.language.Assignment.{store_core, variable_of_assignment}
 use Rattle.rhai_machine.specs.language.Unwinding.{up_core}
 use Rattle.rhai_fits.specs.Sealed.{AreSealed}
 
@@ -34,10 +35,11 @@ module _ {H : Type 0} (s : Setting H) (around : Surroundings H) (at : Position) 
 
   -- the variable is assigned the handle
   abbrev assignment : Assignment
-  assignment = record { name = []; at = at; op = record { op = None; position = at } }
+  assignment = record { path = no_path; name = []; at = at; op = record { op = None; position = at } }
 
   abbrev assigned : Local H
-  assigned = (store_core s (target_of state.around.cells state.around.lib [] at state.scope) assignment handle [] state).local
+  assigned = (store_core s (target_of (globals_of s.offer) state.around state.scope (variable_of_assignment assignment)) assignment handle
+      [] state).local
 
   pub assigned_handle : AreSealed assigned.around.cells → ⊥
   assigned_handle h = h.0

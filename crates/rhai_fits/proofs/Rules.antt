@@ -7,7 +7,7 @@ use Rattle.rhai_state.specs.Errors.{is_catchable, is_system}
 use Rattle.rhai_state.specs.Reach.{Reached}
 use Rattle.rhai_places.specs.PutBack.{put_back}
 use Rattle.rhai_machine.specs.machine.Machine.{Move, Go}
-use Rattle.rhai_machine.specs.language.Setting.{Setting}
+use Rattle.rhai_machine.specs.language.Setting.{Setting, globals_of}
 use Rattle.rhai_machine.specs.language.State.{Local}
 use Rattle.rhai_machine.specs.language.Values.{flat, through, truth}
 use Rattle.rhai_machine.specs.language.Cases.{candidates}
@@ -19,6 +19,7 @@ use Rattle.rhai_machine.specs.language.Data.{with_item, with_value, printed}
 use Rattle.rhai_machine.specs.language.Calls.{builtin_of, call_of, sized}
 use Rattle.rhai_machine.specs.language.Bodies.{called_back, returned}
 use Rattle.rhai_machine.specs.language.Arguments.{flattens, taken}
+use Rattle.rhai_machine.specs.language.Assignment.{variable_of_assignment}
 use Rattle.rhai_machine.specs.language.Statements.{has_option}
 use Rattle.rhai_machine.specs.language.Tries.{catch_variable}
 use Rattle.rhai_machine.specs.language.Members.{focus_of, lacks_property, lacks_indexer}
@@ -40,9 +41,10 @@ use Rattle.rhai_fits.specs.Sealed.{ControlSealed}
 use Rattle.rhai_fits.proofs.Values.{Fit, fit_unit}
 use Rattle.rhai_fits.proofs.Literals.{fit_literal_of}
 use Rattle.rhai_fits.proofs.Errors.{FitError, fit_error}
-use Rattle.rhai_fits.proofs.Fitting.{AllFit, FitBelow, FitCore, Flat, to, back, fail, unit, push, on, ended_fits, values_joined}
+use Rattle.rhai_fits.proofs.Fitting.{AllFit, FitBelow, FitCore, FitOffer, Flat, to, back, fail, unit, push, on, ended_fits, values_joined}
 use Rattle.rhai_fits.proofs.Fitting.{focus_of_fits, with_focus}
-use Rattle.rhai_fits.proofs.Seeing.{FitValue, Any, flat_gives, flat_fits, through_gives, truth_gives, target_gives}
+use Rattle.rhai_fits.proofs.Seeing.{FitValue, Any, flat_gives, flat_fits, through_gives, truth_gives}
+use Rattle.rhai_fits.proofs.Names.{target_gives}
 use Rattle.rhai_fits.proofs.Natives.{Moves}
 use Rattle.rhai_fits.proofs.Calls.{function_good, call_left, returned_fits, focus_good, builtin_fits, operator_good}
 use Rattle.rhai_fits.proofs.Firing.{question_good, fire_good}
@@ -59,7 +61,13 @@ use Rattle.rhai_fits.proofs.Statements.{while_good, while_core_good, do_good, ca
 use Rattle.rhai_fits.proofs.Leaving.{pop, refocus, left, step_left, topped_fits, raised_fits, sized_any, part_assigned_good}
 use Rattle.rhai_fits.proofs.Leaving.{part_changed_good, operated_good, got_none_good, temporary_good}
 
-module _ {H : Type 0} (own : H → List Reached) (P : Reached → Type 0) (least : ℕ) (s : Setting H) where
+module _ {H : Type 0} (own : H → List Reached) (P : Reached → Type 0) (least : ℕ) where
+  -- a move that adds a cell leads to a store whose new numbers have the property
+  abbrev pub FreshMove : Move H (Core H) → Type 0
+  FreshMove (Go d) = Fresh own P least d.local
+  FreshMove _ = ⊤
+
+module _ {H : Type 0} (own : H → List Reached) (P : Reached → Type 0) (least : ℕ) (s : Setting H) (o : FitOffer own P least s.offer) where
   abbrev Good : Core H → Type 0
   Good c = FitCore own P least c
 
@@ -82,7 +90,7 @@ module _ {H : Type 0} (own : H → List Reached) (P : Reached → Type 0) (least
   operation_good : (operation : Operation) (args : List (Dynamic H)) (k : List (Frame H)) (l : Local H) → All args → Below k l →
       Good (operated s operation args k l)
   operation_good operation args k l h b = operator_good own P least s (builtin_of operation.token args) (call_of operation args) k l
-      (builtin_fits own P least operation.token args) h b
+      o (builtin_fits own P least operation.token args) h b
 
   -- ---- a value comes up
 
@@ -94,7 +102,7 @@ module _ {H : Type 0} (own : H → List Reached) (P : Reached → Type 0) (least
       let c = pop own P least _ k l b.back b in
       flat_on v k l f c value_at _ (λ x g. defined_good own P least x ident index options restoring k l g.0 c)
   up_good (ImportPath alias path_at starts_at) v k l f b =
-      imported_good own P least s.host_type s.offer.modules alias v path_at starts_at k l f (pop own P least _ k l b.back b)
+      imported_good own P least s.host_type s.offer.modules alias v path_at starts_at k l o.1.1 f (pop own P least _ k l b.back b)
   up_good (IfCondition test_at body branch) v k l f b =
       let c = pop own P least _ k l b.back b in
       truth_on v k l f c test_at _ (λ holds. chosen_good own P least holds body branch k l c)
@@ -112,10 +120,10 @@ module _ {H : Type 0} (own : H → List Reached) (P : Reached → Type 0) (least
       let c = pop own P least _ k l b.back b in
       on own P least (FitValue own P least) (taken (flattens purpose) l.around.cells v argument_at) _ k l
       (taken_gives own P least (flattens purpose) l v argument_at c.local f) c
-      (λ x g. arguments_good own P least s purpose (made ++ x ∷ []) rest k l b.stack.0.0 b.sealed.0
+      (λ x g. arguments_good own P least s o purpose (made ++ x ∷ []) rest k l b.stack.0.0 b.sealed.0
       (values_joined own P least made (x ∷ []) b.stack.0.1 (g, tt)) c)
   up_good (KeywordArgument keyword call_at start rest captures) v k l f b =
-      keyword_good own P least s keyword call_at start rest captures v k l f (pop own P least _ k l b.back b)
+      keyword_good own P least s o keyword call_at start rest captures v k l f (pop own P least _ k l b.back b)
   up_good (AndPart part_at rest) v k l f b =
       let c = pop own P least _ k l b.back b in
       truth_on v k l f c part_at _ (λ holds. and_next_good own P least holds rest k l c)
@@ -201,7 +209,7 @@ module _ {H : Type 0} (own : H → List Reached) (P : Reached → Type 0) (least
     back = b.back;
     local = with_focus own P least l (Some v) b.local f;
   })
-  up_good (MemberGot access root new) v k l f b = assign_focus_good own P least s root new _ _ (b.stack.0.1, b.sealed.0) (record {
+  up_good (MemberGot access root new) v k l f b = assign_focus_good own P least s o root new _ _ (b.stack.0.1, b.sealed.0) (record {
     stack = ((b.stack.0.0, b.local.focus), b.stack.1);
     sealed = (tt, b.sealed.1);
     back = b.back;
@@ -263,35 +271,30 @@ module _ {H : Type 0} (own : H → List Reached) (P : Reached → Type 0) (least
 
   -- ---- each move
 
-  -- a move that adds a cell leads to a store whose new numbers have the property
-  abbrev pub FreshMove : Move H (Core H) → Type 0
-  FreshMove (Go d) = Fresh own P least d.local
-  FreshMove _ = ⊤
-
   pub move_good : (c : Control H) (k : List (Frame H)) (l : Local H) → AllFit own P least (of_control c) → ControlSealed c → Below k l →
-      FreshMove (move_at s c k l) → Moves own P least (move_at s c k l)
+      FreshMove own P least (move_at s c k l) → Moves own P least (move_at s c k l)
   move_good (Eval e) k l h z b new = to own P least _ k l tt tt b
   move_good (Exec stmt restoring) k l h z b new = to own P least _ k l tt tt b
   move_good (Ask call) k l h z b new = to own P least _ k l h tt b
   move_good (EnterFunction e) k l h z b new = function_good own P least s.limits e k l h b
   move_good (Assign assignment v) k l h z b new = to own P least _ k l h z b
-  move_good (EnterOnFocus function is_fresh args at) k l h z b new = focus_good own P least function is_fresh args at k l h b
+  move_good (EnterOnFocus function is_fresh args at) k l h z b new = focus_good own P least function is_fresh args at k l h.1 h.0 b
   move_good (AssignThis op at v) k l h z b new = to own P least _ k l h z b
   move_good (AskUpdate u) k l h z b new = to own P least _ k l h tt b
   move_good (Argument e) k l h z b new = argument_good own P least (literal_of (out-Expr e)) e k l (fit_literal_of own P (out-Expr e)) b
   move_good (CallNamed operation curried args captures alone) k l h z b new =
-      named_call_good own P least s operation curried args captures alone k l h b
+      named_call_good own P least s o operation curried args captures alone k l h b
   move_good (Question call) k l h z b new = question_good own P least s call call.args k l h h b
   move_good (Fire call) k l h z b new = fire_good own P least s call call.args k l h b
   move_good (QuestionUpdate u) k l h z b new = question_update_good own P least s u k l h b
   move_good (FireUpdate u) k l h z b new = fire_update_good own P least s u k l h b
-  move_good (OpenExpr form) k l h z b new = expr_good own P least s.offer.fast_operators form k l b
+  move_good (OpenExpr form) k l h z b new = expr_good own P least s o s.offer.fast_operators form k l b
   move_good (OpenStmt form restoring) k l h z b new = stmt_good own P least s form restoring k l b
   move_good (Enter stmts restoring) k l h z b new = enter_good own P least stmts restoring k l b
   move_good (Run stmts restoring last) k l h z b new = run_good own P least stmts restoring last k l h b
   move_good (Store assignment v) k l h z b new = store_good own P least s
-      (target_of l.around.cells l.around.lib assignment.name assignment.at l.scope) assignment v k l
-      (target_gives own P least l assignment.name assignment.at b.local) (h, z) b
+      (target_of (globals_of s.offer) l.around l.scope (variable_of_assignment assignment)) assignment v k l
+      (target_gives own P least (globals_of s.offer) (o.0, o.1.0) (variable_of_assignment assignment) l b.local) (h, z) b
   move_good (StoreThis op at v) k l h z b new = store_this_good own P least s op at v k l (h, z) b
   move_good (WhileTurn test body) k l h z b new = while_good own P least (is_endless (out-Expr test)) body.statements test body k l b
   move_good (DoTurn test body options) k l h z b new = to own P least _ _ l tt tt (push own P least _ k l tt tt b.back b)
@@ -301,11 +304,12 @@ module _ {H : Type 0} (own : H → List Reached) (P : Reached → Type 0) (least
   move_good (Share variables) k l h z b new = share_good own P least variables k l b new
   move_good (OpenChain chain) k l h z b new = open_good own P least (link_of chain.rest) chain k l (a_chain own P least chain h z) b
   move_good (ChainArguments chain rest made) k l h z b new =
-      asked_good own P least s (link_of rest) chain made k l (a_chain own P least chain h.0 z) h.1 b
+      asked_good own P least s (link_of rest) chain made k l o (a_chain own P least chain h.0 z) h.1 b
   move_good (ChainRoot chain) k l h z b new = root_good own P least (out-Expr chain.root) chain k l (a_chain own P least chain h z) b
-  move_good (ReadRoot name at chain) k l h z b new = read_root_good own P least name at chain k l (a_chain own P least chain h z) b
-  move_good (Walk chain) k l h z b new = walk_good own P least s (link_of chain.rest) chain k l (a_chain own P least chain h z) b
-  move_good (Locate link chain) k l h z b new = locate_good own P least s link chain k l (a_chain own P least chain h z) b
+  move_good (ReadRoot variable chain) k l h z b new = read_root_good own P least (globals_of s.offer) variable chain k l (o.0, o.1.0)
+      (a_chain own P least chain h z) b
+  move_good (Walk chain) k l h z b new = walk_good own P least s o (link_of chain.rest) chain k l (a_chain own P least chain h z) b
+  move_good (Locate link chain) k l h z b new = locate_good own P least s o link chain k l (a_chain own P least chain h z) b
   move_good (Back v) [] l h z b new = tt
   move_good (Back v) (frame ∷ k) l h z b new = up_good frame v k l h b
   move_good (Changed v) [] l h z b new = back own P least v [] l h b

@@ -12,13 +12,15 @@ use Rattle.rhai_machine.specs.language.Setting.{Rules, cut}
 use Rattle.rhai_machine.specs.language.Frames.{Core, core, Fail}
 use Rattle.rhai_machine.specs.language.Language.{machine, move}
 use Rattle.rhai_machine.specs.language.Runs.{at, Steps}
-use Rattle.rhai_fits.specs.Contents.{Contents, Nothing, OneValue, OneError, Both, of_core, Holds, HeldAt}
+use Rattle.rhai_fits.specs.Contents.{Contents, Nothing, OneValue, OneError, OneModule, Both, of_core, of_offer, Holds, HeldAt}
+use Rattle.rhai_fits.specs.Modules.{held_by_module}
 use Rattle.rhai_fits.specs.Sealed.{Sealed}
 use Rattle.rhai_fits.specs.Laws.{count_of_cells, IsAdded, Keeps, RunsKeep, StepsKeep, RunsFit}
 use Rattle.rhai_fits.proofs.Properties.{all_at, all_of}
 use Rattle.rhai_fits.proofs.Values.{fit_held, held_fits}
 use Rattle.rhai_fits.proofs.Errors.{fit_error, error_held, held_error}
-use Rattle.rhai_fits.proofs.Fitting.{AllFit, FitCore, fail}
+use Rattle.rhai_fits.proofs.Modules.{held_module, module_held}
+use Rattle.rhai_fits.proofs.Fitting.{AllFit, FitCore, FitOffer, fail}
 use Rattle.rhai_fits.proofs.Natives.{FitNative, FitState, Moves, reply_fits, first_fits, state_fits, starved_first_fits, starved_state_fits}
 use Rattle.rhai_fits.proofs.Rules.{FreshMove, move_good}
 
@@ -30,6 +32,7 @@ module _ {H : Type 0} (own : H → List Reached) (P : Reached → Type 0) (least
   holds_fit Nothing h = tt
   holds_fit (OneValue v) h = held_fits own P v (all_of P (held_by own v) h)
   holds_fit (OneError e) h = held_error own P e (all_of P (held_by_error own e) h)
+  holds_fit (OneModule m) h = held_module own P m (all_of P (held_by_module own m) h)
   holds_fit (Both a b) h = (holds_fit a (λ r c. h r (inl c)), holds_fit b (λ r c. h r (inr c)))
 
   -- and what fits holds nothing else
@@ -37,6 +40,7 @@ module _ {H : Type 0} (own : H → List Reached) (P : Reached → Type 0) (least
   fit_holds Nothing h n c = absurd c
   fit_holds (OneValue v) h n c = all_at P (held_by own v) n (fit_held own P v h) c
   fit_holds (OneError e) h n c = all_at P (held_by_error own e) n (error_held own P e h) c
+  fit_holds (OneModule m) h n c = all_at P (held_by_module own m) n (module_held own P m h) c
   fit_holds (Both a b) h n (inl c) = fit_holds a h.0 n c
   fit_holds (Both a b) h n (inr c) = fit_holds b h.1 n c
 
@@ -56,7 +60,8 @@ module _ {H : Type 0} (own : H → List Reached) (P : Reached → Type 0) (least
             scope = all.1.1.0;
             this = all.1.1.1.0;
             focus = all.1.1.1.1.0;
-            cells = all.1.1.1.1.1;
+            cells = all.1.1.1.1.1.0;
+            around = all.1.1.1.1.1.1;
             sealed = s.cells;
             enough = enough;
           };
@@ -70,16 +75,20 @@ module _ {H : Type 0} (own : H → List Reached) (P : Reached → Type 0) (least
   all_core : (c : Core H) → FitCore own P least c → AllFit own P least (of_core c)
   all_core c h = (
     h.control,
-    (h.below.stack, (h.below.local.scope, (h.below.local.this, (h.below.local.focus, h.below.local.cells)))),
+    (
+      h.below.stack,
+      (h.below.local.scope, (h.below.local.this, (h.below.local.focus, (h.below.local.cells, h.below.local.around)))),
+    ),
   )
 
 module _ {S H : Type 0} (rules : Rules S H) (names : H → List ℕ) (lawful : Lawful names rules.natives) (allows : ℕ → Bool) where
   abbrev own : H → List Reached
   own = rules.natives.holds.of_host
 
-  -- a point fits
+  -- a point fits, and so do the engine's modules
   record FitPoint (P : Reached → Type 0) (least : ℕ) (p : Point S (Core H)) : Type 0 where
     pub core : FitCore own P least p.core
+    pub offer : FitOffer own P least rules.setting.offer
     pub state : FitState names rules.natives P least p.table
 
   module _ (P : Reached → Type 0) (least : ℕ) where
@@ -87,30 +96,35 @@ module _ {S H : Type 0} (rules : Rules S H) (names : H → List ℕ) (lawful : L
 
     paid_fits : (allowed : Bool) (at : Position) (d : Core H) (p : Point S (Core H)) → FitCore own P least d → FitPoint P least p →
         FitPoint P least (paid (machine rules) allowed at d p)
-    paid_fits true at d p h f = record { core = h; state = f.state }
+    paid_fits true at d p h f = record { core = h; offer = f.offer; state = f.state }
     paid_fits false at d p h f =
-        record { core = fail own P least _ p.core.stack p.core.local (fit_error own P _ tt) f.core.below; state = f.state }
+        record {
+          core = fail own P least _ p.core.stack p.core.local (fit_error own P _ tt) f.core.below;
+          offer = f.offer;
+          state = f.state;
+        }
 
     moved_fits : (v : Move H (Core H)) (p : Point S (Core H)) → Moves own P least v → FitPoint P least p →
         FitPoint P least (moved (machine rules) allows v p)
     moved_fits Halt p h f = f
-    moved_fits (Go d) p h f = record { core = h; state = f.state }
+    moved_fits (Go d) p h f = record { core = h; offer = f.offer; state = f.state }
     moved_fits (Charge at d) p h f = paid_fits (allows p.count) at d p h f
     moved_fits (Native q g) p h f = record {
       core = h.answered _ _ (reply_fits names rules.natives P least lawful p.table q f.state h.asks)
           (first_fits names rules.natives P least lawful p.table q f.state h.asks);
+      offer = f.offer;
       state = state_fits names rules.natives P least lawful p.table q f.state h.asks;
     }
-    moved_fits (AskPure q g) p h f = record { core = h (rules.natives.pure p.table q); state = f.state }
+    moved_fits (AskPure q g) p h f = record { core = h (rules.natives.pure p.table q); offer = f.offer; state = f.state }
 
     abbrev move_of : Point S (Core H) → Move H (Core H)
     move_of p = move rules.setting p.core
 
-    moves : (p : Point S (Core H)) → FitPoint P least p → FreshMove own P least rules.setting (move_of p) → Moves own P least (move_of p)
-    moves p f new = move_good own P least rules.setting p.core.control p.core.stack p.core.local f.core.control f.core.sealed
-        f.core.below new
+    moves : (p : Point S (Core H)) → FitPoint P least p → FreshMove own P least (move_of p) → Moves own P least (move_of p)
+    moves p f new = move_good own P least rules.setting f.offer p.core.control p.core.stack p.core.local f.core.control
+        f.core.sealed f.core.below new
 
-    step_fits : (p : Point S (Core H)) → FitPoint P least p → FreshMove own P least rules.setting (move_of p) →
+    step_fits : (p : Point S (Core H)) → FitPoint P least p → FreshMove own P least (move_of p) →
         FitPoint P least (after (machine rules) allows p)
     unfolding after
     step_fits p f new = moved_fits (move_of p) p (moves p f new) f
@@ -118,7 +132,11 @@ module _ {S H : Type 0} (rules : Rules S H) (names : H → List ℕ) (lawful : L
     want_fits : (at : Position) (p : Point S (Core H)) → FitPoint P least p →
         FitPoint P least (record p { core = core (Fail (error.ErrorOutOfMemory at)) p.core.stack p.core.local })
     want_fits at p f =
-        record { core = fail own P least _ p.core.stack p.core.local (fit_error own P _ tt) f.core.below; state = f.state }
+        record {
+          core = fail own P least _ p.core.stack p.core.local (fit_error own P _ tt) f.core.below;
+          offer = f.offer;
+          state = f.state;
+        }
 
     -- a native that finds no memory
     starved_fits : (p : Point S (Core H)) (call : Request H) (g : Reply H → Option (Dynamic H) → Core H) (at : Position)
@@ -132,6 +150,7 @@ module _ {S H : Type 0} (rules : Rules S H) (names : H → List ℕ) (lawful : L
       core = fail own P least _ _ _ (fit_error own P _ tt)
           (h.starved e first (starved_first_fits names rules.natives P least rules.setting.host_type p.table call first state f.state
           h.asks may));
+      offer = f.offer;
       state = starved_state_fits names rules.natives P least rules.setting.host_type p.table call first state f.state h.asks may;
     }
 
@@ -141,13 +160,13 @@ module _ {S H : Type 0} (rules : Rules S H) (names : H → List ℕ) (lawful : L
 
     -- no native's move adds a cell
     fresh_native : (v : Move H (Core H)) (call : Request H) (g : Reply H → Option (Dynamic H) → Core H) → v ≡ Native call g →
-        FreshMove own P least rules.setting v
+        FreshMove own P least v
     fresh_native v call g is = rw is tt
 
     -- ---- a run, where each cell from the number `least` on has the property
 
     module _ (fresh : (n : ℕ) → least ≤ n → P (Cell n)) where
-      fresh_move : (v : Move H (Core H)) → FreshMove own P least rules.setting v
+      fresh_move : (v : Move H (Core H)) → FreshMove own P least v
       fresh_move Halt = tt
       fresh_move (Go d) = λ n le lt. fresh n le
       fresh_move (Charge at d) = tt
@@ -171,6 +190,7 @@ module _ {S H : Type 0} (rules : Rules S H) (names : H → List ℕ) (lawful : L
   unfolding any
   any_fits p s = record {
     core = core_fits own any (count_of_cells p) p.core s (λ n c. tt) (omega arith);
+    offer = holds_fit own any (count_of_cells p) (of_offer rules.setting.offer) (λ n c. tt);
     state = all_of any (rules.natives.holds.of_state p.table) (λ n c. tt);
   }
 
@@ -188,7 +208,7 @@ module _ {S H : Type 0} (rules : Rules S H) (names : H → List ℕ) (lawful : L
 
   module _ (P : Reached → Type 0) (least : ℕ) (q : Point S (Core H)) (fresh : (n : ℕ) → least ≤ n → n < count_of_cells q → P (Cell n)) where
     fresh_below : (v : Move H (Core H)) (p : Point S (Core H)) → count_of_cells (moved (machine rules) allows v p) ≤ count_of_cells q →
-        FreshMove own P least rules.setting v
+        FreshMove own P least v
     fresh_below Halt p few = tt
     fresh_below (Go d) p few = λ n le lt. fresh n le (omega (arith, lt, few))
     fresh_below (Charge at d) p few = tt
@@ -196,7 +216,7 @@ module _ {S H : Type 0} (rules : Rules S H) (names : H → List ℕ) (lawful : L
     fresh_below (AskPure question g) p few = tt
 
     fresh_step : (p : Point S (Core H)) → count_of_cells (after (machine rules) allows p) ≤ count_of_cells q →
-        FreshMove own P least rules.setting (move_of P least p)
+        FreshMove own P least (move_of P least p)
     unfolding after
     fresh_step p few = fresh_below (move_of P least p) p few
 
@@ -215,17 +235,19 @@ module _ {S H : Type 0} (rules : Rules S H) (names : H → List ℕ) (lawful : L
 
   -- held before, or a cell added since
   abbrev Known : (p q : Point S (Core H)) → Reached → Type 0
-  Known p q r = HeldAt rules.natives p r ⊎ IsAdded p q r
+  Known p q r = HeldAt rules p r ⊎ IsAdded p q r
 
   known_fits : (p q : Point S (Core H)) → Sealed p.core → FitPoint (Known p q) (count_of_cells p) p
   known_fits p q s = record {
-    core = core_fits own (Known p q) (count_of_cells p) p.core s (λ n c. inl (inl c)) (omega arith);
+    core = core_fits own (Known p q) (count_of_cells p) p.core s (λ n c. inl (inl (inl c))) (omega arith);
+    offer = holds_fit own (Known p q) (count_of_cells p) (of_offer rules.setting.offer) (λ n c. inl (inl (inr c)));
     state = all_of (Known p q) (rules.natives.holds.of_state p.table) (λ n c. inl (inr c));
   }
 
-  held_known : (p q : Point S (Core H)) → FitPoint (Known p q) (count_of_cells p) q → (r : Reached) → HeldAt rules.natives q r → Known p q r
-  held_known p q f n (inl c) = fit_holds own (Known p q) (count_of_cells p) (of_core q.core) (all_core own (Known p q) (count_of_cells p)
-      q.core f.core) n c
+  held_known : (p q : Point S (Core H)) → FitPoint (Known p q) (count_of_cells p) q → (r : Reached) → HeldAt rules q r → Known p q r
+  held_known p q f n (inl (inl c)) = fit_holds own (Known p q) (count_of_cells p) (of_core q.core)
+      (all_core own (Known p q) (count_of_cells p) q.core f.core) n c
+  held_known p q f n (inl (inr c)) = fit_holds own (Known p q) (count_of_cells p) (of_offer rules.setting.offer) f.offer n c
   held_known p q f n (inr c) = all_at (Known p q) (rules.natives.holds.of_state q.table) n f.state c
 
   pub leads_keep : (p q : Point S (Core H)) → Sealed p.core → Leads (machine rules) allows p q → Keeps rules p q
@@ -246,8 +268,8 @@ module _ {S H : Type 0} (rules : Rules S H) (names : H → List ℕ) (lawful : L
   steps_keep c d old new z s steps =
       runs_keep (at c [] old) (at d [] new) (record { control = z; stack = tt; goes_back = tt; cells = s }) (steps [])
 
-  within_more : (m n : ℕ) (p : Point S (Core H)) (k : ℕ) → m ≤ n → ((k : ℕ) → HeldAt rules.natives p (Cell k) → k < m) →
-      HeldAt rules.natives p (Cell k) ⊎ ((m ≤ k) × (k < n)) → k < n
+  within_more : (m n : ℕ) (p : Point S (Core H)) (k : ℕ) → m ≤ n → ((k : ℕ) → HeldAt rules p (Cell k) → k < m) →
+      HeldAt rules p (Cell k) ⊎ ((m ≤ k) × (k < n)) → k < n
   within_more m n p k few within (inl held) = omega (arith, within k held, few)
   within_more m n p k few within (inr added) = added.1
 

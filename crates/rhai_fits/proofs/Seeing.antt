@@ -1,8 +1,8 @@
 -- Values as the rules look at them fit, and so do places that are written to.
 use Rattle.std.proofs.Common.{ℕ, zero, suc, List, [], ◌∷◌}
 use Rattle.std.specs.Prelude.{⊤, Bool, true, false, ◌||◌, Option, Some, None, Result, Ok, Err, slice_get}
-use Rattle.std.specs.Option.{option_map, option_or}
-use Rattle.rhai_machine.specs.Types.{Dynamic, EvalAltResult, Limits, Module, Position, ScopeEntry, Union}
+use Rattle.std.specs.Option.{option_map}
+use Rattle.rhai_machine.specs.Types.{Dynamic, EvalAltResult, Limits, Position, ScopeEntry, Union}
 use Rattle.rhai_values.specs.declared.base.value.AccessMode.{AccessMode}
 use Rattle.rhai_values.specs.declared.base.value.AccessMode.TheVariants.{ReadOnly, ReadWrite}
 use Rattle.rhai_values.specs.declared.base.size.DataSizes.{DataSizes}
@@ -17,20 +17,17 @@ use Rattle.rhai_state.specs.Scope.{found, index_of, revalued, value_in}
 use Rattle.rhai_machine.specs.language.State.{Local}
 use Rattle.rhai_machine.specs.language.Values.{Cells, flat_union, flat, through_union, through, used, copied, truth_union, truth_seen}
 use Rattle.rhai_machine.specs.language.Values.{truth}
-use Rattle.rhai_machine.specs.language.Functions.{meant_function, pointer_to}
-use Rattle.rhai_machine.specs.language.Names.{meant, entered, looked_up, variable_of, read, bound_this}
+use Rattle.rhai_machine.specs.language.Names.{bound_this}
 use Rattle.rhai_machine.specs.language.Places.{Place, InEntry, InCell, InThis, InFocus, Target, is_constant, unless_constant}
-use Rattle.rhai_machine.specs.language.Places.{target_in_cell, target, target_at, target_found, no_variable, target_of, focus_in_cell}
+use Rattle.rhai_machine.specs.language.Places.{target_in_cell, target, target_at, focus_in_cell}
 use Rattle.rhai_machine.specs.language.Places.{focus_at, focus_target, this_at, this_target, rebound, put}
 use Rattle.rhai_machine.specs.language.Frames.{Frame}
 use Rattle.rhai_machine.specs.language.Calls.{sized_by, within_sizes}
-use Rattle.rhai_functions.specs.Functions.{named_in}
 use Rattle.rhai_fits.specs.Contents.{of_maybe, of_result, of_scope, of_cells}
 use Rattle.rhai_fits.specs.Sealed.{AreSealed, GoesBack}
-use Rattle.rhai_fits.proofs.Values.{FitUnion, Fit, fit_pointer, fit_rolled}
+use Rattle.rhai_fits.proofs.Values.{FitUnion, Fit}
 use Rattle.rhai_fits.proofs.Copies.{fit_copy}
-use Rattle.rhai_fits.proofs.Literals.{kind_arity}
-use Rattle.rhai_fits.proofs.Errors.{FitError, fit_error}
+use Rattle.rhai_fits.proofs.Errors.{fit_error}
 use Rattle.rhai_fits.proofs.Fitting.{AllFit, FitLocal, FitBelow, Gives, Flat, FlatMaybe, goes_back, cell_fits, scope_set, with_cell_set}
 use Rattle.rhai_fits.proofs.Fitting.{with_scope, with_focus, with_this}
 
@@ -151,43 +148,6 @@ module _ {H : Type 0} (own : H → List Reached) (P : Reached → Type 0) (least
   pub value_in_fits : (l : Local H) (index : Option ℕ) → FitLocal own P least l → AllFit own P least (of_maybe (value_in l.scope index))
   value_in_fits l index h = found_fits l.scope index h.scope
 
-  function_fits : (name : List ℕ) (arity : Option ℕ) → AllFit own P least (of_maybe (option_map (pointer_to {H = H} name) arity))
-  function_fits name None = tt
-  function_fits name (Some n) = fit_pointer own P _ (fit_rolled own P _ _ _ tt (kind_arity own P n))
-
-  or_fits : (a b : Option (Dynamic H)) → AllFit own P least (of_maybe a) → AllFit own P least (of_maybe b) →
-      AllFit own P least (of_maybe (option_or a b))
-  or_fits None b h g = g
-  or_fits (Some v) b h g = h
-
-  pub meant_fits : (lib : List (Module H)) (name : List ℕ) (l : Local H) → FitLocal own P least l →
-      AllFit own P least (of_maybe (meant lib name l.scope))
-  meant_fits lib name l h = or_fits (found name l.scope) (meant_function lib name) (found_gives name l h) (function_fits name (named_in
-      name lib))
-
-  entered_gives : (name : List ℕ) (at : Position) (v : Dynamic H) (inner : Option (Dynamic H)) → Fit own P v →
-      Gives own P least FitValue (entered name at v inner)
-  entered_gives name at v (Some inner) h = h
-  entered_gives name at v None h = fit_error own P _ tt
-
-  looked_up_gives : (cells : Cells H) (name : List ℕ) (at : Position) (u : Union H) (v : Dynamic H) → Fit own P v →
-      Gives own P least FitValue (looked_up cells name at u v)
-  looked_up_gives cells name at (value.Cell id) v h = entered_gives name at v (value_of_cell cells id.number) h
-  looked_up_gives cells name at _ v h = h
-
-  -- a variable, or a pointer to a function
-  pub variable_gives : (cells : Cells H) (name : List ℕ) (at : Position) (there : Option (Dynamic H)) →
-      AllFit own P least (of_maybe there) → Gives own P least FitValue (variable_of cells name at there)
-  variable_gives cells name at (Some v) h = looked_up_gives cells name at v.value v h
-  variable_gives cells name at None h = fit_error own P _ tt
-
-  pub read_fits : (name : List ℕ) (at : Position) (l : Local H) → FitLocal own P least l →
-      AllFit own P least (of_result (read l.around.cells l.around.lib name at l.scope))
-  read_fits name at l h =
-      let r : Result (Dynamic H) (EvalAltResult H) = variable_of l.around.cells name at (meant l.around.lib name l.scope) in
-      given_fits (copied r) (copied_gives r
-      (variable_gives l.around.cells name at (meant l.around.lib name l.scope) (meant_fits l.around.lib name l h)))
-
   pub bound_gives : (at : Position) (this : Option (Dynamic H)) → AllFit own P least (of_maybe this) →
       Gives own P least FitValue (bound_this at this)
   bound_gives at (Some v) h = h
@@ -209,27 +169,11 @@ module _ {H : Type 0} (own : H → List Reached) (P : Reached → Type 0) (least
       constant_gives (is_constant mode || is_constant v.mode) name at (target (InCell number) v) h.0
   target_in_gives name at mode number None h = fit_error own P _ tt
 
-  target_at_gives : (l : Local H) (name : List ℕ) (at : Position) (index : ℕ) (u : Union H) (v : Dynamic H) → FitLocal own P least l →
+  pub target_at_gives : (l : Local H) (name : List ℕ) (at : Position) (index : ℕ) (u : Union H) (v : Dynamic H) → FitLocal own P least l →
       Fit own P v → Gives own P least FitTarget (target_at l.around.cells name at index u v)
   target_at_gives l name at index (value.Cell id) v h f = target_in_gives name at v.mode id.number (value_of_cell l.around.cells id.number)
       (cell_fits own P least l.around.cells id.number h.cells h.sealed)
   target_at_gives l name at index _ v h f = constant_gives (is_constant v.mode) name at (target (InEntry index) v) f
-
-  no_variable_fits : (function : Option (Dynamic H)) (name : List ℕ) (at : Position) → FitError own P (no_variable function name at)
-  no_variable_fits (Some v) name at = fit_error own P _ tt
-  no_variable_fits None name at = fit_error own P _ tt
-
-  target_found_gives : (l : Local H) (otherwise : EvalAltResult H) (name : List ℕ) (at : Position) (index : Option ℕ)
-      (there : Option (Dynamic H)) → FitLocal own P least l → FitError own P otherwise → AllFit own P least (of_maybe there) →
-      Gives own P least FitTarget (target_found l.around.cells otherwise name at index there)
-  target_found_gives l otherwise name at (Some index) (Some v) h e f = target_at_gives l name at index v.value v h f
-  target_found_gives l otherwise name at (Some index) None h e f = e
-  target_found_gives l otherwise name at None there h e f = e
-
-  pub target_gives : (l : Local H) (name : List ℕ) (at : Position) → FitLocal own P least l →
-      Gives own P least FitTarget (target_of l.around.cells l.around.lib name at l.scope)
-  target_gives l name at h = target_found_gives l (no_variable (meant_function l.around.lib name) name at) name at (index_of name l.scope)
-      (found name l.scope) h (no_variable_fits (meant_function l.around.lib name) name at) (found_gives name l h)
 
   focus_in_gives : (name : List ℕ) (at : Position) (mode : AccessMode) (number : ℕ) (there : Option (Dynamic H)) →
       FlatMaybe own P least there → Gives own P least FitTarget (focus_in_cell name at mode number there)

@@ -1,9 +1,9 @@
 -- What stands at a spot of a value fits, and so does the value with another one there.
 use Rattle.std.proofs.Common.{ℕ, List, ◌∷◌, take, drop}
-use Rattle.std.specs.Prelude.{⊤, Bool, true, false, if◌then◌else◌, Option, Some, None, Result, Ok, Err, slice_get, slice_set, option_map}
-use Rattle.std.specs.Prelude.{option_and_then, insert}
+use Rattle.std.specs.Prelude.{⊤, Bool, true, false, if◌then◌else◌, Option, Some, None, Result, Ok, Err, slice_set, option_map}
+use Rattle.std.specs.Prelude.{insert}
 use Rattle.std.specs.Option.{unwrap_or}
-use Rattle.rhai_tree.specs.Lookup.{place_of, rank, value_of, put_at, with_entry}
+use Rattle.rhai_tree.specs.Lookup.{place_of, rank, put_at, with_entry}
 use Rattle.rhai_values.specs.Cells.{IsNoHandle}
 use Rattle.rhai_values.specs.Copy.{plain}
 use Rattle.rhai_values.specs.declared.base.value.FnPtrKind.TheOpen as layer
@@ -29,8 +29,8 @@ use Rattle.rhai_fits.proofs.Values.{Fit, FitUnion, FitLayer, fit_out, fit_array,
 use Rattle.rhai_fits.proofs.Values.{fit_blob}
 use Rattle.rhai_fits.proofs.Copies.{fit_copy}
 use Rattle.rhai_fits.proofs.Errors.{FitError, fit_error}
-use Rattle.rhai_fits.proofs.Fitting.{AllFit, Gives, Flat, values_joined, values_taken, values_dropped, values_at, values_set}
-use Rattle.rhai_fits.proofs.Arguments.{all_fit, fit_all}
+use Rattle.rhai_fits.proofs.Fitting.{AllFit, Gives, Flat, all_fit, fit_all, values_joined, values_taken, values_dropped, values_at}
+use Rattle.rhai_fits.proofs.Fitting.{values_set}
 
 module _ {H : Type 0} where
   -- a value with another one at a place is a handle only where it was one
@@ -69,14 +69,6 @@ module _ {H : Type 0} (own : H → List Reached) (P : Reached → Type 0) (least
   pub entry_fits : (key : List ℕ) (v : Dynamic H) (entries : List (List ℕ) × List (Dynamic H)) → All entries.1 → Fit own P v →
       All (with_entry key v entries).1
   entry_fits key v entries h f = put_at_fits (place_of key entries.0) key v entries h f
-
-  at_fits : (at : Option ℕ) (vs : List (Dynamic H)) → All vs → AllFit own P least (of_maybe (option_and_then (λ at. slice_get vs at) at))
-  at_fits None vs h = tt
-  at_fits (Some at) vs h = values_at own P least vs at h
-
-  pub value_of_fits : (key : List ℕ) (entries : List (List ℕ) × List (Dynamic H)) → All entries.1 →
-      AllFit own P least (of_maybe (value_of key entries))
-  value_of_fits key entries h = at_fits (place_of key entries.0) entries.1 h
 
   -- ---- places
 

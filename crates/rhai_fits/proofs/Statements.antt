@@ -8,19 +8,23 @@ use Rattle.rhai_tree.specs.declared.expr.MapEntry.{MapEntry}
 use Rattle.rhai_tree.specs.Forms.{is_unqualified, is_exported}
 use Rattle.rhai_tree.specs.Keys.{key_of}
 use Rattle.rhai_tree.specs.Layers.{ExprLayer, StmtLayer}
-use Rattle.rhai_tree.specs.Lookup.{value_of}
+use Rattle.rhai_tree.specs.Lookup.{value_of, with_entry}
 use Rattle.rhai_machine.specs.Types.{ASTFlags, Dynamic, EvalAltResult, Expr, out-Expr, Ident, Limits, Position, Stmt, StmtBlock, Token}
 use Rattle.rhai_machine.specs.Types.{Module, Union}
 use Rattle.rhai_values.specs.declared.base.value.Union.TheVariants as value
+use Rattle.rhai_values.specs.declared.base.value.Import.{out-roll-Import}
+use Rattle.rhai_values.specs.Copy.{copy_of}
 use Rattle.rhai_values.specs.DataSize.{data_sizes}
 use Rattle.rhai_values.specs.Modes.{with_mode}
 use Rattle.rhai_state.specs.declared.error.EvalAltResult.TheVariants as error
 use Rattle.rhai_state.specs.Reach.{Reached}
 use Rattle.rhai_state.specs.declared.scope.ScopeEntry.{ScopeEntry}
 use Rattle.rhai_state.specs.Scope.{aliased, index_of, new_entry}
-use Rattle.rhai_machine.specs.language.Setting.{Setting}
+use Rattle.rhai_state.specs.State.{import_as}
+use Rattle.rhai_machine.specs.language.Setting.{Setting, globals_of}
 use Rattle.rhai_machine.specs.language.State.{Local}
 use Rattle.rhai_machine.specs.language.Values.{copied, unit_value}
+use Rattle.rhai_machine.specs.language.Variables.{variable_named}
 use Rattle.rhai_machine.specs.language.Names.{bound_this, read}
 use Rattle.rhai_machine.specs.language.Arguments.{text_wanted}
 use Rattle.rhai_machine.specs.language.Frames.{Control, Frame, Core, core, on_value, Back}
@@ -31,22 +35,25 @@ use Rattle.rhai_machine.specs.language.Expressions.{coalesce_seen, coalesce_next
 use Rattle.rhai_machine.specs.language.Loops.{goes_on, while_move, while_core, if_goes_on, do_control, caught}
 use Rattle.rhai_machine.specs.language.Statements.{has_option, mode_of, loop_of, enter_core, run_core, chosen_core, enters, constant_core}
 use Rattle.rhai_machine.specs.language.Statements.{added, overwritten, written, declared_core, defined_core, break_core, return_move}
-use Rattle.rhai_machine.specs.language.Statements.{define_core, stmt_move}
+use Rattle.rhai_machine.specs.language.Statements.{define_core, stmt_move, with_entry_at}
 use Rattle.rhai_machine.specs.language.Exports.{alias_or, export_at, exported}
 use Rattle.rhai_machine.specs.language.Imports.{found_under, import_core, importing, module_meant, module_under, name_asked}
 use Rattle.rhai_machine.specs.language.Walks.{has_no_room}
-use Rattle.rhai_fits.specs.Contents.{of_scope, of_values}
+use Rattle.rhai_fits.specs.Contents.{of_scope, of_values, of_modules, of_imports, of_tables}
 use Rattle.rhai_fits.proofs.Values.{Fit, fit_unit, fit_bool, fit_int, fit_char, fit_text, fit_array, fit_map}
 use Rattle.rhai_fits.proofs.Copies.{fit_copy, fit_mode}
 use Rattle.rhai_fits.proofs.Literals.{FitsMaybe, fit_literal}
 use Rattle.rhai_fits.proofs.Errors.{FitError, fit_error, error_fits}
-use Rattle.rhai_fits.proofs.Fitting.{AllFit, FitBelow, FitCore, FitLocal, Gives, Flat, to, back, fail, unit, push, on, ended_fits}
-use Rattle.rhai_fits.proofs.Fitting.{values_joined, scope_joined}
-use Rattle.rhai_fits.proofs.Seeing.{Any, copied_gives, given_fits, read_fits, bound_gives, within_sizes_gives, put_entry}
+use Rattle.rhai_fits.proofs.Modules.{FitModule}
+use Rattle.rhai_fits.proofs.Fitting.{AllFit, FitBelow, FitCore, FitLocal, FitOffer, FitTable, Gives, Flat, to, back, fail, unit, push, on}
+use Rattle.rhai_fits.proofs.Fitting.{ended_fits, fit_all, values_joined, scope_joined, imports_joined, table_at, tables_set}
+use Rattle.rhai_fits.proofs.Seeing.{Any, copied_gives, given_fits, bound_gives, within_sizes_gives, put_entry}
+use Rattle.rhai_fits.proofs.Lookups.{There, module_of_fits}
+use Rattle.rhai_fits.proofs.Names.{read_fits}
 use Rattle.rhai_fits.proofs.Spots.{entry_fits}
-use Rattle.rhai_fits.proofs.Arguments.{fit_all, call_good, text_gives}
+use Rattle.rhai_fits.proofs.Arguments.{call_good, text_gives}
 use Rattle.rhai_fits.proofs.Natives.{Moves}
-use Rattle.rhai_fits.proofs.Assignments.{there_good, assignment_good}
+use Rattle.rhai_fits.proofs.Assignments.{assignment_good}
 use Rattle.rhai_fits.proofs.Forms.{for_good}
 
 module _ {H : Type 0} (own : H → List Reached) (P : Reached → Type 0) (least : ℕ) where
@@ -73,6 +80,7 @@ module _ {H : Type 0} (own : H → List Reached) (P : Reached → Type 0) (least
       this = b.local.this;
       focus = b.local.focus;
       cells = b.local.cells;
+      around = b.local.around;
       sealed = b.local.sealed;
       enough = b.local.enough;
     };
@@ -151,15 +159,6 @@ module _ {H : Type 0} (own : H → List Reached) (P : Reached → Type 0) (least
   argument_good (Some v) e k l h b = back own P least v k l h b
   argument_good None e k l h b = to own P least _ k l tt tt b
 
-  operand_good : (fast : Bool) (token : Option Token) (call : FnCallExpr) (args : List Expr) (pos : Position) (k : List (Frame H))
-      (l : Local H) → Below k l → Moves own P least (call_move fast token call args pos k l)
-  operand_good true (Some token) call (operand ∷ []) pos k l b =
-      to own P least _ _ l tt tt (push own P least _ k l tt tt b.back b)
-  operand_good true (Some token) call (left ∷ right ∷ []) pos k l b =
-      to own P least _ _ l tt tt (push own P least _ k l tt tt b.back b)
-  operand_good _ _ call args pos k l b =
-      there_good own P least (is_unqualified call.namespace.path) _ (call_good own P least call pos k l b)
-
   and_good : (parts : List Expr) (k : List (Frame H)) (l : Local H) → Below k l → Good (and_core parts k l)
   and_good [] k l b = back own P least _ k l (fit_bool own P true) b
   and_good (part ∷ parts) k l b = to own P least _ _ l tt tt (push own P least _ k l tt tt b.back b)
@@ -192,29 +191,40 @@ module _ {H : Type 0} (own : H → List Reached) (P : Reached → Type 0) (least
   coalesce_next_good r v parts k l h f b = on own P least (Flat own P least) r _ k l h b
       (λ seen g. coalesce_seen_good seen.value v parts k l f b)
 
-  pub expr_good : (fast : Bool) (form : ExprLayer) (k : List (Frame H)) (l : Local H) → Below k l →
-      Moves own P least (expr_move fast form k l)
-  expr_good fast (layer.DynamicConstant literal pos) k l b = back own P least _ k l (fit_literal own P literal) b
-  expr_good fast (layer.BoolConstant truth pos) k l b = back own P least _ k l (fit_bool own P truth) b
-  expr_good fast (layer.IntegerConstant n pos) k l b = back own P least _ k l (fit_int own P n) b
-  expr_good fast (layer.CharConstant letter pos) k l b = back own P least _ k l (fit_char own P letter) b
-  expr_good fast (layer.StringConstant text pos) k l b = back own P least _ k l (fit_text own P text) b
-  expr_good fast (layer.Unit pos) k l b = unit own P least k l b
-  expr_good fast (layer.InterpolatedString parts pos) k l b = parts_good [] parts k l b
-  expr_good fast (layer.Array items pos) k l b = items_good [] items k l tt b
-  expr_good fast (layer.Map entries template pos) k l b = entries_good (map key_of entries) [] entries k l tt b
-  expr_good fast (layer.Variable offset name namespace pos) k l b = there_good own P least (is_unqualified namespace.path) _
-      (ended_fits own P least (read l.around.cells l.around.lib name pos l.scope) k l (read_fits own P least name pos l b.local) b)
-  expr_good fast (layer.ThisPtr pos) k l b = ended_fits own P least (copied (bound_this pos l.this)) k l
-      (given_fits own P least _ (copied_gives own P least (bound_this pos l.this) (bound_gives own P least pos l.this b.local.this))) b
-  expr_good fast (layer.Expr::FnCall call pos) k l b = operand_good fast call.op_token call call.args pos k l b
-  expr_good fast (layer.Stmt block) k l b = to own P least _ k l tt tt b
-  expr_good fast (layer.Index lhs rhs options pos) k l b = to own P least _ k l (tt, tt) tt b
-  expr_good fast (layer.Dot lhs rhs options pos) k l b = to own P least _ k l (tt, tt) tt b
-  expr_good fast (layer.And parts pos) k l b = and_good parts k l b
-  expr_good fast (layer.Or parts pos) k l b = or_good parts k l b
-  expr_good fast (layer.Coalesce parts pos) k l b = coalesce_good unit_value parts k l (fit_unit own P) b
-  expr_good fast _ k l b = tt
+  -- where the engine's modules fit
+  module _ (s : Setting H) (o : FitOffer own P least s.offer) where
+    operand_good : (fast : Bool) (token : Option Token) (call : FnCallExpr) (args : List Expr) (pos : Position) (k : List (Frame H))
+        (l : Local H) → Below k l → Moves own P least (call_move s fast token call args pos k l)
+    operand_good true (Some token) call (operand ∷ []) pos k l b =
+        to own P least _ _ l tt tt (push own P least _ k l tt tt b.back b)
+    operand_good true (Some token) call (left ∷ right ∷ []) pos k l b =
+        to own P least _ _ l tt tt (push own P least _ k l tt tt b.back b)
+    operand_good _ _ call args pos k l b = call_good own P least s o (is_unqualified call.namespace.path) call pos k l b
+
+    pub expr_good : (fast : Bool) (form : ExprLayer) (k : List (Frame H)) (l : Local H) → Below k l →
+        Moves own P least (expr_move s fast form k l)
+    expr_good fast (layer.DynamicConstant literal pos) k l b = back own P least _ k l (fit_literal own P literal) b
+    expr_good fast (layer.BoolConstant truth pos) k l b = back own P least _ k l (fit_bool own P truth) b
+    expr_good fast (layer.IntegerConstant n pos) k l b = back own P least _ k l (fit_int own P n) b
+    expr_good fast (layer.CharConstant letter pos) k l b = back own P least _ k l (fit_char own P letter) b
+    expr_good fast (layer.StringConstant text pos) k l b = back own P least _ k l (fit_text own P text) b
+    expr_good fast (layer.Unit pos) k l b = unit own P least k l b
+    expr_good fast (layer.InterpolatedString parts pos) k l b = parts_good [] parts k l b
+    expr_good fast (layer.Array items pos) k l b = items_good [] items k l tt b
+    expr_good fast (layer.Map entries template pos) k l b = entries_good (map key_of entries) [] entries k l tt b
+    expr_good fast (layer.Variable offset name namespace pos) k l b = ended_fits own P least
+        (read (globals_of s.offer) l.around l.scope (variable_named name namespace pos)) k l
+        (read_fits own P least (globals_of s.offer) (o.0, o.1.0) (variable_named name namespace pos) l b.local) b
+    expr_good fast (layer.ThisPtr pos) k l b = ended_fits own P least (copied (bound_this pos l.this)) k l
+        (given_fits own P least _ (copied_gives own P least (bound_this pos l.this) (bound_gives own P least pos l.this b.local.this))) b
+    expr_good fast (layer.Expr::FnCall call pos) k l b = operand_good fast call.op_token call call.args pos k l b
+    expr_good fast (layer.Stmt block) k l b = to own P least _ k l tt tt b
+    expr_good fast (layer.Index lhs rhs options pos) k l b = to own P least _ k l (tt, tt) tt b
+    expr_good fast (layer.Dot lhs rhs options pos) k l b = to own P least _ k l (tt, tt) tt b
+    expr_good fast (layer.And parts pos) k l b = and_good parts k l b
+    expr_good fast (layer.Or parts pos) k l b = or_good parts k l b
+    expr_good fast (layer.Coalesce parts pos) k l b = coalesce_good unit_value parts k l (fit_unit own P) b
+    expr_good fast _ k l b = tt
 
   -- ---- loops
 
@@ -264,6 +274,7 @@ module _ {H : Type 0} (own : H → List Reached) (P : Reached → Type 0) (least
       this = b.local.this;
       focus = b.local.focus;
       cells = b.local.cells;
+      around = b.local.around;
       sealed = b.local.sealed;
       enough = b.local.enough;
     };
@@ -277,26 +288,32 @@ module _ {H : Type 0} (own : H → List Reached) (P : Reached → Type 0) (least
 
   -- ---- imported modules
 
-  found_under_gives : (path : List ℕ) (at : Position) (there : Option (Module H)) →
-      Gives own P least (Any own P least (Module H)) (found_under path at there)
-  found_under_gives path at (Some m) = tt
-  found_under_gives path at None = fit_error own P _ tt
+  found_under_gives : (path : List ℕ) (at : Position) (there : Option (Module H)) → There own P least (FitModule own P) there →
+      Gives own P least (FitModule own P) (found_under path at there)
+  found_under_gives path at (Some m) h = h
+  found_under_gives path at None h = fit_error own P _ tt
 
   module_under_gives : (modules : List (List ℕ) × List (Module H)) (starts_at : Position) (path : Result (List ℕ) (EvalAltResult H)) →
-      Gives own P least (Any own P least (List ℕ)) path → Gives own P least (Any own P least (Module H)) (module_under modules starts_at path)
-  module_under_gives modules starts_at (Ok path) h = found_under_gives path starts_at (value_of path modules)
-  module_under_gives modules starts_at (Err e) h = h
+      AllFit own P least (of_modules modules.1) → Gives own P least (Any own P least (List ℕ)) path →
+      Gives own P least (FitModule own P) (module_under modules starts_at path)
+  module_under_gives modules starts_at (Ok path) m h =
+      found_under_gives path starts_at (value_of path modules) (module_of_fits own P least path modules m)
+  module_under_gives modules starts_at (Err e) m h = h
 
-  -- a module, of which nothing is asked
+  -- one of the engine's modules
   module_gives : (host : H → List ℕ) (modules : List (List ℕ) × List (Module H)) (l : Local H) (v : Dynamic H)
-      (path_at starts_at : Position) → FitLocal own P least l → Fit own P v →
-      Gives own P least (Any own P least (Module H)) (module_meant host l.around.cells modules v path_at starts_at)
-  module_gives host modules l v path_at starts_at h f = module_under_gives modules starts_at (text_wanted host l.around.cells v path_at)
-      (text_gives own P least host l v path_at h f)
+      (path_at starts_at : Position) → AllFit own P least (of_modules modules.1) → FitLocal own P least l → Fit own P v →
+      Gives own P least (FitModule own P) (module_meant host l.around.cells modules v path_at starts_at)
+  module_gives host modules l v path_at starts_at m h f = module_under_gives modules starts_at
+      (text_wanted host l.around.cells v path_at) m (text_gives own P least host l v path_at h f)
 
-  -- an import has no value of a run in hand
-  imported_below : (name : List ℕ) (m : Module H) (k : List (Frame H)) (l : Local H) → Below k l → Below k (importing name m l)
-  imported_below name m k l b = record {
+  -- an import's module fits
+  import_as_fits : (name : List ℕ) (m : Module H) → FitModule own P m → AllFit own P least (of_imports (import_as name m ∷ []))
+  import_as_fits name m h = (rw out-roll-Import h, tt)
+
+  imported_below : (name : List ℕ) (m : Module H) (k : List (Frame H)) (l : Local H) → FitModule own P m → Below k l →
+      Below k (importing name m l)
+  imported_below name m k l h b = record {
     stack = b.stack;
     sealed = b.sealed;
     back = b.back;
@@ -305,19 +322,26 @@ module _ {H : Type 0} (own : H → List Reached) (P : Reached → Type 0) (least
       this = b.local.this;
       focus = b.local.focus;
       cells = b.local.cells;
+      around = (
+        b.local.around.0,
+        (
+          imports_joined own P least l.around.imports (import_as name m ∷ []) b.local.around.1.0 (import_as_fits name m h),
+          b.local.around.1.1,
+        ),
+      );
       sealed = b.local.sealed;
       enough = b.local.enough;
     };
   }
 
   pub imported_good : (host : H → List ℕ) (modules : List (List ℕ) × List (Module H)) (alias : Option Ident) (v : Dynamic H)
-      (path_at starts_at : Position) (k : List (Frame H)) (l : Local H) → Fit own P v → Below k l →
-      Good (on_value (module_meant host l.around.cells modules v path_at starts_at)
+      (path_at starts_at : Position) (k : List (Frame H)) (l : Local H) → AllFit own P least (of_modules modules.1) → Fit own P v →
+      Below k l → Good (on_value (module_meant host l.around.cells modules v path_at starts_at)
       (λ m. core (Back unit_value) k (importing (name_asked alias) m l)) k l)
-  imported_good host modules alias v path_at starts_at k l f b = on own P least (Any own P least (Module H))
+  imported_good host modules alias v path_at starts_at k l m f b = on own P least (FitModule own P)
       (module_meant host l.around.cells modules v path_at starts_at) _ k l
-      (module_gives host modules l v path_at starts_at b.local f) b
-      (λ m h. unit own P least k (importing (name_asked alias) m l) (imported_below (name_asked alias) m k l b))
+      (module_gives host modules l v path_at starts_at m b.local f) b
+      (λ m h. unit own P least k (importing (name_asked alias) m l) (imported_below (name_asked alias) m k l h b))
 
   import_good : (full : Bool) (path : Expr) (alias : Option Ident) (pos : Position) (k : List (Frame H)) (l : Local H) → Below k l →
       Good (import_core full path alias pos k l)
@@ -331,18 +355,40 @@ module _ {H : Type 0} (own : H → List Reached) (P : Reached → Type 0) (least
   chosen_good true body branch k l b = to own P least _ k l tt tt b
   chosen_good false body branch k l b = to own P least _ k l tt tt b
 
-  -- a constant is entered beside the cells
-  constant_fits : (enters : Bool) (name : List ℕ) (v : Dynamic H) (l : Local H) → FitLocal own P least l →
-      FitLocal own P least (constant_core enters name v l)
-  constant_fits true name v l h =
-      record { scope = h.scope; this = h.this; focus = h.focus; cells = h.cells; sealed = h.sealed; enough = h.enough }
-  constant_fits false name v l h = h
+  -- a constant is entered into a table
+  entry_at_fits : (name : List ℕ) (v : Dynamic H) (tables : List (List (List ℕ) × List (Dynamic H))) (at : ℕ)
+      (table : Option (List (List ℕ) × List (Dynamic H))) → AllFit own P least (of_tables tables) → FitTable own P least table →
+      Fit own P v → AllFit own P least (of_tables (with_entry_at name v tables at table))
+  entry_at_fits name v tables at (Some table) h t f = tables_set own P least tables at (with_entry name v table) h
+      (entry_fits own P least name v table t f)
+  entry_at_fits name v tables at None h t f = h
 
-  constant_below : (enters : Bool) (name : List ℕ) (v : Dynamic H) (k : List (Frame H)) (l : Local H) → Below k l →
+  constant_fits : (enters : Bool) (name : List ℕ) (v : Dynamic H) (l : Local H) → Fit own P v → FitLocal own P least l →
+      FitLocal own P least (constant_core enters name v l)
+  constant_fits true name v l f h = record {
+    scope = h.scope;
+    this = h.this;
+    focus = h.focus;
+    cells = h.cells;
+    around = (
+      h.around.0,
+      (
+        h.around.1.0,
+        entry_at_fits name (copy_of v) l.around.constant_tables l.around.constants
+            (slice_get l.around.constant_tables l.around.constants) h.around.1.1
+            (table_at own P least l.around.constant_tables l.around.constants h.around.1.1) (fit_copy own P v f),
+      ),
+    );
+    sealed = h.sealed;
+    enough = h.enough;
+  }
+  constant_fits false name v l f h = h
+
+  constant_below : (enters : Bool) (name : List ℕ) (v : Dynamic H) (k : List (Frame H)) (l : Local H) → Fit own P v → Below k l →
       Below k (constant_core enters name v l)
-  constant_below true name v k l b =
-      record { stack = b.stack; sealed = b.sealed; back = b.back; local = constant_fits true name v l b.local }
-  constant_below false name v k l b = b
+  constant_below true name v k l f b =
+      record { stack = b.stack; sealed = b.sealed; back = b.back; local = constant_fits true name v l f b.local }
+  constant_below false name v k l f b = b
 
   -- a new variable's value fits, and so does one that overwrites another
   added_below : (v : Dynamic H) (ident : Ident) (options : ASTFlags) (k : List (Frame H)) (l : Local H) → Fit own P v → Below k l →
@@ -357,6 +403,7 @@ module _ {H : Type 0} (own : H → List Reached) (P : Reached → Type 0) (least
       this = b.local.this;
       focus = b.local.focus;
       cells = b.local.cells;
+      around = b.local.around;
       sealed = b.local.sealed;
       enough = b.local.enough;
     };
@@ -387,7 +434,7 @@ module _ {H : Type 0} (own : H → List Reached) (P : Reached → Type 0) (least
   defined_good v ident index options restoring k l f b =
       let entered = constant_core (enters options restoring l) ident.name v l in
       declared_good (is_exported options) ident k (written index v ident options entered)
-      (written_below index v ident options k entered f (constant_below (enters options restoring l) ident.name v k l b))
+      (written_below index v ident options k entered f (constant_below (enters options restoring l) ident.name v k l f b))
 
   break_good : (value : Option Expr) (is_break : Bool) (pos : Position) (k : List (Frame H)) (l : Local H) → Below k l →
       Good (break_core value is_break pos k l)

@@ -35,7 +35,7 @@ module _ {H : Type 0} (own : H → List Reached) where
       (λ p. each p.curry ++ p.kind) (λ i. i.module) (λ m. each m.constants.1 ++ (each m.functions ++ each m.sub_modules.1))
       (λ f. Function f.def ∷ maybe f.environ)
 
-  abbrev held_kind : FnPtrKind H → L
+  abbrev pub held_kind : FnPtrKind H → L
   held_kind = fold-FnPtrKind H L L L L L L L L (in_kind own) (in_union own) (λ d. d.value)
       (λ e. Constants e.constants ∷ (each e.lib ++ each e.imports))
       (λ p. each p.curry ++ p.kind) (λ i. i.module) (λ m. each m.constants.1 ++ (each m.functions ++ each m.sub_modules.1))
@@ -100,7 +100,7 @@ module _ {H : Type 0} (own : H → List Reached) where
     fits_held [] h = tt
     fits_held (v ∷ vs) h = all_joined P (held_by own v) (each (map (held_by own) vs)) (fit_held v h.0) (fits_held vs h.1)
 
-    held_fit : (vs : List (Dynamic H)) → AllHave P (each (map (held_by own) vs)) → Fits vs
+    pub held_fit : (vs : List (Dynamic H)) → AllHave P (each (map (held_by own) vs)) → Fits vs
     held_fit [] h = tt
     held_fit (v ∷ vs) h = (
       held_fits v (all_left P (held_by own v) (each (map (held_by own) vs)) h),

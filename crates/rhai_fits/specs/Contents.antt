@@ -1,14 +1,18 @@
--- What a run has in hand: the values and errors in its control, on its stack, and among its variables and cells; and what those hold.
-use Rattle.std.specs.Prelude.{◌⊎◌, List, [], ◌∷◌, Option, Some, None, Result, Ok, Err, Contains}
+-- What a run has in hand: the values and errors in its control, on its stack, and among its variables and cells; the modules and the
+-- tables of constants around it, and the modules of its engine; and what those hold.
+use Rattle.std.specs.Prelude.{◌⊎◌, ℕ, List, [], ◌∷◌, Option, Some, None, Result, Ok, Err, Contains}
 use Rattle.rhai_values.specs.declared.base.value.Dynamic.{Dynamic}
+use Rattle.rhai_values.specs.declared.base.value.EncapsulatedEnviron.{EncapsulatedEnviron, out-EncapsulatedEnviron}
+use Rattle.rhai_values.specs.declared.base.value.Import.{Import, out-Import}
+use Rattle.rhai_values.specs.declared.base.value.Module.{Module}
 use Rattle.rhai_values.specs.declared.base.value.Union.TheVariants as value
 use Rattle.rhai_values.specs.Copy.{plain}
 use Rattle.rhai_state.specs.declared.error.EvalAltResult.{EvalAltResult}
 use Rattle.rhai_state.specs.declared.scope.ScopeEntry.{ScopeEntry}
-use Rattle.rhai_state.specs.Native.{Natives}
 use Rattle.rhai_state.specs.Reach.{Reached, held_by, held_by_error}
 use Rattle.rhai_machine.specs.machine.Point.{Point}
-use Rattle.rhai_machine.specs.language.State.{Local}
+use Rattle.rhai_machine.specs.language.Setting.{Offer, Rules}
+use Rattle.rhai_machine.specs.language.State.{Local, Surroundings}
 use Rattle.rhai_machine.specs.language.Values.{Cells}
 use Rattle.rhai_machine.specs.language.Activations.{Variables, Caller, CallExit}
 use Rattle.rhai_machine.specs.language.Turns.{Turns, OfItems, OfIntegers}
@@ -20,12 +24,14 @@ use Rattle.rhai_machine.specs.language.Frames.{Locate, Back, Changed, Fail, Fram
 use Rattle.rhai_machine.specs.language.Frames.{ForBody, CatchBranch, RootValue, ChainEnd, StepDown, Temporary, PartMethod, PartAssigned}
 use Rattle.rhai_machine.specs.language.Frames.{MethodLink, MemberLink, MemberGot, MemberOperated, GetterTried, SetterTried, IndexerTried}
 use Rattle.rhai_machine.specs.language.Frames.{MemberSet, CallEnd}
+use Rattle.rhai_fits.specs.Modules.{held_by_module}
 
--- values and errors, one after the other
+-- values, errors and modules, one after the other
 pub data Contents (H : Type 0) : Type 0 where
   Nothing : Contents H
   OneValue : Dynamic H → Contents H
   OneError : EvalAltResult H → Contents H
+  OneModule : Module H → Contents H
   Both : Contents H → Contents H → Contents H
 
 module _ {H : Type 0} where
@@ -51,6 +57,36 @@ module _ {H : Type 0} where
   abbrev pub of_cells : Cells H → Contents H
   of_cells [] = Nothing
   of_cells (cell ∷ cells) = Both (of_maybe cell) (of_cells cells)
+
+  -- ---- modules and tables of constants
+
+  abbrev pub of_modules : List (Module H) → Contents H
+  of_modules [] = Nothing
+  of_modules (m ∷ ms) = Both (OneModule m) (of_modules ms)
+
+  abbrev pub of_imports : List (Import H) → Contents H
+  of_imports [] = Nothing
+  of_imports (i ∷ imports) = Both (OneModule (out-Import H i).«module») (of_imports imports)
+
+  -- the values of tables of constants
+  abbrev pub of_tables : List (List (List ℕ) × List (Dynamic H)) → Contents H
+  of_tables [] = Nothing
+  of_tables (table ∷ tables) = Both (of_values table.1) (of_tables tables)
+
+  -- the modules of an environment that a function may have
+  abbrev pub of_environ : Option (EncapsulatedEnviron H) → Contents H
+  of_environ None = Nothing
+  of_environ (Some environ) =
+      Both (of_modules (out-EncapsulatedEnviron H environ).lib) (of_imports (out-EncapsulatedEnviron H environ).imports)
+
+  -- what surrounds the variables of a run, but for its cells
+  abbrev pub of_around : Surroundings H → Contents H
+  of_around around = Both (of_modules around.lib) (Both (of_imports around.imports) (of_tables around.constant_tables))
+
+  -- the modules of an engine: those without a name, those that have one, and those that may be imported
+  abbrev pub of_offer : Offer H → Contents H
+  of_offer offer =
+      Both (of_modules offer.global_modules) (Both (of_modules offer.global_sub_modules.1) (of_modules offer.modules.1))
 
   -- ---- parts of controls and frames
 
@@ -78,7 +114,7 @@ module _ {H : Type 0} where
 
   abbrev pub of_purpose : Purpose H → Contents H
   of_purpose (ToCall operation curried how) = of_values curried
-  of_purpose (ToCallFunction function at curried) = of_values curried
+  of_purpose (ToCallFunction function at curried) = Both (of_values curried) (of_environ function.environ)
   of_purpose (ToCallNumber number operation curried) = of_values curried
   of_purpose (ToCurry pointer) = OneValue (plain (value.FnPtr pointer))
   of_purpose (ToChain chain behind) = of_chain chain
@@ -99,8 +135,8 @@ module _ {H : Type 0} where
   of_control (Question call) = of_values call.args
   of_control (Fire call) = of_values call.args
   of_control (CallNamed operation curried args captures natives_alone) = of_values curried
-  of_control (EnterFunction e) = of_values e.args
-  of_control (EnterOnFocus function is_fresh args at) = of_values args
+  of_control (EnterFunction e) = Both (of_values e.args) (of_environ e.environ)
+  of_control (EnterOnFocus function is_fresh args at) = Both (of_values args) (of_environ function.environ)
   of_control (Assign assignment v) = OneValue v
   of_control (Store assignment v) = OneValue v
   of_control (AssignThis op at v) = OneValue v
@@ -114,7 +150,7 @@ module _ {H : Type 0} where
   of_control (OpenChain chain) = of_chain chain
   of_control (ChainArguments chain rest made) = Both (of_chain chain) (of_values made)
   of_control (ChainRoot chain) = of_chain chain
-  of_control (ReadRoot name at chain) = of_chain chain
+  of_control (ReadRoot variable chain) = of_chain chain
   of_control (Walk chain) = of_chain chain
   of_control (Locate link chain) = of_chain chain
   of_control (Back v) = OneValue v
@@ -154,21 +190,24 @@ module _ {H : Type 0} where
 
   -- ---- the whole
 
-  -- the variables, `this`, the value that a chain works on, and the cells
+  -- the variables, `this`, the value that a chain works on, the cells, and what is around them
   abbrev pub of_local : Local H → Contents H
-  of_local l = Both (of_scope l.scope) (Both (of_maybe l.this) (Both (of_maybe l.focus) (of_cells l.around.cells)))
+  of_local l =
+      Both (of_scope l.scope) (Both (of_maybe l.this) (Both (of_maybe l.focus) (Both (of_cells l.around.cells) (of_around l.around))))
 
   abbrev pub of_core : Core H → Contents H
   of_core c = Both (of_control c.control) (Both (of_stack c.stack) (of_local c.local))
 
 module _ {H : Type 0} (own : H → List Reached) where
-  -- a value or an error among them holds this: a cell, a script function, or a table of constants
+  -- a value, an error or a module among them holds this: a cell, a script function, or a table of constants
   abbrev pub Holds : Contents H → Reached → Type 0
   Holds Nothing r = ⊥
   Holds (OneValue v) r = Contains (held_by own v) r
   Holds (OneError e) r = Contains (held_by_error own e) r
+  Holds (OneModule m) r = Contains (held_by_module own m) r
   Holds (Both a b) r = Holds a r ⊎ Holds b r
 
--- a run holds this at a point: what it has in hand does, or the table's state
-abbrev pub HeldAt : {S H : Type 0} → Natives S H → Point S (Core H) → Reached → Type 0
-HeldAt natives p r = Holds natives.holds.of_host (of_core p.core) r ⊎ Contains (natives.holds.of_state p.table) r
+-- a run holds this at a point: what it has in hand does, or a module of the engine, or the table's state
+abbrev pub HeldAt : {S H : Type 0} → Rules S H → Point S (Core H) → Reached → Type 0
+HeldAt rules p r = Holds rules.natives.holds.of_host (Both (of_core p.core) (of_offer rules.setting.offer)) r
+    ⊎ Contains (rules.natives.holds.of_state p.table) r

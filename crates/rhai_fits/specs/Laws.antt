@@ -20,11 +20,11 @@ IsAdded p q _ = ⊥
 
 module _ {S H : Type 0} (rules : Rules S H) where
   -- What a run leaves: no cell with a bare handle, no fewer cells, and what is held then, of cells, script functions and tables of
-  -- constants, was held before or is a cell added since.
+  -- constants, was held before, by the engine's modules too, or is a cell added since.
   pub record Keeps (p q : Point S (Core H)) : Type 0 where
     pub sealed : Sealed q.core
     pub grows : count_of_cells p ≤ count_of_cells q
-    pub held : (r : Reached) → HeldAt rules.natives q r → HeldAt rules.natives p r ⊎ IsAdded p q r
+    pub held : (r : Reached) → HeldAt rules q r → HeldAt rules p r ⊎ IsAdded p q r
 
   abbrev pub RunsKeep : Type 0
   RunsKeep = (p q : Point S (Core H)) → Sealed p.core → Goes rules p q → Keeps p q
@@ -37,7 +37,7 @@ module _ {S H : Type 0} (rules : Rules S H) where
   -- a point that fits: no cell has a bare handle, nor will get one, and each cell that is held is one of the store
   pub record IsFitting (p : Point S (Core H)) : Type 0 where
     pub sealed : Sealed p.core
-    pub within : (n : ℕ) → HeldAt rules.natives p (Cell n) → n < count_of_cells p
+    pub within : (n : ℕ) → HeldAt rules p (Cell n) → n < count_of_cells p
 
   abbrev pub RunsFit : Type 0
   RunsFit = (p q : Point S (Core H)) → IsFitting p → Goes rules p q → IsFitting q

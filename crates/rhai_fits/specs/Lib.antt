@@ -1,3 +1,4 @@
+pub mod Modules
 pub mod Contents
 pub mod Sealed
 pub mod Laws

@@ -35,7 +35,7 @@ module _ {H : Type 0} where
   ControlSealed (OpenChain chain) = NewSealed chain.new
   ControlSealed (ChainArguments chain rest made) = NewSealed chain.new
   ControlSealed (ChainRoot chain) = NewSealed chain.new
-  ControlSealed (ReadRoot name at chain) = NewSealed chain.new
+  ControlSealed (ReadRoot variable chain) = NewSealed chain.new
   ControlSealed (Walk chain) = NewSealed chain.new
   ControlSealed (Locate link chain) = NewSealed chain.new
   ControlSealed _ = ⊤

@@ -9,7 +9,8 @@ use rhai_values::base::value::Host;
 use std::marker::PhantomData;
 
 /// What a run holds after any number of steps, of cells, script functions and tables of constants, was
-/// held before or is a cell that was added since, and no cell of the store has a bare handle.
+/// held before or is a cell that was added since, and no cell of the store has a bare handle. What is
+/// around the run counts, and the modules of its engine do.
 pub fn script_keeps_holdings<H: Host, T: NativeTable<H>>(of: PhantomData<(H, T)>)
     ensures { (setting : Setting H) → RunsKeep (over setting T.natives) }
 {}

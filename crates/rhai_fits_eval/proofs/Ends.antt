@@ -12,13 +12,16 @@ use Rattle.rhai_machine.specs.language.Setting.{Rules}
 use Rattle.rhai_machine.specs.language.State.{Local, State, HasMemory}
 use Rattle.rhai_machine.specs.language.Frames.{Control, Frame, Core, core, ended, marked, Fail}
 use Rattle.rhai_machine.specs.language.Runs.{at, with_core, Goes}
-use Rattle.rhai_fits.specs.Contents.{Contents, Nothing, OneValue, OneError, Both, of_maybe, of_result, of_control, of_core, Holds, HeldAt}
+use Rattle.rhai_fits.specs.Contents.{Contents, Nothing, OneValue, OneError, OneModule, Both, of_maybe, of_result, of_control, of_core}
+use Rattle.rhai_fits.specs.Contents.{of_offer, Holds, HeldAt}
+use Rattle.rhai_fits.specs.Modules.{held_by_module}
 use Rattle.rhai_fits.specs.Sealed.{AreSealed, ControlSealed, Sealed}
 use Rattle.rhai_fits.specs.Laws.{IsAdded, Keeps}
 use Rattle.rhai_fits.proofs.Properties.{all_at, all_of}
 use Rattle.rhai_fits.proofs.Values.{fit_held, held_fits}
 use Rattle.rhai_fits.proofs.Errors.{FitError, fit_error, error_held, held_error}
-use Rattle.rhai_fits.proofs.Fitting.{AllFit, FitBelow, FitCore, fail, to}
+use Rattle.rhai_fits.proofs.Modules.{held_module, module_held}
+use Rattle.rhai_fits.proofs.Fitting.{AllFit, FitBelow, FitCore, FitOffer, fail, to}
 use Rattle.rhai_fits.proofs.Runs.{runs_keep}
 use Rattle.rhai_eval.specs.Assigned.{assigned}
 use Rattle.rhai_eval.specs.Ends.{Ends, EndsAlone, EndsAs, EndsAssigned, EndsFrom, EndsMarked}
@@ -27,32 +30,37 @@ use Rattle.rhai_fits_eval.proofs.Steps.{goes, goes_up_to}
 
 module _ {H : Type 0} (own : H → List Reached) (P : Reached → Type 0) (least : ℕ) where
   -- contents that hold only what has the property fit
-  holds_fit : (x : Contents H) → ((r : Reached) → Holds own x r → P r) → AllFit own P least x
+  pub holds_fit : (x : Contents H) → ((r : Reached) → Holds own x r → P r) → AllFit own P least x
   holds_fit Nothing h = tt
   holds_fit (OneValue v) h = held_fits own P v (all_of P (held_by own v) h)
   holds_fit (OneError e) h = held_error own P e (all_of P (held_by_error own e) h)
+  holds_fit (OneModule m) h = held_module own P m (all_of P (held_by_module own m) h)
   holds_fit (Both a b) h = (holds_fit a (λ r c. h r (inl c)), holds_fit b (λ r c. h r (inr c)))
 
   -- and those that fit hold nothing else
-  fit_holds : (x : Contents H) → AllFit own P least x → (r : Reached) → Holds own x r → P r
+  pub fit_holds : (x : Contents H) → AllFit own P least x → (r : Reached) → Holds own x r → P r
   fit_holds Nothing h n c = absurd c
   fit_holds (OneValue v) h n c = all_at P (held_by own v) n (fit_held own P v h) c
   fit_holds (OneError e) h n c = all_at P (held_by_error own e) n (error_held own P e h) c
+  fit_holds (OneModule m) h n c = all_at P (held_by_module own m) n (module_held own P m h) c
   fit_holds (Both a b) h n (inl c) = fit_holds a h.0 n c
   fit_holds (Both a b) h n (inr c) = fit_holds b h.1 n c
 
   all_core : (c : Core H) → FitCore own P least c → AllFit own P least (of_core c)
   all_core c h = (
     h.control,
-    (h.below.stack, (h.below.local.scope, (h.below.local.this, (h.below.local.focus, h.below.local.cells)))),
+    (
+      h.below.stack,
+      (h.below.local.scope, (h.below.local.this, (h.below.local.focus, (h.below.local.cells, h.below.local.around)))),
+    ),
   )
 
-  sealed_core : (c : Core H) → FitCore own P least c → Sealed c
+  pub sealed_core : (c : Core H) → FitCore own P least c → Sealed c
   sealed_core c h =
       record { control = h.sealed; stack = h.below.sealed; goes_back = h.below.back; cells = h.below.local.sealed }
 
   -- want of memory holds nothing
-  memory_fits : (e : EvalAltResult H) → is_out_of_memory e ≡ true → FitError own P e
+  pub memory_fits : (e : EvalAltResult H) → is_out_of_memory e ≡ true → FitError own P e
   memory_fits (error.ErrorOutOfMemory at) is = fit_error own P (error.ErrorOutOfMemory at) tt
   memory_fits _ is = absurd (true≢false (sym is))
 
@@ -65,8 +73,8 @@ module _ {S H : Type 0} (rules : Rules S H) (given : Contents H) (old new : Stat
   own = rules.natives.holds.of_host
 
   -- held before, or a cell that was added
-  abbrev Stays : Reached → Type 0
-  Stays r = IsHeld rules.natives given old r ⊎ IsNew old new r
+  abbrev pub Stays : Reached → Type 0
+  Stays r = IsHeld rules given old r ⊎ IsNew old new r
 
   abbrev Fit : Contents H → Type 0
   Fit x = AllFit own Stays (cells_in old) x
@@ -81,11 +89,15 @@ module _ {S H : Type 0} (rules : Rules S H) (given : Contents H) (old new : Stat
 
   -- what was given fits
   pub given_fits : Fit given
-  given_fits = holds_fit own Stays (cells_in old) given (λ r h. inl (inl (inl h)))
+  given_fits = holds_fit own Stays (cells_in old) given (λ r h. inl (inl (inl (inl h))))
 
   -- so does what the state has
-  state_fits : Fit (of_state old)
-  state_fits = holds_fit own Stays (cells_in old) (of_state old) (λ r h. inl (inl (inr h)))
+  pub state_fits : Fit (of_state old)
+  state_fits = holds_fit own Stays (cells_in old) (of_state old) (λ r h. inl (inl (inl (inr h))))
+
+  -- and the engine's modules
+  pub offer_fits : FitOffer own Stays (cells_in old) rules.setting.offer
+  offer_fits = holds_fit own Stays (cells_in old) (of_offer rules.setting.offer) (λ r h. inl (inl (inr h)))
 
   -- nothing waits, and a place of the caller is worked on, or none
   pub nothing_below : AreSealed old.local.around.cells → (focus : Option (Dynamic H)) → Fit (of_maybe focus) →
@@ -98,7 +110,8 @@ module _ {S H : Type 0} (rules : Rules S H) (given : Contents H) (old new : Stat
       scope = state_fits.0;
       this = state_fits.1.0;
       focus = h;
-      cells = state_fits.1.1;
+      cells = state_fits.1.1.0;
+      around = state_fits.1.1.1;
       sealed = s;
       enough = omega arith;
     };
@@ -138,32 +151,34 @@ module _ {S H : Type 0} (rules : Rules S H) (given : Contents H) (old new : Stat
       added (Constants n) h = absurd h
 
       -- what the start holds was held before
-      was_held : (r : Reached) → HeldAt rules.natives start r → Stays r
-      was_held r (inl h) = fit_holds own Stays (cells_in old) (of_core c) (all_core own Stays (cells_in old) c good) r h
+      was_held : (r : Reached) → HeldAt rules start r → Stays r
+      was_held r (inl (inl h)) = fit_holds own Stays (cells_in old) (of_core c) (all_core own Stays (cells_in old) c good) r h
+      was_held r (inl (inr h)) = inl (inl (inr h))
       was_held r (inr h) = inl (inr h)
 
-      since : (r : Reached) → HeldAt rules.natives start r ⊎ IsAdded start stop r → Stays r
+      since : (r : Reached) → HeldAt rules start r ⊎ IsAdded start stop r → Stays r
       since r (inl h) = was_held r h
       since r (inr h) = inr (added r h)
 
-      stays : (r : Reached) → HeldAt rules.natives stop r → Stays r
+      stays : (r : Reached) → HeldAt rules stop r → Stays r
       stays r h = since r (kept.held r h)
 
       stop_fits : Fit (of_core stop.core)
-      stop_fits = holds_fit own Stays (cells_in old) (of_core stop.core) (λ r h. stays r (inl h))
+      stop_fits = holds_fit own Stays (cells_in old) (of_core stop.core) (λ r h. stays r (inl (inl h)))
 
       module _ (left : Contents H) (fits : Fit left) where
-        held : (r : Reached) → IsHeld rules.natives left new r → Stays r
-        held r (inl (inl h)) = fit_holds own Stays (cells_in old) left fits r h
-        held r (inl (inr h)) = fit_holds own Stays (cells_in old) (of_state new)
+        held : (r : Reached) → IsHeld rules left new r → Stays r
+        held r (inl (inl (inl h))) = fit_holds own Stays (cells_in old) left fits r h
+        held r (inl (inl (inr h))) = fit_holds own Stays (cells_in old) (of_state new)
             (stop_fits.1.1.0, (stop_fits.1.1.1.0, stop_fits.1.1.1.1.1)) r h
+        held r (inl (inr h)) = inl (inl (inr h))
         held r (inr h) = stays r (inr h)
 
-        below_more : (n : ℕ) → IsWithin rules.natives given old → Stays (Cell n) → n < cells_in new
+        below_more : (n : ℕ) → IsWithin rules given old → Stays (Cell n) → n < cells_in new
         below_more n within (inl h) = omega (arith, within n h, grows)
         below_more n within (inr h) = h.1
 
-        again : FitsAgain rules.natives given old left new
+        again : FitsAgain rules given old left new
         again = record {
           sealed = kept.sealed.cells;
           grows = grows;
@@ -173,7 +188,7 @@ module _ {S H : Type 0} (rules : Rules S H) (given : Contents H) (old new : Stat
 
       -- what is left is told from how it ended, and from the place
       pub fits_again : (left : Contents H) → (Fit (of_control d) → Fit (of_maybe after) → Fit left) →
-          FitsAgain rules.natives given old left new
+          FitsAgain rules given old left new
       fits_again left leaves = again left (leaves stop_fits.0 stop_fits.1.1.1.1.0)
 
     -- ---- how calls are told to end
@@ -182,27 +197,27 @@ module _ {S H : Type 0} (rules : Rules S H) (given : Contents H) (old new : Stat
         (good : Good (begins [] (at_work before old).local)) where
       ends_again : (memory : Type 0) (d : Control H) (left : Contents H) →
           Ends rules begins (at_work before old) memory d (at_work after new) →
-          (Fit (of_control d) → Fit (of_maybe after) → Fit left) → FitsAgain rules.natives given old left new
+          (Fit (of_control d) → Fit (of_maybe after) → Fit left) → FitsAgain rules given old left new
       ends_again memory d left ends leaves =
           fits_again before after (begins [] (at_work before old).local) d good (goes_up_to rules (ends.up_to [])) left leaves
 
       -- with a value or an error
       pub from_again : (r : Result (Dynamic H) (EvalAltResult H)) (left : Contents H) →
           EndsFrom rules begins (at_work before old) r (at_work after new) →
-          (Fit (of_result r) → Fit (of_maybe after) → Fit left) → FitsAgain rules.natives given old left new
+          (Fit (of_result r) → Fit (of_maybe after) → Fit left) → FitsAgain rules given old left new
       from_again r left ends leaves =
           ends_again (HasMemory r) (ended r) left ends (λ control focus. leaves (result_fits r control) focus)
 
       -- with a value that has a mark, or an error
       pub mark_again : (r : Result (Dynamic H × Bool) (EvalAltResult H)) (left : Contents H) →
           EndsMarked rules begins (at_work before old) r (at_work after new) →
-          (Fit (of_marked r) → Fit (of_maybe after) → Fit left) → FitsAgain rules.natives given old left new
+          (Fit (of_marked r) → Fit (of_maybe after) → Fit left) → FitsAgain rules given old left new
       mark_again r left ends leaves =
           ends_again (HasMemory r) (marked r) left ends (λ control focus. leaves (marked_fits r control) focus)
 
       -- with nothing behind it, of which the place alone is told
       pub alone_again : EndsAlone rules begins (at_work before old) (at_work after new) →
-          FitsAgain rules.natives given old (of_maybe after) new
+          FitsAgain rules given old (of_maybe after) new
       alone_again ends = fits_again before after (begins [] (at_work before old).local) (marked ends.0) good (goes rules ends.1)
           (of_maybe after) (λ control focus. focus)
 
@@ -210,7 +225,7 @@ module _ {S H : Type 0} (rules : Rules S H) (given : Contents H) (old new : Stat
       failed_again : (s : AreSealed old.local.around.cells) (place : Fit (of_maybe before)) (e : EvalAltResult H) (left : Contents H) →
           (lacks : Bool) → is_out_of_memory e ≡ lacks →
           EndsAssigned rules begins (at_work before old) (Err e) (at_work after new) →
-          (Fit (OneError e) → Fit (of_maybe after) → Fit left) → FitsAgain rules.natives given old left new
+          (Fit (OneError e) → Fit (of_maybe after) → Fit left) → FitsAgain rules given old left new
       failed_again s place e left false is ends leaves =
           fits_again before after (begins [] (at_work before old).local) (Fail e) good (goes rules (ends.runs is [])) left leaves
       failed_again s place e left true is ends leaves = elim (ends.up_to) [
@@ -225,7 +240,7 @@ module _ {S H : Type 0} (rules : Rules S H) (given : Contents H) (old new : Stat
       pub assigned_again : (s : AreSealed old.local.around.cells) (place : Fit (of_maybe before))
           (r : Result (Unit {0}) (EvalAltResult H)) (left : Contents H) →
           EndsAssigned rules begins (at_work before old) r (at_work after new) →
-          (Fit (of_done r) → Fit (of_maybe after) → Fit left) → FitsAgain rules.natives given old left new
+          (Fit (of_done r) → Fit (of_maybe after) → Fit left) → FitsAgain rules given old left new
       assigned_again s place (Ok done) left ends leaves =
           fits_again before after (begins [] (at_work before old).local) (marked (assigned (Ok done))) good
           (goes rules (ends.runs tt [])) left (λ control focus. leaves tt focus)
@@ -234,7 +249,7 @@ module _ {S H : Type 0} (rules : Rules S H) (given : Contents H) (old new : Stat
     -- from a control that nothing waits for
     pub control_again : (s : AreSealed old.local.around.cells) (c : Control H) (r : Result (Dynamic H) (EvalAltResult H)) →
         Fit (of_control c) → ControlSealed c → EndsAs rules c (at_work None old) r (at_work None new) →
-        FitsAgain rules.natives given old (of_result r) new
+        FitsAgain rules given old (of_result r) new
     control_again s c r h z ends = from_again None None (λ k l. core c k l)
         (to own Stays (cells_in old) c [] (at_work None old).local h z (nothing_below s None tt)) r (of_result r) ends
         (λ result focus. result)

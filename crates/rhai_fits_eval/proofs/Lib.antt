@@ -1,5 +1,6 @@
 mod Steps
-mod Ends
-mod Starts
+pub mod Ends
+pub mod Starts
 mod Places
 mod Targets
+mod Indexes

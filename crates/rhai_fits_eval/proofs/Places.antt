@@ -21,7 +21,7 @@ use Rattle.rhai_eval.specs.Ends.{EndsFrom, EndsMarked}
 use Rattle.rhai_eval.specs.Indexing.{item_by}
 use Rattle.rhai_eval.specs.Places.{by_name, by_value, on_place}
 use Rattle.rhai_fits_eval.specs.InHand.{FitsAgain, cells_in, of_marked}
-use Rattle.rhai_fits_eval.proofs.Ends.{at_work, given_fits, nothing_below, from_again, mark_again}
+use Rattle.rhai_fits_eval.proofs.Ends.{at_work, given_fits, offer_fits, nothing_below, from_again, mark_again}
 
 -- `()` in so many places
 pub units_fit : {H : Type 0} (own : H → List Reached) (P : Reached → Type 0) (least n : ℕ) →
@@ -40,7 +40,7 @@ module _ {S H : Type 0} (rules : Rules S H) (old new : State S H) (names : H →
     -- a native, which leaves the others
     pub native_again : (guarded : Bool) → left ≡ rest →
         EndsMarked rules (λ k l. core (Ask (on_place operation guarded (Some x) rest)) k l) (at_work (Some x) old) r
-        (at_work (Some y) new) → FitsAgain rules.natives given old (Both (of_marked r) (of_values (y ∷ left))) new
+        (at_work (Some y) new) → FitsAgain rules given old (Both (of_marked r) (of_values (y ∷ left))) new
     native_again guarded is ends =
         let h = given_fits rules given old new in
         mark_again rules given old new names lawful (Some x) (Some y) (λ k l. core (Ask (on_place operation guarded (Some x) rest)) k l)
@@ -50,25 +50,25 @@ module _ {S H : Type 0} (rules : Rules S H) (old new : State S H) (names : H →
     -- a call by name, which uses up the others
     pub lent_again : (of_method on_scope : Bool) → left ≡ replicate n unit_value →
         EndsMarked rules (dispatch_core rules.setting (by_name of_method on_scope) (on_place operation true (Some x) rest))
-        (at_work (Some x) old) r (at_work (Some y) new) → FitsAgain rules.natives given old (Both (of_marked r) (of_values (y ∷ left))) new
+        (at_work (Some x) old) r (at_work (Some y) new) → FitsAgain rules given old (Both (of_marked r) (of_values (y ∷ left))) new
     lent_again of_method on_scope is ends =
         let h = given_fits rules given old new in
         mark_again rules given old new names lawful (Some x) (Some y)
         (dispatch_core rules.setting (by_name of_method on_scope) (on_place operation true (Some x) rest))
-        (dispatch_good _ _ _ rules.setting (by_name of_method on_scope) (on_place operation true (Some x) rest) [] _ h
-        (nothing_below rules given old new s (Some x) h.0)) r
+        (dispatch_good _ _ _ rules.setting (offer_fits rules given old new) (by_name of_method on_scope)
+        (on_place operation true (Some x) rest) [] _ h (nothing_below rules given old new s (Some x) h.0)) r
         (Both (of_marked r) (of_values (y ∷ left))) ends (λ result focus. (result, (focus, rw is (units_fit _ _ (cells_in old) n))))
 
     -- and one whose arguments are all handed in by value
     pub by_value_again : (on_scope : Bool) → y ≡ unit_value → left ≡ replicate n unit_value →
         EndsMarked rules (dispatch_core rules.setting (by_name false on_scope) (by_value operation (Some x) rest)) (at_work None old) r
-        (at_work None new) → FitsAgain rules.natives given old (Both (of_marked r) (of_values (y ∷ left))) new
+        (at_work None new) → FitsAgain rules given old (Both (of_marked r) (of_values (y ∷ left))) new
     by_value_again on_scope taken is ends =
         let h = given_fits rules given old new in
         mark_again rules given old new names lawful None None
         (dispatch_core rules.setting (by_name false on_scope) (by_value operation (Some x) rest))
-        (dispatch_good _ _ _ rules.setting (by_name false on_scope) (by_value operation (Some x) rest) [] _ h
-        (nothing_below rules given old new s None tt)) r
+        (dispatch_good _ _ _ rules.setting (offer_fits rules given old new) (by_name false on_scope)
+        (by_value operation (Some x) rest) [] _ h (nothing_below rules given old new s None tt)) r
         (Both (of_marked r) (of_values (y ∷ left))) ends
         (λ result focus. (result, (rw taken (fit_unit _ _), rw is (units_fit _ _ (cells_in old) n))))
 
@@ -78,7 +78,7 @@ module _ {S H : Type 0} (rules : Rules S H) (old new : State S H) (names : H →
     -- the indexer that reads, which leaves the index
     pub get_again : (r : Result (Dynamic H) (EvalAltResult H)) →
         EndsFrom rules (get_core (item_by index pos true)) (at_work (Some x) old) r (at_work (Some y) new) →
-        FitsAgain rules.natives (Both (OneValue x) (OneValue index)) old (Both (of_result r) (Both (OneValue y) (OneValue now))) new
+        FitsAgain rules (Both (OneValue x) (OneValue index)) old (Both (of_result r) (Both (OneValue y) (OneValue now))) new
     get_again r ends =
         let given : Contents H = Both (OneValue x) (OneValue index) in
         let h = given_fits rules given old new in
@@ -89,7 +89,7 @@ module _ {S H : Type 0} (rules : Rules S H) (old new : State S H) (names : H →
     -- the one that writes, which leaves the new value too
     pub set_again : (guarded : Bool) (value after : Dynamic H) → after ≡ value → (r : Result (Dynamic H × Bool) (EvalAltResult H)) →
         EndsMarked rules (set_core false (item_by index pos guarded) value) (at_work (Some x) old) r (at_work (Some y) new) →
-        FitsAgain rules.natives (Both (OneValue x) (Both (OneValue index) (OneValue value))) old
+        FitsAgain rules (Both (OneValue x) (Both (OneValue index) (OneValue value))) old
         (Both (of_marked r) (Both (OneValue y) (Both (OneValue now) (OneValue after)))) new
     set_again guarded value after stays r ends =
         let given : Contents H = Both (OneValue x) (Both (OneValue index) (OneValue value)) in

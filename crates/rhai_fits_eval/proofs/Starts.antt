@@ -14,7 +14,7 @@ use Rattle.rhai_machine.specs.language.Frames.{Keyword, Operation, Frame, core, 
 use Rattle.rhai_machine.specs.language.Memory.{UpToMemory}
 use Rattle.rhai_machine.specs.language.Script.{end_of_script, start_of_script}
 use Rattle.rhai_machine.specs.language.Values.{unit_value}
-use Rattle.rhai_fits.specs.Contents.{Both, Nothing, of_new, of_result, of_values}
+use Rattle.rhai_fits.specs.Contents.{Contents, Both, Nothing, of_environ, of_new, of_result, of_values}
 use Rattle.rhai_fits.specs.Sealed.{AreSealed, NewSealed}
 use Rattle.rhai_fits.proofs.Values.{fit_unit}
 use Rattle.rhai_fits.proofs.Fitting.{AllFit, FitBelow, FitCore, to, push, values_dropped, values_joined}
@@ -48,7 +48,7 @@ module _ {H : Type 0} (own : H → List Reached) (P : Reached → Type 0) (least
   left_fits false count args h = h
 
 -- what is assigned is no handle
-assigned_sealed : {H : Type 0} (given : Option (Dynamic H × Bor OpAssignment)) → AssignsNoHandle given → NewSealed (assigned_in given)
+pub assigned_sealed : {H : Type 0} (given : Option (Dynamic H × Bor OpAssignment)) → AssignsNoHandle given → NewSealed (assigned_in given)
 assigned_sealed None h = tt
 assigned_sealed (Some given) h = h
 
@@ -60,7 +60,7 @@ module _ {S H : Type 0} (rules : Rules S H) (old new : State S H) (names : H →
   -- a whole script
   pub script_again : (statements : List Stmt) (map_exit : Bool) (r : Answer) →
       UpToMemory rules (start_of_script statements map_exit (at_work None old)) (end_of_script r (at_work None new)) →
-      FitsAgain rules.natives Nothing old (of_result r) new
+      FitsAgain rules Nothing old (of_result r) new
   script_again statements map_exit r up = fits_again rules Nothing old new names lawful None None
       (core (Enter statements false) (Top map_exit ∷ []) (at_work None old).local) (ended r)
       (to _ _ _ _ _ _ tt tt (push _ _ _ (Top map_exit) [] _ tt tt tt (nothing_below rules Nothing old new s None tt)))
@@ -69,7 +69,7 @@ module _ {S H : Type 0} (rules : Rules S H) (old new : State S H) (names : H →
   -- a call whose arguments are told
   pub called_again : (operation : Operation) (args : List Expr) (captures : Bool) (r : Answer) →
       EndsFrom rules (called operation args captures) (at_work None old) r (at_work None new) →
-      FitsAgain rules.natives Nothing old (of_result r) new
+      FitsAgain rules Nothing old (of_result r) new
   called_again operation args captures r ends = from_again rules Nothing old new names lawful None None
       (called operation args captures)
       (function_good _ _ _ _ operation args captures [] (at_work None old).local (nothing_below rules Nothing old new s None tt)) r
@@ -78,20 +78,22 @@ module _ {S H : Type 0} (rules : Rules S H) (old new : State S H) (names : H →
   -- a chain, with a value to assign or without
   pub chain_again : (e : Expr) (given : Option (Dynamic H × Bor OpAssignment)) (r : Answer) → AssignsNoHandle given →
       EndsAs rules (whole_chain e (assigned_in given)) (at_work None old) r (at_work None new) →
-      FitsAgain rules.natives (of_new (assigned_in given)) old (of_result r) new
+      FitsAgain rules (of_new (assigned_in given)) old (of_result r) new
   chain_again e given r h ends = control_again rules (of_new (assigned_in given)) old new names lawful s
       (whole_chain e (assigned_in given)) r (given_fits rules (of_new (assigned_in given)) old new, tt) (assigned_sealed given h) ends
 
   -- a function of a script, and what is left of its arguments
   module _ (e : Entered H) (r : Answer) (ends : EndsAs rules (EnterFunction e) (at_work None old) r (at_work None new)) where
-    pub entered_again : FitsAgain rules.natives (of_values e.args) old (of_result r) new
-    entered_again = control_again rules (of_values e.args) old new names lawful s (EnterFunction e) r
-        (given_fits rules (of_values e.args) old new) tt ends
+    abbrev entering : Contents H
+    entering = Both (of_values e.args) (of_environ e.environ)
+
+    pub entered_again : FitsAgain rules entering old (of_result r) new
+    entered_again = control_again rules entering old new names lawful s (EnterFunction e) r (given_fits rules entering old new) tt ends
 
     pub arguments_again : (entered : Bool) (count : ℕ) (left : List (Dynamic H)) → left ≡ args_left entered count e.args →
-        FitsAgain rules.natives (of_values e.args) old (Both (of_result r) (of_values left)) new
-    arguments_again entered count left is = from_again rules (of_values e.args) old new names lawful None None
-        (λ k l. core (EnterFunction e) k l)
-        (to _ _ _ (EnterFunction e) [] _ (given_fits rules (of_values e.args) old new) tt
-        (nothing_below rules (of_values e.args) old new s None tt)) r (Both (of_result r) (of_values left)) ends
-        (λ result focus. (result, rw is (left_fits _ _ (cells_in old) entered count e.args (given_fits rules (of_values e.args) old new))))
+        FitsAgain rules entering old (Both (of_result r) (of_values left)) new
+    arguments_again entered count left is =
+        let h = given_fits rules entering old new in
+        from_again rules entering old new names lawful None None (λ k l. core (EnterFunction e) k l)
+        (to _ _ _ (EnterFunction e) [] _ h tt (nothing_below rules entering old new s None tt)) r (Both (of_result r) (of_values left)) ends
+        (λ result focus. (result, rw is (left_fits _ _ (cells_in old) entered count e.args h.0)))

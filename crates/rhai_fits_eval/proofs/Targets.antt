@@ -18,14 +18,14 @@ use Rattle.rhai_machine.specs.language.Values.{unit_value}
 use Rattle.rhai_fits.specs.Contents.{Contents, Both, OneValue, of_values}
 use Rattle.rhai_fits.specs.Sealed.{AreSealed}
 use Rattle.rhai_fits.proofs.Values.{Fit, fit_unit}
-use Rattle.rhai_fits.proofs.Fitting.{FitBelow, FitCore, Flat, push, with_focus}
+use Rattle.rhai_fits.proofs.Fitting.{FitBelow, FitCore, FitOffer, Flat, push, with_focus}
 use Rattle.rhai_fits.proofs.Chains.{assign_focus_good}
 use Rattle.rhai_fits.proofs.Methods.{method_good}
 use Rattle.rhai_methods.specs.Targets.{on_target, stands, waiting}
 use Rattle.rhai_eval.specs.Assigned.{target_assigned, value_assigned}
 use Rattle.rhai_eval.specs.Ends.{EndsAlone, EndsAssigned, EndsMarked}
 use Rattle.rhai_fits_eval.specs.InHand.{FitsAgain, cells_in, of_done, of_marked, of_target}
-use Rattle.rhai_fits_eval.proofs.Ends.{at_work, given_fits, nothing_below, mark_again, alone_again, assigned_again}
+use Rattle.rhai_fits_eval.proofs.Ends.{at_work, given_fits, offer_fits, nothing_below, mark_again, alone_again, assigned_again}
 use Rattle.rhai_fits_eval.proofs.Places.{units_fit}
 
 module _ {H : Type 0} (own : H → List Reached) (P : Reached → Type 0) (least : ℕ) where
@@ -39,10 +39,10 @@ module _ {H : Type 0} (own : H → List Reached) (P : Reached → Type 0) (least
   waiting_below (part.Temporary v) place pos l h b = b
   waiting_below (part.Of at v) place pos l h b = push own P least (PartMethod place at pos) [] l h tt tt b
 
-  module _ (s : Setting H) (root : Expr) (new : NewValue H) (flat : Flat own P least new.value) where
+  module _ (s : Setting H) (o : FitOffer own P least s.offer) (root : Expr) (new : NewValue H) (flat : Flat own P least new.value) where
     value_good : (k : List (Frame H)) (l : Local H) → Below k l → FitCore own P least (value_assigned s root new k l)
     value_good k l b =
-        assign_focus_good own P least s root new (MemberSet unit_value ∷ k) l flat
+        assign_focus_good own P least s o root new (MemberSet unit_value ∷ k) l flat
         (push own P least (MemberSet unit_value) k l (fit_unit own P) tt b.back b)
 
     target_good : (what : Part H) (place : Dynamic H) (l : Local H) → Fit own P (stands what place) → Fit own P (shown what place) →
@@ -68,24 +68,24 @@ module _ {S H : Type 0} (rules : Rules S H) (old new : State S H) (names : H →
         used ≡ replicate n unit_value →
         EndsMarked rules (on_target rules.setting method args what place) (at_work (Some (shown what place)) old) r
         (at_work (Some left) new) →
-        FitsAgain rules.natives with_args old (Both (of_marked r) (Both (of_values used) (OneValue left))) new
+        FitsAgain rules with_args old (Both (of_marked r) (Both (of_values used) (OneValue left))) new
     method_again r n used is ends =
         let h = given_fits rules with_args old new in
         mark_again rules with_args old new names lawful (Some (shown what place)) (Some left)
         (on_target rules.setting method args what place)
-        (method_good _ _ _ rules.setting method args (shown what place) _ _ h.0 h.1.1
+        (method_good _ _ _ rules.setting (offer_fits rules with_args old new) method args (shown what place) _ _ h.0 h.1.1
         (waiting_below _ _ _ what place method.at _ h.1.0 (nothing_below rules with_args old new s (Some (shown what place)) h.1.1))) r
         (Both (of_marked r) (Both (of_values used) (OneValue left))) ends
         (λ result focus. (result, (rw is (units_fit _ _ (cells_in old) n), focus)))
 
     -- and shows this
     pub method_shows : EndsAlone rules (method_core rules.setting method args (shown what place)) (at_work (Some (shown what place)) old)
-        (at_work (Some left) new) → FitsAgain rules.natives with_args old (OneValue left) new
+        (at_work (Some left) new) → FitsAgain rules with_args old (OneValue left) new
     method_shows ends =
         let h = given_fits rules with_args old new in
         alone_again rules with_args old new names lawful (Some (shown what place)) (Some left)
         (method_core rules.setting method args (shown what place))
-        (method_good _ _ _ rules.setting method args (shown what place) [] _ h.0 h.1.1
+        (method_good _ _ _ rules.setting (offer_fits rules with_args old new) method args (shown what place) [] _ h.0 h.1.1
         (nothing_below rules with_args old new s (Some (shown what place)) h.1.1)) ends
 
   -- ---- assignments
@@ -96,20 +96,20 @@ module _ {S H : Type 0} (rules : Rules S H) (old new : State S H) (names : H →
 
     pub assignment_again : (r : Result (Unit {0}) (EvalAltResult H)) →
         EndsAssigned rules (target_assigned rules.setting root value what place) (at_work (Some (stands what place)) old) r
-        (at_work (Some left) new) → FitsAgain rules.natives with_value old (Both (of_done r) (OneValue left)) new
+        (at_work (Some left) new) → FitsAgain rules with_value old (Both (of_done r) (OneValue left)) new
     assignment_again r ends =
         let h = given_fits rules with_value old new in
         assigned_again rules with_value old new names lawful (Some (stands what place)) (Some left)
         (target_assigned rules.setting root value what place)
-        (target_good _ _ _ rules.setting root value (h.0, flat) what place _ h.1.0 h.1.1
+        (target_good _ _ _ rules.setting (offer_fits rules with_value old new) root value (h.0, flat) what place _ h.1.0 h.1.1
         (nothing_below rules with_value old new s (Some (stands what place)) h.1.0)) s h.1.0 r
         (Both (of_done r) (OneValue left)) ends (λ result focus. (result, focus))
 
     pub assignment_shows : EndsAlone rules (value_assigned rules.setting root value) (at_work (Some (shown what place)) old)
-        (at_work (Some left) new) → FitsAgain rules.natives with_value old (OneValue left) new
+        (at_work (Some left) new) → FitsAgain rules with_value old (OneValue left) new
     assignment_shows ends =
         let h = given_fits rules with_value old new in
         alone_again rules with_value old new names lawful (Some (shown what place)) (Some left)
         (value_assigned rules.setting root value)
-        (value_good _ _ _ rules.setting root value (h.0, flat) [] _
+        (value_good _ _ _ rules.setting (offer_fits rules with_value old new) root value (h.0, flat) [] _
         (nothing_below rules with_value old new s (Some (shown what place)) h.1.1)) ends

@@ -2,12 +2,13 @@
 use Rattle.std.specs.Prelude.{◌⊎◌, ◌≤◌, ◌<◌, ℕ, Bool, Result, Ok, Err, Contains, length}
 use Rattle.rhai_values.specs.declared.base.value.Dynamic.{Dynamic}
 use Rattle.rhai_state.specs.declared.error.EvalAltResult.{EvalAltResult}
-use Rattle.rhai_state.specs.Native.{Natives}
 use Rattle.rhai_state.specs.Reach.{Reached, Cell}
 use Rattle.rhai_places.specs.declared.target.Part.{Part}
+use Rattle.rhai_places.specs.declared.target.Target.{Target}
 use Rattle.rhai_places.specs.Targets.{shown}
+use Rattle.rhai_machine.specs.language.Setting.{Rules}
 use Rattle.rhai_machine.specs.language.State.{State}
-use Rattle.rhai_fits.specs.Contents.{Contents, Nothing, OneValue, OneError, Both, of_maybe, of_scope, of_cells, Holds}
+use Rattle.rhai_fits.specs.Contents.{Contents, Nothing, OneValue, OneError, Both, of_maybe, of_scope, of_cells, of_around, of_offer, Holds}
 use Rattle.rhai_fits.specs.Sealed.{AreSealed}
 use Rattle.rhai_methods.specs.Targets.{stands}
 
@@ -28,11 +29,17 @@ module _ {H : Type 0} where
   abbrev pub of_target : Part H → (place : Dynamic H) → Contents H
   of_target what place = Both (OneValue (stands what place)) (OneValue (shown what place))
 
+  -- what a target borrows and what it shows, or an error
+  abbrev pub of_lent : Result (Target H) (EvalAltResult H) → Contents H
+  of_lent (Ok target) = Both (OneValue target.at.now) (OneValue (shown target.part target.at.now))
+  of_lent (Err e) = OneError e
+
   -- ---- what a state has
 
-  -- its variables, its `this` and its cells
+  -- its variables, its `this`, its cells, and the modules and tables of constants around them
   abbrev pub of_state : {S : Type 0} → State S H → Contents H
-  of_state s = Both (of_scope s.local.scope) (Both (of_maybe s.local.this) (of_cells s.local.around.cells))
+  of_state s =
+      Both (of_scope s.local.scope) (Both (of_maybe s.local.this) (Both (of_cells s.local.around.cells) (of_around s.local.around)))
 
   abbrev pub cells_in : {S : Type 0} → State S H → ℕ
   cells_in s = length s.local.around.cells
@@ -42,10 +49,12 @@ module _ {H : Type 0} where
   IsNew old new (Cell n) = (cells_in old ≤ n) × (n < cells_in new)
   IsNew old new _ = ⊥
 
-module _ {S H : Type 0} (natives : Natives S H) where
-  -- what is in hand holds this, or a state does, or the table in that state: a cell, a script function, a table of constants
+module _ {S H : Type 0} (rules : Rules S H) where
+  -- what is in hand holds this, or a state does, or a module of the engine, or the table in that state: a cell, a script function, a table
+  -- of constants
   abbrev pub IsHeld : Contents H → State S H → Reached → Type 0
-  IsHeld hand s r = Holds natives.holds.of_host (Both hand (of_state s)) r ⊎ Contains (natives.holds.of_state s.table) r
+  IsHeld hand s r = Holds rules.natives.holds.of_host (Both (Both hand (of_state s)) (of_offer rules.setting.offer)) r
+      ⊎ Contains (rules.natives.holds.of_state s.table) r
 
   -- each cell that is held is one of the store
   abbrev pub IsWithin : Contents H → State S H → Type 0

@@ -1,20 +1,25 @@
 //! Calls on a first argument, an object or a target.
 
-ghost use Rattle.std.specs.Prelude.{◌≡◌, ◌∷◌, ◌||◌, Some, false, true};
+ghost use Rattle.std.specs.Prelude.{◌≡◌, ◌∷◌, ◌||◌, IfSome, Some, false, true};
 ghost use Rattle.rhai_values.specs.Cells.{cells_of, IsNoHandle};
+ghost use Rattle.rhai_state.specs.Errors.{is_out_of_memory};
 ghost use Rattle.rhai_places.specs.Targets.{shown};
+ghost use Rattle.rhai_machine.specs.language.Setting.{rules_of};
 ghost use Rattle.rhai_machine.specs.language.State.{HasMemory};
-ghost use Rattle.rhai_fits.specs.Contents.{Both, OneValue, of_result, of_values};
+ghost use Rattle.rhai_fits.specs.Contents.{Both, OneError, OneValue, of_result, of_values};
 ghost use Rattle.rhai_fits.specs.Sealed.{AreSealed};
 ghost use Rattle.rhai_methods.specs.Targets.{stands};
 ghost use Rattle.rhai_steps.specs.States.{holding, state_of};
-ghost use Rattle.rhai_eval.specs.Plain.{Plain};
-ghost use Rattle.rhai_fits_eval.specs.InHand.{FitsAgain, of_done, of_marked, of_target};
+ghost use Rattle.rhai_eval.specs.States.{under};
+ghost use Rattle.rhai_fits_eval.specs.InHand.{FitsAgain, of_done, of_lent, of_marked, of_target};
 
 use rhai_eval::engine::Engine;
+use rhai_index::indexing;
+use rhai_places::spot::Access;
 use rhai_places::target::Target;
 use rhai_state::caches::Caches;
 use rhai_state::error::EvalAltResult;
+use rhai_state::limits::Limits;
 use rhai_state::scope::Scope;
 use rhai_state::state::GlobalRuntimeState;
 use rhai_state::table::NativeTable;
@@ -39,7 +44,8 @@ pub fn exec_native_fn_call<H: Host, T: NativeTable<H>>(
     position: Position,
 ) -> Result<(Dynamic<H>, bool), EvalAltResult<H>>
     requires sealed { AreSealed (cells_of global.old.cells) }
-    ensures fits { (scope : _) (this : _) → FitsAgain T.natives (of_values (first.old ∷ rest.old))
+    ensures fits { (scope : _) (this : _) → FitsAgain (under H.name_of engine.now T.natives)
+        (of_values (first.old ∷ rest.old))
         (state_of (T.state table.old) global.old scope (holding this))
         (Both (of_marked result) (of_values (first.new ∷ rest.new)))
         (state_of (T.state table.new) global.new scope (holding this)) }
@@ -70,7 +76,7 @@ pub fn call_indexer_get<H: Host, T: NativeTable<H>>(
     pos: Position,
 ) -> Result<Dynamic<H>, EvalAltResult<H>>
     requires sealed { AreSealed (cells_of global.old.cells) }
-    ensures fits { (scope : _) (this : _) → FitsAgain T.natives
+    ensures fits { (scope : _) (this : _) → FitsAgain (under H.name_of engine.now T.natives)
         (Both (OneValue object.old) (OneValue index.old))
         (state_of (T.state table.old) global.old scope (holding this))
         (Both (of_result result) (Both (OneValue object.new) (OneValue index.new)))
@@ -93,7 +99,7 @@ pub fn call_indexer_set<H: Host, T: NativeTable<H>>(
     pos: Position,
 ) -> Result<(Dynamic<H>, bool), EvalAltResult<H>>
     requires sealed { AreSealed (cells_of global.old.cells) }
-    ensures fits { (scope : _) (this : _) → FitsAgain T.natives
+    ensures fits { (scope : _) (this : _) → FitsAgain (under H.name_of engine.now T.natives)
         (Both (OneValue object.old) (Both (OneValue index.old) (OneValue new_val.old)))
         (state_of (T.state table.old) global.old scope (holding this))
         (Both (of_marked result) (Both (OneValue object.new) (Both (OneValue index.new)
@@ -103,6 +109,70 @@ pub fn call_indexer_set<H: Host, T: NativeTable<H>>(
     engine.call_indexer_set(
         alloc, global, caches, table, object, index, new_val, is_ref_mut, pos,
     )
+}
+
+/// Of `Engine::get_indexed_mut`: of the object what a target borrows and shows is known. What is left of it
+/// where the index is refused is told by `refused_index`.
+pub fn get_indexed_mut<'t, H: Host, T: NativeTable<H>>(
+    engine: &Engine<H>,
+    alloc: Global,
+    global: &mut GlobalRuntimeState<H>,
+    caches: &mut Caches<H>,
+    table: &mut T,
+    target: &'t mut Dynamic<H>,
+    idx: &mut Dynamic<H>,
+    idx_pos: Position,
+    op_pos: Position,
+    add_if_not_found: bool,
+    use_indexers: bool,
+) -> Result<Target<'t, H>, EvalAltResult<H>>
+    requires object { IsNoHandle target.old.value }
+    requires sealed { AreSealed (cells_of global.old.cells) }
+    ensures fits { (scope : _) (this : _) → FitsAgain (under H.name_of engine.now T.natives)
+        (Both (OneValue target.old) (OneValue idx.old))
+        (state_of (T.state table.old) global.old scope (holding this))
+        (Both (of_lent result) (OneValue idx.new))
+        (state_of (T.state table.new) global.new scope (holding this)) }
+{
+    engine.get_indexed_mut(
+        alloc,
+        global,
+        caches,
+        table,
+        target,
+        idx,
+        idx_pos,
+        op_pos,
+        add_if_not_found,
+        use_indexers,
+    )
+}
+
+/// The same where it is refused, of the function of `rhai_index` that the call makes: what is left of the
+/// object is known where memory was not wanting.
+pub fn refused_index<H: Host, T: NativeTable<H>>(
+    alloc: Global,
+    limits: &Limits,
+    global: &mut GlobalRuntimeState<H>,
+    table: &mut T,
+    object: &mut Dynamic<H>,
+    idx: &mut Dynamic<H>,
+    how: Access,
+    use_indexers: bool,
+) -> Option<EvalAltResult<H>>
+    requires object { IsNoHandle object.old.value }
+    requires sealed { AreSealed (cells_of global.old.cells) }
+    ensures fits { (offer : _) (scope : _) (this : _) → IfSome result (λ error.
+        is_out_of_memory error ≡ false → FitsAgain (rules_of limits.now H.name_of offer T.natives)
+        (Both (OneValue object.old) (OneValue idx.old))
+        (state_of (T.state table.old) global.old scope (holding this))
+        (Both (OneError error) (Both (OneValue object.new) (OneValue idx.new)))
+        (state_of (T.state table.new) global.new scope (holding this))) }
+{
+    match indexing::get_indexed_mut(object, alloc, limits, global, table, idx, how, use_indexers) {
+        Ok(_target) => None,
+        Err(error) => Some(error),
+    }
 }
 
 /// Of `Engine::make_method_call`: what is left of a part that the target shows is known where memory was not
@@ -119,15 +189,15 @@ pub fn make_method_call<H: Host, T: NativeTable<H>>(
     first_arg_pos: Position,
     pos: Position,
 ) -> Result<(Dynamic<H>, bool), EvalAltResult<H>>
-    requires plain { Plain engine.now global.old }
     requires sealed { AreSealed (cells_of global.old.cells) }
-    ensures fits { (scope : _) (this : _) → FitsAgain T.natives
+    ensures fits { (scope : _) (this : _) → FitsAgain (under H.name_of engine.now T.natives)
         (Both (of_values call_args.old) (of_target target.old.part target.old.at.now))
         (state_of (T.state table.old) global.old scope (holding this))
         (Both (of_marked result) (Both (of_values call_args.new)
         (OneValue (stands target.new.part target.new.at.now))))
         (state_of (T.state table.new) global.new scope (holding this)) }
-    ensures shown { (scope : _) (this : _) → HasMemory result → FitsAgain T.natives
+    ensures shown { (scope : _) (this : _) → HasMemory result →
+        FitsAgain (under H.name_of engine.now T.natives)
         (Both (of_values call_args.old) (of_target target.old.part target.old.at.now))
         (state_of (T.state table.old) global.old scope (holding this))
         (OneValue (shown target.new.part target.new.at.now))
@@ -161,12 +231,13 @@ pub fn eval_op_assignment<H: Host, T: NativeTable<H>>(
 ) -> Result<(), EvalAltResult<H>>
     requires value { IsNoHandle new_val.value }
     requires sealed { AreSealed (cells_of global.old.cells) }
-    ensures fits { (scope : _) (this : _) → FitsAgain T.natives
+    ensures fits { (scope : _) (this : _) → FitsAgain (under H.name_of engine.now T.natives)
         (Both (OneValue new_val) (of_target target.old.part target.old.at.now))
         (state_of (T.state table.old) global.old scope (holding this))
         (Both (of_done result) (OneValue (stands target.new.part target.new.at.now)))
         (state_of (T.state table.new) global.new scope (holding this)) }
-    ensures shown { (scope : _) (this : _) → HasMemory result → FitsAgain T.natives
+    ensures shown { (scope : _) (this : _) → HasMemory result →
+        FitsAgain (under H.name_of engine.now T.natives)
         (Both (OneValue new_val) (of_target target.old.part target.old.at.now))
         (state_of (T.state table.old) global.old scope (holding this))
         (OneValue (shown target.new.part target.new.at.now))
@@ -193,9 +264,9 @@ pub fn exec_fn_call<H: Host, T: NativeTable<H>>(
     position: Position,
 ) -> Result<(Dynamic<H>, bool), EvalAltResult<H>>
     requires lent { (is_ref_mut || is_method_call) ≡ true }
-    requires plain { Plain engine.now global.old }
     requires sealed { AreSealed (cells_of global.old.cells) }
-    ensures fits { (this : _) → FitsAgain T.natives (of_values (first.old ∷ rest.old))
+    ensures fits { (this : _) → FitsAgain (under H.name_of engine.now T.natives)
+        (of_values (first.old ∷ rest.old))
         (state_of (T.state table.old) global.old scope.old (holding this))
         (Both (of_marked result) (of_values (first.new ∷ rest.new)))
         (state_of (T.state table.new) global.new scope.new (holding this)) }
@@ -230,9 +301,9 @@ pub fn exec_fn_call_by_value<H: Host, T: NativeTable<H>>(
     rest: &mut [Dynamic<H>],
     position: Position,
 ) -> Result<(Dynamic<H>, bool), EvalAltResult<H>>
-    requires plain { Plain engine.now global.old }
     requires sealed { AreSealed (cells_of global.old.cells) }
-    ensures fits { (this : _) → FitsAgain T.natives (of_values (first.old ∷ rest.old))
+    ensures fits { (this : _) → FitsAgain (under H.name_of engine.now T.natives)
+        (of_values (first.old ∷ rest.old))
         (state_of (T.state table.old) global.old scope.old (holding this))
         (Both (of_marked result) (of_values (first.new ∷ rest.new)))
         (state_of (T.state table.new) global.new scope.new (holding this)) }

@@ -3,6 +3,9 @@
 //! a bare handle. Nothing here is run: a function makes the call that its law is of, and its proof sees the
 //! contract of the call alone.
 //!
+//! Of what is around the variables the cells, the libraries, the imports and the tables of constants count, of
+//! the engine all modules: what their constants hold, and the environments of their functions.
+//!
 //! Asked of a caller: no cell of the store has a bare handle, and what a call assigns is none. An empty store
 //! has no cell, and behind each call the next one may be made.
 //!

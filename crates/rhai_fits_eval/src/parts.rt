@@ -1,8 +1,9 @@
 //! Parts of trees, run with a `this`.
 
-ghost use Rattle.std.specs.Prelude.{◌≡◌, IsTrue, Some, is_some, map, true};
+ghost use Rattle.std.specs.Prelude.{◌≡◌, IsTrue, Some, false, is_some, map, true};
 ghost use Rattle.std.specs.Option.{option_copied};
 ghost use Rattle.rhai_tree.specs.declared.expr.Expr.{out-Expr};
+ghost use Rattle.rhai_tree.specs.Forms.{is_unqualified};
 ghost use Rattle.rhai_tree.specs.Frame.{all_resolve, all_resolve_exprs, resolves_call, resolves_expr};
 ghost use Rattle.rhai_tree.specs.Frame.{resolves_stmt, tests_of};
 ghost use Rattle.rhai_values.specs.Cells.{cells_of};
@@ -14,7 +15,7 @@ ghost use Rattle.rhai_pointers.specs.Leading.{all_args};
 ghost use Rattle.rhai_steps.specs.States.{holding, state_of};
 ghost use Rattle.rhai_eval.specs.Calls.{value_with};
 ghost use Rattle.rhai_eval.specs.Chains.{assigned_in, AssignsNoHandle, ChainResolves};
-ghost use Rattle.rhai_eval.specs.Plain.{Plain};
+ghost use Rattle.rhai_eval.specs.States.{under};
 ghost use Rattle.rhai_fits_eval.specs.InHand.{FitsAgain};
 
 use rhai_eval::engine::Engine;
@@ -23,7 +24,7 @@ use rhai_state::error::EvalAltResult;
 use rhai_state::scope::Scope;
 use rhai_state::state::GlobalRuntimeState;
 use rhai_state::table::NativeTable;
-use rhai_tree::expr::{Expr, FnCallExpr, OpAssignment, Stmt};
+use rhai_tree::expr::{Expr, FnCallExpr, Namespace, OpAssignment, Stmt};
 use rhai_tree::position::Position;
 use rhai_tree::token::Token;
 use rhai_values::base::value::{Dynamic, Host};
@@ -41,9 +42,8 @@ pub fn eval_expr<H: Host, T: NativeTable<H>>(
     expr: &Expr,
 ) -> Result<Dynamic<H>, EvalAltResult<H>>
     requires resolves { IsTrue (resolves_expr expr.now (names_in scope.old)) }
-    requires plain { Plain engine.now global.old }
     requires sealed { AreSealed (cells_of global.old.cells) }
-    ensures fits { FitsAgain T.natives Nothing
+    ensures fits { FitsAgain (under H.name_of engine.now T.natives) Nothing
         (state_of (T.state table.old) global.old scope.old (holding (Some this.old))) (of_result result)
         (state_of (T.state table.new) global.new scope.new (holding (Some this.new))) }
 {
@@ -63,9 +63,8 @@ pub fn eval_stmt<H: Host, T: NativeTable<H>>(
     rewind_scope: bool,
 ) -> Result<Dynamic<H>, EvalAltResult<H>>
     requires resolves { IsTrue (resolves_stmt stmt.now (names_in scope.old)).0 }
-    requires plain { Plain engine.now global.old }
     requires sealed { AreSealed (cells_of global.old.cells) }
-    ensures fits { FitsAgain T.natives Nothing
+    ensures fits { FitsAgain (under H.name_of engine.now T.natives) Nothing
         (state_of (T.state table.old) global.old scope.old (holding (Some this.old))) (of_result result)
         (state_of (T.state table.new) global.new scope.new (holding (Some this.new))) }
 {
@@ -94,9 +93,8 @@ pub fn eval_stmt_block<H: Host, T: NativeTable<H>>(
     restore_orig_state: bool,
 ) -> Result<Dynamic<H>, EvalAltResult<H>>
     requires resolves { IsTrue (all_resolve (map resolves_stmt statements.now) (names_in scope.old)).0 }
-    requires plain { Plain engine.now global.old }
     requires sealed { AreSealed (cells_of global.old.cells) }
-    ensures fits { FitsAgain T.natives Nothing
+    ensures fits { FitsAgain (under H.name_of engine.now T.natives) Nothing
         (state_of (T.state table.old) global.old scope.old (holding (Some this.old))) (of_result result)
         (state_of (T.state table.new) global.new scope.new (holding (Some this.new))) }
 {
@@ -125,9 +123,8 @@ pub fn eval_fn_call_expr<H: Host, T: NativeTable<H>>(
     pos: Position,
 ) -> Result<Dynamic<H>, EvalAltResult<H>>
     requires resolves { IsTrue (resolves_call expr.now pos (names_in scope.old)) }
-    requires plain { Plain engine.now global.old }
     requires sealed { AreSealed (cells_of global.old.cells) }
-    ensures fits { FitsAgain T.natives Nothing
+    ensures fits { FitsAgain (under H.name_of engine.now T.natives) Nothing
         (state_of (T.state table.old) global.old scope.old (holding (Some this.old))) (of_result result)
         (state_of (T.state table.new) global.new scope.new (holding (Some this.new))) }
 {
@@ -146,9 +143,8 @@ pub fn get_arg_value<H: Host, T: NativeTable<H>>(
     arg_expr: &Expr,
 ) -> Result<(Dynamic<H>, Position), EvalAltResult<H>>
     requires resolves { IsTrue (resolves_expr arg_expr.now (names_in scope.old)) }
-    requires plain { Plain engine.now global.old }
     requires sealed { AreSealed (cells_of global.old.cells) }
-    ensures fits { FitsAgain T.natives Nothing
+    ensures fits { FitsAgain (under H.name_of engine.now T.natives) Nothing
         (state_of (T.state table.old) global.old scope.old (holding (Some this.old)))
         (of_result (value_with result))
         (state_of (T.state table.new) global.new scope.new (holding (Some this.new))) }
@@ -174,9 +170,8 @@ pub fn make_function_call<H: Host, T: NativeTable<H>>(
 ) -> Result<Dynamic<H>, EvalAltResult<H>>
     requires resolves { IsTrue (all_resolve_exprs (map tests_of (all_args (option_copied first_arg)
         args_expr.now)) (names_in scope.old)) }
-    requires plain { Plain engine.now global.old }
     requires sealed { AreSealed (cells_of global.old.cells) }
-    ensures fits { FitsAgain T.natives Nothing
+    ensures fits { FitsAgain (under H.name_of engine.now T.natives) Nothing
         (state_of (T.state table.old) global.old scope.old (holding (Some this.old))) (of_result result)
         (state_of (T.state table.new) global.new scope.new (holding (Some this.new))) }
 {
@@ -196,6 +191,41 @@ pub fn make_function_call<H: Host, T: NativeTable<H>>(
     )
 }
 
+/// Of `Engine::make_qualified_function_call`.
+pub fn make_qualified_function_call<H: Host, T: NativeTable<H>>(
+    engine: &Engine<H>,
+    alloc: Global,
+    global: &mut GlobalRuntimeState<H>,
+    caches: &mut Caches<H>,
+    table: &mut T,
+    scope: &mut Scope<H>,
+    this: &mut Dynamic<H>,
+    namespace: &Namespace,
+    fn_name: &str,
+    args_expr: &[Expr],
+    pos: Position,
+) -> Result<Dynamic<H>, EvalAltResult<H>>
+    requires resolves { IsTrue (all_resolve_exprs (map tests_of args_expr.now) (names_in scope.old)) }
+    requires behind { is_unqualified namespace.now.path ≡ false }
+    requires sealed { AreSealed (cells_of global.old.cells) }
+    ensures fits { FitsAgain (under H.name_of engine.now T.natives) Nothing
+        (state_of (T.state table.old) global.old scope.old (holding (Some this.old))) (of_result result)
+        (state_of (T.state table.new) global.new scope.new (holding (Some this.new))) }
+{
+    engine.make_qualified_function_call(
+        alloc,
+        global,
+        caches,
+        table,
+        scope,
+        Some(this),
+        namespace,
+        fn_name,
+        args_expr,
+        pos,
+    )
+}
+
 /// Of `Engine::eval_dot_index_chain`, with a value to assign or without.
 pub fn eval_dot_index_chain<H: Host, T: NativeTable<H>>(
     engine: &Engine<H>,
@@ -211,9 +241,8 @@ pub fn eval_dot_index_chain<H: Host, T: NativeTable<H>>(
     requires chain { is_some (first_in (out-Expr expr.now)) ≡ true }
     requires resolves { ChainResolves (is_some new_val) expr.now (names_in scope.old) }
     requires value { AssignsNoHandle new_val }
-    requires plain { Plain engine.now global.old }
     requires sealed { AreSealed (cells_of global.old.cells) }
-    ensures fits { FitsAgain T.natives (of_new (assigned_in new_val.entry))
+    ensures fits { FitsAgain (under H.name_of engine.now T.natives) (of_new (assigned_in new_val.entry))
         (state_of (T.state table.old) global.old scope.old (holding (Some this.old))) (of_result result)
         (state_of (T.state table.new) global.new scope.new (holding (Some this.new))) }
 {

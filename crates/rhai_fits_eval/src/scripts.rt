@@ -1,12 +1,13 @@
 //! Whole scripts and functions of scripts.
 
+ghost use Rattle.std.specs.Option.{option_copied};
 ghost use Rattle.std.specs.Prelude.{None, Some};
 ghost use Rattle.rhai_values.specs.Cells.{cells_of};
 ghost use Rattle.rhai_machine.specs.language.State.{HasMemory};
-ghost use Rattle.rhai_fits.specs.Contents.{Both, Nothing, of_result, of_values};
+ghost use Rattle.rhai_fits.specs.Contents.{Both, Nothing, of_environ, of_result, of_values};
 ghost use Rattle.rhai_fits.specs.Sealed.{AreSealed};
 ghost use Rattle.rhai_steps.specs.States.{holding, state_of};
-ghost use Rattle.rhai_eval.specs.Plain.{Plain};
+ghost use Rattle.rhai_eval.specs.States.{under};
 ghost use Rattle.rhai_fits_eval.specs.InHand.{FitsAgain};
 
 use rhai_eval::engine::Engine;
@@ -31,9 +32,8 @@ pub fn eval_global_statements<H: Host, T: NativeTable<H>>(
     tree: &CheckedTree,
     map_exit_to_return_value: bool,
 ) -> Result<Dynamic<H>, EvalAltResult<H>>
-    requires plain { Plain engine.now global.old }
     requires sealed { AreSealed (cells_of global.old.cells) }
-    ensures fits { FitsAgain T.natives Nothing
+    ensures fits { FitsAgain (under H.name_of engine.now T.natives) Nothing
         (state_of (T.state table.old) global.old scope.old (holding None)) (of_result result)
         (state_of (T.state table.new) global.new scope.new (holding None)) }
 {
@@ -64,12 +64,13 @@ pub fn call_script_fn<H: Host, T: NativeTable<H>>(
     rewind_scope: bool,
     pos: Position,
 ) -> Result<Dynamic<H>, EvalAltResult<H>>
-    requires plain { Plain engine.now global.old }
     requires sealed { AreSealed (cells_of global.old.cells) }
-    ensures fits { FitsAgain T.natives (of_values args.old)
+    ensures fits { FitsAgain (under H.name_of engine.now T.natives)
+        (Both (of_values args.old) (of_environ (option_copied env.entry)))
         (state_of (T.state table.old) global.old scope.old (holding (Some this.old))) (of_result result)
         (state_of (T.state table.new) global.new scope.new (holding (Some this.new))) }
-    ensures args { HasMemory result → FitsAgain T.natives (of_values args.old)
+    ensures args { HasMemory result → FitsAgain (under H.name_of engine.now T.natives)
+        (Both (of_values args.old) (of_environ (option_copied env.entry)))
         (state_of (T.state table.old) global.old scope.old (holding (Some this.old)))
         (Both (of_result result) (of_values args.new))
         (state_of (T.state table.new) global.new scope.new (holding (Some this.new))) }

@@ -1,2 +1,3 @@
+mod Descending
 pub mod Pushing
 mod Searches

@@ -2,3 +2,5 @@ pub mod Called
 pub mod Entering
 pub mod Functions
 pub mod Keys
+pub mod Namespaces
+pub mod Qualified

@@ -8,8 +8,8 @@ ghost use Rattle.rhai_functions.specs.Keys.{key_seen};
 
 use crate::key::FnKey;
 use crate::lookup::find_function;
-use rhai_tree::Shared;
 use rhai_tree::checked::CheckedFn;
+use rhai_tree::{Shared, Table};
 use rhai_values::base::value::{EncapsulatedEnviron, Import, Module, ModuleFn};
 use std::alloc::AllocError;
 
@@ -25,7 +25,7 @@ pub struct Function<H> {
 #[derive(Drop)]
 pub struct Offered<'e, H> {
     pub global_modules: &'e [Shared<Module<H>>],
-    pub global_sub_modules: &'e [Shared<Module<H>>],
+    pub global_sub_modules: &'e Table<Shared<Module<H>>>,
 }
 
 /// A module's function with an owner of its own, so that it can run while its module may change. It copies
@@ -52,14 +52,14 @@ pub fn called_function<H: Drop>(
     imports: &[Import<H>],
 ) -> Result<Option<Function<H>>, AllocError>
     ensures { IfOk result (λ found. found ≡ option_map function_of (found_in (key_seen key.entry) lib.now
-        offered.now.global_modules.now imports.now offered.now.global_sub_modules.now)) }
+        offered.now.global_modules.now imports.now offered.now.global_sub_modules.now.1)) }
 {
     let found = find_function(
         key,
         lib,
         offered.global_modules,
         imports,
-        offered.global_sub_modules,
+        offered.global_sub_modules.values(),
     );
     match found {
         Some(function) => Ok(Some(share_function(function)?)),

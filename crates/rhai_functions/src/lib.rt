@@ -11,3 +11,4 @@ pub mod key;
 pub mod lookup;
 pub mod metadata;
 pub mod named;
+pub mod paths;

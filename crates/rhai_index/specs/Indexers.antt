@@ -58,6 +58,10 @@ module _ {H : Type 0} where
       Position → Request H
   indexer_request cells name object others at = request cells (Named name) (Some object) others at
 
+  -- the same of a call
+  abbrev pub request_of : List (Option (Dynamic H)) → IndexerCall H → (object : Dynamic H) → Request H
+  request_of cells call object = indexer_request cells call.name object (call.index ∷ call.values) call.at
+
   module _ {S : Type 0} (natives : Natives S H) where
     -- what a call of a name leaves: an object that is barred is not touched
     abbrev pub called : List (Option (Dynamic H)) → Position → (barred : Bool) → S → (name : List ℕ) → (object : Dynamic H) →

@@ -6,12 +6,12 @@ use Rattle.rhai_state.specs.declared.error.EvalAltResult.TheVariants as error
 use Rattle.rhai_values.specs.Cells.{cells_of}
 use Rattle.rhai_state.specs.Errors.{is_out_of_memory}
 use Rattle.rhai_values.specs.Layers.{layer_of}
-use Rattle.rhai_state.specs.Native.{Effect, Natives}
+use Rattle.rhai_state.specs.Native.{AreReached, Effect, Natives}
 use Rattle.rhai_places.specs.declared.spot.Access.{Access}
 use Rattle.rhai_places.specs.Found.{found as found_by, takes_memory, through, IsFound, IsMissed}
 use Rattle.rhai_places.specs.Targets.{IsFit}
 use Rattle.rhai_machine.specs.language.State.{HasMemory}
-use Rattle.rhai_index.specs.Indexers.{IndexerCall, as_temporary, asks_indexer, effect_of, outcome_of, reading}
+use Rattle.rhai_index.specs.Indexers.{IndexerCall, as_temporary, asks_indexer, effect_of, outcome_of, reading, request_of}
 
 -- the arguments are what is fixed; how the object is indexed; the state, the table, the object and the index before; the state,
 -- the table and the index after; and the result
@@ -62,3 +62,6 @@ module _ {S H T : Type 0} (limits : Limits) (host : H → List ℕ) (natives : N
     -- on every way
     pub fit : IfOk r (λ target. IsFit target.part target.at.now)
     pub index : i' ≡ i
+    -- on every way, want of memory too: what the table's state holds then was held before, by the state, the object or the index, or by
+    -- what stands in a cell that those reach
+    pub reached : AreReached natives.holds (state_of t) (request_of (cells_of g.cells) call x) (natives.holds.of_state (state_of t'))

@@ -1,5 +1,5 @@
 -- How a chain of one link comes to its root, where its index is an integer that stands.
-use Rattle.std.proofs.Common.{◌≡◌, ◌<◌, ◌≤◌, ◌+◌, ℕ, ℤ, Bool, true, false, IsTrue, List, [], ◌∷◌, Option, Some, None, Result, refl, sym, ap, subst}
+use Rattle.std.proofs.Common.{◌≡◌, ◌<◌, ◌≤◌, ◌+◌, ℕ, ℤ, Bool, true, false, List, [], ◌∷◌, Option, Some, None, Result, refl, sym, ap, subst}
 use Rattle.std.proofs.Common.{◌∙◌, arith}
 use Rattle.std.specs.Option.{option_map}
 use Rattle.std.proofs.lemmas.Bool.{lt-ltb}
@@ -9,7 +9,6 @@ use Rattle.rhai_tree.specs.declared.flags.ASTFlags.{ASTFlags}
 use Rattle.rhai_tree.specs.declared.position.Position.{Position}
 use Rattle.rhai_tree.specs.Layers.{ExprLayer}
 use Rattle.rhai_tree.specs.Positions.{position_of}
-use Rattle.rhai_tree.specs.Frame.{resolves_expr}
 use Rattle.rhai_values.specs.declared.base.value.Dynamic.{Dynamic}
 use Rattle.rhai_values.specs.declared.base.value.Union.{Union}
 use Rattle.rhai_values.specs.declared.base.value.Union.TheVariants as value
@@ -17,7 +16,7 @@ use Rattle.rhai_values.specs.Copy.{copy_of, copy_union, plain}
 use Rattle.rhai_state.specs.declared.error.EvalAltResult.{EvalAltResult}
 use Rattle.rhai_state.specs.declared.scope.Scope.{Scope}
 use Rattle.rhai_state.specs.declared.state.GlobalRuntimeState.{GlobalRuntimeState}
-use Rattle.rhai_state.specs.Scope.{entries_of, names_in}
+use Rattle.rhai_state.specs.Scope.{entries_of}
 use Rattle.rhai_operators.specs.Direct.{integer_in}
 use Rattle.rhai_machine.specs.machine.Machine.{Charge, Go}
 use Rattle.rhai_machine.specs.machine.Memory.{here, ◌⨾◌}
@@ -108,7 +107,6 @@ module _ {H : Type 0} (root index : Expr) (options : ASTFlags) (pos : Position) 
         (opens_by k s.local (layer.IntegerConstant n where_it_is) is) here
 
     module _ (t : S) (scope : Scope H) (held : Held H) (x : Dynamic H) (z : ℤ) (holds : x.value ≡ value.Int z)
-        (resolves : IsTrue (resolves_expr index (names_in scope)))
         (stands : standing (out-Expr index) (entries_of scope) ≡ Some x) (k : List (Frame H)) where
       abbrev on_index : List (Frame H)
       on_index = CallArgument (ToChain begun None) [] (position_of index) [] ∷ k
@@ -127,7 +125,7 @@ module _ {H : Type 0} (root index : Expr) (options : ASTFlags) (pos : Position) 
           ∙ ap (λ (o : Option (Dynamic H)). Go (opened_core None (option_map (λ v. v ∷ []) o) begun k (local_of old scope held))) no_literal)
           (charged_on rules t old mid scope held (ChainArguments begun item []) (position_of index) k (λ l. core (Argument index) on_index l)
           (ap (λ (o : Option Link). asked_move rules.setting o begun [] k (local_of old scope held)) (link_is alone)) room is)
-          ⨾ argument_goes rules index x t mid new_state scope held resolves stands more last on_index
+          ⨾ argument_goes rules index x t mid new_state scope held stands more last on_index
           ⨾ step_by rules _ _ (Go (core (ChainRoot (indexed_by z)) k (local_of new_state scope held)))
           (ap (λ (r : Result (Dynamic H) (EvalAltResult H)). Go (on_value r
           (λ v. arguments_core rules.setting (ToChain begun None) (v ∷ []) [] k (local_of new_state scope held)) k

@@ -1,7 +1,7 @@
 -- How a chain of one link assigns an integer to an item of an array that a variable holds.
 use Rattle.std.proofs.Common.{◌≡◌, ◌<◌, ◌+◌, ℕ, ℤ, Bool, true, false, ◌&&◌, List, ◌∷◌, length, slice_get, Option, Some, Result, Ok}
-use Rattle.std.proofs.Common.{refl, sym, ap, ◌∙◌, is_some, ok_or, rules}
-use Rattle.std.specs.Option.{option_map, option_or}
+use Rattle.std.proofs.Common.{refl, sym, ap, ◌∙◌, ok_or, rules}
+use Rattle.std.specs.Option.{option_map}
 use Rattle.std.specs.declared.num.NonZeroUsize.{NonZeroUsize}
 use Rattle.rhai_tree.specs.declared.expr.Expr.{Expr, out-Expr}
 use Rattle.rhai_tree.specs.declared.expr.Expr.TheOpen as layer
@@ -11,7 +11,6 @@ use Rattle.rhai_tree.specs.declared.position.Position.{Position}
 use Rattle.rhai_tree.specs.declared.token.Token.{Token}
 use Rattle.rhai_tree.specs.Position.{none}
 use Rattle.rhai_tree.specs.Positions.{position_of, start_of}
-use Rattle.rhai_tree.specs.Forms.{is_unqualified}
 use Rattle.rhai_tree.specs.Names.{Name}
 use Rattle.rhai_values.specs.declared.base.value.Dynamic.{Dynamic}
 use Rattle.rhai_values.specs.declared.base.value.Union.{Union, out-Union}
@@ -23,7 +22,7 @@ use Rattle.rhai_values.specs.Layers.{UnionLayer, layer_of}
 use Rattle.rhai_state.specs.declared.error.EvalAltResult.{EvalAltResult}
 use Rattle.rhai_state.specs.declared.scope.Scope.{Scope}
 use Rattle.rhai_state.specs.declared.state.GlobalRuntimeState.{GlobalRuntimeState}
-use Rattle.rhai_state.specs.Scope.{entries_of, index_of, revalued, value_in}
+use Rattle.rhai_state.specs.Scope.{entries_of, revalued, value_in}
 use Rattle.rhai_places.specs.declared.spot.Spot.{Spot}
 use Rattle.rhai_places.specs.declared.spot.Spot.TheVariants as spot
 use Rattle.rhai_places.specs.declared.spot.Refusal.{Refusal}
@@ -36,22 +35,23 @@ use Rattle.rhai_operators.specs.Answers.{Answer, op_assign_of}
 use Rattle.rhai_machine.specs.machine.Machine.{Charge, Go}
 use Rattle.rhai_machine.specs.machine.Memory.{here, next, ◌⨾◌}
 use Rattle.rhai_machine.specs.machine.Point.{after}
-use Rattle.rhai_machine.specs.language.Setting.{Rules, limit_under}
+use Rattle.rhai_machine.specs.language.Setting.{Rules, globals_of, limit_under}
 use Rattle.rhai_machine.specs.language.State.{Held, Local}
 use Rattle.rhai_machine.specs.language.Values.{Cells, is_handle, through_union, unit_value}
-use Rattle.rhai_machine.specs.language.Names.{looked_up, variable_of}
-use Rattle.rhai_machine.specs.language.Functions.{meant_function}
+use Rattle.rhai_machine.specs.language.Names.{Meaning, entry_named, looked_up, of_entry}
+use Rattle.rhai_machine.specs.language.Variables.{Variable, no_path, variable_named}
 use Rattle.rhai_machine.specs.language.Links.{Link, name_in}
 use Rattle.rhai_machine.specs.language.Places.{InFocus, focus_at, is_constant, target, unless_constant}
 use Rattle.rhai_machine.specs.language.Frames.{Assignment, AssignedChain, Back, Chain, ChainEnd, ChainRoot, Changed, Core, Frame, FromEntry, InPlace}
 use Rattle.rhai_machine.specs.language.Frames.{Locate, Measured, NewValue, ReadRoot, StepDown, Update, Walk, core, on_value}
 use Rattle.rhai_machine.specs.language.Assignment.{assign_core, if_fast, update_core, written_core}
 use Rattle.rhai_machine.specs.language.Chains.{assign_focus, assign_spot, begun_core, entered, entered_by, indexed_core, locate_core}
-use Rattle.rhai_machine.specs.language.Chains.{seen_move, stop_move, unless_barred_by, walk_move}
+use Rattle.rhai_machine.specs.language.Chains.{meant_core, seen_move, stop_move, unless_barred_by, walk_move}
 use Rattle.rhai_machine.specs.language.Located.{access_by, bars_key, is_indexed, is_place_spot, is_unit, lacks_key, spot_of}
 use Rattle.rhai_machine.specs.language.Members.{focused_on}
 use Rattle.rhai_machine.specs.language.Language.{move}
 use Rattle.rhai_machine.specs.language.Runs.{Goes, at, with_core}
+use Rattle.rhai_machine.proofs.MeantLaws.{meant_at}
 use Rattle.rhai_steps.specs.States.{local_of, state_of}
 use Rattle.rhai_steps.proofs.Pieces.{charged, step_by}
 use Rattle.rhai_operands.proofs.InPlace.{integer_sized}
@@ -116,29 +116,27 @@ module _ {S H : Type 0} (rules : Rules S H) (root index : Expr) (options : ASTFl
 
     module _ (t : S) (old reached : GlobalRuntimeState H) (scope : Scope H) (held : Held H) (offset : Option NonZeroUsize) (name : Name)
         (namespace : Namespace) (root_pos : Position) (form : out-Expr root ≡ layer.Variable offset name namespace root_pos)
-        (plainly : is_unqualified namespace.path ≡ true) (i : ℕ) (found_at : index_of name (entries_of scope) ≡ Some i)
+        (i : ℕ) (found_at : entry_named namespace.path name (entries_of scope) ≡ Some i)
         (stands : value_in (entries_of scope) (Some i) ≡ Some v) (room : old.num_operations < limit_under rules)
         (is : reached ≡ record old { num_operations = old.num_operations + 1 }) (k : List (Frame H)) where
-      abbrev begin : Option ℕ → Dynamic H → Core H
-      begin o x = begun_core (is_some o) (option_map (λ (n : ℕ). FromEntry n) o) x asked k (local_of reached scope held)
+      abbrev variable : Variable
+      variable = variable_named name namespace root_pos
 
-      reads : move rules.setting (core (ReadRoot name root_pos asked) k (local_of reached scope held)) ≡ Go (begin (Some i) v)
-      reads =
-          ap (λ (o : Option ℕ). Go (on_value (variable_of (local_of reached scope held).around.cells name root_pos
-          (option_or (value_in (entries_of scope) o) (meant_function (local_of reached scope held).around.lib name)))
-          (λ x. begin o x) k (local_of reached scope held))) found_at
-          ∙ ap (λ (o : Option (Dynamic H)). Go (on_value (variable_of (local_of reached scope held).around.cells name root_pos
-          (option_or o (meant_function (local_of reached scope held).around.lib name)))
-          (λ x. begin (Some i) x) k (local_of reached scope held))) stands
-          ∙ ap (λ (r : Result (Dynamic H) (EvalAltResult H)). Go (on_value r (λ x. begin (Some i) x) k (local_of reached scope held)))
-          (looks (local_of reached scope held).around.cells name root_pos v.value v (no_handle v.value items holds))
+      abbrev begin : Core H
+      begin = begun_core true (Some (FromEntry i)) v asked k (local_of reached scope held)
+
+      reads : move rules.setting (core (ReadRoot variable asked) k (local_of reached scope held)) ≡ Go begin
+      reads = ap (λ (r : Result (Meaning H) (EvalAltResult H)). Go (on_value r
+          (λ meaning. meant_core meaning asked k (local_of reached scope held)) k (local_of reached scope held)))
+          (meant_at (globals_of rules.setting.offer) (local_of reached scope held).around (entries_of scope) variable i v found_at stands
+          ∙ ap (of_entry i) (looks (local_of reached scope held).around.cells name root_pos v.value v (no_handle v.value items holds)))
 
       -- the variable is charged and lent
       pub root_comes : Goes rules (at (ChainRoot asked) k (state_of t old scope held))
           (at (Walk walked) (ChainEnd (Some (FromEntry i)) held.focus ∷ k) (state_of t reached scope (lent held)))
-      root_comes = charged rules t old reached scope held (ChainRoot asked) (ReadRoot name root_pos asked) root_pos
-          (λ k. rw (form, plainly) refl) room is k
-          ⨾ step_by rules _ _ (Go (begin (Some i) v)) reads here
+      root_comes = charged rules t old reached scope held (ChainRoot asked) (ReadRoot variable asked) root_pos
+          (λ k. rw form refl) room is k
+          ⨾ step_by rules _ _ (Go begin) reads here
 
     -- ---- the link
 
@@ -219,7 +217,7 @@ module _ {S H : Type 0} (rules : Rules S H) (root : Expr) (new : NewValue H) (to
   on_item = focused_on (Some x) l
 
   abbrev assignment : Assignment
-  assignment = record { name = name_in (out-Expr root); at = position_of root; op = new.op }
+  assignment = record { path = no_path; name = name_in (out-Expr root); at = position_of root; op = new.op }
 
   abbrev update : Update H
   update = record {

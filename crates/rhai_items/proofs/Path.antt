@@ -1,5 +1,5 @@
 -- An assignment by an operator to an item, of two integers, charged at once.
-use Rattle.std.proofs.Common.{◌≡◌, ◌≤◌, ◌<◌, ◌+◌, ℕ, ℤ, Bool, true, false, IsTrue, List, ◌∷◌, length, slice_get, Option, Some, None, Result, Ok}
+use Rattle.std.proofs.Common.{◌≡◌, ◌≤◌, ◌<◌, ◌+◌, ℕ, ℤ, Bool, true, false, List, ◌∷◌, length, slice_get, Option, Some, None, Result, Ok}
 use Rattle.std.proofs.Common.{refl, ap, map, ◌∙◌, arith, if◌then◌else◌}
 use Rattle.std.specs.declared.num.NonZeroUsize.{NonZeroUsize}
 use Rattle.rhai_tree.specs.declared.expr.Expr.{Expr, out-Expr}
@@ -11,8 +11,6 @@ use Rattle.rhai_tree.specs.declared.position.Position.{Position}
 use Rattle.rhai_tree.specs.declared.token.Token.{Token}
 use Rattle.rhai_tree.specs.Layers.{ExprLayer}
 use Rattle.rhai_tree.specs.Positions.{position_of}
-use Rattle.rhai_tree.specs.Forms.{is_unqualified}
-use Rattle.rhai_tree.specs.Frame.{resolves_expr}
 use Rattle.rhai_tree.specs.Names.{Name}
 use Rattle.rhai_values.specs.declared.base.value.Dynamic.{Dynamic}
 use Rattle.rhai_values.specs.declared.base.value.Union.{Union}
@@ -23,7 +21,7 @@ use Rattle.rhai_values.specs.Layers.{UnionLayer, layer_of}
 use Rattle.rhai_state.specs.declared.error.EvalAltResult.{EvalAltResult}
 use Rattle.rhai_state.specs.declared.scope.Scope.{Scope}
 use Rattle.rhai_state.specs.declared.state.GlobalRuntimeState.{GlobalRuntimeState}
-use Rattle.rhai_state.specs.Scope.{entries_of, index_of, name_of, names_in, revalued, value_in}
+use Rattle.rhai_state.specs.Scope.{entries_of, name_of, revalued, value_in}
 use Rattle.rhai_places.specs.declared.spot.Spot.TheVariants as spot
 use Rattle.rhai_places.specs.Indexing.{index_in}
 use Rattle.rhai_places.specs.Parts.{value_at, with_value}
@@ -34,6 +32,7 @@ use Rattle.rhai_machine.specs.machine.Machine.{Go}
 use Rattle.rhai_machine.specs.machine.Memory.{here, ◌⨾◌}
 use Rattle.rhai_machine.specs.language.Setting.{Rules, limit_under}
 use Rattle.rhai_machine.specs.language.State.{Held}
+use Rattle.rhai_machine.specs.language.Names.{entry_named}
 use Rattle.rhai_machine.specs.language.Values.{unit_value}
 use Rattle.rhai_machine.specs.language.Places.{InEntry, is_constant}
 use Rattle.rhai_machine.specs.language.Frames.{AssignChain, AssignedChain, ChainEnd, Eval, Frame, FromEntry, NewValue, OpenChain, OpenStmt}
@@ -137,12 +136,10 @@ module _ {H : Type 0} where
 
 module _ {S H : Type 0} (rules : Rules S H) (t : S) (scope : Scope H) (held : Held H) (op : OpAssignment) (lhs root index rhs : Expr)
     (options : ASTFlags) (pos : Position) (restoring : Bool) (form : out-Expr lhs ≡ layer.Index root index options pos)
-    (alone : index_alone (out-Expr index) ≡ true) (resolves : IsTrue (resolves_expr rhs (names_in scope)))
-    (resolves_index : IsTrue (resolves_expr index (names_in scope)))
-    (offset : Option NonZeroUsize) (name : Name) (namespace : Namespace) (root_pos : Position)
-    (root_form : out-Expr root ≡ layer.Variable offset name namespace root_pos) (plainly : is_unqualified namespace.path ≡ true)
+    (alone : index_alone (out-Expr index) ≡ true) (offset : Option NonZeroUsize) (name : Name) (namespace : Namespace) (root_pos : Position)
+    (root_form : out-Expr root ≡ layer.Variable offset name namespace root_pos)
     (token : Token) (is_token : op.op ≡ Some token) (fast : rules.setting.offer.fast_operators ≡ true) (i : ℕ) (v : Dynamic H)
-    (found_at : index_of name (entries_of scope) ≡ Some i) (stands : value_in (entries_of scope) (Some i) ≡ Some v) where
+    (found_at : entry_named namespace.path name (entries_of scope) ≡ Some i) (stands : value_in (entries_of scope) (Some i) ≡ Some v) where
   -- the value comes
   value_comes : (y : Dynamic H) → standing (out-Expr rhs) (entries_of scope) ≡ Some y → (old mid : GlobalRuntimeState H) →
       old.num_operations < limit_under rules → mid ≡ record old { num_operations = old.num_operations + 1 } → (k : List (Frame H)) →
@@ -151,7 +148,7 @@ module _ {S H : Type 0} (rules : Rules S H) (t : S) (scope : Scope H) (held : He
   value_comes y given old mid room is k =
       step_by rules _ _ (Go (core (Eval rhs) (AssignChain root (layer.Index root index options pos) op (position_of rhs) ∷ k)
       (local_of old scope held))) (ap (λ (l : ExprLayer). assignment_move l op rhs k (local_of old scope held)) form) here
-      ⨾ value_goes rules rhs y t old mid scope held resolves given room is
+      ⨾ value_goes rules rhs y t old mid scope held given room is
       (AssignChain root (layer.Index root index options pos) op (position_of rhs) ∷ k)
       ⨾ step_by rules _ _ (Go (core (OpenChain (begun root index options pos (record { op = op; value = copy_of y }))) (AssignedChain ∷ k)
       (local_of mid scope held)))
@@ -178,10 +175,10 @@ module _ {S H : Type 0} (rules : Rules S H) (t : S) (scope : Scope H) (held : He
         let all : charges_of (out-Expr index) ≡ 3 + extra = charges_are (out-Expr index) in
         let new : NewValue H = record { op = op; value = copy_of knows.y } in
         value_comes knows.y knows.given old (counted 1) (omega (arith, room, all)) refl k
-        ⨾ index_comes root index options pos new rules alone t scope held to.x to.z to.number resolves_index to.given (AssignedChain ∷ k)
+        ⨾ index_comes root index options pos new rules alone t scope held to.x to.z to.number to.given (AssignedChain ∷ k)
         (counted 1) (counted (1 + extra)) (omega (arith, room, all)) (ap (λ (m : ℕ). record old { num_operations = m }) (omega arith))
         ⨾ root_comes rules root index options pos new alone to.z v to.items to.holds t (counted (1 + extra)) (counted (2 + extra)) scope held
-        offset name namespace root_pos root_form plainly i found_at stands (omega (arith, room, all))
+        offset name namespace root_pos root_form i found_at stands (omega (arith, room, all))
         (ap (λ (m : ℕ). record old { num_operations = m }) (omega arith)) (AssignedChain ∷ k)
         ⨾ item_comes rules root index options pos new alone to.z v to.items to.holds t (counted (2 + extra)) last scope held
         (omega (arith, room, all)) (is ∙ ap (λ (m : ℕ). record old { num_operations = m }) (omega (arith, all)))

@@ -34,7 +34,7 @@ use rhai_state::scope::Scope;
 use rhai_state::state::GlobalRuntimeState;
 use rhai_state::table::NativeTable;
 use rhai_steps::charges::charge_all;
-use rhai_steps::variables::place_of_variable;
+use rhai_steps::variables::entry_of_variable;
 use rhai_tree::expr::{Expr, OpAssignment};
 use rhai_values::base::value::{AccessMode, Dynamic, Host, Union};
 
@@ -173,13 +173,19 @@ pub fn assign_item<H: Host, T: NativeTable<H>>(
     let Some((root, index)) = item_parts(lhs) else {
         return false;
     };
-    let Expr::Variable { offset, name, .. } = root else {
+    let Expr::Variable {
+        offset,
+        name,
+        namespace,
+        ..
+    } = root
+    else {
         return false;
     };
     let Some(token) = op.op else {
         return false;
     };
-    let Some(entry) = place_of_variable(global, scope, *offset, name) else {
+    let Some(entry) = entry_of_variable(global, scope, *offset, name, namespace) else {
         return false;
     };
     let position = integer_in_place(global, scope, index);

@@ -2,8 +2,8 @@
 use Rattle.std.proofs.Common.{◌≡◌, inl, inr, ℕ, zero, suc, Bool, true, false, List, [], ◌∷◌, Option, Some, None, Ok}
 use Rattle.std.proofs.Common.{refl, sym, ap, subst, ◌∙◌}
 use Rattle.std.specs.List.{slice_get, slice_set}
-use Rattle.std.specs.Option.{option_map, option_or}
-use Rattle.std.specs.Prelude.{is_some}
+use Rattle.std.specs.Option.{option_map}
+use Rattle.std.specs.Prelude.{Result}
 use Rattle.std.specs.Str.{bytes_eq}
 use Rattle.rhai_tree.specs.Layers.{ExprLayer}
 use Rattle.rhai_values.specs.declared.base.value.AccessMode.TheVariants.{ReadWrite}
@@ -16,19 +16,20 @@ use Rattle.rhai_state.specs.Scope.{found, index_of, name_of, revalued, value_in,
 use Rattle.rhai_machine.specs.Types.{Dynamic, EvalAltResult, Position, ScopeEntry}
 use Rattle.rhai_machine.specs.machine.Machine.{Halt, Go, Machine}
 use Rattle.rhai_machine.specs.machine.Point.{Point, Reaches, here, next, ◌⨾◌, moved, after}
-use Rattle.rhai_machine.specs.language.Setting.{Rules}
+use Rattle.rhai_machine.specs.language.Setting.{Globals, Rules, globals_of}
 use Rattle.rhai_machine.specs.language.State.{State}
 use Rattle.rhai_machine.specs.language.Values.{Cells, is_handle, unit_value}
-use Rattle.rhai_machine.specs.language.Names.{looked_up, variable_of}
+use Rattle.rhai_machine.specs.language.Variables.{Variable}
+use Rattle.rhai_machine.specs.language.Names.{Meaning, entry_named, looked_up, of_entry}
 use Rattle.rhai_machine.specs.language.Located.{index_by}
-use Rattle.rhai_machine.specs.language.Functions.{meant_function}
 use Rattle.rhai_machine.specs.language.Frames.{FromEntry, NewValue, Chain, Frame, Core, core, on_value, ReadRoot, Walk, Back, Changed, Fail}
 use Rattle.rhai_machine.specs.language.Frames.{ChainEnd}
 use Rattle.rhai_machine.specs.language.Members.{focused_on}
-use Rattle.rhai_machine.specs.language.Chains.{begun_core, read_root_core}
+use Rattle.rhai_machine.specs.language.Chains.{meant_core, read_root_core}
 use Rattle.rhai_machine.specs.language.Unwinding.{ended_chain}
 use Rattle.rhai_machine.specs.language.Language.{machine}
 use Rattle.rhai_machine.specs.language.Runs.{at}
+use Rattle.rhai_machine.proofs.MeantLaws.{meant_at}
 use Rattle.rhai_laws.specs.Assigned.{AssignedAt, AssignsAtPath, IsAssigning, LeadsDown, last, further}
 use Rattle.rhai_laws.specs.Selectors.{Selector, read}
 use Rattle.rhai_laws.proofs.SelectorLemmas.{Writes, means_no_handle}
@@ -125,47 +126,54 @@ module _ {H : Type 0} where
   root_no_handle (further {args = args} {v = v} {s = s} link behind below first follows means is leads) =
       means_no_handle v.value (layer_of (index_by link.form args)) s means.step
 
-module _ {S H : Type 0} (rules : Rules S H) (allows : ℕ → Bool) (name : List ℕ) (pos : Position) (chain : Chain H) (new : NewValue H)
-    (path : List Selector) (mid : State S H) (given : IsAssigning name chain new path mid) where
+module _ {S H : Type 0} (rules : Rules S H) (allows : ℕ → Bool) (variable : Variable) (chain : Chain H) (new : NewValue H)
+    (path : List Selector) (mid : State S H) (given : IsAssigning variable chain new path mid) where
   abbrev Comes : Point S (Core H) → Point S (Core H) → Type 0
   Comes p q = Reaches (machine rules) allows p q
 
+  abbrev name : List ℕ
+  name = variable.name
+
   abbrev scope : List (ScopeEntry H)
   scope = mid.local.scope
+
+  abbrev cells : Cells H
+  cells = mid.local.around.cells
 
   abbrev w : Dynamic H
   w = with_mode ReadWrite new.value
 
   -- ---- the chain's begin
 
-  abbrev ends_at : Option ℕ → List (Frame H)
-  ends_at index = ChainEnd (option_map FromEntry index) mid.local.focus ∷ []
+  there : Newest name scope
+  there = newest_of name scope given.root given.there
+
+  abbrev ends : List (Frame H)
+  ends = ChainEnd (Some (FromEntry there.index)) mid.local.focus ∷ []
 
   abbrev walked : Chain H
   walked = assigning rules allows chain.root new given.plain chain.rest chain.args true
 
-  there : Newest name scope
-  there = newest_of name scope given.root given.variable
+  abbrev globals : Globals H
+  globals = globals_of rules.setting.offer
 
-  abbrev begun_by : Dynamic H → Core H
-  begun_by v = begun_core (is_some (index_of name scope)) (option_map FromEntry (index_of name scope)) v chain [] mid.local
+  abbrev meant_by : Result (Meaning H) (EvalAltResult H) → Core H
+  meant_by r = on_value r (λ meaning. meant_core meaning chain [] mid.local) [] mid.local
 
-  begun_is : read_root_core name pos chain [] mid.local
-      ≡ core (Walk walked) (ends_at (index_of name scope)) (focused_on (Some given.root) mid.local)
-  begun_is = ap (λ (o : Option (Dynamic H)). on_value
-      (variable_of mid.local.around.cells name pos (option_or o (meant_function mid.local.around.lib name))) begun_by [] mid.local)
-      given.variable
-      ∙ ap (λ r. on_value r begun_by [] mid.local)
-      (looked_up_itself mid.local.around.cells name pos given.root.value given.root (root_no_handle given.leads))
-      ∙ ap (λ (b : Bool). begun_core b (option_map FromEntry (index_of name scope)) given.root chain [] mid.local) (ap is_some there.is)
-      ∙ ap (λ (o : Option (NewValue H)). core (Walk (record chain { new = o; in_place = true })) (ends_at (index_of name scope))
+  begun_is : read_root_core globals variable chain [] mid.local ≡ core (Walk walked) ends (focused_on (Some given.root) mid.local)
+  begun_is = ap meant_by (meant_at globals mid.local.around scope variable there.index given.root
+      (ap (λ (names : List (List ℕ)). entry_named names name scope) given.unqualified ∙ there.is)
+      (ap (λ o. value_in scope o) (sym there.is) ∙ given.there))
+      ∙ ap (λ (r : Result (Dynamic H) (EvalAltResult H)). meant_by (of_entry there.index r))
+      (looked_up_itself cells name variable.at given.root.value given.root (root_no_handle given.leads))
+      ∙ ap (λ (o : Option (NewValue H)). core (Walk (record chain { new = o; in_place = true })) ends
       (focused_on (Some given.root) mid.local)) given.assigns
 
   abbrev starts : Point S (Core H)
-  starts = at (ReadRoot name pos chain) [] mid
+  starts = at (ReadRoot variable chain) [] mid
 
-  begins : Comes starts (at (Walk walked) (ends_at (index_of name scope)) (working rules allows given.root mid.count mid))
-  begins = step_by rules allows _ _ (Go (core (Walk walked) (ends_at (index_of name scope)) (focused_on (Some given.root) mid.local)))
+  begins : Comes starts (at (Walk walked) ends (working rules allows given.root mid.count mid))
+  begins = step_by rules allows _ _ (Go (core (Walk walked) ends (focused_on (Some given.root) mid.local)))
       (ap (λ (c : Core H). Go c) begun_is) here
 
   -- ---- the chain's end
@@ -173,16 +181,16 @@ module _ {S H : Type 0} (rules : Rules S H) (allows : ℕ → Bool) (name : List
   abbrev left : State S H → State S H
   left s = record s { local = ended_chain (Some (FromEntry there.index)) mid.local.focus s.local }
 
-  fails_end : (e : EvalAltResult H) (s : State S H) → Comes (at (Fail e) (ends_at (Some there.index)) s) (at (Fail e) [] (left s))
+  fails_end : (e : EvalAltResult H) (s : State S H) → Comes (at (Fail e) ends s) (at (Fail e) [] (left s))
   fails_end e s = step_by rules allows _ _ (Go (core (Fail e) [] (left s).local)) refl here
 
   marked_ends : (whole : Dynamic H) (n : ℕ) →
-      Comes (at (Changed unit_value) (ends_at (Some there.index)) (working rules allows whole n mid))
+      Comes (at (Changed unit_value) ends (working rules allows whole n mid))
       (at (Back unit_value) [] (left (working rules allows whole n mid)))
   marked_ends whole n =
       let s : State S H = working rules allows whole n mid in
-      step_by rules allows _ _ (Go (core (Back unit_value) (ends_at (Some there.index)) s.local)) refl
-      (step_by rules allows (at (Back unit_value) (ends_at (Some there.index)) s) _ (Go (core (Back unit_value) [] (left s).local)) refl here)
+      step_by rules allows _ _ (Go (core (Back unit_value) ends s.local)) refl
+      (step_by rules allows (at (Back unit_value) ends s) _ (Go (core (Back unit_value) [] (left s).local)) refl here)
 
   -- ---- what is known of the end
 
@@ -191,7 +199,7 @@ module _ {S H : Type 0} (rules : Rules S H) (allows : ℕ → Bool) (name : List
       let now : found name (after_put name scope there whole) ≡ Some whole = found_after name scope there whole in
       record {
         written = ap (λ o. read o path) now ∙ writes.written;
-        stays = λ other parts. ap (λ o. read o other) now ∙ writes.stays other parts ∙ ap (λ o. read o other) (sym given.variable);
+        stays = λ other parts. ap (λ o. read o other) now ∙ writes.stays other parts ∙ ap (λ o. read o other) (sym given.there);
         entries = others_after name scope there whole;
         rest = refl;
       }
@@ -200,7 +208,7 @@ module _ {S H : Type 0} (rules : Rules S H) (allows : ℕ → Bool) (name : List
   state_in p = record { table = p.table; count = p.count; local = p.core.local }
 
   concluded : (x : Dynamic H) (end : State S H) → Comes starts (at (Back x) [] end) →
-      Ends rules allows starts (ends_at (Some there.index)) mid path w given.root → AssignedAt name path w mid end
+      Ends rules allows starts ends mid path w given.root → AssignedAt name path w mid end
   concluded x end steps (inl fails) =
       let same : at (Fail fails.error) [] (left fails.state) ≡ at (Back x) [] end =
       one_end (machine rules) allows (fails.steps ⨾ fails_end fails.error fails.state) steps refl refl in
@@ -211,22 +219,20 @@ module _ {S H : Type 0} (rules : Rules S H) (allows : ℕ → Bool) (name : List
       one_end (machine rules) allows (done.steps ⨾ marked_ends done.whole done.count) steps refl refl in
       subst (λ (end : State S H). AssignedAt name path w mid end) (ap state_in same) (assigned done.whole done.count done.writes)
 
-  before : (p q : Point S (Core H)) (k : List (Frame H)) → Comes p q → Ends rules allows q k mid path w given.root →
-      Ends rules allows p k mid path w given.root
-  before p q k steps (inl fails) = inl (record { error = fails.error; state = fails.state; steps = steps ⨾ fails.steps })
-  before p q k steps (inr done) =
+  before : (p q : Point S (Core H)) → Comes p q → Ends rules allows q ends mid path w given.root →
+      Ends rules allows p ends mid path w given.root
+  before p q steps (inl fails) = inl (record { error = fails.error; state = fails.state; steps = steps ⨾ fails.steps })
+  before p q steps (inr done) =
       inr (record { whole = done.whole; count = done.count; writes = done.writes; steps = steps ⨾ done.steps })
 
-  whole_way : Ends rules allows starts (ends_at (Some there.index)) mid path w given.root
-  whole_way = subst (λ (o : Option ℕ). Ends rules allows starts (ends_at o) mid path w given.root) there.is
-      (before starts (at (Walk walked) (ends_at (index_of name scope)) (working rules allows given.root mid.count mid))
-      (ends_at (index_of name scope)) begins
-      (walk_ends rules allows chain.root new given.plain given.leads true (ends_at (index_of name scope)) mid mid.count))
+  whole_way : Ends rules allows starts ends mid path w given.root
+  whole_way = before starts (at (Walk walked) ends (working rules allows given.root mid.count mid)) begins
+      (walk_ends rules allows chain.root new given.plain given.leads true ends mid mid.count)
 
   pub assigns_there : (x : Dynamic H) (end : State S H) → Comes starts (at (Back x) [] end) → AssignedAt name path w mid end
   assigns_there x end steps = concluded x end steps whole_way
 
 module _ {S H : Type 0} (rules : Rules S H) where
   pub assigns_at_path : AssignsAtPath rules
-  assigns_at_path allows start name pos chain new path x mid end ends passes given =
-      assigns_there rules allows name pos chain new path mid given x end (goes_on (machine rules) allows passes ends refl)
+  assigns_at_path allows start variable chain new path x mid end ends passes given =
+      assigns_there rules allows variable chain new path mid given x end (goes_on (machine rules) allows passes ends refl)

@@ -20,12 +20,13 @@ use Rattle.rhai_machine.specs.machine.Machine.{Move, Go, Charge}
 use Rattle.rhai_machine.specs.machine.Point.{Point, Reaches, here, next, ◌⨾◌, moved, after, paid}
 use Rattle.rhai_machine.specs.language.Setting.{Rules}
 use Rattle.rhai_machine.specs.language.State.{Local, State}
+use Rattle.rhai_machine.specs.language.Variables.{no_path}
 use Rattle.rhai_machine.specs.language.Values.{Cells, is_handle, through_union, unit_value}
 use Rattle.rhai_machine.specs.language.Places.{InFocus, focus_at, is_constant, target, unless_constant}
 use Rattle.rhai_machine.specs.language.Links.{Link, LinkForm, AtIndex, AtProperty, AtMethod, link_of, name_in}
 use Rattle.rhai_machine.specs.language.Located.{access_by, bars_key, index_by, is_indexed, is_place_spot, spot_of}
 use Rattle.rhai_machine.specs.language.Frames.{NewValue, Chain, Control, Frame, Core, core, on_value, Walk, Locate, Back, Changed, Fail}
-use Rattle.rhai_machine.specs.language.Frames.{StepDown, Measured}
+use Rattle.rhai_machine.specs.language.Frames.{Assignment, StepDown, Measured}
 use Rattle.rhai_machine.specs.language.Members.{focus_of, focused_on}
 use Rattle.rhai_machine.specs.language.Calls.{sized}
 use Rattle.rhai_machine.specs.language.Assignment.{assign_core}
@@ -287,23 +288,25 @@ module _ {S H : Type 0} (rules : Rules S H) (allows : ℕ → Bool) where
           ∙ ap (λ (r : Result (Dynamic H × Spot) (EvalAltResult H)). on_value (unless_barred_by (bars_key v index) chain.root r)
           (λ found. assign_spot rules.setting (is_place_spot found.1) found.1 link chain.root new found.0 k there) k there) opens.finds
 
+      abbrev assignment : Assignment
+      assignment = record { path = no_path; name = name; at = position_of chain.root; op = new.op }
+
       -- and it is written there, unless it is a constant
       abbrev stored : (constant : Bool) → Core H
       stored constant = on_value (unless_constant constant name (start_of chain.root) (target InFocus opens.old))
-          (λ target. assign_core rules.setting new.op.op (record { name = name; at = position_of chain.root; op = new.op }) target new.value
-          frames (focused_on (Some opens.old) state.local)) frames (focused_on (Some opens.old) state.local)
+          (λ target. assign_core rules.setting new.op.op assignment target new.value frames (focused_on (Some opens.old) state.local))
+          frames (focused_on (Some opens.old) state.local)
 
       stored_is : assigned_at false ≡ stored (is_constant opens.old.mode)
       stored_is = ap (λ (b : Bool). assign_spot rules.setting b opens.at link chain.root new opens.source k there) opens.stands.place
           ∙ ap (λ (o : Option (Dynamic H)). assign_focus rules.setting chain.root new frames (focused_on o state.local)) opens.stands.holds
-          ∙ ap (λ r. on_value r (λ target. assign_core rules.setting new.op.op
-          (record { name = name; at = position_of chain.root; op = new.op }) target new.value
+          ∙ ap (λ r. on_value r (λ target. assign_core rules.setting new.op.op assignment target new.value
           frames (focused_on (Some opens.old) state.local)) frames (focused_on (Some opens.old) state.local))
           (no_cell state.local.around.cells name (start_of chain.root) opens.old.value opens.old opens.unshared)
 
       put_is : stored false ≡ core (Back unit_value) frames (focused_on (Some w) state.local)
-      put_is = ap (λ token. assign_core rules.setting token (record { name = name; at = position_of chain.root; op = new.op })
-          (target InFocus opens.old) new.value frames (focused_on (Some opens.old) state.local)) plain
+      put_is = ap (λ token. assign_core rules.setting token assignment (target InFocus opens.old) new.value frames
+          (focused_on (Some opens.old) state.local)) plain
 
       abbrev located : ℕ → Point S (Core H)
       located n = at (Locate link chain) k (working v n state)

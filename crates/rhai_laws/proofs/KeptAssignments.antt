@@ -9,7 +9,6 @@ use Rattle.rhai_tree.specs.declared.expr.Expr.TheOpen as layer
 use Rattle.rhai_tree.specs.Layers.{ExprLayer}
 use Rattle.rhai_values.specs.declared.base.value.AccessMode.{AccessMode}
 use Rattle.rhai_values.specs.declared.base.value.AccessMode.TheVariants.{ReadWrite, ReadOnly}
-use Rattle.rhai_tree.specs.Forms.{is_unqualified}
 use Rattle.rhai_values.specs.declared.base.value.Dynamic.{Dynamic}
 use Rattle.rhai_values.specs.declared.base.value.Union.{Union}
 use Rattle.rhai_values.specs.declared.base.value.Union.TheVariants as value
@@ -17,20 +16,19 @@ use Rattle.rhai_state.specs.declared.error.EvalAltResult.{EvalAltResult}
 use Rattle.rhai_values.specs.Cells.{value_of_cell}
 use Rattle.rhai_values.specs.Modes.{with_mode}
 use Rattle.rhai_state.specs.Native.{Reply, Missing, Gives, Faults}
-use Rattle.rhai_state.specs.Scope.{index_of, found}
 use Rattle.rhai_operators.specs.Answers.{Answer, op_assign_of}
-use Rattle.rhai_machine.specs.language.Setting.{Setting}
+use Rattle.rhai_machine.specs.language.Setting.{Globals, Setting, globals_of}
 use Rattle.rhai_machine.specs.language.State.{Local}
-use Rattle.rhai_machine.specs.language.Functions.{meant_function}
-use Rattle.rhai_machine.specs.language.Names.{bound_this}
+use Rattle.rhai_machine.specs.language.Variables.{Variable, no_path}
+use Rattle.rhai_machine.specs.language.Names.{Meaning, AtEntry, AsTemporary, bound_this, meant}
 use Rattle.rhai_machine.specs.language.Places.{Place, InEntry, InCell, InThis, InFocus, Target, target, is_constant, unless_constant}
-use Rattle.rhai_machine.specs.language.Places.{target_in_cell, target_at, no_variable, target_found, target_of, focus_in_cell, focus_at}
+use Rattle.rhai_machine.specs.language.Places.{target_in_cell, target_at, target_meant, target_of, focus_in_cell, focus_at}
 use Rattle.rhai_machine.specs.language.Places.{focus_target, this_at, this_target, put}
 use Rattle.rhai_machine.specs.language.Frames.{Attempt, InPlace, AsValue, Assignment, Update, Frame}
 use Rattle.rhai_machine.specs.language.Frames.{Core, core, where_there, QuestionUpdate}
 use Rattle.rhai_machine.specs.language.Frames.{FireUpdate}
 use Rattle.rhai_machine.specs.language.Calls.{sized, applied, replied, placed_if_none}
-use Rattle.rhai_machine.specs.language.Assignment.{store_this, to_this}
+use Rattle.rhai_machine.specs.language.Assignment.{store_this, to_this, variable_of_assignment}
 use Rattle.rhai_machine.specs.language.Assignment.{assignment_move, written_core, done, if_fast, says_missing, operation_of}
 use Rattle.rhai_machine.specs.language.Assignment.{native_of, left_in, update_core, assign_core, store_core, changed_core, fault_core}
 use Rattle.rhai_machine.specs.language.Assignment.{value_core, answered_core, lent_core, barred_core, fire_update}
@@ -56,16 +54,15 @@ module _ {H : Type 0} where
   at_stands name pos i (value.Cell id) v t l is = cell_stands name pos v.mode id.number (value_of_cell l.around.cells id.number) t l refl is
   at_stands name pos i _ v t l is = constant_stands (is_constant v.mode) name pos (target (InEntry i) v) t l tt is
 
-  found_stands : (otherwise : EvalAltResult H) (name : List ℕ) (pos : Position) (index : Option ℕ) (there : Option (Dynamic H))
-      (t : Target H) (l : Local H) → target_found l.around.cells otherwise name pos index there ≡ Ok t → Stands t.place l
-  found_stands otherwise name pos (Some i) (Some v) t l is = at_stands name pos i v.value v t l is
-  found_stands otherwise name pos (Some i) None t l is = cc
-  found_stands otherwise name pos None there t l is = cc
+  meant_stands : (name : List ℕ) (pos : Position) (r : Result (Meaning H) (EvalAltResult H)) (t : Target H) (l : Local H) →
+      target_meant l.around.cells name pos r ≡ Ok t → Stands t.place l
+  meant_stands name pos (Ok (AtEntry i v)) t l is = at_stands name pos i v.value v t l is
+  meant_stands name pos (Ok (AsTemporary v)) t l is = cc
+  meant_stands name pos (Err e) t l is = cc
 
-  pub target_stands : (name : List ℕ) (pos : Position) (t : Target H) (l : Local H) →
-      target_of l.around.cells l.around.lib name pos l.scope ≡ Ok t → Stands t.place l
-  target_stands name pos t l is = found_stands (no_variable (meant_function l.around.lib name) name pos) name pos (index_of name l.scope)
-      (found name l.scope) t l is
+  pub target_stands : (globals : Globals H) (variable : Variable) (t : Target H) (l : Local H) →
+      target_of globals l.around l.scope variable ≡ Ok t → Stands t.place l
+  target_stands globals variable t l is = meant_stands variable.name variable.at (meant globals l.around l.scope variable) t l is
 
   -- and so does the focus of a chain that is assigned to
   focus_cell_stands : (name : List ℕ) (pos : Position) (mode : AccessMode) (n : ℕ) (there : Option (Dynamic H)) (t : Target H)
@@ -111,8 +108,7 @@ module _ {H : Type 0} (a : Asked) where
 
   pub assignment_keeps : (form : ExprLayer) (op : OpAssignment) (rhs : Expr) (c : Core H) (k : List (Frame H)) (l : Local H) →
       Keeps a c (calm k l) → Moves (Keeps a) c (assignment_move form op rhs k l)
-  assignment_keeps (layer.Variable offset name namespace pos) op rhs c k l h =
-      there_keeps (is_unqualified namespace.path) c _ (through a h (quiet a tt refl (λ t. t)))
+  assignment_keeps (layer.Variable offset name namespace pos) op rhs c k l h = through a h (quiet a tt refl (λ t. t))
   assignment_keeps (layer.ThisPtr pos) op rhs c k l h = through a h (to_this_keeps (bound_this pos l.this) op pos rhs k l)
   assignment_keeps (layer.Index lhs rest options pos) op rhs c k l h = through a h (quiet a tt refl (λ t. t))
   assignment_keeps (layer.Dot lhs rest options pos) op rhs c k l h = through a h (quiet a tt refl (λ t. t))
@@ -160,15 +156,15 @@ module _ {H : Type 0} (a : Asked) where
 
     pub store_keeps : (r : Result (Target H) (EvalAltResult H)) (assignment : Assignment) (v : Dynamic H)
         (k : List (Frame H)) (l : Local H) →
-        target_of l.around.cells l.around.lib assignment.name assignment.at l.scope ≡ r →
+        target_of (globals_of s.offer) l.around l.scope (variable_of_assignment assignment) ≡ r →
         Keeps a (calm k l) (store_core s r assignment v k l)
-    store_keeps r assignment v k l is =
-        stored_keeps r assignment v k l (λ t ok. target_stands assignment.name assignment.at t l (is ∙ ok))
+    store_keeps r assignment v k l is = stored_keeps r assignment v k l
+        (λ t ok. target_stands (globals_of s.offer) (variable_of_assignment assignment) t l (is ∙ ok))
 
     pub store_this_keeps : (op : OpAssignment) (pos : Position) (v : Dynamic H) (k : List (Frame H)) (l : Local H) →
         Keeps a (calm k l) (store_this s op pos v k l)
-    store_this_keeps op pos v k l = stored_keeps (this_target l.around.cells pos l.this) (record { name = []; at = pos; op = op }) v k l
-        (λ t ok. this_stands pos l.this t l ok)
+    store_this_keeps op pos v k l = stored_keeps (this_target l.around.cells pos l.this)
+        (record { path = no_path; name = []; at = pos; op = op }) v k l (λ t ok. this_stands pos l.this t l ok)
 
     changed_keeps : (r : Result (Dynamic H) (EvalAltResult H)) (u : Update H) (k : List (Frame H)) (l : Local H) →
         Keeps a (calm k l) (changed_core s r u k l)

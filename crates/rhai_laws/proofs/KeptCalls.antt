@@ -17,10 +17,11 @@ use Rattle.rhai_values.specs.declared.base.value.FnPtrKind.{FnPtrKind}
 use Rattle.rhai_values.specs.declared.base.value.FnPtrKind.TheVariants as kind
 use Rattle.rhai_values.specs.Cells.{value_of_cell}
 use Rattle.rhai_state.specs.declared.error.EvalAltResult.{EvalAltResult}
-use Rattle.rhai_machine.specs.language.Setting.{Setting}
+use Rattle.rhai_machine.specs.language.Setting.{Setting, globals_of}
 use Rattle.rhai_machine.specs.language.State.{Local}
 use Rattle.rhai_machine.specs.language.Places.{Place, InCell, is_barred}
 use Rattle.rhai_functions.specs.declared.function.Function.{Function}
+use Rattle.rhai_machine.specs.language.Variables.{Path, Variable, path_of, variable_in}
 use Rattle.rhai_machine.specs.language.Names.{bound_this}
 use Rattle.rhai_machine.specs.language.Frames.{Operation, Lender, FromEntry, FromThis, FromFocus, Dispatch, Call, Frame, Core, core}
 use Rattle.rhai_machine.specs.language.Frames.{changed, on_value, CallNamed, Question, Fire, OpenExpr}
@@ -30,16 +31,15 @@ use Rattle.rhai_machine.specs.language.Frames.{Keyword, CallPointer, MakePointer
 use Rattle.rhai_machine.specs.language.Expressions.{call_move}
 use Rattle.rhai_machine.specs.language.Calls.{First, first_of, first_in, in_cell, lendable, place_of, while_from, put_left, call_native}
 use Rattle.rhai_machine.specs.language.Calls.{fire_first, fire_move, barred_call, question_first, question_move, call_of, plainly, races}
-use Rattle.rhai_machine.specs.language.Calls.{answered, dispatch_core, operator_core, replied, applied}
+use Rattle.rhai_machine.specs.language.Calls.{answered, behind_path, dispatch_core, operator_core, replied, applied}
 use Rattle.rhai_machine.specs.language.Arguments.{call_on, lent_this, this_in, is_captured, linked_to, numbered_core, arguments_there}
 use Rattle.rhai_machine.specs.language.Arguments.{arguments_core, on_variable, on_this, captured_move, named_move, operation_named}
 use Rattle.rhai_machine.specs.language.Arguments.{pointer_of, pointer_wanted, text_wanted, unlinked_core, pointer_core}
-use Rattle.rhai_machine.specs.language.Arguments.{keyword_core, keyword_of, function_core, function_of, variable_in}
+use Rattle.rhai_machine.specs.language.Arguments.{keyword_core, keyword_of, function_core, operation_in, behind_move, function_move}
 use Rattle.rhai_machine.proofs.MethodLaws.{Dispatched, dispatch_ends, linked_ends}
 use Rattle.rhai_laws.specs.Kept.{Stands}
 use Rattle.rhai_laws.specs.Steady.{Moves}
 use Rattle.rhai_laws.proofs.Keeping.{Asked, Keeps, quiet, through, after, calm, ended_keeps, put_keeps}
-use Rattle.rhai_laws.proofs.KeptAssignments.{there_keeps}
 
 module _ {H : Type 0} where
   -- the place that a first argument goes back to stands, if there is one
@@ -104,19 +104,6 @@ module _ {H : Type 0} (a : Asked) where
       Keeps a (calm k l) (function_core keyword operation args captures k l)
   function_keeps (Some keyword) operation (arg ∷ args) captures k l = quiet a tt refl (λ t. t)
   function_keeps _ operation args captures k l = quiet a tt refl (λ t. t)
-
-  pub call_keeps : (fast : Bool) (token : Option Token) (call : FnCallExpr) (args : List Expr) (pos : Position) (form : ExprLayer)
-      (k : List (Frame H)) (l : Local H) →
-      Moves (Keeps a) (core (OpenExpr form) k l) (call_move fast token call args pos k l)
-  call_keeps true (Some token) call (operand ∷ []) pos form k l = quiet a tt refl (λ t. t)
-  call_keeps true (Some token) call (left ∷ right ∷ []) pos form k l = quiet a tt refl (λ t. t)
-  call_keeps _ _ call args pos form k l =
-      there_keeps a (is_unqualified call.namespace.path) (core (OpenExpr form) k l) (function_of call pos k l)
-      (after a (calm k l) refl (λ t. t) (function_keeps (keyword_of call.op_token call.name (length call.args)) (record {
-        name = call.name;
-        token = call.op_token;
-        at = pos;
-      }) call.args call.capture_parent_scope k l))
 
   -- what a native leaves of its first argument goes back
   put_left_keeps : (from : Option Place) (left : Option (Dynamic H)) (k : List (Frame H)) (l : Local H) → GoesBack from l →
@@ -200,9 +187,8 @@ module _ {H : Type 0} (a : Asked) where
     arguments_there_keep : (purpose : Purpose H) (args : List (Dynamic H)) (k : List (Frame H)) (l : Local H) →
         Keeps a (calm k l) (arguments_there s purpose args k l)
     arguments_there_keep (ToCall operation curried how) args k l = dispatch_keeps how (call_of operation (curried ++ args)) k l
-    arguments_there_keep (ToCallOn operation variable variable_at how) args k l =
-        on_keeps (call_on l.around.cells l.around.lib l.scope operation variable variable_at args) _ k l
-        (λ call. dispatch_keeps how call k l)
+    arguments_there_keep (ToCallOn operation variable how) args k l =
+        on_keeps (call_on (globals_of s.offer) l.around l.scope operation variable args) _ k l (λ call. dispatch_keeps how call k l)
     arguments_there_keep (ToCallOnThis operation this_at how) args k l =
         on_keeps (bound_this this_at l.this) _ k l (λ v. dispatch_keeps how (lent_this operation args v) k l)
     arguments_there_keep (ToCallFunction function at curried) args k l =
@@ -218,11 +204,11 @@ module _ {H : Type 0} (a : Asked) where
     arguments_keep purpose made [] k l = arguments_there_keep purpose made k l
     arguments_keep purpose made (arg ∷ args) k l = quiet a tt refl (λ t. t)
 
-    variable_keeps : (variable : Option (List ℕ × Position)) (c : Core H) (operation : Operation) (how : Dispatch) (arg : Expr)
+    variable_keeps : (variable : Option Variable) (c : Core H) (operation : Operation) (how : Dispatch) (arg : Expr)
         (args : List Expr) (k : List (Frame H)) (l : Local H) → Keeps a c (calm k l) →
         Moves (Keeps a) c (on_variable s variable operation how arg args k l)
-    variable_keeps (Some (variable, variable_at)) c operation how arg args k l h =
-        through a h (arguments_keep (ToCallOn operation variable variable_at how) [] args k l)
+    variable_keeps (Some variable) c operation how arg args k l h =
+        through a h (arguments_keep (ToCallOn operation variable how) [] args k l)
     variable_keeps None c operation how arg args k l h = through a h (arguments_keep (ToCall operation [] how) [] (arg ∷ args) k l)
 
     this_keeps : (there : Option Position) (c : Core H) (operation : Operation) (how : Dispatch) (arg : Expr) (args : List Expr)
@@ -255,6 +241,28 @@ module _ {H : Type 0} (a : Asked) where
         (named_move s operation curried args captures alone k l)
     named_keeps operation curried args captures alone k l = named_move_keeps (core (CallNamed operation curried args captures alone) k l)
         operation curried args captures alone k l (quiet a tt refl (λ t. t))
+
+    -- a call behind a path
+    behind_keeps : (path : Path) (operation : Operation) (args : List Expr) (c : Core H) (k : List (Frame H)) (l : Local H) →
+        Keeps a c (calm k l) → Moves (Keeps a) c (behind_move s path operation args k l)
+    behind_keeps path operation [] c k l h = through a h (arguments_keep (ToCall operation [] (behind_path path)) [] [] k l)
+    behind_keeps path operation (arg ∷ args) c k l h =
+        this_keeps (this_in (out-Expr arg) l.this) c operation (behind_path path) arg args k l h
+
+    function_move_keeps : (is_unqualified : Bool) (call : FnCallExpr) (pos : Position) (c : Core H) (k : List (Frame H)) (l : Local H) →
+        Keeps a c (calm k l) → Moves (Keeps a) c (function_move s is_unqualified call pos k l)
+    function_move_keeps true call pos c k l h = through a h (function_keeps (keyword_of call.op_token call.name (length call.args))
+        (operation_in call pos) call.args call.capture_parent_scope k l)
+    function_move_keeps false call pos c k l h =
+        behind_keeps (path_of call.namespace) (operation_in call pos) call.args c k l h
+
+    pub call_keeps : (fast : Bool) (token : Option Token) (call : FnCallExpr) (args : List Expr) (pos : Position) (form : ExprLayer)
+        (k : List (Frame H)) (l : Local H) →
+        Moves (Keeps a) (core (OpenExpr form) k l) (call_move s fast token call args pos k l)
+    call_keeps true (Some token) call (operand ∷ []) pos form k l = quiet a tt refl (λ t. t)
+    call_keeps true (Some token) call (left ∷ right ∷ []) pos form k l = quiet a tt refl (λ t. t)
+    call_keeps _ _ call args pos form k l = function_move_keeps (is_unqualified call.namespace.path) call pos (core (OpenExpr form) k l) k l
+        (quiet a tt refl (λ t. t))
 
     -- the first argument of a keyword
     unlinked_keeps : (of : FnPtrKind H) (pointer : FnPtr H) (pos : Position) (args : List Expr) (captures : Bool) (k : List (Frame H))

@@ -1,14 +1,13 @@
 -- What the rules of chains keep: the focus is none of the surroundings, and the cell whose value it is is held till the step is left.
 use Rattle.std.proofs.Common.{refl, ap}
 use Rattle.std.specs.Prelude.{◌≡◌, ℕ, Bool, true, false, ◌&&◌, ◌||◌, List, [], ◌∷◌, length, take, Option, Some, None, Result, Ok, Err}
-use Rattle.std.specs.Prelude.{is_some, is_none, if◌then◌else◌}
+use Rattle.std.specs.Prelude.{is_some, is_none}
 use Rattle.rhai_tree.specs.declared.position.Position.{Position}
 use Rattle.rhai_tree.specs.declared.token.Token.{Token}
 use Rattle.rhai_tree.specs.declared.expr.Expr.{Expr, out-Expr}
 use Rattle.rhai_tree.specs.declared.expr.Expr.TheOpen as layer
 use Rattle.rhai_tree.specs.Layers.{ExprLayer}
 use Rattle.rhai_tree.specs.Positions.{position_of, start_of}
-use Rattle.rhai_tree.specs.Forms.{is_unqualified}
 use Rattle.rhai_values.specs.declared.base.value.Dynamic.{Dynamic}
 use Rattle.rhai_values.specs.declared.base.value.Union.{Union}
 use Rattle.rhai_values.specs.declared.base.value.Union.TheVariants as value
@@ -18,11 +17,11 @@ use Rattle.rhai_state.specs.declared.error.EvalAltResult.{EvalAltResult}
 use Rattle.rhai_places.specs.declared.spot.Spot.{Spot}
 use Rattle.rhai_places.specs.declared.spot.Spot.TheVariants as spot
 use Rattle.rhai_places.specs.Parts.{part_of, value_at}
-use Rattle.rhai_machine.specs.machine.Machine.{Move, Halt}
-use Rattle.rhai_machine.specs.language.Setting.{Setting}
+use Rattle.rhai_machine.specs.language.Setting.{Globals, Setting}
 use Rattle.rhai_machine.specs.language.State.{Local}
 use Rattle.rhai_machine.specs.language.Values.{is_handle, through_union, through as seen_through, unit_value}
-use Rattle.rhai_machine.specs.language.Names.{bound_this, meant, variable_of}
+use Rattle.rhai_machine.specs.language.Variables.{Variable, no_path}
+use Rattle.rhai_machine.specs.language.Names.{Meaning, AtEntry, AsTemporary, bound_this, meant}
 use Rattle.rhai_machine.specs.language.Places.{focus_target}
 use Rattle.rhai_machine.specs.language.Links.{Link, LinkForm, AtIndex, AtProperty, AtMethod, asked_by, first_position, link_of, name_in}
 use Rattle.rhai_machine.specs.language.Frames.{Lender, NewValue, Chain, Member, Property, Item, MemberAccess, ToChain, Frame, Core, core}
@@ -35,7 +34,7 @@ use Rattle.rhai_machine.specs.language.Handles.{entered, entered_by}
 use Rattle.rhai_machine.specs.language.Members.{focus_of, focused_on, got_by, set_core, set_by, unless_ignored, getter_missing}
 use Rattle.rhai_machine.specs.language.Members.{setter_missing, indexer_missing}
 use Rattle.rhai_machine.specs.language.Located.{index_by, is_indexed, is_map, is_place_spot, is_unit, spot_of}
-use Rattle.rhai_machine.specs.language.Chains.{ready, opened_core, open_move, asked_move, root_move, read_root_core}
+use Rattle.rhai_machine.specs.language.Chains.{ready, opened_core, open_move, asked_move, root_move, meant_core, read_root_core}
 use Rattle.rhai_machine.specs.language.Chains.{behind_link, after_method, kept_access, is_property, after_set, unless_barred}
 use Rattle.rhai_machine.specs.language.Chains.{method_of, assign_member, member_core, assign_focus, measured_place, assign_spot, part_form}
 use Rattle.rhai_machine.specs.language.Chains.{part_core, descend, spot_core, indexed_core, locate_core, property_move, form_move}
@@ -73,23 +72,22 @@ module _ {H : Type 0} (a : Asked) where
   open_keeps (Some link) chain k l = after a (calm k l) refl (λ t. t) (opened_keeps link.behind (ready link.form) chain k l)
   open_keeps None chain k l = tt
 
-  -- a move that may not be there
-  if_there : (there : Bool) (c : Core H) (m : Move H (Core H)) → Moves (Keeps a) c m → Moves (Keeps a) c (if there then m else Halt)
-  if_there true c m h = h
-  if_there false c m h = tt
-
   pub root_keeps : (form : ExprLayer) (chain : Chain H) (k : List (Frame H)) (l : Local H) →
       Moves (Keeps a) (core (ChainRoot chain) k l) (root_move form chain k l)
-  root_keeps (layer.Variable offset name namespace pos) chain k l =
-      if_there (is_unqualified namespace.path) (core (ChainRoot chain) k l) _ (quiet a tt refl (λ t. t))
+  root_keeps (layer.Variable offset name namespace pos) chain k l = quiet a tt refl (λ t. t)
   root_keeps (layer.ThisPtr pos) chain k l = after a (calm k l) refl (λ t. t)
       (on_keeps a (bound_this pos l.this) _ k l (λ v. on_keeps a (seen_through l.around.cells v pos) _ k l (λ inner. quiet a tt refl (λ t. t))))
   root_keeps _ chain k l = there_keeps a (is_none chain.new) (core (ChainRoot chain) k l) _ (quiet a tt refl (λ t. t))
 
-  pub read_root_keeps : (name : List ℕ) (pos : Position) (chain : Chain H) (k : List (Frame H)) (l : Local H) →
-      Keeps a (core (ReadRoot name pos chain) k l) (read_root_core name pos chain k l)
-  read_root_keeps name pos chain k l = after a (calm k l) refl (λ t. t)
-      (on_keeps a (variable_of l.around.cells name pos (meant l.around.lib name l.scope)) _ k l (λ v. quiet a tt refl (λ t. t)))
+  meant_keeps : (meaning : Meaning H) (chain : Chain H) (k : List (Frame H)) (l : Local H) →
+      Keeps a (calm k l) (meant_core meaning chain k l)
+  meant_keeps (AtEntry index v) chain k l = quiet a tt refl (λ t. t)
+  meant_keeps (AsTemporary v) chain k l = quiet a tt refl (λ t. t)
+
+  pub read_root_keeps : (globals : Globals H) (variable : Variable) (chain : Chain H) (k : List (Frame H)) (l : Local H) →
+      Keeps a (core (ReadRoot variable chain) k l) (read_root_core globals variable chain k l)
+  read_root_keeps globals variable chain k l = after a (calm k l) refl (λ t. t)
+      (on_keeps a (meant globals l.around l.scope variable) _ k l (λ meaning. meant_keeps meaning chain k l))
 
   -- the focus of a chain goes back to who lent its root
   pub chain_left : (lender : Option Lender) (outer : Option (Dynamic H)) (k : List (Frame H)) (l : Local H) →
@@ -225,7 +223,7 @@ module _ {H : Type 0} (a : Asked) where
         Keeps a (calm k l) (assign_focus s root new k l)
     assign_focus_keeps root new k l =
         stored_keeps a s (focus_target l.around.cells (name_in (out-Expr root)) (start_of root) (focus_of l))
-        (record { name = name_in (out-Expr root); at = position_of root; op = new.op }) new.value k l
+        (record { path = no_path; name = name_in (out-Expr root); at = position_of root; op = new.op }) new.value k l
         (λ t is. focus_stands (name_in (out-Expr root)) (start_of root) (focus_of l) t l is)
 
     assign_member_keeps : (token : Option Token) (access : MemberAccess H) (root : Expr) (new : NewValue H) (k : List (Frame H))

@@ -17,7 +17,7 @@ use Rattle.rhai_tree.specs.Layers.{ExprLayer, StmtLayer}
 use Rattle.rhai_tree.specs.Positions.{position_of}
 use Rattle.rhai_values.specs.declared.base.value.AccessMode.{AccessMode}
 use Rattle.rhai_values.specs.Modes.{with_mode}
-use Rattle.rhai_tree.specs.Forms.{is_unqualified, is_exported}
+use Rattle.rhai_tree.specs.Forms.{is_exported}
 use Rattle.rhai_tree.specs.Keys.{key_of}
 use Rattle.rhai_values.specs.declared.base.value.Dynamic.{Dynamic}
 use Rattle.rhai_values.specs.declared.base.value.Union.{Union}
@@ -27,9 +27,10 @@ use Rattle.rhai_state.specs.declared.error.EvalAltResult.TheVariants as error
 use Rattle.rhai_state.specs.Errors.{is_catchable, is_system}
 use Rattle.rhai_state.specs.Scope.{name_of, index_of, new_entry}
 use Rattle.rhai_places.specs.PutBack.{put_back}
-use Rattle.rhai_machine.specs.language.Setting.{Setting}
+use Rattle.rhai_machine.specs.language.Setting.{Setting, globals_of}
 use Rattle.rhai_machine.specs.language.State.{Local}
 use Rattle.rhai_machine.specs.language.Values.{copied, flat, through as seen_through, truth, unit_value}
+use Rattle.rhai_machine.specs.language.Variables.{variable_named}
 use Rattle.rhai_machine.specs.language.Names.{bound_this, read}
 use Rattle.rhai_machine.specs.language.Activations.{Entered}
 use Rattle.rhai_machine.specs.language.Frames.{on_value}
@@ -45,6 +46,7 @@ use Rattle.rhai_machine.specs.language.Bodies.{statements_of, variables_before, 
 use Rattle.rhai_machine.specs.language.Data.{with_item, with_value, with_part, items_core, entries_core, parts_core, part_core}
 use Rattle.rhai_machine.specs.language.Data.{joined_core, printed, unprinted_core}
 use Rattle.rhai_machine.specs.language.Places.{InEntry, is_barred, target_of}
+use Rattle.rhai_machine.specs.language.Assignment.{variable_of_assignment}
 use Rattle.rhai_machine.specs.language.Loops.{is_endless, goes_on, while_move, while_core, if_goes_on, do_control, caught}
 use Rattle.rhai_machine.specs.language.Expressions.{literal_of, argument_move, expr_move, and_core, and_next, or_core}
 use Rattle.rhai_machine.specs.language.Expressions.{or_next, coalesce_core, coalesce_seen, coalesce_next}
@@ -70,7 +72,7 @@ use Rattle.rhai_laws.proofs.Keeping.{Asked, Grows, Free, Imports, Held, begins_s
 use Rattle.rhai_laws.proofs.Keeping.{any_by, held}
 use Rattle.rhai_laws.proofs.Keeping.{ended_keeps, step_left, call_left, constant_outline, function_entered, started_by, stopped_by}
 use Rattle.rhai_laws.proofs.Keeping.{entered_around, entered_names, left_names, scope_left, put_keeps}
-use Rattle.rhai_laws.proofs.KeptAssignments.{there_keeps, assignment_keeps, store_keeps, store_this_keeps, barred_keeps}
+use Rattle.rhai_laws.proofs.KeptAssignments.{assignment_keeps, store_keeps, store_this_keeps, barred_keeps}
 use Rattle.rhai_laws.proofs.KeptAssignments.{fire_update_keeps}
 use Rattle.rhai_laws.proofs.KeptCalls.{on_keeps, call_keeps, fire_keeps, question_keeps, operator_keeps, arguments_keep, named_keeps}
 use Rattle.rhai_laws.proofs.KeptCalls.{keyword_keeps}
@@ -153,30 +155,31 @@ module _ {H : Type 0} (a : Asked) where
   parts_keep text [] k l = quiet a tt refl (λ t. t)
   parts_keep text (part ∷ parts) k l = quiet a tt refl (λ t. t)
 
-  expr_keeps : (fast : Bool) (form : ExprLayer) (k : List (Frame H)) (l : Local H) →
-      Moves (Keeps a) (core (OpenExpr form) k l) (expr_move fast form k l)
-  expr_keeps fast (layer.DynamicConstant literal pos) k l = quiet a tt refl (λ t. t)
-  expr_keeps fast (layer.BoolConstant b pos) k l = quiet a tt refl (λ t. t)
-  expr_keeps fast (layer.IntegerConstant n pos) k l = quiet a tt refl (λ t. t)
-  expr_keeps fast (layer.CharConstant letter pos) k l = quiet a tt refl (λ t. t)
-  expr_keeps fast (layer.StringConstant text pos) k l = quiet a tt refl (λ t. t)
-  expr_keeps fast (layer.Unit pos) k l = quiet a tt refl (λ t. t)
-  expr_keeps fast (layer.Variable offset name namespace pos) k l =
-      there_keeps a (is_unqualified namespace.path) (core (OpenExpr (layer.Variable offset name namespace pos)) k l) _
-      (after a (calm k l) refl (λ t. t) (ended_keeps a (read l.around.cells l.around.lib name pos l.scope) k l))
-  expr_keeps fast (layer.ThisPtr pos) k l = after a (calm k l) refl (λ t. t) (ended_keeps a (copied (bound_this pos l.this)) k l)
-  expr_keeps fast (layer.Expr::FnCall call pos) k l = call_keeps a fast call.op_token call call.args pos (layer.Expr::FnCall call pos) k l
-  expr_keeps fast (layer.Stmt block) k l = quiet a tt refl (λ t. t)
-  expr_keeps fast (layer.InterpolatedString parts pos) k l = after a (calm k l) refl (λ t. t) (parts_keep [] parts k l)
-  expr_keeps fast (layer.Array items pos) k l = after a (calm k l) refl (λ t. t) (items_keep [] items k l)
-  expr_keeps fast (layer.Map entries template pos) k l =
+  expr_keeps : (s : Setting H) (fast : Bool) (form : ExprLayer) (k : List (Frame H)) (l : Local H) →
+      Moves (Keeps a) (core (OpenExpr form) k l) (expr_move s fast form k l)
+  expr_keeps s fast (layer.DynamicConstant literal pos) k l = quiet a tt refl (λ t. t)
+  expr_keeps s fast (layer.BoolConstant b pos) k l = quiet a tt refl (λ t. t)
+  expr_keeps s fast (layer.IntegerConstant n pos) k l = quiet a tt refl (λ t. t)
+  expr_keeps s fast (layer.CharConstant letter pos) k l = quiet a tt refl (λ t. t)
+  expr_keeps s fast (layer.StringConstant text pos) k l = quiet a tt refl (λ t. t)
+  expr_keeps s fast (layer.Unit pos) k l = quiet a tt refl (λ t. t)
+  expr_keeps s fast (layer.Variable offset name namespace pos) k l =
+      after a (calm k l) refl (λ t. t)
+      (ended_keeps a (read (globals_of s.offer) l.around l.scope (variable_named name namespace pos)) k l)
+  expr_keeps s fast (layer.ThisPtr pos) k l = after a (calm k l) refl (λ t. t) (ended_keeps a (copied (bound_this pos l.this)) k l)
+  expr_keeps s fast (layer.Expr::FnCall call pos) k l =
+      call_keeps a s fast call.op_token call call.args pos (layer.Expr::FnCall call pos) k l
+  expr_keeps s fast (layer.Stmt block) k l = quiet a tt refl (λ t. t)
+  expr_keeps s fast (layer.InterpolatedString parts pos) k l = after a (calm k l) refl (λ t. t) (parts_keep [] parts k l)
+  expr_keeps s fast (layer.Array items pos) k l = after a (calm k l) refl (λ t. t) (items_keep [] items k l)
+  expr_keeps s fast (layer.Map entries template pos) k l =
       after a (calm k l) refl (λ t. t) (entries_keep (map key_of entries) [] entries k l)
-  expr_keeps fast (layer.And parts pos) k l = after a (calm k l) refl (λ t. t) (and_keeps parts k l)
-  expr_keeps fast (layer.Or parts pos) k l = after a (calm k l) refl (λ t. t) (or_keeps parts k l)
-  expr_keeps fast (layer.Coalesce parts pos) k l = after a (calm k l) refl (λ t. t) (coalesce_keeps unit_value parts k l)
-  expr_keeps fast (layer.Index lhs rhs options pos) k l = quiet a tt refl (λ t. t)
-  expr_keeps fast (layer.Dot lhs rhs options pos) k l = quiet a tt refl (λ t. t)
-  expr_keeps fast _ k l = tt
+  expr_keeps s fast (layer.And parts pos) k l = after a (calm k l) refl (λ t. t) (and_keeps parts k l)
+  expr_keeps s fast (layer.Or parts pos) k l = after a (calm k l) refl (λ t. t) (or_keeps parts k l)
+  expr_keeps s fast (layer.Coalesce parts pos) k l = after a (calm k l) refl (λ t. t) (coalesce_keeps unit_value parts k l)
+  expr_keeps s fast (layer.Index lhs rhs options pos) k l = quiet a tt refl (λ t. t)
+  expr_keeps s fast (layer.Dot lhs rhs options pos) k l = quiet a tt refl (λ t. t)
+  expr_keeps s fast _ k l = tt
 
   -- loops, and the ways out of them
   while_keeps : (endless : Bool) (stmts : List Stmt) (test : Expr) (body : StmtBlock) (k : List (Frame H)) (l : Local H) →
@@ -544,13 +547,13 @@ module _ {H : Type 0} (a : Asked) where
       move_keeps (Fire call) k l h = fire_keeps a s call call.args k l
       move_keeps (QuestionUpdate u) k l h = λ pure. barred_keeps a s (is_barred pure u.target) u k l h
       move_keeps (FireUpdate u) k l h = fire_update_keeps a s u.target.value u k l h
-      move_keeps (OpenExpr form) k l h = expr_keeps s.offer.fast_operators form k l
+      move_keeps (OpenExpr form) k l h = expr_keeps s s.offer.fast_operators form k l
       move_keeps (OpenStmt form restoring) k l h = stmt_keeps form restoring k l
       move_keeps (Enter stmts restoring) k l h = enter_keeps stmts restoring k l
       move_keeps (Run stmts restoring last) k l h = run_keeps stmts restoring last k l
       move_keeps (Store assignment v) k l h =
           after a (calm k l) refl (λ t. t)
-          (store_keeps a s (target_of l.around.cells l.around.lib assignment.name assignment.at l.scope) assignment v k l refl)
+          (store_keeps a s (target_of (globals_of s.offer) l.around l.scope (variable_of_assignment assignment)) assignment v k l refl)
       move_keeps (StoreThis op pos v) k l h = after a (calm k l) refl (λ t. t) (store_this_keeps a s op pos v k l)
       move_keeps (WhileTurn test body) k l h = while_keeps (is_endless (out-Expr test)) body.statements test body k l
       move_keeps (DoTurn test body options) k l h = quiet a tt refl (λ t. t)
@@ -561,7 +564,7 @@ module _ {H : Type 0} (a : Asked) where
       move_keeps (OpenChain chain) k l h = open_keeps a (link_of chain.rest) chain k l
       move_keeps (ChainArguments chain rest made) k l h = asked_keeps a s (link_of rest) chain rest made k l
       move_keeps (ChainRoot chain) k l h = root_keeps a (out-Expr chain.root) chain k l
-      move_keeps (ReadRoot name pos chain) k l h = read_root_keeps a name pos chain k l
+      move_keeps (ReadRoot variable chain) k l h = read_root_keeps a (globals_of s.offer) variable chain k l
       move_keeps (Walk chain) k l h = walk_keeps a s (link_of chain.rest) chain k l
       move_keeps (Locate link chain) k l h = locate_keeps a s link chain k l
       move_keeps (Changed v) [] l h = quiet a tt refl (λ t. t)

@@ -1,21 +1,22 @@
 -- An assignment at a path, from the root of its chain, which is a variable or `this`, to its end.
-use Rattle.std.proofs.Common.{◌≡◌, ◌⊎◌, ◌+◌, inl, inr, ℕ, Bool, true, false, List, [], ◌∷◌, Option, Some, Result, refl, sym, ap, subst}
-use Rattle.std.proofs.Common.{◌∙◌}
-use Rattle.std.specs.Prelude.{if◌then◌else◌}
+use Rattle.std.proofs.Common.{◌≡◌, ◌⊎◌, ◌+◌, inl, inr, ℕ, Bool, true, false, List, [], ◌∷◌, Option, Some, None, Result}
+use Rattle.std.proofs.Common.{refl, sym, ap, subst, ◌∙◌}
 use Rattle.rhai_tree.specs.declared.expr.Expr.{out-Expr}
 use Rattle.rhai_tree.specs.declared.expr.Expr.TheOpen as form
+use Rattle.rhai_tree.specs.declared.expr.Namespace.{Namespace}
 use Rattle.rhai_tree.specs.Layers.{ExprLayer}
-use Rattle.rhai_tree.specs.Forms.{is_unqualified}
 use Rattle.rhai_values.specs.declared.base.value.AccessMode.TheVariants.{ReadWrite}
 use Rattle.rhai_values.specs.Modes.{with_mode}
 use Rattle.rhai_state.specs.declared.error.EvalAltResult.TheVariants as error
+use Rattle.rhai_state.specs.Scope.{value_in}
 use Rattle.rhai_machine.specs.Types.{Dynamic, EvalAltResult, Position}
-use Rattle.rhai_machine.specs.machine.Machine.{Move, Halt, Go, Charge}
+use Rattle.rhai_machine.specs.machine.Machine.{Move, Go, Charge}
 use Rattle.rhai_machine.specs.machine.Point.{Point, Reaches, here, next, ◌⨾◌, moved, paid, after}
 use Rattle.rhai_machine.specs.language.Setting.{Rules}
 use Rattle.rhai_machine.specs.language.State.{State}
 use Rattle.rhai_machine.specs.language.Values.{through, unit_value}
-use Rattle.rhai_machine.specs.language.Names.{bound_this}
+use Rattle.rhai_machine.specs.language.Variables.{Variable, variable_named}
+use Rattle.rhai_machine.specs.language.Names.{bound_this, entry_named}
 use Rattle.rhai_machine.specs.language.Places.{rebound}
 use Rattle.rhai_machine.specs.language.Frames.{FromThis, NewValue, Chain, Frame, Core, core, on_value, ChainRoot, ReadRoot, Walk, Back, Changed}
 use Rattle.rhai_machine.specs.language.Frames.{ChainEnd, Fail}
@@ -67,31 +68,37 @@ module _ {S H : Type 0} (rules : Rules S H) (allows : ℕ → Bool) where
           (subst (λ (m : Move H (Core H)). ToValue (moved (machine rules) allows m root)) is rest)
     ]
 
-    halts_not : move rules.setting root.core ≡ Halt → ToValue root → ⊥
-    halts_not is steps =
-        let same : root ≡ at (Back x) [] end = one_end (machine rules) allows here steps is refl in
-        let no : ChainRoot chain ≡ Back x = ap (λ (p : Point S (Core H)). p.core.control) same in cc
-
     -- ---- a variable
 
     module _ (new : NewValue H) (path : List Selector) where
       abbrev w : Dynamic H
       w = with_mode ReadWrite new.value
 
-      from_variable : (offset : _) (name : List ℕ) (namespace : _) (pos : Position) (b : Bool) →
-          out-Expr chain.root ≡ form.Variable offset name namespace pos → is_unqualified namespace.path ≡ b →
+      abbrev entry_value : (names : List (List ℕ)) → (name : List ℕ) → State S H → Option (Dynamic H)
+      entry_value names name s = value_in s.local.scope (entry_named names name s.local.scope)
+
+      from_variable : (offset : _) (name : List ℕ) (namespace : Namespace) (pos : Position) (names : List (List ℕ)) →
+          namespace.path ≡ names → out-Expr chain.root ≡ form.Variable offset name namespace pos →
           AssignsFrom (form.Variable offset name namespace pos) chain new path mid → ToValue root →
           AssignedFrom (form.Variable offset name namespace pos) path w mid end
-      from_variable offset name namespace pos false is qualified given steps =
-          absurd (halts_not (ap (λ f. root_move f chain [] mid.local) is
-          ∙ ap (λ (b : Bool). if b then Charge pos (core (ReadRoot name pos chain) [] mid.local) else Halt) qualified) steps)
-      from_variable offset name namespace pos true is plain given steps =
-          let moves = ap (λ f. root_move f chain [] mid.local) is
-          ∙ ap (λ (b : Bool). if b then Charge pos (core (ReadRoot name pos chain) [] mid.local) else Halt) plain in
-          let done = assigns_there rules allows name pos chain new path (record mid { count = mid.count + 1 })
-          (record { root = given.value; variable = given.there; assigns = given.assigns; plain = given.plain; leads = given.leads }) x end
-          (passes pos (core (ReadRoot name pos chain) [] mid.local) moves steps) in
-          record { written = done.written; stays = done.stays; elsewhere = (done.entries, done.rest) }
+      from_variable offset name namespace pos [] plain is given steps =
+          let variable : Variable = variable_named name namespace pos in
+          let done = assigns_there rules allows variable chain new path (record mid { count = mid.count + 1 }) (record {
+            root = given.value;
+            unqualified = plain;
+            there = ap (λ (names : List (List ℕ)). entry_value names name mid) (sym plain) ∙ given.there;
+            assigns = given.assigns;
+            plain = given.plain;
+            leads = given.leads;
+          }) x end (passes pos (core (ReadRoot variable chain) [] mid.local) (ap (λ f. root_move f chain [] mid.local) is) steps) in
+          record {
+            written = ap (λ (names : List (List ℕ)). read (entry_value names name end) path) plain ∙ done.written;
+            stays = λ other parts. ap (λ (names : List (List ℕ)). read (entry_value names name end) other) plain ∙ done.stays other parts
+                ∙ ap (λ (names : List (List ℕ)). read (entry_value names name mid) other) (sym plain);
+            elsewhere = (done.entries, done.rest);
+          }
+      from_variable offset name namespace pos (first ∷ names) qualified is given steps =
+          let no : None ≡ Some given.value = ap (λ (names : List (List ℕ)). entry_value names name mid) (sym qualified) ∙ given.there in cc
 
       -- ---- `this`
 
@@ -165,7 +172,7 @@ module _ {S H : Type 0} (rules : Rules S H) (allows : ℕ → Bool) where
       from_root : (root : ExprLayer) → out-Expr chain.root ≡ root → AssignsFrom root chain new path mid → ToValue (at (ChainRoot chain) [] mid) →
           AssignedFrom root path w mid end
       from_root (form.Variable offset name namespace pos) is given steps =
-          from_variable offset name namespace pos (is_unqualified namespace.path) is refl given steps
+          from_variable offset name namespace pos namespace.path refl is given steps
       from_root (form.ThisPtr pos) is given steps = from_this pos given is steps
       from_root root is given steps = let none = given.there in cc
 

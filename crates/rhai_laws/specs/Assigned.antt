@@ -1,7 +1,6 @@
 -- An assignment without an operator through indexes and properties, from a variable or `this` down into arrays and maps: what it is given,
 -- and what it leaves.
 use Rattle.std.specs.Prelude.{◌≡◌, ⊤, ℕ, Bool, List, [], ◌∷◌, length, slice_get, Option, Some, None, option_map}
-use Rattle.rhai_tree.specs.declared.position.Position.{Position}
 use Rattle.rhai_tree.specs.declared.expr.Expr.{out-Expr}
 use Rattle.rhai_tree.specs.declared.expr.Expr.TheOpen as form
 use Rattle.rhai_tree.specs.Layers.{ExprLayer}
@@ -11,9 +10,11 @@ use Rattle.rhai_values.specs.declared.base.value.FnPtrKind.TheOpen as layer
 use Rattle.rhai_values.specs.Cells.{IsNoHandle}
 use Rattle.rhai_values.specs.Layers.{UnionLayer, layer_of}
 use Rattle.rhai_values.specs.Modes.{with_mode}
-use Rattle.rhai_state.specs.Scope.{found, index_of}
+use Rattle.rhai_state.specs.Scope.{found, index_of, value_in}
 use Rattle.rhai_places.specs.Indexing.{index_in}
 use Rattle.rhai_machine.specs.machine.Point.{Point, Reaches}
+use Rattle.rhai_machine.specs.language.Variables.{Variable}
+use Rattle.rhai_machine.specs.language.Names.{entry_named}
 use Rattle.rhai_machine.specs.language.Setting.{Rules}
 use Rattle.rhai_machine.specs.language.State.{State}
 use Rattle.rhai_machine.specs.language.Links.{Link, LinkForm, AtMethod, link_of}
@@ -66,10 +67,12 @@ module _ {S H : Type 0} where
         slice_get new.local.scope index ≡ slice_get old.local.scope index
     pub rest : new ≡ record old { count = new.count; local = record old.local { scope = new.local.scope } }
 
-  -- a chain that assigns without an operator is about to read its variable, and leads down a path from there
-  pub record IsAssigning (name : List ℕ) (chain : Chain H) (new : NewValue H) (path : List Selector) (mid : State S H) : Type 0 where
+  -- a chain that assigns without an operator is about to read its variable, which has no modules in front of it, and leads down a path
+  -- from there
+  pub record IsAssigning (variable : Variable) (chain : Chain H) (new : NewValue H) (path : List Selector) (mid : State S H) : Type 0 where
     pub root : Dynamic H
-    pub variable : found name mid.local.scope ≡ Some root
+    pub unqualified : variable.path.names ≡ []
+    pub there : found variable.name mid.local.scope ≡ Some root
     pub assigns : chain.new ≡ Some new
     pub plain : new.op.op ≡ None
     pub leads : LeadsDown chain.rest chain.args root path
@@ -77,9 +80,9 @@ module _ {S H : Type 0} where
 module _ {S H : Type 0} where
   -- ---- the same from the root of a chain, a variable or `this`
 
-  -- what the root is
+  -- what the root is: of a variable the value of its entry, which it has where no modules are in front of it
   abbrev pub root_in : ExprLayer → State S H → Option (Dynamic H)
-  root_in (form.Variable offset name namespace pos) s = found name s.local.scope
+  root_in (form.Variable offset name namespace pos) s = value_in s.local.scope (entry_named namespace.path name s.local.scope)
   root_in (form.ThisPtr pos) s = s.local.this
   root_in _ s = None
 
@@ -110,10 +113,10 @@ module _ {S H : Type 0} (rules : Rules S H) where
   -- Where a run, cut at the limit or not, comes to the reading of the variable of such a chain, with nothing waiting below, and then to a
   -- value, the variable was assigned to at the path since that reading. What is read there then is the value, read-write.
   abbrev pub AssignsAtPath : Type 0
-  AssignsAtPath = (allows : ℕ → Bool) (start : Point S (Core H)) (name : List ℕ) (pos : Position) (chain : Chain H) (new : NewValue H)
+  AssignsAtPath = (allows : ℕ → Bool) (start : Point S (Core H)) (variable : Variable) (chain : Chain H) (new : NewValue H)
       (path : List Selector) (x : Dynamic H) (mid end : State S H) → Reaches (machine rules) allows start (at (Back x) [] end) →
-      Reaches (machine rules) allows start (at (ReadRoot name pos chain) [] mid) → IsAssigning name chain new path mid →
-      AssignedAt name path (with_mode ReadWrite new.value) mid end
+      Reaches (machine rules) allows start (at (ReadRoot variable chain) [] mid) → IsAssigning variable chain new path mid →
+      AssignedAt variable.name path (with_mode ReadWrite new.value) mid end
 
   -- Where a run comes to the root of such a chain, with nothing waiting below, and from there to a value, the root was assigned to at the
   -- path.

@@ -54,14 +54,15 @@ pub fn script_variables_stay<H: Host, T: NativeTable<H>>(of: PhantomData<(H, T)>
 {}
 
 /// An assignment without an operator through indexes and properties of arrays and maps, from a
-/// variable on, that comes to a value has written at the path: what was assigned is read there,
-/// read-write, and every place off the path reads as it did when the variable was read.
+/// variable without a path on, that comes to a value has written there: what was assigned is read where
+/// the indexes and properties lead, read-write, and every other place reads as it did when the variable
+/// was read.
 pub fn chain_assigns_at_path<H: Host, T: NativeTable<H>>(of: PhantomData<(H, T)>)
     ensures { (setting : Setting H) → AssignsAtPath (over setting T.natives) }
 {}
 
-/// The same from the root of the chain on, which is a variable or `this`, where the values that its links
-/// ask for are all there.
+/// The same from the root of the chain on, which is such a variable or `this`, where the values that its
+/// links ask for are all there.
 pub fn chain_assigns_from_root<H: Host, T: NativeTable<H>>(of: PhantomData<(H, T)>)
     ensures { (setting : Setting H) → AssignsFromRoot (over setting T.natives) }
 {}

@@ -10,22 +10,23 @@ use Rattle.rhai_values.specs.declared.base.value.FnPtrKind.{FnPtrKind}
 use Rattle.rhai_values.specs.declared.base.value.FnPtrKind.TheVariants as kind
 use Rattle.rhai_state.specs.declared.error.EvalAltResult.{EvalAltResult}
 use Rattle.rhai_machine.specs.machine.Settling.{Falls}
-use Rattle.rhai_machine.specs.language.Setting.{Setting}
+use Rattle.rhai_machine.specs.language.Setting.{Setting, globals_of}
 use Rattle.rhai_machine.specs.language.State.{Local}
 use Rattle.rhai_machine.specs.language.Functions.{Function}
+use Rattle.rhai_machine.specs.language.Variables.{Path, Variable, variable_in}
 use Rattle.rhai_machine.specs.language.Names.{bound_this}
-use Rattle.rhai_machine.specs.language.Frames.{Operation, Dispatch, Call, Frame, core, CallNamed, Question, Fire, Purpose, ToCall}
+use Rattle.rhai_machine.specs.language.Frames.{Operation, Dispatch, Call, Core, Frame, core, CallNamed, Question, Fire, Purpose, ToCall}
 use Rattle.rhai_machine.specs.language.Frames.{ToCallOn, ToCallOnThis, ToCallNumber, ToCallFunction, ToCurry, Keyword, CallPointer}
 use Rattle.rhai_machine.specs.language.Frames.{MakePointer, Curry, IsShared}
 use Rattle.rhai_machine.specs.language.Frames.{IsDefinedVariable, ToChain}
 use Rattle.rhai_machine.specs.language.Places.{Place, is_barred}
-use Rattle.rhai_machine.specs.language.Calls.{operator_core, call_of, plainly, races, dispatch_core, focus_core, fire_first, fire_move, First}
+use Rattle.rhai_machine.specs.language.Calls.{operator_core, behind_path, call_of, plainly, races, dispatch_core, focus_core, fire_first, fire_move, First}
 use Rattle.rhai_machine.specs.language.Calls.{first_of, put_left, barred_call, question_first, question_move, call_native}
 use Rattle.rhai_machine.specs.language.Calls.{replied, applied}
 use Rattle.rhai_machine.specs.language.Arguments.{call_on, lent_this, this_in, is_captured, linked_core, linked_to, numbered_core}
 use Rattle.rhai_machine.specs.language.Arguments.{arguments_there, arguments_core, on_variable, on_this, captured_move}
 use Rattle.rhai_machine.specs.language.Arguments.{named_move, operation_named, pointer_of, pointer_wanted, text_wanted, unlinked_core}
-use Rattle.rhai_machine.specs.language.Arguments.{pointer_core, keyword_core, variable_in}
+use Rattle.rhai_machine.specs.language.Arguments.{pointer_core, keyword_core, behind_move}
 use Rattle.rhai_machine.specs.language.Methods.{Method, method_core}
 use Rattle.rhai_machine.proofs.MethodLaws.{dispatch_ends, focus_ends, method_ends}
 use Rattle.rhai_machine.proofs.Sizes.{purpose_size, stack_size, size, result_falls, reply_falls, on_below, wider_falls, if_falls}
@@ -104,9 +105,9 @@ module _ {H : Type 0} where
     there_size : (purpose : Purpose H) (args : List (Dynamic H)) (k : List (Frame H)) (l : Local H) →
         size (arguments_there s purpose args k l) < 14 + (purpose_size purpose + stack_size k)
     there_size (ToCall operation curried how) args k l = omega (arith, dispatch_falls how (call_of operation (curried ++ args)) k l)
-    there_size (ToCallOn operation variable variable_at how) args k l = omega (
+    there_size (ToCallOn operation variable how) args k l = omega (
       arith,
-      on_below (call_on l.around.cells l.around.lib l.scope operation variable variable_at args) (λ call. dispatch_core s how call k l) k l
+      on_below (call_on (globals_of s.offer) l.around l.scope operation variable args) (λ call. dispatch_core s how call k l) k l
           (14 + stack_size k) (omega arith) (λ call. dispatch_falls how call k l),
     )
     there_size (ToCallOnThis operation this_at how) args k l = omega (
@@ -126,19 +127,23 @@ module _ {H : Type 0} where
     arguments_fall purpose made [] k l = there_size purpose made k l
     arguments_fall purpose made (arg ∷ args) k l = omega arith
 
-    variable_falls : (variable : Option (List ℕ × Position)) (operation : Operation) (how : Dispatch) (arg : Expr) (args : List Expr)
-        (curried : List (Dynamic H)) (captures alone : Bool) (k : List (Frame H)) (l : Local H) →
-        Falls size (core (CallNamed operation curried (arg ∷ args) captures alone) k l) (on_variable s variable operation how arg args k l)
-    variable_falls (Some (variable, at)) operation how arg args curried captures alone k l = tt
-    variable_falls None operation how arg args curried captures alone k l =
-        omega (arith, arguments_fall (ToCall operation [] how) [] (arg ∷ args) k l)
+    variable_falls : (variable : Option Variable) (operation : Operation) (how : Dispatch) (arg : Expr) (args : List Expr) (c : Core H)
+        (k : List (Frame H)) (l : Local H) → 14 + stack_size k ≤ size c → Falls size c (on_variable s variable operation how arg args k l)
+    variable_falls (Some variable) operation how arg args c k l room = tt
+    variable_falls None operation how arg args c k l room =
+        omega (arith, room, arguments_fall (ToCall operation [] how) [] (arg ∷ args) k l)
 
-    this_falls : (there : Option Position) (operation : Operation) (how : Dispatch) (arg : Expr) (args : List Expr)
-        (curried : List (Dynamic H)) (captures alone : Bool) (k : List (Frame H)) (l : Local H) →
-        Falls size (core (CallNamed operation curried (arg ∷ args) captures alone) k l) (on_this s there operation how arg args k l)
-    this_falls (Some at) operation how arg args curried captures alone k l = tt
-    this_falls None operation how arg args curried captures alone k l =
-        variable_falls (variable_in (out-Expr arg)) operation how arg args curried captures alone k l
+    this_falls : (there : Option Position) (operation : Operation) (how : Dispatch) (arg : Expr) (args : List Expr) (c : Core H)
+        (k : List (Frame H)) (l : Local H) → 14 + stack_size k ≤ size c → Falls size c (on_this s there operation how arg args k l)
+    this_falls (Some at) operation how arg args c k l room = tt
+    this_falls None operation how arg args c k l room = variable_falls (variable_in (out-Expr arg)) operation how arg args c k l room
+
+    -- a call behind a path
+    pub behind_falls : (path : Path) (operation : Operation) (args : List Expr) (c : Core H) (k : List (Frame H)) (l : Local H) →
+        14 + stack_size k ≤ size c → Falls size c (behind_move s path operation args k l)
+    behind_falls path operation [] c k l room = omega (arith, room, arguments_fall (ToCall operation [] (behind_path path)) [] [] k l)
+    behind_falls path operation (arg ∷ args) c k l room =
+        this_falls (this_in (out-Expr arg) l.this) operation (behind_path path) arg args c k l room
 
     captured_falls : (captured : Bool) (operation : Operation) (arg : Expr) (args : List Expr) (curried : List (Dynamic H))
         (captures alone : Bool) (k : List (Frame H)) (l : Local H) →
@@ -147,7 +152,8 @@ module _ {H : Type 0} where
     captured_falls true operation arg args curried captures alone k l =
         omega (arith, arguments_fall (ToCall operation [] (plainly alone true)) [] (arg ∷ args) k l)
     captured_falls false operation arg args curried captures alone k l =
-        this_falls (this_in (out-Expr arg) l.this) operation (plainly alone false) arg args curried captures alone k l
+        this_falls (this_in (out-Expr arg) l.this) operation (plainly alone false) arg args
+        (core (CallNamed operation curried (arg ∷ args) captures alone) k l) k l (omega arith)
 
     pub named_call_falls : (operation : Operation) (curried : List (Dynamic H)) (args : List Expr) (captures alone : Bool)
         (k : List (Frame H)) (l : Local H) →

@@ -8,7 +8,6 @@ use Rattle.rhai_tree.specs.declared.expr.Expr.{Expr, out-Expr}
 use Rattle.rhai_tree.specs.declared.expr.Expr.TheOpen as layer
 use Rattle.rhai_tree.specs.Layers.{ExprLayer}
 use Rattle.rhai_tree.specs.Positions.{start_of}
-use Rattle.rhai_tree.specs.Forms.{is_unqualified}
 use Rattle.rhai_values.specs.declared.base.value.Dynamic.{Dynamic}
 use Rattle.rhai_values.specs.declared.base.value.Union.{Union}
 use Rattle.rhai_values.specs.declared.base.value.Union.TheVariants as value
@@ -20,7 +19,7 @@ use Rattle.rhai_places.specs.declared.spot.Spot.TheVariants as spot
 use Rattle.rhai_places.specs.Parts.{part_of, value_at}
 use Rattle.rhai_places.specs.Paths.{ToCell}
 use Rattle.rhai_machine.specs.machine.Settling.{Falls}
-use Rattle.rhai_machine.specs.language.Setting.{Setting}
+use Rattle.rhai_machine.specs.language.Setting.{Globals, Setting}
 use Rattle.rhai_machine.specs.language.State.{Local}
 use Rattle.rhai_machine.specs.language.Values.{unit_value, is_handle, through}
 use Rattle.rhai_machine.specs.language.Frames.{Frame, Core, core, Eval, NewValue, Chain, Member, Property, Item, MemberAccess, OpenChain}
@@ -28,14 +27,15 @@ use Rattle.rhai_machine.specs.language.Frames.{ChainArguments, ChainRoot, ReadRo
 use Rattle.rhai_machine.specs.language.Frames.{MemberLink, MemberGot, MemberSet}
 use Rattle.rhai_machine.specs.language.Calls.{sized}
 use Rattle.rhai_machine.specs.machine.Machine.{Halt, Charge}
-use Rattle.rhai_machine.specs.language.Names.{meant, variable_of}
+use Rattle.rhai_machine.specs.language.Variables.{Variable}
+use Rattle.rhai_machine.specs.language.Names.{Meaning, AtEntry, AsTemporary, meant}
 use Rattle.rhai_machine.specs.language.Places.{focus_target}
 use Rattle.rhai_machine.specs.language.Links.{Link, LinkForm, AtIndex, AtProperty, AtMethod, first_position, link_of, name_in}
 use Rattle.rhai_machine.specs.language.Members.{focus_of, focused_on, got_by, unless_ignored, set_by, getter_missing, setter_missing}
 use Rattle.rhai_machine.specs.language.Members.{indexer_missing}
 use Rattle.rhai_machine.specs.language.Located.{index_by, is_indexed, is_map, is_place_spot, is_unit, spot_of}
 use Rattle.rhai_machine.specs.language.Handles.{entered_by}
-use Rattle.rhai_machine.specs.language.Chains.{ready, opened_core, open_move, asked_move, root_move, read_root_core}
+use Rattle.rhai_machine.specs.language.Chains.{ready, opened_core, open_move, asked_move, root_move, meant_core, read_root_core}
 use Rattle.rhai_machine.specs.language.Chains.{behind_link, after_method, kept_access, is_property, after_set, unless_barred, method_of, method_entered}
 use Rattle.rhai_machine.specs.language.Chains.{assign_member, member_core, assign_focus, measured_place, assign_spot, part_form}
 use Rattle.rhai_machine.specs.language.Chains.{part_core as chain_part, descend, spot_core, indexed_core, locate_core, property_move}
@@ -99,22 +99,22 @@ module _ {H : Type 0} where
   open_falls (Some link) chain k l = omega (arith, opened_falls link.behind (ready link.form) chain k l)
   open_falls None chain k l = tt
 
-  charge_falls : (there : Bool) (c : Core H) (at : Position) (d : Core H) → Falls {H = H} size c (if there then Charge at d else Halt)
-  charge_falls true c at d = tt
-  charge_falls false c at d = tt
-
   pub root_falls : (form : ExprLayer) (chain : Chain H) (k : List (Frame H)) (l : Local H) →
       Falls size (core (ChainRoot chain) k l) (root_move form chain k l)
-  root_falls (layer.Variable offset name namespace pos) chain k l =
-      charge_falls (is_unqualified namespace.path) (core (ChainRoot chain) k l) pos (core (ReadRoot name pos chain) k l)
+  root_falls (layer.Variable offset name namespace pos) chain k l = tt
   root_falls (layer.ThisPtr pos) chain k l = tt
   root_falls _ chain k l = there_falls (is_none chain.new) (core (ChainRoot chain) k l)
       (core (Eval chain.root) (RootValue chain ∷ k) l) (omega arith)
 
-  pub read_root_falls : (name : List ℕ) (at : Position) (chain : Chain H) (k : List (Frame H)) (l : Local H) →
-      size (read_root_core name at chain k l) < 30 + (20 * links chain.rest + stack_size k)
-  read_root_falls name at chain k l = on_below (variable_of l.around.cells name at (meant l.around.lib name l.scope)) _ k l
-      (30 + (20 * links chain.rest + stack_size k)) (omega arith) (λ v. omega arith)
+  meant_falls : (meaning : Meaning H) (chain : Chain H) (k : List (Frame H)) (l : Local H) →
+      size (meant_core meaning chain k l) < 30 + (20 * links chain.rest + stack_size k)
+  meant_falls (AtEntry index v) chain k l = omega arith
+  meant_falls (AsTemporary v) chain k l = omega arith
+
+  pub read_root_falls : (globals : Globals H) (variable : Variable) (chain : Chain H) (k : List (Frame H)) (l : Local H) →
+      size (read_root_core globals variable chain k l) < 30 + (20 * links chain.rest + stack_size k)
+  read_root_falls globals variable chain k l = on_below (meant globals l.around l.scope variable) _ k l
+      (30 + (20 * links chain.rest + stack_size k)) (omega arith) (λ meaning. meant_falls meaning chain k l)
 
   -- ---- a link
 

@@ -28,7 +28,7 @@ use Rattle.rhai_state.specs.Errors.{is_catchable, is_system}
 use Rattle.rhai_state.specs.Scope.{index_of}
 use Rattle.rhai_places.specs.PutBack.{put_back}
 use Rattle.rhai_machine.specs.machine.Settling.{Falls}
-use Rattle.rhai_machine.specs.language.Setting.{Setting}
+use Rattle.rhai_machine.specs.language.Setting.{Setting, globals_of}
 use Rattle.rhai_machine.specs.language.State.{Local}
 use Rattle.rhai_machine.specs.language.Values.{unit_value, copied, flat, through, truth}
 use Rattle.rhai_machine.specs.language.Frames.{Operation, Control, Frame, Core, core, ended, Eval, Exec, Ask, Assign, AskUpdate, Argument}
@@ -50,13 +50,14 @@ use Rattle.rhai_machine.specs.language.Turns.{next_turn, turns_of}
 use Rattle.rhai_machine.specs.language.Choices.{met_core}
 use Rattle.rhai_machine.specs.language.Walks.{has_no_room, started_core}
 use Rattle.rhai_machine.specs.language.Tries.{catch_variable}
-use Rattle.rhai_machine.specs.language.Assignment.{assignment_move}
+use Rattle.rhai_machine.specs.language.Assignment.{assignment_move, variable_of_assignment}
 use Rattle.rhai_machine.specs.language.Loops.{is_endless, while_move, while_core, if_goes_on, goes_on, do_control, caught}
+use Rattle.rhai_machine.specs.language.Variables.{no_path, path_of, variable_named}
 use Rattle.rhai_machine.specs.language.Names.{bound_this, read}
 use Rattle.rhai_machine.specs.language.Expressions.{literal_of, argument_move, call_move, and_core, and_next, or_core, or_next}
 use Rattle.rhai_machine.specs.language.Expressions.{coalesce_core, coalesce_seen, coalesce_next, expr_move}
 use Rattle.rhai_machine.specs.language.Calls.{builtin_of, call_of, sized}
-use Rattle.rhai_machine.specs.language.Arguments.{flattens, taken, arguments_core, keyword_of, function_core, function_of}
+use Rattle.rhai_machine.specs.language.Arguments.{flattens, taken, arguments_core, keyword_of, function_core, function_move, function_of, operation_in}
 use Rattle.rhai_machine.specs.language.Statements.{enter_core, run_core, chosen_core, defined_core, define_core, break_core, return_move}
 use Rattle.rhai_machine.specs.language.Exports.{export_at}
 use Rattle.rhai_machine.specs.language.Imports.{import_core, importing, module_meant, name_asked}
@@ -69,7 +70,7 @@ use Rattle.rhai_machine.specs.language.Links.{link_of}
 use Rattle.rhai_machine.proofs.ChainLinks.{links, within}
 use Rattle.rhai_machine.proofs.Sizes.{all_numbers, parts_in, purpose_size, control_size, stack_size, size, enter_size, run_size, result_falls}
 use Rattle.rhai_machine.proofs.Sizes.{on_falls, on_below, there_falls}
-use Rattle.rhai_machine.proofs.CallFalls.{named_call_falls, question_falls, fire_falls, focus_falls, keyword_falls, arguments_fall}
+use Rattle.rhai_machine.proofs.CallFalls.{named_call_falls, question_falls, fire_falls, focus_falls, keyword_falls, arguments_fall, behind_falls}
 use Rattle.rhai_machine.proofs.CallFalls.{operator_falls}
 use Rattle.rhai_machine.proofs.FormFalls.{candidates_size, choose_falls, met_falls, for_falls, started_falls, for_turn_falls, item_falls}
 use Rattle.rhai_machine.proofs.FormFalls.{tried_falls, share_falls}
@@ -134,18 +135,23 @@ module _ {H : Type 0} where
     function_of_falls : (call : FnCallExpr) (pos : Position) (k : List (Frame H)) (l : Local H) →
         size (function_of call pos k l) < 40 + stack_size k
     function_of_falls call pos k l = function_falls (keyword_of call.op_token call.name (length call.args))
-        (record { name = call.name; token = call.op_token; at = pos }) call.args call.capture_parent_scope k l
+        (operation_in call pos) call.args call.capture_parent_scope k l
+
+    function_move_falls : (unqualified : Bool) (call : FnCallExpr) (pos : Position) (form : ExprLayer) (k : List (Frame H)) (l : Local H) →
+        Falls size (core (OpenExpr form) k l) (function_move s unqualified call pos k l)
+    function_move_falls true call pos form k l = omega (arith, function_of_falls call pos k l)
+    function_move_falls false call pos form k l =
+        behind_falls s (path_of call.namespace) (operation_in call pos) call.args (core (OpenExpr form) k l) k l (omega arith)
 
     call_falls : (fast : Bool) (token : Option Token) (call : FnCallExpr) (args : List Expr) (pos : Position) (form : ExprLayer)
         (k : List (Frame H)) (l : Local H) →
-        Falls size (core (OpenExpr form) k l) (call_move fast token call args pos k l)
+        Falls size (core (OpenExpr form) k l) (call_move s fast token call args pos k l)
     call_falls true (Some token) call (operand ∷ []) pos form k l = omega arith
     call_falls true (Some token) call (left ∷ right ∷ []) pos form k l = omega arith
-    call_falls _ _ call args pos form k l = there_falls (is_unqualified call.namespace.path) (core (OpenExpr form) k l)
-        (function_of call pos k l) (omega (arith, function_of_falls call pos k l))
+    call_falls _ _ call args pos form k l = function_move_falls (is_unqualified call.namespace.path) call pos form k l
 
     expr_falls : (fast : Bool) (form : ExprLayer) (k : List (Frame H)) (l : Local H) →
-        Falls size (core (OpenExpr form) k l) (expr_move fast form k l)
+        Falls size (core (OpenExpr form) k l) (expr_move s fast form k l)
     expr_falls fast (layer.DynamicConstant literal pos) k l = omega arith
     expr_falls fast (layer.BoolConstant b pos) k l = omega arith
     expr_falls fast (layer.IntegerConstant n pos) k l = omega arith
@@ -153,9 +159,8 @@ module _ {H : Type 0} where
     expr_falls fast (layer.StringConstant text pos) k l = omega arith
     expr_falls fast (layer.Unit pos) k l = omega arith
     expr_falls fast (layer.Variable offset name namespace pos) k l =
-        there_falls (is_unqualified namespace.path) (core (OpenExpr (layer.Variable offset name namespace pos)) k l)
-        (core (ended (read l.around.cells l.around.lib name pos l.scope)) k l)
-        (result_falls (read l.around.cells l.around.lib name pos l.scope) (40 + stack_size k) (stack_size k) (omega arith))
+        result_falls (read (globals_of s.offer) l.around l.scope (variable_named name namespace pos)) (40 + stack_size k) (stack_size k)
+        (omega arith)
     expr_falls fast (layer.ThisPtr pos) k l =
         result_falls (copied (bound_this pos l.this)) (40 + stack_size k) (stack_size k) (omega arith)
     expr_falls fast (layer.Expr::FnCall call pos) k l = call_falls fast call.op_token call call.args pos (layer.Expr::FnCall call pos) k l
@@ -180,8 +185,7 @@ module _ {H : Type 0} where
     assignment_falls : (target : ExprLayer) (op : OpAssignment) (rhs : Expr) (form : StmtLayer) (restoring : Bool) (k : List (Frame H))
         (l : Local H) → parts_in form ≡ links target →
         Falls size (core (OpenStmt form restoring) k l) (assignment_move target op rhs k l)
-    assignment_falls (layer.Variable offset name namespace pos) op rhs form restoring k l same =
-        there_falls (is_unqualified namespace.path) (core (OpenStmt form restoring) k l) _ (omega arith)
+    assignment_falls (layer.Variable offset name namespace pos) op rhs form restoring k l same = omega arith
     assignment_falls (layer.ThisPtr pos) op rhs form restoring k l same =
         on_below (bound_this pos l.this) (λ this. core (Eval rhs) (AssignThisValue op pos (position_of rhs) ∷ k) l) k l
         (20 * parts_in form + 50 + stack_size k) (omega arith) (λ this. omega arith)
@@ -543,9 +547,9 @@ module _ {H : Type 0} where
     control_falls (Enter stmts restoring) k l = enter_falls stmts restoring k l
     control_falls (Run stmts restoring last) k l = run_falls stmts restoring last k l
     control_falls (Store assignment v) k l =
-        store_falls s (target_of l.around.cells l.around.lib assignment.name assignment.at l.scope) assignment v k l
+        store_falls s (target_of (globals_of s.offer) l.around l.scope (variable_of_assignment assignment)) assignment v k l
     control_falls (StoreThis op at v) k l =
-        store_falls s (this_target l.around.cells at l.this) (record { name = []; at = at; op = op }) v k l
+        store_falls s (this_target l.around.cells at l.this) (record { path = no_path; name = []; at = at; op = op }) v k l
     control_falls (WhileTurn test body) k l = while_turn_falls (is_endless (out-Expr test)) body.statements test body k l
     control_falls (DoTurn test body options) k l = omega (arith, enter_size body.statements true k)
     control_falls (Choose candidates default) k l = omega (arith, choose_falls candidates default k l)
@@ -555,7 +559,7 @@ module _ {H : Type 0} where
     control_falls (OpenChain chain) k l = open_falls (link_of chain.rest) chain k l
     control_falls (ChainArguments chain rest made) k l = asked_falls s (link_of rest) chain rest made k l
     control_falls (ChainRoot chain) k l = root_falls (out-Expr chain.root) chain k l
-    control_falls (ReadRoot name at chain) k l = omega (arith, read_root_falls name at chain k l)
+    control_falls (ReadRoot variable chain) k l = omega (arith, read_root_falls (globals_of s.offer) variable chain k l)
     control_falls (Walk chain) k l = walk_falls s (link_of chain.rest) chain k l (within chain.rest)
     control_falls (Locate link chain) k l = omega (arith, locate_falls s link chain k l)
     control_falls (Changed v) [] l = omega arith

@@ -2,6 +2,7 @@ pub mod Points
 pub mod Runs
 pub mod Limits
 pub mod Ends
+pub mod MeantLaws
 pub mod Places
 pub mod MethodLaws
 pub mod WritesAtOnce

@@ -27,7 +27,7 @@ use Rattle.rhai_machine.specs.language.Frames.{Question, Back, Fail, StepDown}
 use Rattle.rhai_machine.specs.language.Handles.{entered_by, focus_of}
 use Rattle.rhai_machine.specs.language.Calls.{args_given, asks_function, call_of, call_races, entry_of, inside_core, focus_core, enter_core}
 use Rattle.rhai_machine.specs.language.Calls.{plainly, races}
-use Rattle.rhai_machine.specs.language.Calls.{called_function, found_core, named_core, dispatch_core}
+use Rattle.rhai_machine.specs.language.Calls.{called_function, found_core, named_core, dispatch_behind, dispatch_core, function_behind}
 use Rattle.rhai_machine.specs.language.Arguments.{operation_named, pointer_wanted, numbered_core, linked_core, linked_to, natives_alone}
 use Rattle.rhai_machine.specs.language.Methods.{Method, MethodWord, CallWord, CurryWord, SharedWord, PlainWord, word_of, argument_at}
 use Rattle.rhai_machine.specs.language.Methods.{as_method, on_focus, copied_before, own_entry, numbered_on}
@@ -130,8 +130,14 @@ module _ {H : Type 0} (k : List (Frame H)) (l : Local H) (R : Core H → Type 0)
         (found_ends (called_function s how call l) call)
     named_ends (v ∷ w ∷ x ∷ args) call = found_ends (called_function s how call l) call
 
+    -- and one behind a path
+    behind_ends : (path : List (List ℕ)) (call : Call H) → R (dispatch_behind s path how call k l)
+    behind_ends [] call = if_ends k l R (call_races how.of_method l.around.cells call.args) _ _ (b.fails _) (named_ends call.args call)
+    behind_ends (root ∷ path) call = on_ends k l R (function_behind s root path how call l) _ b.fails
+        (λ f found. b.enters f NoObject (not how.on_scope) (args_given call.lender call.args) call.operation.at)
+
     pub dispatch_ends : (call : Call H) → R (dispatch_core s how call k l)
-    dispatch_ends call = if_ends k l R (call_races how.of_method l.around.cells call.args) _ _ (b.fails _) (named_ends call.args call)
+    dispatch_ends call = behind_ends how.path.names call
 
 module _ {H : Type 0} (s : Setting H) (k : List (Frame H)) (l : Local H) (R : Core H → Type 0) (b : Ends k l R) where
   fails : (e : EvalAltResult H) → R (core (Fail e) k l)

@@ -1,7 +1,7 @@
 -- What is written to a place: the last value alone stays, the value that is there changes nothing, and the scope keeps its names.
 use Rattle.std.proofs.Common.{refl, sym, ap, ◌∙◌}
 use Rattle.std.specs.Option.{option_map, option_flatten}
-use Rattle.std.specs.Prelude.{◌≡◌, ℕ, zero, suc, Bool, true, false, ◌||◌, List, [], ◌∷◌, map, Option, Some, None, Ok, slice_get, slice_set}
+use Rattle.std.specs.Prelude.{◌≡◌, ℕ, zero, suc, Bool, true, false, ◌||◌, List, [], ◌∷◌, map, Option, Some, None, Result, Ok, Err, slice_get, slice_set}
 use Rattle.rhai_tree.specs.declared.position.Position.{Position}
 use Rattle.rhai_values.specs.declared.base.value.AccessMode.{AccessMode}
 use Rattle.rhai_values.specs.declared.base.value.AccessMode.TheVariants.{ReadWrite, ReadOnly}
@@ -12,10 +12,14 @@ use Rattle.rhai_state.specs.declared.scope.ScopeEntry.{ScopeEntry}
 use Rattle.rhai_state.specs.declared.error.EvalAltResult.{EvalAltResult}
 use Rattle.rhai_values.specs.Cells.{value_of_cell}
 use Rattle.rhai_state.specs.Scope.{name_of, value_of, value_in, index_of, found, revalued}
+use Rattle.rhai_machine.specs.language.Setting.{Globals}
 use Rattle.rhai_machine.specs.language.State.{Local}
+use Rattle.rhai_machine.specs.language.Variables.{Variable}
+use Rattle.rhai_machine.specs.language.Names.{Meaning, AtEntry, AsTemporary, meant}
+use Rattle.rhai_machine.proofs.MeantLaws.{meant_entry}
 use Rattle.rhai_machine.specs.language.Values.{Cells}
 use Rattle.rhai_machine.specs.language.Places.{Place, InEntry, InCell, InThis, InFocus, Target, target, is_constant, unless_constant}
-use Rattle.rhai_machine.specs.language.Places.{target_in_cell, target_at, target_found, target_of, focus_in_cell, this_at, this_target}
+use Rattle.rhai_machine.specs.language.Places.{target_in_cell, target_at, target_meant, target_of, focus_in_cell, this_at, this_target}
 use Rattle.rhai_machine.specs.language.Places.{rebound, put}
 
 module _ {A : Type 0} where
@@ -121,15 +125,19 @@ module _ {H : Type 0} where
         let same = not_constant (is_constant v.mode) name pos (target (InEntry i) v) t ok in
         rw (← same) (entry_there i v l is)
 
-    found_there : (otherwise : EvalAltResult H) (index : Option ℕ) (there : Option (Dynamic H)) → value_in l.scope index ≡ there →
-        target_found l.around.cells otherwise name pos index there ≡ Ok t → put t.place t.value l ≡ l
-    found_there otherwise (Some i) (Some v) is ok = at_there i v.value v is ok
-    found_there otherwise (Some i) None is ok = cc
-    found_there otherwise None there is ok = cc
+    meant_there : (r : Result (Meaning H) (EvalAltResult H)) →
+        ((i : ℕ) (v : Dynamic H) → r ≡ Ok (AtEntry i v) → value_in l.scope (Some i) ≡ Some v) →
+        target_meant l.around.cells name pos r ≡ Ok t → put t.place t.value l ≡ l
+    meant_there (Ok (AtEntry i v)) there ok = at_there i v.value v (there i v refl) ok
+    meant_there (Ok (AsTemporary v)) there ok = cc
+    meant_there (Err e) there ok = cc
 
-    -- the value that is there already changes nothing
-    pub put_there : target_of l.around.cells l.around.lib name pos l.scope ≡ Ok t → put t.place t.value l ≡ l
-    put_there is = found_there _ (index_of name l.scope) (found name l.scope) refl is
+  -- the value that is there already changes nothing
+  pub put_there : (globals : Globals H) (variable : Variable) (l : Local H) (t : Target H) →
+      target_of globals l.around l.scope variable ≡ Ok t → put t.place t.value l ≡ l
+  put_there globals variable l t is = meant_there variable.name variable.at l t (meant globals l.around l.scope variable) (λ i v means.
+      let parts = meant_entry globals l.around l.scope i v variable means in
+      sym (ap (value_in l.scope) parts.0) ∙ parts.1) is
 
   module _ (pos : Position) (l : Local H) (t : Target H) where
     this_cell_there : (mode : AccessMode) (n : ℕ) (there : Option (Dynamic H)) → value_of_cell l.around.cells n ≡ there →

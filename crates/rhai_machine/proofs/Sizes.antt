@@ -85,7 +85,7 @@ module _ {H : Type 0} where
   control_size (OpenChain chain) = 20 * links chain.rest + 35
   control_size (ChainArguments chain rest made) = 0
   control_size (ChainRoot chain) = 20 * links chain.rest + 30
-  control_size (ReadRoot name at chain) = 20 * links chain.rest + 30
+  control_size (ReadRoot variable chain) = 20 * links chain.rest + 30
   control_size (Walk chain) = 20 * links chain.rest + 20
   control_size (Locate link chain) = 20 * left_by link.behind + 20
   control_size (Back v) = 8

@@ -2,6 +2,7 @@ pub mod Setting
 pub mod State
 pub mod Values
 pub mod Functions
+pub mod Variables
 pub mod Names
 pub mod Places
 pub mod Links

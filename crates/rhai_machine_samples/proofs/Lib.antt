@@ -15,4 +15,5 @@ mod TryRuns
 mod ShareRuns
 mod ExportRuns
 mod ImportRuns
+mod PathRuns
 mod OverwriteRuns

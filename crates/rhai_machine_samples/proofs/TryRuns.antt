@@ -11,6 +11,7 @@ use Rattle.rhai_values.proofs.ModeLemmas.{mode-Map}
 use Rattle.rhai_machine.specs.Types.{Dynamic, EvalAltResult, ScopeEntry}
 use Rattle.rhai_machine.specs.machine.Machine.{Config}
 use Rattle.rhai_machine.specs.language.State.{Local}
+use Rattle.rhai_machine.specs.language.Variables.{no_path}
 use Rattle.rhai_machine.specs.language.Frames.{Control, Frame, Core, core, Assign, Enter, RestoreList, Fail, RestOfList, Top, TryBody, CatchBranch, RestoreScope}
 use Rattle.rhai_machine_samples.specs.Trees.{braces, column, loop_, var, value}
 use Rattle.rhai_machine_samples.specs.Runs.{Table, entry, integer, nothing_but, unit}
@@ -72,7 +73,7 @@ module _ {S H : Type 0} (table : Table S H) (host : H → List ℕ) where
   map_assigned caught below source v count =
       let l : Local H = nothing_but (entry (codes "r") unit ∷ entry (codes "e") v ∷ []) in
       record {
-        core = core (Assign (record { name = codes "r"; at = column 26; op = record { op = None; position = column 28 } }) v)
+        core = core (Assign (record { path = no_path; name = codes "r"; at = column 26; op = record { op = None; position = column 28 } }) v)
             (RestOfList [] true ∷ RestoreList (record { scope_length = 2; imports_length = 0; scope_level = 0 }) ∷ CatchBranch caught
             ∷ RestoreScope 1 ∷ below)
             (record l { scope_level = 1; around = record l.around { source = source } });

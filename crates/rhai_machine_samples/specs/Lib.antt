@@ -22,4 +22,5 @@ pub mod Tries
 pub mod Shares
 pub mod Exports
 pub mod Imports
+pub mod Paths
 pub mod Overwrites

@@ -34,6 +34,7 @@ ghost use Rattle.rhai_machine_samples.specs.Tries.{Throws, Tries, TryEnds};
 ghost use Rattle.rhai_machine_samples.specs.Shares.{Shares};
 ghost use Rattle.rhai_machine_samples.specs.Exports.{Exports};
 ghost use Rattle.rhai_machine_samples.specs.Imports.{Imports};
+ghost use Rattle.rhai_machine_samples.specs.Paths.{Paths, PathCalls, GlobalConstants};
 ghost use Rattle.rhai_machine_samples.specs.Overwrites.{Overwrites};
 
 use rhai_machine::laws::{Language, always_ends};
@@ -259,7 +260,23 @@ pub fn sample_exports<H, S>(of: PhantomData<(H, S)>)
 
 /// Modules that a script imports, whatever they are.
 pub fn sample_imports<H, S>(of: PhantomData<(H, S)>)
-    ensures { (table : Table S H) (host : H → List ℕ) (m other : Module H) (older : Import H) → Imports table host m other older }
+    ensures { (table : Table S H) (host : H → List ℕ) (m other : Module H) (older : Import H) →
+        Imports table host m other older }
+{}
+
+/// Constants behind a path.
+pub fn sample_paths<H, S>(of: PhantomData<(H, S)>)
+    ensures { (table : Table S H) (host : H → List ℕ) → Paths table host }
+{}
+
+/// Calls behind a path.
+pub fn sample_path_calls<H, S>(of: PhantomData<(H, S)>)
+    ensures { (table : Table S H) (host : H → List ℕ) → PathCalls table host }
+{}
+
+/// Constants of an engine's global modules.
+pub fn sample_global_constants<H, S>(of: PhantomData<(H, S)>)
+    ensures { (table : Table S H) (host : H → List ℕ) → GlobalConstants table host }
 {}
 
 /// Variables that a `let` overwrites, whatever its index is.

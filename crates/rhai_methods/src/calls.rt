@@ -6,7 +6,7 @@ ghost use Rattle.rhai_machine.specs.language.Arguments.{operation_named};
 ghost use Rattle.rhai_machine.specs.language.Methods.{numbered_on};
 ghost use Rattle.rhai_machine.specs.language.Setting.{rules_of};
 ghost use Rattle.rhai_steps.specs.States.{state_of};
-ghost use Rattle.rhai_calls.specs.Dispatch.{Offers};
+ghost use Rattle.rhai_steps.specs.Offers.{Offers};
 ghost use Rattle.rhai_calls.specs.Marks.{with_mark};
 ghost use Rattle.rhai_methods.specs.Calls.{alone_by, named_alone, named_on, number_alone, on_by};
 ghost use Rattle.rhai_steps.specs.Marked.{lending};

@@ -8,7 +8,7 @@ ghost use Rattle.rhai_machine.specs.language.Methods.{CallWord, call_argument, o
 ghost use Rattle.rhai_machine.specs.language.Setting.{rules_of};
 ghost use Rattle.rhai_machine.specs.language.Values.{through};
 ghost use Rattle.rhai_steps.specs.States.{state_of};
-ghost use Rattle.rhai_calls.specs.Dispatch.{Offers};
+ghost use Rattle.rhai_steps.specs.Offers.{Offers};
 ghost use Rattle.rhai_steps.specs.Marked.{lending};
 ghost use Rattle.rhai_methods.specs.Methods.{IsEntered, MethodRuns, CallsFrom};
 ghost use Rattle.rhai_methods.specs.Parts.{all_of, alone_as, alone_with, name_called, on_as, on_with};
@@ -230,8 +230,8 @@ fn call_argument<H: Host, T: NativeTable<H>>(
     pos: Position,
 ) -> MethodCall<H>
     ensures counts { global.old.num_operations ≤ global.new.num_operations }
-    ensures runs { (offer : _) (scope : _) (held : _) (name : _) (was_handle : _) (seen : _) → Offers offer offered.now →
-        through (cells_of global.old.cells) target.old pos ≡ Ok seen →
+    ensures runs { (offer : _) (scope : _) (held : _) (name : _) (was_handle : _) (seen : _) →
+        Offers offer offered.now → through (cells_of global.old.cells) target.old pos ≡ Ok seen →
         let rules = rules_of limits.now H.name_of offer T.natives in
         CallsFrom rules pos (call_argument rules.setting
         (record { name = name; at = pos; first_at = first_arg_pos; was_handle = was_handle }) args.old seen target.old)
@@ -312,8 +312,8 @@ fn call_plain<H: Host, T: NativeTable<H>>(
     pos: Position,
 ) -> MethodCall<H>
     ensures counts { global.old.num_operations ≤ global.new.num_operations }
-    ensures runs { (offer : _) (scope : _) (held : _) (first_at : _) (was_handle : _) → Offers offer offered.now →
-        let rules = rules_of limits.now H.name_of offer T.natives in
+    ensures runs { (offer : _) (scope : _) (held : _) (first_at : _) (was_handle : _) →
+        Offers offer offered.now → let rules = rules_of limits.now H.name_of offer T.natives in
         CallsFrom rules pos (own_core rules.setting
         (record { name = name.now; at = pos; first_at = first_at; was_handle = was_handle }) args.old target.old)
         (state_of (T.state table.old) global.old scope (lending held target.old))

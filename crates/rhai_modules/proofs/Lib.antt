@@ -1,2 +1,0 @@
-mod Paths
-mod Searches

@@ -1,3 +1,1 @@
-pub mod Namespaces
-pub mod Qualified
 pub mod Imports

@@ -89,11 +89,14 @@ pub fn import_module<H: Host>(
 ) -> bool
     ensures value { IsTrue result → out.new ≡ unit }
     ensures imports { (scope : _) (held : _) → IsTrue result →
-        Imports (module_meant H.name_of (cells_of global.old.cells) modules.now.modules out.old (position_of path.now)
+        Imports (module_meant H.name_of (cells_of global.old.cells) modules.now.modules out.old
+        (position_of path.now)
         (start_of path.now)) alias.now (local_of global.old scope held) (local_of global.new scope held) }
     ensures counts { global.new.num_operations ≡ global.old.num_operations }
-    ensures refused { result ≡ false → is_out_of_memory (error_in place.new) ≡ false → Err (error_in place.new)
-        ≡ module_meant H.name_of (cells_of global.old.cells) modules.now.modules out.old (position_of path.now)
+    ensures refused { result ≡ false → is_out_of_memory (error_in place.new) ≡ false →
+        Err (error_in place.new)
+        ≡ module_meant H.name_of (cells_of global.old.cells) modules.now.modules out.old
+        (position_of path.now)
         (start_of path.now) }
     ensures same { result ≡ false → global.new ≡ global.old }
 {

@@ -1,5 +1,5 @@
 -- A condition that compares operands which stand, over the frame that asks for its truth value.
-use Rattle.std.proofs.Common.{◌≡◌, ◌<◌, ◌≤◌, ◌+◌, ℕ, Bool, true, IsTrue, List, [], ◌∷◌, Some, Result, Ok, Err, refl, ap}
+use Rattle.std.proofs.Common.{◌≡◌, ◌<◌, ◌≤◌, ◌+◌, ℕ, Bool, true, List, [], ◌∷◌, Some, Result, Ok, Err, refl, ap}
 use Rattle.std.proofs.Common.{arith, subst, ◌∙◌}
 use Rattle.rhai_tree.specs.declared.position.Position.{Position}
 use Rattle.rhai_tree.specs.declared.token.Token.{Token}
@@ -7,13 +7,12 @@ use Rattle.rhai_tree.specs.declared.expr.Expr.{Expr, out-Expr}
 use Rattle.rhai_tree.specs.declared.expr.Expr.TheOpen as layer
 use Rattle.rhai_tree.specs.declared.expr.FnCallExpr.{FnCallExpr}
 use Rattle.rhai_tree.specs.Positions.{position_of}
-use Rattle.rhai_tree.specs.Frame.{resolves_expr}
 use Rattle.rhai_values.specs.declared.base.value.Dynamic.{Dynamic}
 use Rattle.rhai_state.specs.declared.scope.Scope.{Scope}
 use Rattle.rhai_state.specs.declared.state.GlobalRuntimeState.{GlobalRuntimeState}
 use Rattle.rhai_state.specs.declared.error.EvalAltResult.{EvalAltResult}
 use Rattle.rhai_state.specs.declared.error.EvalAltResult.TheVariants as error
-use Rattle.rhai_state.specs.Scope.{entries_of, names_in}
+use Rattle.rhai_state.specs.Scope.{entries_of}
 use Rattle.rhai_operators.specs.Answers.{binary_of}
 use Rattle.rhai_machine.specs.machine.Machine.{Go}
 use Rattle.rhai_machine.specs.machine.Memory.{here, next, ◌⨾◌}
@@ -50,7 +49,6 @@ module _ {S H : Type 0} (rules : Rules S H) where
   module _ (t : S) (scope : Scope H) (held : Held H) (test : Expr) (call : FnCallExpr) (token : Token) (left right : Expr)
       (pos : Position) (x y : Dynamic H) (fast : rules.setting.offer.fast_operators ≡ true)
       (form : out-Expr test ≡ layer.Expr::FnCall call pos) (is_token : call.op_token ≡ Some token) (args : call.args ≡ left ∷ right ∷ [])
-      (resolves_left : IsTrue (resolves_expr left (names_in scope))) (resolves_right : IsTrue (resolves_expr right (names_in scope)))
       (left_stands : standing (out-Expr left) (entries_of scope) ≡ Some x)
       (right_stands : standing (out-Expr right) (entries_of scope) ≡ Some y) where
     -- the condition is refused
@@ -79,7 +77,7 @@ module _ {S H : Type 0} (rules : Rules S H) where
       unfolding Tests
       test_left_refused new e full refusal same f k asks =
           test_begins (f ∷ k)
-          ⨾ left_refused rules t scope held call token left right pos x y (f ∷ k) fast is_token args resolves_left resolves_right
+          ⨾ left_refused rules t scope held call token left right pos x y (f ∷ k) fast is_token args
           left_stands
           right_stands first new e full refusal same
           ⨾ passes_on f (position_of test) asks e k (state_of t new scope held)
@@ -92,7 +90,7 @@ module _ {S H : Type 0} (rules : Rules S H) where
         unfolding Tests
         test_right_refused new e full refusal same f k asks =
             test_begins (f ∷ k)
-            ⨾ right_refused rules t scope held call token left right pos x y (f ∷ k) fast is_token args resolves_left resolves_right
+            ⨾ right_refused rules t scope held call token left right pos x y (f ∷ k) fast is_token args
             left_stands right_stands first second new more then e full refusal same
             ⨾ passes_on f (position_of test) asks e k (state_of t new scope held)
 
@@ -104,7 +102,7 @@ module _ {S H : Type 0} (rules : Rules S H) where
         unfolding after Tests
         test_holds new most last holds is f k asks =
             test_begins (f ∷ k)
-            ⨾ compares rules t scope held call token left right pos x y (f ∷ k) fast is_token args resolves_left resolves_right
+            ⨾ compares rules t scope held call token left right pos x y (f ∷ k) fast is_token args
             left_stands right_stands first second new more then most last holds is
             ⨾ next here
 

@@ -1,5 +1,5 @@
 -- A binary operator on operands that stand: its charges, and what it gives.
-use Rattle.std.proofs.Common.{◌≡◌, ◌<◌, ◌≤◌, ◌+◌, ℕ, Bool, ◌&&◌, nat_lt, arith, true, false, IsTrue, List, [], ◌∷◌, Option}
+use Rattle.std.proofs.Common.{◌≡◌, ◌<◌, ◌≤◌, ◌+◌, ℕ, Bool, ◌&&◌, nat_lt, arith, true, false, List, [], ◌∷◌, Option}
 use Rattle.std.proofs.Common.{Some, None, Result, Ok, Err, refl, sym, ap, ◌∙◌, ℤ, if◌then◌else◌}
 use Rattle.std.proofs.lemmas.Bool.{le-ltb}
 use Rattle.std.specs.Prelude.{option_map}
@@ -9,7 +9,6 @@ use Rattle.rhai_tree.specs.declared.expr.Expr.{Expr, out-Expr}
 use Rattle.rhai_tree.specs.declared.expr.Expr.TheOpen as layer
 use Rattle.rhai_tree.specs.declared.expr.FnCallExpr.{FnCallExpr}
 use Rattle.rhai_tree.specs.Positions.{position_of}
-use Rattle.rhai_tree.specs.Frame.{resolves_expr}
 use Rattle.rhai_values.specs.declared.base.value.Dynamic.{Dynamic}
 use Rattle.rhai_values.specs.declared.base.value.Union.{Union}
 use Rattle.rhai_values.specs.declared.base.value.Union.TheVariants as value
@@ -23,7 +22,7 @@ use Rattle.rhai_state.specs.declared.state.GlobalRuntimeState.{GlobalRuntimeStat
 use Rattle.rhai_state.specs.declared.error.EvalAltResult.{EvalAltResult}
 use Rattle.rhai_state.specs.declared.error.EvalAltResult.TheVariants as error
 use Rattle.rhai_state.specs.declared.limits.Limits.{Limits}
-use Rattle.rhai_state.specs.Scope.{entries_of, names_in}
+use Rattle.rhai_state.specs.Scope.{entries_of}
 use Rattle.rhai_operators.specs.Compare.{type_of}
 use Rattle.rhai_operators.specs.Operators.{Outcome, binary_at, of_integers, op_assign_at}
 use Rattle.rhai_operators.specs.Answers.{Answer, IsAnswer, answer, binary_of, op_assign_of}
@@ -220,7 +219,6 @@ module _ {H : Type 0} (token : Token) where
 module _ {S H : Type 0} (rules : Rules S H) (t : S) (scope : Scope H) (held : Held H) (call : FnCallExpr) (token : Token)
     (left right : Expr) (pos : Position) (x y : Dynamic H) (k : List (Frame H)) (fast : rules.setting.offer.fast_operators ≡ true)
     (is_token : call.op_token ≡ Some token) (args : call.args ≡ left ∷ right ∷ [])
-    (resolves_left : IsTrue (resolves_expr left (names_in scope))) (resolves_right : IsTrue (resolves_expr right (names_in scope)))
     (left_stands : standing (out-Expr left) (entries_of scope) ≡ Some x) (right_stands : standing (out-Expr right) (entries_of scope) ≡
     Some y)
   where
@@ -246,7 +244,7 @@ module _ {S H : Type 0} (rules : Rules S H) (t : S) (scope : Scope H) (held : He
       unfolding after
       left_refused e full is same =
           opens_binary rules call token left right pos k (state_of t old scope held) fast is_token args
-          ⨾ argument_refused rules left x t old new scope held resolves_left left_stands e full is same on_left ⨾ next here
+          ⨾ argument_refused rules left x t old new scope held left_stands e full is same on_left ⨾ next here
 
       -- or there
       left_there : old.num_operations < limit_under rules → new ≡ record old { num_operations = old.num_operations + 1 } →
@@ -254,7 +252,7 @@ module _ {S H : Type 0} (rules : Rules S H) (t : S) (scope : Scope H) (held : He
           (at (Argument right) on_right (state_of t new scope held))
       left_there room is =
           opens_binary rules call token left right pos k (state_of t old scope held) fast is_token args
-          ⨾ argument_goes rules left x t old new scope held resolves_left left_stands room is on_left
+          ⨾ argument_goes rules left x t old new scope held left_stands room is on_left
           ⨾ step_by rules _ _ (Go (core (Argument right) on_right (state_of t new scope held).local))
           (ap (λ (r : Result (Dynamic H) (EvalAltResult H)). Go (on_value r
           (λ v. core (Argument right) (RightOperand operation v (position_of right) ∷ k) (state_of t new scope held).local) k
@@ -272,7 +270,7 @@ module _ {S H : Type 0} (rules : Rules S H) (t : S) (scope : Scope H) (held : He
       unfolding after
       right_refused e full refusal same =
           left_there old mid room is
-          ⨾ argument_refused rules right y t mid new scope held resolves_right right_stands e full refusal same on_right ⨾ next here
+          ⨾ argument_refused rules right y t mid new scope held right_stands e full refusal same on_right ⨾ next here
 
       module _ (more : mid.num_operations < limit_under rules) (last : new ≡ record mid { num_operations = mid.num_operations + 1 }) where
         -- or there, and the operator comes
@@ -281,7 +279,7 @@ module _ {S H : Type 0} (rules : Rules S H) (t : S) (scope : Scope H) (held : He
             (state_of t new scope held))
         both_there =
             left_there old mid room is
-            ⨾ argument_goes rules right y t mid new scope held resolves_right right_stands more last on_right
+            ⨾ argument_goes rules right y t mid new scope held right_stands more last on_right
             ⨾ step_by rules _ _ (Go (operator_core rules.setting (binary_of token (copy_of x) (copy_of y)) made k
             (state_of t new scope held).local))
             (ap (λ (r : Result (Dynamic H) (EvalAltResult H)). Go (on_value r

@@ -1,5 +1,5 @@
 -- An operator on two integers that stand, charged at once.
-use Rattle.std.proofs.Common.{◌≡◌, ◌≤◌, ◌+◌, ℕ, ℤ, Bool, true, false, IsTrue, List, [], ◌∷◌, Option, Some, None, Ok, Err}
+use Rattle.std.proofs.Common.{◌≡◌, ◌≤◌, ◌+◌, ℕ, ℤ, Bool, true, false, List, [], ◌∷◌, Option, Some, None, Ok, Err}
 use Rattle.std.proofs.Common.{ap, arith, is_some, refl, sym, ◌∙◌}
 use Rattle.std.specs.Prelude.{IfSome}
 use Rattle.rhai_tree.specs.declared.position.Position.{Position}
@@ -7,14 +7,13 @@ use Rattle.rhai_tree.specs.declared.token.Token.{Token}
 use Rattle.rhai_tree.specs.declared.expr.Expr.{Expr, out-Expr}
 use Rattle.rhai_tree.specs.declared.expr.Expr.TheOpen as layer
 use Rattle.rhai_tree.specs.declared.expr.FnCallExpr.{FnCallExpr}
-use Rattle.rhai_tree.specs.Frame.{resolves_expr}
 use Rattle.rhai_values.specs.declared.base.value.Dynamic.{Dynamic}
 use Rattle.rhai_values.specs.declared.base.value.Union.{Union}
 use Rattle.rhai_values.specs.declared.base.value.Union.TheVariants as value
 use Rattle.rhai_values.specs.Copy.{plain}
 use Rattle.rhai_state.specs.declared.scope.Scope.{Scope}
 use Rattle.rhai_state.specs.declared.state.GlobalRuntimeState.{GlobalRuntimeState}
-use Rattle.rhai_state.specs.Scope.{entries_of, names_in}
+use Rattle.rhai_state.specs.Scope.{entries_of}
 use Rattle.rhai_operators.specs.Answers.{answer, binary_of}
 use Rattle.rhai_operators.specs.Direct.{integer_given, integer_in}
 use Rattle.rhai_operators.specs.Operators.{Outcome, assigns_integers, binary_at, if_assigns, of_integers, op_assign_at}
@@ -98,7 +97,6 @@ module _ {H : Type 0} (token : Token) where
 module _ {S H : Type 0} (rules : Rules S H) (t : S) (scope : Scope H) (held : Held H) (call : FnCallExpr) (token : Token)
     (left right : Expr) (pos : Position) (x y : Dynamic H) (k : List (Frame H)) (fast : rules.setting.offer.fast_operators ≡ true)
     (is_token : call.op_token ≡ Some token) (args : call.args ≡ left ∷ right ∷ [])
-    (resolves_left : IsTrue (resolves_expr left (names_in scope))) (resolves_right : IsTrue (resolves_expr right (names_in scope)))
     (left_stands : standing (out-Expr left) (entries_of scope) ≡ Some x) (right_stands : standing (out-Expr right) (entries_of scope) ≡
     Some y)
   where
@@ -110,7 +108,7 @@ module _ {S H : Type 0} (rules : Rules S H) (t : S) (scope : Scope H) (held : He
     operates_at_once old new room is v z number says =
         let mid = record old { num_operations = old.num_operations + 1 } in
         let sized : applied rules.setting.limits (Ok v) pos ≡ Ok v = rw number (integer_sized H rules.setting.limits z pos) in
-        operates rules t scope held call token left right pos x y k fast is_token args resolves_left resolves_right left_stands
+        operates rules t scope held call token left right pos x y k fast is_token args left_stands
         right_stands old mid new (omega (arith, room)) refl (omega (arith, room))
         (is ∙ ap (λ (m : ℕ). record old { num_operations = m }) (omega arith))
         (Some (Ok v)) (Ok v) (Ok v) (λ m. sym says) refl (λ m. sym sized)

@@ -7,11 +7,11 @@ use Rattle.rhai_tree.specs.declared.expr.Expr.TheFolds.{fold_out-FnCallExpr}
 use Rattle.rhai_tree.specs.declared.expr.FnCallExpr.{FnCallExpr}
 use Rattle.rhai_tree.specs.declared.expr.Namespace.{Namespace}
 use Rattle.rhai_tree.specs.declared.position.Position.{Position}
-use Rattle.rhai_tree.specs.Forms.{is_unqualified}
 use Rattle.rhai_tree.specs.Frame.{tests_of, resolves_expr, resolves_call, all_resolve_exprs, target_resolves}
 use Rattle.rhai_tree.specs.Names.{Name, is_good}
 use Rattle.rhai_tree.specs.Reading as walk
 use Rattle.rhai_tree.specs.Reading.{sound}
+use Rattle.rhai_tree.proofs.Variables.{offset_good}
 use Rattle.rhai_tree.proofs.Walk.{resolves-expr}
 
 pub both : (a b : Bool) → IsTrue (a && b) → IsTrue a × IsTrue b
@@ -35,20 +35,13 @@ two_resolve left right names h =
     (first.0, (both (resolves_expr right names) true first.1).0)
 
 module _ (call : FnCallExpr) (pos : Position) (names : List Name) (h : IsTrue (resolves_call call pos names)) where
-  passed_call : IsTrue (is_unqualified call.namespace.path) × IsTrue (all_resolve_exprs (map tests_of call.args) names)
-  passed_call =
+  -- the arguments of a call that resolves do
+  pub operands_of_call : IsTrue (all_resolve_exprs (map tests_of call.args) names)
+  operands_of_call =
       let opened = fold_out-FnCallExpr (walk.Seen sound) (walk.SeenStmt sound) (walk.SeenConditional sound) (walk.SeenCall sound)
       (walk.SeenEntry sound) (walk.Seen sound) (walk.expr_step sound) (walk.stmt_step sound) (walk.conditional_step sound) (walk.call_step sound)
       (walk.entry_step sound) (walk.block_step sound) call in
-      holds_then _ _ (fails_then _ _ (subst (λ (s : walk.SeenCall sound). IsTrue (s.value pos names)) opened h)).1
-
-  -- a call that resolves has no path
-  pub call_is_plain : is_unqualified call.namespace.path ≡ true
-  call_is_plain = passed_call.0
-
-  -- and its arguments resolve
-  pub operands_of_call : IsTrue (all_resolve_exprs (map tests_of call.args) names)
-  operands_of_call = passed_call.1
+      (fails_then _ _ (subst (λ (s : walk.SeenCall sound). IsTrue (s.value pos names)) opened h)).1
 
 -- the operands of a call that resolves do
 pub operands_resolve : (call : FnCallExpr) (pos : Position) (left right : Expr) (names : List Name) → call.args ≡ left ∷ right ∷ [] →
@@ -63,17 +56,11 @@ pub call_resolves : (e : Expr) (call : FnCallExpr) (pos : Position) (left right 
 call_resolves e call pos left right names is args h = operands_resolve call pos left right names args
     (subst (λ (t : walk.Seen sound). IsTrue (t.value names)) (resolves-expr e (layer.Expr::FnCall call pos) is) h)
 
--- a variable that resolves has no path
-pub plain_name : (e : Expr) (offset : Option NonZeroUsize) (name : Name) (namespace : Namespace) (pos : Position) (names : List Name) →
-    out-Expr e ≡ layer.Variable offset name namespace pos → IsTrue (resolves_expr e names) → is_unqualified namespace.path ≡ true
-plain_name e offset name namespace pos names is h = (holds_then (is_unqualified namespace.path) _
-    (subst (λ (t : walk.Seen sound). IsTrue (t.value names)) (resolves-expr e (layer.Variable offset name namespace pos) is) h)).0
-
--- and its offset leads to the newest variable of the name
+-- the offset of a variable that resolves is good
 pub good_name : (e : Expr) (offset : Option NonZeroUsize) (name : Name) (namespace : Namespace) (pos : Position) (names : List Name) →
     out-Expr e ≡ layer.Variable offset name namespace pos → IsTrue (resolves_expr e names) → IsTrue (is_good offset name names)
-good_name e offset name namespace pos names is h = (holds_then (is_good offset name names) _ (holds_then (is_unqualified namespace.path) _
-    (subst (λ (t : walk.Seen sound). IsTrue (t.value names)) (resolves-expr e (layer.Variable offset name namespace pos) is) h)).1).0
+good_name e offset name namespace pos names is h = offset_good offset name namespace pos names
+    (subst (λ (t : walk.Seen sound). IsTrue (t.value names)) (resolves-expr e (layer.Variable offset name namespace pos) is) h)
 
 -- so it is with the target of an assignment
 place_then : (place b : Bool) → IsTrue (if place then b else (false && b)) → IsTrue b
@@ -84,10 +71,4 @@ pub good_target : (e : Expr) (offset : Option NonZeroUsize) (name : Name) (names
     out-Expr e ≡ layer.Variable offset name namespace pos → IsTrue (target_resolves (tests_of e) names) →
     IsTrue (is_good offset name names)
 good_target e offset name namespace pos names is h = good_name e offset name namespace pos names is
-    (place_then (tests_of e).is_place ((tests_of e).value names) h)
-
-pub plain_target : (e : Expr) (offset : Option NonZeroUsize) (name : Name) (namespace : Namespace) (pos : Position) (names : List Name) →
-    out-Expr e ≡ layer.Variable offset name namespace pos → IsTrue (target_resolves (tests_of e) names) →
-    is_unqualified namespace.path ≡ true
-plain_target e offset name namespace pos names is h = plain_name e offset name namespace pos names is
     (place_then (tests_of e).is_place ((tests_of e).value names) h)

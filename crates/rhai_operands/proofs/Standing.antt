@@ -1,16 +1,14 @@
 -- How the machine reads an operand that stands: one charge at its position, and a copy of its value.
-use Rattle.std.proofs.Common.{◌≡◌, ◌<◌, ◌≤◌, ◌+◌, false, IsTrue, List, Option, Some, None, Ok, refl, ap}
+use Rattle.std.proofs.Common.{◌≡◌, ◌<◌, ◌≤◌, ◌+◌, ◌∙◌, ℕ, false, true, List, [], ◌∷◌, Option, Some, None, Result, Ok, refl, ap}
 use Rattle.std.proofs.Common.{if◌then◌else◌}
-use Rattle.std.specs.Option.{option_or}
 use Rattle.rhai_tree.specs.declared.position.Position.{Position}
 use Rattle.rhai_tree.specs.declared.expr.Expr.{Expr, out-Expr}
 use Rattle.rhai_tree.specs.declared.expr.Expr.TheOpen as layer
 use Rattle.rhai_tree.specs.declared.expr.Expr.TheFolds.{fold_out-Expr}
+use Rattle.rhai_tree.specs.Forms.{is_unqualified}
 use Rattle.rhai_tree.specs.Layers.{ExprLayer}
 use Rattle.rhai_tree.specs.Positions.{position_of, start_of}
-use Rattle.rhai_tree.specs.Frame.{resolves_expr}
 use Rattle.rhai_values.specs.declared.base.value.Dynamic.{Dynamic}
-use Rattle.rhai_values.specs.declared.base.value.Module.{Module}
 use Rattle.rhai_values.specs.declared.base.value.Union.{Union}
 use Rattle.rhai_values.specs.declared.base.value.Union.TheVariants as value
 use Rattle.rhai_values.specs.Copy.{copy_of, plain}
@@ -19,38 +17,52 @@ use Rattle.rhai_state.specs.declared.scope.ScopeEntry.{ScopeEntry}
 use Rattle.rhai_state.specs.declared.state.GlobalRuntimeState.{GlobalRuntimeState}
 use Rattle.rhai_state.specs.declared.error.EvalAltResult.{EvalAltResult}
 use Rattle.rhai_state.specs.declared.error.EvalAltResult.TheVariants as error
-use Rattle.rhai_state.specs.Scope.{entries_of, names_in, found}
-use Rattle.rhai_machine.specs.language.State.{Held}
+use Rattle.rhai_state.specs.Scope.{entries_of, index_of, value_in}
+use Rattle.rhai_machine.specs.language.State.{Held, Surroundings}
 use Rattle.rhai_machine.specs.machine.Machine.{Go}
 use Rattle.rhai_machine.specs.machine.Memory.{here, next, ◌⨾◌}
 use Rattle.rhai_machine.specs.machine.Point.{after}
-use Rattle.rhai_machine.specs.language.Setting.{Rules, limit_under}
-use Rattle.rhai_machine.specs.language.Values.{Cells, bool_value, copied, is_handle, unit_value}
-use Rattle.rhai_machine.specs.language.Functions.{meant_function}
-use Rattle.rhai_machine.specs.language.Names.{looked_up, read, variable_of}
+use Rattle.rhai_machine.specs.language.Setting.{Globals, Rules, globals_of, limit_under}
+use Rattle.rhai_machine.specs.language.Values.{Cells, bool_value, is_handle, unit_value}
+use Rattle.rhai_machine.specs.language.Variables.{Variable, variable_named}
+use Rattle.rhai_machine.specs.language.Names.{entry_named, looked_up, of_entry, read, read_of}
 use Rattle.rhai_machine.specs.language.Expressions.{literal_of}
-use Rattle.rhai_machine.specs.language.Frames.{Frame, core, Argument, Eval, OpenExpr, Back, Fail}
+use Rattle.rhai_machine.specs.language.Frames.{Frame, core, ended, Argument, Eval, OpenExpr, Back, Fail}
 use Rattle.rhai_machine.specs.language.Runs.{at, Goes}
+use Rattle.rhai_machine.proofs.MeantLaws.{meant_at}
 use Rattle.rhai_steps.specs.States.{state_of}
 use Rattle.rhai_steps.proofs.Pieces.{step_by, charged, refused}
 use Rattle.rhai_operands.specs.Standing.{standing, unless_handle}
-use Rattle.rhai_operands.proofs.Names.{plain_name}
 
 module _ {H : Type 0} where
+  -- a name by itself has the newest entry
+  pub plain_entry : (path : List (List ℕ)) (name : List ℕ) (entries : List (ScopeEntry H)) → is_unqualified path ≡ true →
+      entry_named path name entries ≡ index_of name entries
+  plain_entry [] name entries is = refl
+  plain_entry (root ∷ path) name entries is = cc
+
   -- a variable that is no handle is read as a copy
-  read_value : (cells : Cells H) (name : _) (pos : Position) (u : Union H) (w v : Dynamic H) →
-      (if is_handle u then None else Some w) ≡ Some v → copied (looked_up cells name pos u w) ≡ Ok (copy_of v)
-  read_value cells name pos (value.Cell id) w v is = cc
-  read_value cells name pos _ w v is = let same : w ≡ v = cc in ap (λ (x : Dynamic H). Ok (copy_of x)) same
+  read_value : (cells : Cells H) (name : _) (pos : Position) (index : ℕ) (u : Union H) (w v : Dynamic H) →
+      (if is_handle u then None else Some w) ≡ Some v → read_of (of_entry index (looked_up cells name pos u w)) ≡ Ok (copy_of v)
+  read_value cells name pos index (value.Cell id) w v is = cc
+  read_value cells name pos index _ w v is = let same : w ≡ v = cc in ap (λ (x : Dynamic H). Ok (copy_of x)) same
 
-  read_found : (cells : Cells H) (name : _) (pos : Position) (o other : Option (Dynamic H)) (v : Dynamic H) →
-      unless_handle o ≡ Some v → copied (variable_of cells name pos (option_or o other)) ≡ Ok (copy_of v)
-  read_found cells name pos None other v is = cc
-  read_found cells name pos (Some w) other v is = read_value cells name pos w.value w v is
+  module _ (globals : Globals H) (around : Surroundings H) (scope : List (ScopeEntry H)) (variable : Variable) (v : Dynamic H) where
+    read_there : (index : ℕ) (there : Option (Dynamic H)) → entry_named variable.path.names variable.name scope ≡ Some index →
+        value_in scope (Some index) ≡ there → unless_handle there ≡ Some v → read globals around scope variable ≡ Ok (copy_of v)
+    read_there index None is found stands = cc
+    read_there index (Some w) is found stands =
+        ap read_of (meant_at globals around scope variable index w is found)
+        ∙ read_value around.cells variable.name variable.at index w.value w v stands
 
-  pub reads_standing : (cells : Cells H) (lib : List (Module H)) (name : _) (pos : Position) (entries : List (ScopeEntry H))
-      (v : Dynamic H) → unless_handle (found name entries) ≡ Some v → read cells lib name pos entries ≡ Ok (copy_of v)
-  reads_standing cells lib name pos entries v is = read_found cells name pos (found name entries) (meant_function lib name) v is
+    read_found : (entry : Option ℕ) → entry_named variable.path.names variable.name scope ≡ entry →
+        unless_handle (value_in scope entry) ≡ Some v → read globals around scope variable ≡ Ok (copy_of v)
+    read_found None is stands = cc
+    read_found (Some index) is stands = read_there index (value_in scope (Some index)) is refl stands
+
+    pub reads_standing : unless_handle (value_in scope (entry_named variable.path.names variable.name scope)) ≡ Some v →
+        read globals around scope variable ≡ Ok (copy_of v)
+    reads_standing stands = read_found (entry_named variable.path.names variable.name scope) refl stands
 
 -- what stands is no handle
 value_plain : {H : Type 0} (u : Union H) (w v : Dynamic H) → u ≡ w.value → (if is_handle u then None else Some w) ≡ Some v →
@@ -68,7 +80,8 @@ standing_plain (layer.BoolConstant b pos) entries v is = let same : bool_value b
 standing_plain (layer.IntegerConstant n pos) entries v is = let same : plain (value.Int n) ≡ v = cc in rw (← same) refl
 standing_plain (layer.CharConstant c pos) entries v is = let same : plain (value.Char c) ≡ v = cc in rw (← same) refl
 standing_plain (layer.Unit pos) entries v is = let same : unit_value ≡ v = cc in rw (← same) refl
-standing_plain (layer.Variable offset name namespace pos) entries v is = found_plain (found name entries) v is
+standing_plain (layer.Variable offset name namespace pos) entries v is =
+    found_plain (value_in entries (entry_named namespace.path name entries)) v is
 standing_plain _ entries v is = cc
 
 -- a literal's text starts where it stands
@@ -84,35 +97,31 @@ literal_starts e _ w is literal = cc
 
 module _ {S H : Type 0} (rules : Rules S H) where
   -- its form, once it is charged, gives its value
-  opens_standing : (e : Expr) (form : ExprLayer) (v : Dynamic H) (k : List (Frame H)) (t : S) (g : GlobalRuntimeState H) (scope : Scope H)
-      (held : Held H) →
-      out-Expr e ≡ form → IsTrue (resolves_expr e (names_in scope)) → standing form (entries_of scope) ≡ Some v →
+  opens_standing : (form : ExprLayer) (v : Dynamic H) (k : List (Frame H)) (t : S) (g : GlobalRuntimeState H) (scope : Scope H)
+      (held : Held H) → standing form (entries_of scope) ≡ Some v →
       Goes rules (at (OpenExpr form) k (state_of t g scope held)) (at (Back (copy_of v)) k (state_of t g scope held))
   unfolding after
-  opens_standing e (layer.BoolConstant b pos) v k t g scope held is resolves stands = let same : bool_value b ≡ v = cc in rw (← same)
-      (next here)
-  opens_standing e (layer.IntegerConstant n pos) v k t g scope held is resolves stands =
+  opens_standing (layer.BoolConstant b pos) v k t g scope held stands = let same : bool_value b ≡ v = cc in rw (← same) (next here)
+  opens_standing (layer.IntegerConstant n pos) v k t g scope held stands =
       let same : plain (value.Int n) ≡ v = cc in rw (← same) (next here)
-  opens_standing e (layer.CharConstant c pos) v k t g scope held is resolves stands =
+  opens_standing (layer.CharConstant c pos) v k t g scope held stands =
       let same : plain (value.Char c) ≡ v = cc in rw (← same) (next here)
-  opens_standing e (layer.Unit pos) v k t g scope held is resolves stands = let same : unit_value ≡ v = cc in rw (← same) (next here)
-  opens_standing e (layer.Variable offset name namespace pos) v k t g scope held is resolves stands =
+  opens_standing (layer.Unit pos) v k t g scope held stands = let same : unit_value ≡ v = cc in rw (← same) (next here)
+  opens_standing (layer.Variable offset name namespace pos) v k t g scope held stands =
       step_by rules _ _ (Go (core (Back (copy_of v)) k (state_of t g scope held).local))
-      (rw (
-        plain_name e offset name namespace pos (names_in scope) is resolves,
-        reads_standing (state_of t g scope held).local.around.cells (state_of t g scope held).local.around.lib
-            name pos (entries_of scope) v stands,
-      ) refl) here
-  opens_standing e _ v k t g scope held is resolves stands = cc
+      (ap (λ (r : Result (Dynamic H) (EvalAltResult H)). Go (core (ended r) k (state_of t g scope held).local))
+      (reads_standing (globals_of rules.setting.offer) (state_of t g scope held).local.around (entries_of scope)
+      (variable_named name namespace pos) v stands)) here
+  opens_standing _ v k t g scope held stands = cc
 
   module _ (e : Expr) (v : Dynamic H) (t : S) (old new : GlobalRuntimeState H) (scope : Scope H) (held : Held H)
-      (resolves : IsTrue (resolves_expr e (names_in scope))) (stands : standing (out-Expr e) (entries_of scope) ≡ Some v) where
+      (stands : standing (out-Expr e) (entries_of scope) ≡ Some v) where
     module _ (room : old.num_operations < limit_under rules) (is : new ≡ record old { num_operations = old.num_operations + 1 }) where
       -- an expression that stands is charged, and there
       pub value_goes : (k : List (Frame H)) →
           Goes rules (at (Eval e) k (state_of t old scope held)) (at (Back (copy_of v)) k (state_of t new scope held))
       value_goes k = charged rules t old new scope held (Eval e) (OpenExpr (out-Expr e)) (position_of e) (λ k. refl) room is k
-          ⨾ opens_standing e (out-Expr e) v k t new scope held refl resolves stands
+          ⨾ opens_standing (out-Expr e) v k t new scope held stands
 
       argument_by : (form : ExprLayer) → out-Expr e ≡ form → standing form (entries_of scope) ≡ Some v → (k : List (Frame H)) →
           Goes rules (at (Argument e) k (state_of t old scope held)) (at (Back (copy_of v)) k (state_of t new scope held))

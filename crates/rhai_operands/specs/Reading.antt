@@ -8,19 +8,21 @@ use Rattle.rhai_state.specs.declared.error.EvalAltResult.{EvalAltResult}
 use Rattle.rhai_state.specs.declared.error.EvalAltResult.TheVariants as error
 use Rattle.rhai_machine.specs.language.Expressions.{literal_of}
 use Rattle.rhai_machine.specs.language.Names.{bound_this, read}
+use Rattle.rhai_machine.specs.language.Setting.{Globals}
 use Rattle.rhai_machine.specs.language.State.{Local}
 use Rattle.rhai_machine.specs.language.Values.{copied}
+use Rattle.rhai_machine.specs.language.Variables.{variable_named}
 
 module _ {H : Type 0} where
   abbrev pub literal_read : Option (Dynamic H) → Result (Dynamic H) (EvalAltResult H)
   literal_read (Some v) = Ok v
   literal_read None = Err (error.ErrorOutOfMemory none)
 
-  -- a variable without a path, `this` or a literal; any other form counts as one that finds no memory
-  abbrev pub read_as : Local H → ExprLayer → Result (Dynamic H) (EvalAltResult H)
-  read_as l (layer.Variable offset name namespace pos) = read l.around.cells l.around.lib name pos l.scope
-  read_as l (layer.ThisPtr pos) = copied (bound_this pos l.this)
-  read_as l form = literal_read (literal_of form)
+  -- a variable, `this` or a literal; any other form counts as one that finds no memory
+  abbrev pub read_as : Globals H → Local H → ExprLayer → Result (Dynamic H) (EvalAltResult H)
+  read_as globals l (layer.Variable offset name namespace pos) = read globals l.around l.scope (variable_named name namespace pos)
+  read_as globals l (layer.ThisPtr pos) = copied (bound_this pos l.this)
+  read_as globals l form = literal_read (literal_of form)
 
 -- where its value is wanted, and where it is a condition
 abbrev pub asks_read : ExprLayer → Bool × Bool

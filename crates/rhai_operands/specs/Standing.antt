@@ -8,10 +8,11 @@ use Rattle.rhai_values.specs.declared.base.value.Dynamic.{Dynamic}
 use Rattle.rhai_values.specs.declared.base.value.Union.TheVariants as value
 use Rattle.rhai_values.specs.Copy.{plain}
 use Rattle.rhai_state.specs.declared.scope.ScopeEntry.{ScopeEntry}
-use Rattle.rhai_state.specs.Scope.{found}
+use Rattle.rhai_state.specs.Scope.{value_in}
 use Rattle.rhai_operators.specs.Answers.{Answer, binary_of}
 use Rattle.rhai_operators.specs.Direct.{integer_given, integer_in, truth_given, truth_in}
 use Rattle.rhai_operators.specs.Operators.{of_integers, op_assign_at}
+use Rattle.rhai_machine.specs.language.Names.{entry_named}
 use Rattle.rhai_machine.specs.language.Values.{is_handle}
 use Rattle.rhai_machine.specs.language.Expressions.{literal_of}
 use Rattle.rhai_operands.specs.declared.operands.Operand.{Operand}
@@ -33,11 +34,11 @@ module _ {H : Type 0} where
   unless_handle (Some v) = if is_handle v.value then None else Some v
   unless_handle None = None
 
-  -- the value of a literal that takes no memory, or that of a variable, unless it is a handle
+  -- the value of a literal that takes no memory, or that of a variable without a path, unless it is a handle
   abbrev pub standing : ExprLayer → List (ScopeEntry H) → Option (Dynamic H)
   standing (layer.DynamicConstant literal pos) entries = None
   standing (layer.StringConstant text pos) entries = None
-  standing (layer.Variable offset name namespace pos) entries = unless_handle (found name entries)
+  standing (layer.Variable offset name namespace pos) entries = unless_handle (value_in entries (entry_named namespace.path name entries))
   standing form entries = literal_of form
 
   -- the integer of a value that stands

@@ -11,7 +11,7 @@ ghost use Rattle.rhai_operands.specs.Standing.{integer_of, standing, two_in, val
 use rhai_state::scope::Scope;
 use rhai_state::state::GlobalRuntimeState;
 use rhai_steps::values::{bool_value, char_value, int_value, is_bare_handle, unit_value};
-use rhai_steps::variables::{place_by_offset, place_of_variable};
+use rhai_steps::variables::{entry_of_variable, is_plain, place_by_offset};
 use rhai_tree::expr::{Expr, FnCallExpr};
 use rhai_values::base::value::{Dynamic, Host, Union};
 
@@ -36,7 +36,7 @@ impl<'a, H> Operand<'a, H> {
     }
 }
 
-/// An operand as it stands: a literal that takes no memory, or a variable that is no handle, and None
+/// An operand as it stands: a literal that takes no memory, or a variable without a path that is no handle, and None
 /// for any other expression. Asked: the expression resolves to the variables of the scope.
 pub fn operand_in_place<'a, H: Host>(
     global: &GlobalRuntimeState<H>,
@@ -51,8 +51,13 @@ pub fn operand_in_place<'a, H: Host>(
         Expr::IntegerConstant(value, _) => Some(Operand::Literal(int_value(value))),
         Expr::CharConstant(letter, _) => Some(Operand::Literal(char_value(*letter))),
         Expr::Unit(_) => Some(Operand::Literal(unit_value())),
-        Expr::Variable { offset, name, .. } => {
-            let index = place_of_variable(global, scope, *offset, name)?;
+        Expr::Variable {
+            offset,
+            name,
+            namespace,
+            ..
+        } => {
+            let index = entry_of_variable(global, scope, *offset, name, namespace)?;
             let value = scope.value_at(index);
             if is_bare_handle(value) {
                 return None;
@@ -75,7 +80,7 @@ pub fn integer_at<H>(value: &Dynamic<H>) -> Option<i64>
 }
 
 /// The integer that an operand as it stands is. None where it is of another type, has to be evaluated, or is a variable
-/// that is to be searched for. Asked: the expression resolves to the variables of the scope.
+/// behind a path or one that is to be searched for. Asked: the expression resolves to the variables of the scope.
 #[inline(always)]
 pub fn integer_in_place<H: Host>(
     global: &GlobalRuntimeState<H>,
@@ -88,7 +93,15 @@ pub fn integer_in_place<H: Host>(
 {
     match expr {
         Expr::IntegerConstant(value, _) => Some(*value),
-        Expr::Variable { offset, name, .. } => {
+        Expr::Variable {
+            offset,
+            name,
+            namespace,
+            ..
+        } => {
+            if !is_plain(namespace) {
+                return None;
+            }
             let index = place_by_offset(global, scope, *offset, name)?;
             integer_at(scope.value_at(index))
         }

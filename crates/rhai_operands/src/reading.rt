@@ -8,12 +8,14 @@ ghost use Rattle.rhai_state.specs.Errors.{is_out_of_memory};
 ghost use Rattle.rhai_state.specs.Scope.{names_in};
 ghost use Rattle.rhai_machine.specs.language.State.{Answers};
 ghost use Rattle.rhai_machine.specs.language.Values.{is_handle, is_truth};
+ghost use Rattle.rhai_steps.specs.Offers.{globals_in};
 ghost use Rattle.rhai_steps.specs.States.{local_of};
 ghost use Rattle.rhai_context.specs.Ends.{came};
 ghost use Rattle.rhai_operands.specs.Reading.{asks_read, read_as};
 
 use crate::operands::integer_in_place;
 use rhai_context::ends::{put, put_number, put_truth, put_unit, settle, stop};
+use rhai_functions::function::Offered;
 use rhai_state::error::EvalAltResult;
 use rhai_state::scope::Scope;
 use rhai_state::state::GlobalRuntimeState;
@@ -31,6 +33,7 @@ use std::alloc::Global;
 fn read_any<H: Host>(
     alloc: Global,
     global: &GlobalRuntimeState<H>,
+    offered: &Offered<'_, H>,
     scope: &Scope<H>,
     this: &Option<Dynamic<H>>,
     out: &mut Dynamic<H>,
@@ -39,7 +42,7 @@ fn read_any<H: Host>(
 ) -> bool
     requires { IsTrue (resolves_expr expr.now (names_in scope.now)) }
     ensures exact { (focus : _) → Answers (came result out.new place.new)
-        (read_as (local_of global.now scope.now (record { this = this.now; focus = focus }))
+        (read_as (globals_in offered.now) (local_of global.now scope.now (record { this = this.now; focus = focus }))
         (out-Expr expr.now)) }
     ensures memory { IfErr (came result out.new place.new) (λ error.
         is_out_of_memory error ≡ true → IsTrue (asks_read (out-Expr expr.now)).0) }
@@ -56,10 +59,12 @@ fn read_any<H: Host>(
         Expr::Variable {
             offset,
             name,
+            namespace,
             pos,
-            ..
         } => {
-            let answer = read_variable(alloc, global, scope, *offset, name, *pos);
+            let answer = read_variable(
+                alloc, offered, global, scope, *offset, name, namespace, *pos,
+            );
             settle(place, out, answer)
         }
         Expr::BoolConstant(value, _) => {
@@ -88,12 +93,13 @@ fn read_any<H: Host>(
 /// caller's: here it counts as one that finds no memory.
 ///
 /// # Errors
-/// At a variable: `ErrorVariableNotFound`, and `ErrorDataRace` where it is the handle of a cell that is held. At
-/// `this`: `ErrorUnboundThis`.
+/// At a variable: `ErrorVariableNotFound`, and `ErrorDataRace` where it is the handle of a cell that is held. At the
+/// path of one: `ErrorModuleNotFound` and `ErrorVariableNotFound`. At `this`: `ErrorUnboundThis`.
 #[inline(never)]
 pub fn read_expr<H: Host>(
     alloc: Global,
     global: &GlobalRuntimeState<H>,
+    offered: &Offered<'_, H>,
     scope: &Scope<H>,
     this: &Option<Dynamic<H>>,
     out: &mut Dynamic<H>,
@@ -102,7 +108,7 @@ pub fn read_expr<H: Host>(
 ) -> bool
     requires { IsTrue (resolves_expr expr.now (names_in scope.now)) }
     ensures exact { (focus : _) → Answers (came result out.new place.new)
-        (read_as (local_of global.now scope.now (record { this = this.now; focus = focus }))
+        (read_as (globals_in offered.now) (local_of global.now scope.now (record { this = this.now; focus = focus }))
         (out-Expr expr.now)) }
     ensures memory { IfErr (came result out.new place.new) (λ error.
         is_out_of_memory error ≡ true → IsTrue (asks_read (out-Expr expr.now)).0) }
@@ -121,12 +127,12 @@ pub fn read_expr<H: Host>(
                 put_number(out, int_value(&number));
                 true
             }
-            None => read_any(alloc, global, scope, this, out, place, expr),
+            None => read_any(alloc, global, offered, scope, this, out, place, expr),
         },
         Expr::BoolConstant(value, _) => {
             put_truth(out, *value);
             true
         }
-        _ => read_any(alloc, global, scope, this, out, place, expr),
+        _ => read_any(alloc, global, offered, scope, this, out, place, expr),
     }
 }

@@ -31,10 +31,11 @@ use Rattle.rhai_machine.specs.language.State.{Local}
 use Rattle.rhai_machine.specs.language.Values.{Cells}
 use Rattle.rhai_machine.specs.language.Activations.{NoObject}
 use Rattle.rhai_machine.specs.language.Arguments.{arguments_core, arguments_there, function_core, keyword_named, keyword_of}
-use Rattle.rhai_machine.specs.language.Arguments.{named_move, this_in, variable_in}
+use Rattle.rhai_machine.specs.language.Arguments.{named_move, this_in}
 use Rattle.rhai_machine.specs.language.Calls.{call_of, called_core, entry_of, is_held, named_core, plainly, races}
 use Rattle.rhai_machine.specs.language.Frames.{Call, CallNamed, EnterFunction, Fail, Frame, Operation, ToCall, core}
 use Rattle.rhai_machine.specs.language.Functions.{Function, found_function, in_libraries, key_by}
+use Rattle.rhai_machine.specs.language.Variables.{variable_in}
 use Rattle.rhai_plain.specs.Callees.{IsPlain, has_own_meaning, is_by_value, starts_by_value}
 use Rattle.rhai_plain.specs.Filling.{HasFilled, filled}
 

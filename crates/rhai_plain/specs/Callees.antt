@@ -4,6 +4,7 @@ use Rattle.std.specs.Str.{bytes_eq}
 use Rattle.rhai_machine.specs.Types.{Expr, out-Expr, Module, ScriptFuncDef}
 use Rattle.rhai_tree.specs.declared.expr.FnCallExpr.{FnCallExpr}
 use Rattle.rhai_tree.specs.declared.expr.Expr.TheOpen as layer
+use Rattle.rhai_tree.specs.Forms.{is_unqualified}
 use Rattle.rhai_tree.specs.Layers.{ExprLayer}
 use Rattle.rhai_machine.specs.language.Functions.{in_libraries, key_by}
 
@@ -27,6 +28,7 @@ starts_by_value (arg ∷ args) = is_by_value (out-Expr arg)
 -- the call is one by its name alone, of a function of the libraries that has no environment
 pub record IsPlain {H : Type 0} (call : FnCallExpr) (lib : List (Module H)) (def : ScriptFuncDef) : Type 0 where
   pub token : call.op_token ≡ None
+  pub path : is_unqualified call.namespace.path ≡ true
   pub captures : call.capture_parent_scope ≡ false
   pub by_value : starts_by_value call.args ≡ true
   pub meaning : has_own_meaning call.name ≡ false

@@ -1,11 +1,13 @@
 //! Which function a plain call means.
 
-ghost use Rattle.std.specs.Prelude.{◌≡◌, IfSome};
+ghost use Rattle.std.specs.Prelude.{◌≡◌, IfSome, IsTrue, None, false, true};
+ghost use Rattle.rhai_tree.specs.Forms.{is_unqualified};
 ghost use Rattle.rhai_plain.specs.Callees.{IsPlain, has_own_meaning as own_meaning, starts_by_value as by_value};
 
 use rhai_functions::key::FnKey;
 use rhai_functions::lookup::find_in_modules;
 use rhai_state::state::GlobalRuntimeState;
+use rhai_steps::variables::is_plain;
 use rhai_tree::Shared;
 use rhai_tree::checked::CheckedFn;
 use rhai_tree::expr::{Expr, FnCallExpr};
@@ -36,17 +38,28 @@ fn starts_by_value(args: &[Expr]) -> bool
     !matches!(first, Expr::Variable { .. } | Expr::ThisPtr(..))
 }
 
+/// Whether a call is one by its name alone: no operator, none behind a path, and none that captures its caller's
+/// variables.
+#[inline(always)]
+pub fn is_by_name(call: &FnCallExpr) -> bool
+    ensures token { IsTrue result → call.now.op_token ≡ None }
+    ensures captures { IsTrue result → call.now.capture_parent_scope ≡ false }
+    ensures path { IsTrue result → is_unqualified call.now.namespace.path ≡ true }
+{
+    call.op_token.is_none() && !call.capture_parent_scope && is_plain(&call.namespace)
+}
+
 /// The function of a run's libraries that a call means whatever its arguments come to, with an owner of its own. None
-/// where that is not known before they are evaluated: of an operator, a call that captures its caller's variables,
-/// one whose first argument is a variable or `this`, a name that means something besides functions, and a function
-/// with an environment. It takes no memory.
+/// where that is not known before they are evaluated: of an operator, a call behind a path, one that captures its
+/// caller's variables, one whose first argument is a variable or `this`, a name that means something besides
+/// functions, and a function with an environment. It takes no memory.
 pub fn plain_callee<H: Host>(
     global: &GlobalRuntimeState<H>,
     call: &FnCallExpr,
 ) -> Option<Shared<CheckedFn>>
     ensures { IfSome result (λ def. IsPlain call.now global.now.lib def) }
 {
-    if call.op_token.is_some() || call.capture_parent_scope {
+    if !is_by_name(call) {
         return None;
     }
     let args = call.args.as_slice();

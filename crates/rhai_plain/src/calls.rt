@@ -150,7 +150,8 @@ pub fn leave_plain<H: Host>(
     ensures scope { run.new.scope ≡ scope_of entered.caller.variables }
     ensures this { run.new.this ≡ entered.caller.this }
     ensures outcome { (end : machine.CallExit H) → Ends def.now.name None run.old.global.source pos end →
-        Answers (came result run.new.value run.new.error) (outcome_of end (came done run.old.value run.old.error)) }
+        Answers (came result run.new.value run.new.error)
+        (outcome_of end (came done run.old.value run.old.error)) }
     ensures value { IsTrue done →
         came result run.new.value run.new.error ≡ came done run.old.value run.old.error }
     ensures wanting { result ≡ false → is_out_of_memory (error_in run.new.error) ≡ true →

@@ -1,42 +1,30 @@
 -- Where a call by name goes, by whether a variable or `this` comes first.
 use Rattle.std.proofs.Common.{◌≡◌, Bool, true, false, List, [], ◌∷◌, Option, Some, None, refl, ap, ◌∙◌}
-use Rattle.std.specs.Prelude.{if◌then◌else◌}
 use Rattle.rhai_tree.specs.declared.position.Position.{Position}
 use Rattle.rhai_tree.specs.declared.expr.Expr.{Expr, out-Expr}
 use Rattle.rhai_tree.specs.declared.expr.Expr.TheOpen as layer
-use Rattle.rhai_tree.specs.declared.expr.Namespace.{Namespace}
 use Rattle.rhai_tree.specs.Layers.{ExprLayer}
-use Rattle.rhai_tree.specs.Forms.{is_unqualified}
 use Rattle.rhai_values.specs.declared.base.value.Dynamic.{Dynamic}
 use Rattle.rhai_machine.specs.machine.Machine.{Go, Charge}
 use Rattle.rhai_machine.specs.language.Setting.{Setting}
 use Rattle.rhai_machine.specs.language.State.{Local}
+use Rattle.rhai_machine.specs.language.Variables.{variable_in}
 use Rattle.rhai_machine.specs.language.Frames.{Operation, Dispatch, Frame, ToCall, ToCallOn, ToCallOnThis}
 use Rattle.rhai_machine.specs.language.Calls.{plainly}
 use Rattle.rhai_machine.specs.language.Arguments.{arguments_core, captured_move, is_captured, named_move, on_this, on_variable, this_in}
-use Rattle.rhai_machine.specs.language.Arguments.{variable_in}
-use Rattle.rhai_pointers.specs.Leading.{Leading, all_args, by_value, first_in, leading, lent_first, this_lent}
+use Rattle.rhai_pointers.specs.Leading.{Leading, all_args, by_value, first_in, leading, lent_first, this_lent, variable_read}
 
 -- what a variable that comes first is of the arguments
 pub record Leads (args : List Expr) (v : Leading) : Type 0 where
   pub arg : Expr
-  pub namespace : Namespace
   pub comes_first : args ≡ arg ∷ v.rest
-  pub is_variable : out-Expr arg ≡ layer.Variable v.offset v.name namespace v.at
-  pub has_no_path : is_unqualified namespace.path ≡ true
-
-leads_where : (unqualified : Bool) (first : Leading) (arg : Expr) (namespace : Namespace) (v : Leading) →
-    is_unqualified namespace.path ≡ unqualified → out-Expr arg ≡ layer.Variable first.offset first.name namespace first.at →
-    (if unqualified then Some first else None) ≡ Some v → Leads (arg ∷ first.rest) v
-leads_where true first arg namespace v path is found =
-    let same : first ≡ v = cc in
-    rw (← same) (record { arg = arg; namespace = namespace; comes_first = refl; is_variable = is; has_no_path = path })
-leads_where false first arg namespace v path is found = absurd cc
+  pub is_variable : out-Expr arg ≡ layer.Variable v.offset v.name v.namespace v.at
 
 leads_by : (arg : Expr) (o : ExprLayer) (rest : List Expr) (v : Leading) → out-Expr arg ≡ o → leading o rest ≡ Some v → Leads (arg ∷ rest) v
 leads_by arg (layer.Variable offset name namespace pos) rest v is found =
-    leads_where (is_unqualified namespace.path) (record { offset = offset; name = name; at = pos; rest = rest }) arg namespace v
-    refl is found
+    let first : Leading = record { offset = offset; name = name; namespace = namespace; at = pos; rest = rest } in
+    let same : first ≡ v = cc in
+    rw (← same) (record { arg = arg; comes_first = refl; is_variable = is })
 leads_by arg _ rest v is found = absurd cc
 
 -- the variable is the first argument
@@ -74,26 +62,20 @@ module _ {H : Type 0} (s : Setting H) where
 
   -- ---- a variable that comes first
 
-  charged_where : (unqualified : Bool) (first : Leading) (operation : Operation) (how : Dispatch) (arg : Expr) (k : List (Frame H))
-      (l : Local H) (v : Leading) → (if unqualified then Some first else None) ≡ Some v →
-      on_variable s (if unqualified then Some (first.name, first.at) else None) operation how arg first.rest k l
-      ≡ Charge v.at (arguments_core s (ToCallOn operation v.name v.at how) [] v.rest k l)
-  charged_where true first operation how arg k l v found = let same : first ≡ v = cc in rw (← same) refl
-  charged_where false first operation how arg k l v found = absurd cc
-
   charged_by : (o : ExprLayer) (operation : Operation) (how : Dispatch) (arg : Expr) (rest : List Expr) (k : List (Frame H)) (l : Local H)
       (v : Leading) → leading o rest ≡ Some v → out-Expr arg ≡ o →
       on_this s (this_in o l.this) operation how arg rest k l
-      ≡ Charge v.at (arguments_core s (ToCallOn operation v.name v.at how) [] v.rest k l)
-  charged_by (layer.Variable offset name namespace pos) operation how arg rest k l v found is = rw is
-      (charged_where (is_unqualified namespace.path) (record { offset = offset; name = name; at = pos; rest = rest }) operation how arg
-      k l v found)
+      ≡ Charge v.at (arguments_core s (ToCallOn operation (variable_read v) how) [] v.rest k l)
+  charged_by (layer.Variable offset name namespace pos) operation how arg rest k l v found is =
+      let first : Leading = record { offset = offset; name = name; namespace = namespace; at = pos; rest = rest } in
+      let same : first ≡ v = cc in
+      rw (is, ← same) refl
   charged_by _ operation how arg rest k l v found is = absurd cc
 
   captured_charges : (captured alone : Bool) (operation : Operation) (arg : Expr) (rest : List Expr) (k : List (Frame H)) (l : Local H)
       (v : Leading) → lent_first captured (arg ∷ rest) ≡ Some v →
       captured_move s captured alone operation arg rest k l
-      ≡ Charge v.at (arguments_core s (ToCallOn operation v.name v.at (plainly alone false)) [] v.rest k l)
+      ≡ Charge v.at (arguments_core s (ToCallOn operation (variable_read v) (plainly alone false)) [] v.rest k l)
   captured_charges true alone operation arg rest k l v found = absurd cc
   captured_charges false alone operation arg rest k l v found =
       charged_by (out-Expr arg) operation (plainly alone false) arg rest k l v found refl
@@ -106,25 +88,17 @@ module _ {H : Type 0} (s : Setting H) where
   pub variable_goes : (operation : Operation) (curried : List (Dynamic H)) (args : List Expr) (captures alone : Bool) (k : List (Frame H))
       (l : Local H) (v : Leading) → lent_first (by_value curried captures l.scope) args ≡ Some v →
       named_move s operation curried args captures alone k l
-      ≡ Charge v.at (arguments_core s (ToCallOn operation v.name v.at (plainly alone false)) [] v.rest k l)
+      ≡ Charge v.at (arguments_core s (ToCallOn operation (variable_read v) (plainly alone false)) [] v.rest k l)
   variable_goes operation (w ∷ ws) args captures alone k l v found = absurd cc
   variable_goes operation [] [] captures alone k l v found = absurd (none_leads _ v found)
   variable_goes operation [] (arg ∷ args) captures alone k l v found = captured_charges _ alone operation arg args k l v found
 
   -- ---- neither
 
-  taken_where : (unqualified : Bool) (first : Leading) (operation : Operation) (how : Dispatch) (arg : Expr) (k : List (Frame H))
-      (l : Local H) → (if unqualified then Some first else None) ≡ None →
-      on_variable s (if unqualified then Some (first.name, first.at) else None) operation how arg first.rest k l
-      ≡ Go (arguments_core s (ToCall operation [] how) [] (arg ∷ first.rest) k l)
-  taken_where true first operation how arg k l none = absurd cc
-  taken_where false first operation how arg k l none = refl
-
   taken_by : (o : ExprLayer) (operation : Operation) (how : Dispatch) (arg : Expr) (rest : List Expr) (k : List (Frame H)) (l : Local H) →
       leading o rest ≡ None →
       on_variable s (variable_in o) operation how arg rest k l ≡ Go (arguments_core s (ToCall operation [] how) [] (arg ∷ rest) k l)
-  taken_by (layer.Variable offset name namespace pos) operation how arg rest k l none = taken_where (is_unqualified namespace.path)
-      (record { offset = offset; name = name; at = pos; rest = rest }) operation how arg k l none
+  taken_by (layer.Variable offset name namespace pos) operation how arg rest k l none = absurd cc
   taken_by _ operation how arg rest k l none = refl
 
   captured_takes : (captured alone : Bool) (operation : Operation) (arg : Expr) (rest : List Expr) (k : List (Frame H)) (l : Local H) →

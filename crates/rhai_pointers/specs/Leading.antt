@@ -1,13 +1,14 @@
 -- A variable that is the first argument of a call.
-use Rattle.std.specs.Prelude.{ℕ, Bool, true, false, not, ◌&&◌, List, [], ◌∷◌, Option, Some, None, length, nat_eq, if◌then◌else◌}
+use Rattle.std.specs.Prelude.{ℕ, Bool, true, false, not, ◌&&◌, List, [], ◌∷◌, Option, Some, None, length, nat_eq}
 use Rattle.std.specs.declared.num.NonZeroUsize.{NonZeroUsize}
 use Rattle.rhai_tree.specs.declared.position.Position.{Position}
 use Rattle.rhai_tree.specs.declared.expr.Expr.{Expr, out-Expr}
 use Rattle.rhai_tree.specs.declared.expr.Expr.TheOpen as layer
+use Rattle.rhai_tree.specs.declared.expr.Namespace.{Namespace}
 use Rattle.rhai_tree.specs.Layers.{ExprLayer}
-use Rattle.rhai_tree.specs.Forms.{is_unqualified}
 use Rattle.rhai_values.specs.declared.base.value.Dynamic.{Dynamic}
 use Rattle.rhai_state.specs.declared.scope.ScopeEntry.{ScopeEntry}
+use Rattle.rhai_machine.specs.language.Variables.{Variable, variable_named}
 use Rattle.rhai_machine.specs.language.Arguments.{this_in}
 use Rattle.rhai_pointers.specs.declared.arguments.FirstVariable.{FirstVariable}
 
@@ -16,24 +17,35 @@ abbrev pub all_args : (first : Option Expr) → (rest : List Expr) → List Expr
 all_args None rest = []
 all_args (Some arg) rest = arg ∷ rest
 
--- a variable's offset and name, where it stands, and the arguments behind it
+-- a variable's offset and name, the path in front of it, where it stands, and the arguments behind it
 pub record Leading : Type 0 where
   pub offset : Option NonZeroUsize
   pub name : List ℕ
+  pub namespace : Namespace
   pub at : Position
   pub rest : List Expr
 
 -- that of the code
 abbrev pub seen : FirstVariable → Leading
-seen first = record { offset = first.offset; name = first.name.now; at = first.pos; rest = first.rest.now }
+seen first = record {
+  offset = first.offset;
+  name = first.name.now;
+  namespace = first.namespace.now;
+  at = first.pos;
+  rest = first.rest.now;
+}
 
--- an argument that is a variable by its name alone
+-- and that of the rules
+abbrev pub variable_read : Leading → Variable
+variable_read first = variable_named first.name first.namespace first.at
+
+-- an argument that is a variable
 abbrev pub leading : ExprLayer → (rest : List Expr) → Option Leading
 leading (layer.Variable offset name namespace pos) rest =
-    if is_unqualified namespace.path then Some (record { offset = offset; name = name; at = pos; rest = rest }) else None
+    Some (record { offset = offset; name = name; namespace = namespace; at = pos; rest = rest })
 leading _ rest = None
 
--- the first argument, where it is such a variable
+-- the first argument, where it is one
 abbrev pub first_in : (args : List Expr) → Option Leading
 first_in [] = None
 first_in (arg ∷ args) = leading (out-Expr arg) args

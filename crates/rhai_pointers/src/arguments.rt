@@ -14,7 +14,7 @@ use rhai_few::Few;
 use rhai_state::error::EvalAltResult;
 use rhai_state::scope::Scope;
 use rhai_steps::values::{flatten, is_bare_handle};
-use rhai_tree::expr::Expr;
+use rhai_tree::expr::{Expr, Namespace};
 use rhai_tree::position::Position;
 use rhai_tree::{Items, Shared, Text};
 use rhai_values::base::value::{Dynamic, Host};
@@ -66,11 +66,12 @@ pub fn keep_argument<H: Host>(
 pub struct FirstVariable<'a> {
     pub offset: Option<NonZeroUsize>,
     pub name: &'a Shared<Text>,
+    pub namespace: &'a Namespace,
     pub pos: Position,
     pub rest: &'a [Expr],
 }
 
-/// An argument that is a variable by its name alone.
+/// An argument that is a variable, by its name alone or behind a path.
 fn variable_in<'a>(arg: &'a Expr, rest: &'a [Expr]) -> Option<FirstVariable<'a>>
     ensures { option_map seen result ≡ leading (out-Expr arg.now) rest.now }
 {
@@ -83,18 +84,16 @@ fn variable_in<'a>(arg: &'a Expr, rest: &'a [Expr]) -> Option<FirstVariable<'a>>
     else {
         return None;
     };
-    if !namespace.path.is_empty() {
-        return None;
-    }
     Some(FirstVariable {
         offset: *offset,
         name,
+        namespace,
         pos: *pos,
         rest,
     })
 }
 
-/// The first argument, where it is a variable by its name alone.
+/// The first argument, where it is a variable.
 fn variable_first<'a>(first: Option<&'a Expr>, rest: &'a [Expr]) -> Option<FirstVariable<'a>>
     ensures { option_map seen result ≡ first_in (all_args (option_copied first.entry) rest.now) }
 {
@@ -133,8 +132,7 @@ fn takes_values<H: Host>(scope: &Scope<H>, curried: &[Dynamic<H>], captures: boo
 }
 
 /// The variable that a call by name charges before its other arguments and reads after them: the first
-/// argument, where it is a variable by its name alone. None where the call takes each argument by its
-/// value.
+/// argument, where it is a variable, behind a path too. None where the call takes each argument by its value.
 pub fn first_variable<'a, H: Host>(
     scope: &Scope<H>,
     curried: &[Dynamic<H>],
@@ -152,7 +150,7 @@ pub fn first_variable<'a, H: Host>(
 }
 
 /// Where `this` stands as an argument, if it is bound and no handle.
-fn this_in<H: Host>(first: &Expr, this: &Option<Dynamic<H>>) -> Option<Position>
+pub fn this_in<H: Host>(first: &Expr, this: &Option<Dynamic<H>>) -> Option<Position>
     ensures { result ≡ this_at (out-Expr first.now) this.now }
 {
     let Expr::ThisPtr(pos) = first else {

@@ -2,8 +2,8 @@
 
 use crate::parts::Part;
 use crate::parts::Part::{
-    Block, BlockStatement, BlockValue, Call, Function, Import, ImportAs, Int, Let, Operator,
-    PrivateFunction, Text, ThrowValue, Try, Value, Variable,
+    AssignBy, Block, BlockStatement, BlockValue, Call, Function, Import, ImportAs, Int, Let,
+    Operator, PrivateFunction, Text, ThrowValue, Try, Value, Variable,
 };
 use rhai_tree::token::Token;
 
@@ -23,13 +23,31 @@ pub const FUNCTIONS_OF_M: &[Part<'_>] = &[
     PrivateFunction("hid", &[]),
 ];
 
-/// `fn glo() { 5 }`, of another module.
+/// `fn glo() { 5 } fn pub1(x) { x += 1; x } fn dup() { 1 } private fn dup() { 2 }`, of another module.
 pub const FUNCTIONS_OF_N: &[Part<'_>] = &[
     Int(5, 12),
     Value,
     Block(1, 10, 14),
     Function("glo", &[]),
+    Variable("x", 1, 29),
+    Int(1, 34),
+    AssignBy(Token::Plus, 31),
+    Variable("x", 1, 37),
+    Value,
+    Block(2, 27, 39),
+    Function("pub1", &["x"]),
+    Int(1, 52),
+    Value,
+    Block(1, 50, 54),
+    Function("dup", &[]),
+    Int(2, 75),
+    Value,
+    Block(1, 73, 77),
+    PrivateFunction("dup", &[]),
 ];
+
+/// `fn df() { 11 }`, of a module within others.
+pub const FUNCTIONS_OF_D: &[Part<'_>] = &[Int(11, 11), Value, Block(1, 9, 14), Function("df", &[])];
 
 /// `import "m" as z; glo()`
 pub const IMPORTED: &[Part<'_>] = &[

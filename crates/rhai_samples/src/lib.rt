@@ -3,15 +3,18 @@
 #![tactic(auto)]
 
 pub mod built;
+pub mod called;
 pub mod calls;
 pub mod caught;
 pub mod cells;
 pub mod chains;
 pub mod checked;
 pub mod choices;
+pub mod constants;
 pub mod data;
 pub mod exports;
 pub mod functions;
+pub mod globals;
 pub mod imports;
 pub mod loops;
 mod making;
@@ -19,6 +22,7 @@ pub mod operators;
 pub mod order;
 pub mod pairs;
 pub mod parts;
+pub mod paths;
 pub mod refused;
 pub mod thrown;
 pub mod variables;

@@ -8,7 +8,7 @@ use crate::parts::Part;
 use rhai_build::functions::TreeParts;
 use rhai_build::no_namespace;
 use rhai_build::statements::no_block;
-use rhai_tree::expr::{Expr, Stmt, StmtBlock};
+use rhai_tree::expr::{Expr, Namespace, Stmt, StmtBlock};
 use rhai_tree::function::ScriptFuncDef;
 use rhai_tree::literal::{Literal, LiteralFnPtr, LiteralFnPtrKind};
 use rhai_tree::position::Position;
@@ -20,6 +20,7 @@ use std::num::NonZeroUsize;
 #[derive(Drop)]
 pub(crate) struct Making {
     alloc: Global,
+    paths: Items<Namespace>,
     exprs: Items<Expr>,
     statements: Items<Stmt>,
     blocks: Items<StmtBlock>,
@@ -61,6 +62,7 @@ impl Making {
     pub(crate) fn new(alloc: Global) -> Making {
         Making {
             alloc,
+            paths: Items::new(alloc),
             exprs: Items::new(alloc),
             statements: Items::new(alloc),
             blocks: Items::new(alloc),
@@ -72,11 +74,13 @@ impl Making {
     pub(crate) fn finish(self) -> TreeParts {
         let Making {
             alloc: _,
+            paths,
             exprs,
             statements,
             blocks,
             functions,
         } = self;
+        drop(paths);
         drop(exprs);
         drop(blocks);
         TreeParts {
@@ -103,9 +107,10 @@ impl Making {
             Part::Variable(name, offset, column) => Expr::Variable {
                 offset: NonZeroUsize::new(offset),
                 name: shared(self.alloc, name)?,
-                namespace: no_namespace(self.alloc),
+                namespace: self.path(),
                 pos: place(column),
             },
+            Part::Path(names, index, column) => return self.add_path(names, index, column),
             Part::Pointer(name, count, column) => {
                 let pointer = LiteralFnPtr {
                     name: shared(self.alloc, name)?,
@@ -117,6 +122,27 @@ impl Making {
             _ => return self.add_operation(part),
         };
         self.exprs.push(made)
+    }
+
+    /// Adds the path in front of the next name.
+    fn add_path(&mut self, names: &[&str], index: usize, column: u16) -> Result<(), AllocError> {
+        let mut path = Items::new(self.alloc);
+        for name in names {
+            path.push(shared(self.alloc, name)?)?;
+        }
+        self.paths.push(Namespace {
+            path,
+            index: NonZeroUsize::new(index),
+            position: place(column),
+        })
+    }
+
+    /// Takes the path in front of a name, an empty one where there is none.
+    fn path(&mut self) -> Namespace {
+        match self.paths.pop() {
+            Some(path) => path,
+            None => no_namespace(self.alloc),
+        }
     }
 
     /// Takes the newest expression, `()` where there is none.

@@ -21,6 +21,9 @@ pub enum Part<'a> {
     Text(&'a str, u16),
     /// A variable with its offset from the end of the scope; zero is none, and the name is searched.
     Variable(&'a str, usize, u16),
+    /// The path in front of the next name: its names, the root first, and the root's index among the imports, counted
+    /// from the newest; zero is none.
+    Path(&'a [&'a str], usize, u16),
     /// A constant pointer to the function of a name with so many parameters.
     Pointer(&'a str, usize, u16),
     /// An array of so many ones, which all stand at the first column.

@@ -108,7 +108,8 @@ fn publish<H: Host>(
         ≡ own_alias (exported options) (entries_of scope.old) at name.now) }
     ensures entered { (v : _) (s : _) (held : _) → OnOk result
         (option_map value_of (slice_get (entries_of scope.old) at) ≡ Some v → local_of global.new s held
-        ≡ constant_core (enters options restoring (local_of global.old s held)) name.now v (local_of global.old s held)) }
+        ≡ constant_core (enters options restoring (local_of global.old s held)) name.now v
+        (local_of global.old s held)) }
     ensures counts { global.new.num_operations ≡ global.old.num_operations }
     ensures refused { IfErr result (λ e. is_out_of_memory e ≡ true) }
     ensures same { OnErr result (global.new ≡ global.old) }
@@ -185,7 +186,8 @@ fn overwrite_variable<H: Host>(
     requires { IsTrue (is_good (Some offset) ident.now.name (names_in scope.old)) }
     ensures declares { (held : _) → OnOk result (Declares value ident.now (Some offset) options restoring
         (local_of global.old scope.old held) (local_of global.new scope.new held)) }
-    ensures names { OnOk result (names_in scope.new ≡ var_names (Some offset) ident.now.name (names_in scope.old)) }
+    ensures names { OnOk result (names_in scope.new
+        ≡ var_names (Some offset) ident.now.name (names_in scope.old)) }
     ensures counts { global.new.num_operations ≡ global.old.num_operations }
     ensures refused { IfErr result (λ e. is_out_of_memory e ≡ true) }
     ensures same { OnErr result (global.new ≡ global.old) }

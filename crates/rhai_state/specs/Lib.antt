@@ -1,10 +1,13 @@
 pub mod Caches
+pub mod Deciding
 pub mod Errors
+pub mod Fitting
 pub mod Lends
 pub mod Limits
 pub mod Native
 pub mod Newest
 pub mod Reach
+pub mod Reached
 pub mod Scope
 pub mod Slots
 pub mod State

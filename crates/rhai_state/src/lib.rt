@@ -3,11 +3,15 @@
 #![tactic(auto)]
 
 pub mod caches;
+mod contents;
 mod debug;
 mod display;
 pub mod error;
+mod fitting;
 pub mod limits;
 pub mod scope;
 pub mod slot;
 pub mod state;
 pub mod table;
+#[cfg(test)]
+mod tests;

@@ -1,5 +1,5 @@
 -- An operator whose operands are there, and a call that wants memory before it is dispatched.
-use Rattle.std.proofs.Common.{◌≡◌, Bool, true, false, List, [], ◌∷◌, Option, Some, None, Result, Ok, Err, refl, sym, ap, ◌∙◌}
+use Rattle.std.proofs.Common.{◌≡◌, ℕ, Bool, true, false, List, [], ◌∷◌, Option, Some, None, Result, Ok, Err, refl, sym, ap, ◌∙◌}
 use Rattle.std.proofs.Common.{◌&&◌, if◌then◌else◌}
 use Rattle.std.specs.Prelude.{codes}
 use Rattle.std.specs.Str.{bytes_eq}
@@ -17,9 +17,10 @@ use Rattle.rhai_operators.specs.Answers as operators
 use Rattle.rhai_machine.specs.machine.Memory.{here, wanting}
 use Rattle.rhai_machine.specs.language.Setting.{Setting, Rules}
 use Rattle.rhai_machine.specs.language.State.{State, Local, HasMemory, Answers}
-use Rattle.rhai_machine.specs.language.Frames.{Back, Call, Control, Core, Dispatch, Fail, Frame, core, ended}
+use Rattle.rhai_machine.specs.language.Frames.{Back, Call, Control, Core, Dispatch, Fail, Frame, core, ended, on_value}
 use Rattle.rhai_machine.specs.language.Calls.{applied, called_core, called_function, dispatch_core, enter_core, found_core}
-use Rattle.rhai_machine.specs.language.Calls.{asks_function, call_races, knows_asked, named_core, operator_core, plainly, signature, types_of}
+use Rattle.rhai_machine.specs.language.Calls.{asks_function, call_races, dispatch_behind, function_behind, knows_asked, named_core, operator_core, plainly}
+use Rattle.rhai_machine.specs.language.Calls.{signature, types_of}
 use Rattle.rhai_machine.specs.language.Values.{bool_value, through}
 use Rattle.rhai_machine.specs.language.Language.{want}
 use Rattle.rhai_machine.specs.language.Runs.{at, with_core, Goes}
@@ -73,9 +74,18 @@ module _ {H : Type 0} (s : Setting H) (how : Dispatch) (call : Call H) (k : List
   wants_dispatched true pos = refl
   wants_dispatched false pos = wants_named call.args pos
 
+  wants_on : (r : Result (Function H) (EvalAltResult H)) (pos : Position) →
+      want pos (on_value r (λ f. enter_core false f how call k l) k l) ≡ fails_at pos
+  wants_on (Ok f) pos = wants_entered false f pos
+  wants_on (Err e) pos = refl
+
+  wants_behind : (path : List (List ℕ)) (pos : Position) → want pos (dispatch_behind s path how call k l) ≡ fails_at pos
+  wants_behind [] pos = wants_dispatched (call_races how.of_method l.around.cells call.args) pos
+  wants_behind (root ∷ path) pos = wants_on (function_behind s root path how call l) pos
+
   -- so it does before a call is dispatched
   pub dispatch_wants : (pos : Position) → want pos (dispatch_core s how call k l) ≡ fails_at pos
-  dispatch_wants pos = wants_dispatched (call_races how.of_method l.around.cells call.args) pos
+  dispatch_wants pos = wants_behind how.path.names pos
 
 module _ {S H : Type 0} (rules : Rules S H) where
   -- memory runs out before an operator is done

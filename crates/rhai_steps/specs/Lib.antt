@@ -2,6 +2,7 @@ pub mod Declaring
 pub mod Lends
 pub mod Loops
 pub mod Marked
+pub mod Offers
 pub mod Offsets
 pub mod Saves
 pub mod States

@@ -8,6 +8,7 @@ pub mod constants;
 pub mod errors;
 pub mod loops;
 pub mod outcome;
+pub mod qualified;
 pub mod replies;
 pub mod values;
 pub mod variables;

@@ -184,7 +184,7 @@ fn no_types(alloc: Global) -> Result<Shared<Text>, AllocError>
 }
 
 /// There is no function of a name that takes no argument.
-fn lone_not_found<H>(alloc: Global, name: &str, pos: Position) -> EvalAltResult<H>
+pub fn lone_not_found<H>(alloc: Global, name: &str, pos: Position) -> EvalAltResult<H>
     ensures { is_out_of_memory result ≡ false → result ≡ error.ErrorFunctionNotFound
         (signature_of name.now []) pos }
 {

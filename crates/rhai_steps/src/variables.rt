@@ -6,29 +6,36 @@ ghost use Rattle.std.specs.Borrow.{sem};
 ghost use Rattle.rhai_values.specs.Cells.{cells_of};
 ghost use Rattle.rhai_state.specs.Errors.{is_out_of_memory};
 ghost use Rattle.rhai_state.specs.declared.error.EvalAltResult.TheVariants as error;
-ghost use Rattle.rhai_tree.specs.Forms.{is_exported as exported};
+ghost use Rattle.rhai_tree.specs.Forms.{is_exported as exported, is_unqualified};
 ghost use Rattle.rhai_tree.specs.Names.{is_good};
 ghost use Rattle.rhai_tree.specs.declared.expr.Expr.{out-Expr};
 ghost use Rattle.rhai_state.specs.Scope.{entries_of, found_by, index_of, names_in, new_entry, Fits};
 ghost use Rattle.rhai_machine.specs.language.State.{Answers};
 ghost use Rattle.rhai_machine.specs.language.Values.{copied, unit_value as unit};
-ghost use Rattle.rhai_machine.specs.language.Functions.{meant_function, pointer_to};
-ghost use Rattle.rhai_machine.specs.language.Names.{bound_this, looked_up, read, variable_of};
+ghost use Rattle.rhai_machine.specs.language.Functions.{pointer_to};
+ghost use Rattle.rhai_machine.specs.language.Names.{bound_this, entry_named, looked_up, read, there_or_unknown};
+ghost use Rattle.rhai_machine.specs.language.Names.{value_beside, variable_of, without_entry};
+ghost use Rattle.rhai_machine.specs.language.Variables.{variable_named};
 ghost use Rattle.rhai_machine.specs.language.Statements.{deeper, mode_of as mode_asked};
 ghost use Rattle.rhai_steps.specs.Declaring.{declarable, is_full, is_taken};
 ghost use Rattle.rhai_steps.specs.Lends.{lends_variable, with_value};
+ghost use Rattle.rhai_steps.specs.Offers.{globals_in};
 ghost use Rattle.rhai_steps.specs.Offsets.{offset_in, place_at};
+ghost use Rattle.rhai_steps.specs.States.{surroundings_of};
 ghost use Rattle.rhai_steps.specs.Saves.{saved_in, saved_now, left_global};
 
 use crate::errors::{data_race_of, variable_exists, variable_not_found};
+use crate::qualified::search_path;
 use crate::values::{copy, unit_value};
 use bitflags::Flags;
+use rhai_functions::function::Offered;
 use rhai_functions::named::arity_named;
+use rhai_functions::paths::find_global_constant;
 use rhai_state::error::EvalAltResult;
 use rhai_state::limits::Limits;
 use rhai_state::scope::Scope;
 use rhai_state::state::GlobalRuntimeState;
-use rhai_tree::expr::{Expr, Ident};
+use rhai_tree::expr::{Expr, Ident, Namespace};
 use rhai_tree::flags::ASTFlags;
 use rhai_tree::position::Position;
 use rhai_tree::{Boxed, Items, Shared, Text};
@@ -51,6 +58,35 @@ pub fn place_of_variable<H: Host>(
 {
     let offset = global.offset_in_use(offset);
     scope.place_of(offset, name.get().as_str())
+}
+
+/// Whether nothing stands in front of a name.
+#[inline(always)]
+pub fn is_plain(namespace: &Namespace) -> bool
+    ensures { result ≡ is_unqualified namespace.now.path }
+{
+    namespace.path.is_empty()
+}
+
+/// The entry that a variable means, as `place_of_variable` finds it. None for a name behind a path, and for one that no
+/// entry has.
+#[inline(always)]
+pub fn entry_of_variable<H: Host>(
+    global: &GlobalRuntimeState<H>,
+    scope: &Scope<H>,
+    offset: Option<NonZeroUsize>,
+    name: &Shared<Text>,
+    namespace: &Namespace,
+) -> Option<usize>
+    requires { IsTrue (is_good offset name.now (names_in scope.now)) }
+    ensures exact { result ≡ entry_named namespace.now.path name.now (entries_of scope.now) }
+    ensures within { IfSome result (λ at. at < length (entries_of scope.now)) }
+{
+    if is_plain(namespace) {
+        place_of_variable(global, scope, offset, name)
+    } else {
+        None
+    }
 }
 
 /// The place of the newest variable of a name by its offset. None where none is given, or variables are searched for.
@@ -110,43 +146,79 @@ fn function_pointer<H: Host>(
     }
 }
 
-/// What a name means that is no variable's: a pointer to the first library function of the name.
+/// What a name means by itself that no variable has: a constant of the engine's modules, as a copy, or else a pointer to
+/// the first library function of the name.
 ///
 /// # Errors
-/// `ErrorVariableNotFound` at the position, where there is none.
-pub fn read_function<H: Host>(
+/// `ErrorVariableNotFound` at the position, where there is neither.
+fn read_global<H: Host>(
     alloc: Global,
+    offered: &Offered<'_, H>,
     lib: &[Shared<Module<H>>],
     name: &Shared<Text>,
     pos: Position,
 ) -> Result<Dynamic<H>, EvalAltResult<H>>
-    ensures { (cells : _) → Answers result (copied (variable_of cells name.now pos
-        (meant_function lib.now name.now))) }
+    ensures { Answers result (there_or_unknown (without_entry (globals_in offered.now) lib.now name.now)
+        name.now pos) }
 {
+    if let Some(constant) = find_global_constant(offered.global_modules, name.get().as_str()) {
+        return copy(alloc, constant, pos);
+    }
     match arity_named(lib, name.get().as_str()) {
         Some(arity) => function_pointer(alloc, name, arity, pos),
         None => Err(variable_not_found(name, pos)),
     }
 }
 
+/// What a variable means that is no entry of the scope, as it is: by itself a constant of the engine's modules or a
+/// function of the libraries, and behind a path a constant of the module that the path leads to.
+///
+/// # Errors
+/// `ErrorVariableNotFound` at the name where it stands by itself, and those of `search_path` at the path.
+pub fn read_beside<H: Host>(
+    alloc: Global,
+    offered: &Offered<'_, H>,
+    global: &GlobalRuntimeState<H>,
+    name: &Shared<Text>,
+    namespace: &Namespace,
+    pos: Position,
+) -> Result<Dynamic<H>, EvalAltResult<H>>
+    ensures { Answers result (value_beside (globals_in offered.now) (surroundings_of global.now)
+        (variable_named name.now namespace.now pos)) }
+{
+    if is_plain(namespace) {
+        return read_global(alloc, offered, global.lib.as_slice(), name, pos);
+    }
+    let path = namespace.path.as_slice();
+    search_path(
+        alloc,
+        offered,
+        global,
+        path,
+        name.get().as_str(),
+        namespace.position,
+    )
+}
+
 /// Reads a variable: a copy, unless there is none or its cell is held. It is found as
-/// `place_of_variable` says, which asks the same of its offset. Where there is none of the name, a function
-/// of the libraries is meant, if there is one.
+/// `entry_of_variable` says, which asks the same of its offset. What is no entry of the scope is read by `read_beside`.
 pub fn read_variable<H: Host>(
     alloc: Global,
+    offered: &Offered<'_, H>,
     global: &GlobalRuntimeState<H>,
     scope: &Scope<H>,
     offset: Option<NonZeroUsize>,
     name: &Shared<Text>,
+    namespace: &Namespace,
     pos: Position,
 ) -> Result<Dynamic<H>, EvalAltResult<H>>
     requires { IsTrue (is_good offset name.now (names_in scope.now)) }
-    ensures { Answers result (read (cells_of global.now.cells) global.now.lib name.now pos
-        (entries_of scope.now)) }
+    ensures { Answers result (read (globals_in offered.now) (surroundings_of global.now)
+        (entries_of scope.now) (variable_named name.now namespace.now pos)) }
 {
-    match place_of_variable(global, scope, offset, name) {
+    match entry_of_variable(global, scope, offset, name, namespace) {
         Some(index) => copy_variable(alloc, &global.cells, scope.value_at(index), name, pos),
-        None => read_function(alloc, global.lib.as_slice(), name, pos),
+        None => read_beside(alloc, offered, global, name, namespace, pos),
     }
 }
 

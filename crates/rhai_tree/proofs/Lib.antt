@@ -4,4 +4,5 @@ mod Joins
 pub mod Links
 pub mod LookupLemmas
 pub mod Statements
+pub mod Variables
 pub mod Walk

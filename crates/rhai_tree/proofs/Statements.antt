@@ -1,5 +1,5 @@
 -- What a `switch`, a `for`, a `try` and a `Share` that may run say of their parts.
-use Rattle.std.proofs.Common.{◌≡◌, ◌<◌, ℕ, zero, suc, ap, refl, sym, ◌∙◌, subst, arith, Bool, true, false, ◌&&◌, IsTrue, List, [], ◌∷◌}
+use Rattle.std.proofs.Common.{◌≡◌, ◌<◌, ℕ, zero, suc, refl, subst, arith, Bool, true, false, ◌&&◌, IsTrue, List, [], ◌∷◌}
 use Rattle.std.proofs.Common.{length, map, get_or, ltb-true}
 use Rattle.std.proofs.lemmas.List.{length-map}
 use Rattle.std.specs.Prelude.{Option, Some, None, IsSomeAnd, if◌then◌else◌}

@@ -29,3 +29,7 @@ looping c = record c { in_loop = true }
 -- after a declaration
 abbrev pub declaring : Name → Context → Context
 declaring name c = record c { names = c.names ++ name ∷ [] }
+
+-- after an import
+abbrev pub importing : Name → Context → Context
+importing name c = record c { imports = c.imports ++ name ∷ [] }

@@ -2,7 +2,7 @@
 use Rattle.rhai_tree.specs.Types.{CheckFault, Position}
 use Rattle.rhai_tree.specs.declared.fault.CheckFault.TheVariants.{BadOffset, BadImportOffset, BadChain, BadAssignment, BadSwitch}
 use Rattle.rhai_tree.specs.declared.fault.CheckFault.TheVariants.{BadMapKey, BadCatch, LoopControlOutside, ExportNotGlobal, EvalCall}
-use Rattle.rhai_tree.specs.declared.fault.CheckFault.TheVariants.{NotAnExpression, QualifiedMethod, NoMemory, NotYet}
+use Rattle.rhai_tree.specs.declared.fault.CheckFault.TheVariants.{NotAnExpression, QualifiedMethod, NoMemory}
 use Rattle.rhai_tree.specs.Position.{none}
 
 -- where a fault stands; want of memory stands nowhere
@@ -20,4 +20,3 @@ place_of (EvalCall pos) = pos
 place_of (NotAnExpression pos) = pos
 place_of (QualifiedMethod pos) = pos
 place_of NoMemory = none
-place_of (NotYet pos) = pos

@@ -5,7 +5,7 @@ use Rattle.std.specs.Str.{bytes_eq}
 use Rattle.rhai_tree.specs.declared.expr.Expr.{Expr, out-Expr}
 use Rattle.rhai_tree.specs.declared.expr.Expr.TheOpen as layer
 use Rattle.rhai_tree.specs.declared.expr.Namespace.{Namespace}
-use Rattle.rhai_tree.specs.Types.{ASTFlags}
+use Rattle.rhai_tree.specs.Types.{ASTFlags, Ident}
 use Rattle.rhai_tree.specs.Names.{Name}
 
 -- a name without a path
@@ -37,6 +37,11 @@ catch_name _ = None
 
 abbrev pub catch_of : Expr → Option (Option Name)
 catch_of e = catch_name (out-Expr e)
+
+-- the name that an import has: its alias, or the empty name where there is none
+abbrev pub name_asked : Option Ident → Name
+name_asked None = []
+name_asked (Some alias) = alias.name
 
 -- one of several parts
 abbrev pub any_of : List Bool → Bool

@@ -2,7 +2,7 @@
 -- offset is that of the newest variable of its name in the scope, whose names are taken oldest first.
 use Rattle.std.specs.declared.num.NonZeroUsize.{NonZeroUsize}
 use Rattle.std.specs.Prelude.{Bool, false, IsTrue, List, [], ◌∷◌, ◌++◌, map, Option, option_map}
-use Rattle.rhai_tree.specs.Types.{ASTFlags, ConditionalExpr, Expr, FnCallExpr, Ident, MapEntry, Position, ScriptFuncDef}
+use Rattle.rhai_tree.specs.Types.{ASTFlags, ConditionalExpr, Expr, FnCallExpr, Ident, MapEntry, Namespace, Position, ScriptFuncDef}
 use Rattle.rhai_tree.specs.Types.{ScriptFuncPayload, SharedVariable, Stmt, StmtBlock}
 use Rattle.rhai_tree.specs.declared.function.ScriptFuncPayload.TheVariants.{Statements}
 use Rattle.rhai_tree.specs.Positions.{position_of}
@@ -29,6 +29,10 @@ resolves_block block = (walk.seen_block sound block).value
 
 abbrev pub resolves_stmt : Stmt → walk.SeenStmt sound
 resolves_stmt = walk.seen_stmt sound
+
+-- of a variable
+abbrev pub variable_resolves : Option NonZeroUsize → Name → Namespace → Position → walk.Finds sound
+variable_resolves = walk.found_in_variable sound
 
 -- the same of a left side, of an expression that may be left out, and of expressions and statements in a row
 abbrev pub target_resolves : walk.Seen sound → walk.Finds sound

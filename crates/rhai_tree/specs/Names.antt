@@ -28,6 +28,11 @@ abbrev pub is_good : Option NonZeroUsize → Name → List Name → Bool
 is_good None name names = true
 is_good (Some offset) name names = stands name (non_zero_usize_get offset) names
 
+-- so is the index of a path for its root among the imports; an empty path has no root
+abbrev pub is_good_root : Option NonZeroUsize → (path : List Name) → (imports : List Name) → Bool
+is_good_root index [] imports = true
+is_good_root index (root ∷ path) imports = is_good index root imports
+
 -- the new names begin with the old ones
 abbrev pub Begins : List Name → List Name → Type 0
 Begins old new = (added : List Name) × (new ≡ old ++ added)

@@ -1,19 +1,20 @@
 -- One walk over a tree, which is read in two ways: for the faults that stand in it, and for whether a part may run above some names.
 use Rattle.std.specs.Prelude.{ℕ, ◌+◌, Bool, true, false, not, ◌&&◌, if◌then◌else◌, List, [], ◌∷◌, ◌++◌, length, map, Option, Some, None, option_map}
 use Rattle.std.specs.declared.num.NonZeroUsize.{NonZeroUsize}
-use Rattle.rhai_tree.specs.Types.{ASTFlags, CheckFault, ConditionalExpr, Expr, FnCallExpr, Ident, MapEntry, Position, SharedVariable}
-use Rattle.rhai_tree.specs.Types.{Stmt, StmtBlock}
-use Rattle.rhai_tree.specs.declared.fault.CheckFault.TheVariants.{BadOffset, BadChain, BadAssignment, BadSwitch, BadMapKey, BadCatch}
-use Rattle.rhai_tree.specs.declared.fault.CheckFault.TheVariants.{LoopControlOutside, ExportNotGlobal, EvalCall, NotAnExpression, QualifiedMethod, NotYet}
+use Rattle.rhai_tree.specs.Types.{ASTFlags, CheckFault, ConditionalExpr, Expr, FnCallExpr, Ident, MapEntry, Namespace, Position}
+use Rattle.rhai_tree.specs.Types.{SharedVariable, Stmt, StmtBlock}
+use Rattle.rhai_tree.specs.declared.fault.CheckFault.TheVariants.{BadOffset, BadImportOffset, BadChain, BadAssignment, BadSwitch, BadMapKey}
+use Rattle.rhai_tree.specs.declared.fault.CheckFault.TheVariants.{BadCatch, LoopControlOutside, ExportNotGlobal, EvalCall, NotAnExpression}
+use Rattle.rhai_tree.specs.declared.fault.CheckFault.TheVariants.{QualifiedMethod}
 use Rattle.rhai_tree.specs.declared.expr.Expr.TheOpen as layer
 use Rattle.rhai_tree.specs.declared.expr.Expr.TheFolds.{fold-Expr, fold-ConditionalExpr, fold-FnCallExpr, fold-MapEntry, fold-StmtBlock}
 use Rattle.rhai_tree.specs.declared.expr.Expr.TheFolds.{fold-Stmt}
 use Rattle.rhai_tree.specs.Cases.{is_switch}
-use Rattle.rhai_tree.specs.Context.{Context, inside, looping, declaring}
-use Rattle.rhai_tree.specs.Forms.{is_unqualified, is_eval_call, is_exported, ends_chain, catch_name}
+use Rattle.rhai_tree.specs.Context.{Context, inside, looping, declaring, importing}
+use Rattle.rhai_tree.specs.Forms.{is_unqualified, is_eval_call, is_exported, ends_chain, catch_name, name_asked}
 use Rattle.rhai_tree.specs.Keys.{are_keys}
 use Rattle.rhai_tree.specs.Links.{is_counted}
-use Rattle.rhai_tree.specs.Names.{Name, is_good}
+use Rattle.rhai_tree.specs.Names.{Name, is_good, is_good_root}
 use Rattle.rhai_tree.specs.Positions.{first_or, start_of_name, start_of_operands, start_of_call}
 
 -- A way of reading a tree: what it keeps of what surrounds a form, what it gathers of a form's parts, and what it finds of how many links
@@ -21,9 +22,11 @@ use Rattle.rhai_tree.specs.Positions.{first_or, start_of_name, start_of_operands
 pub record Reading : Type 1 where
   pub Around : Type 0
   pub names : Around → List Name
+  pub in_imports : (index : Option NonZeroUsize) → (path : List Name) → Around → Bool
   pub in_loop : Around → Bool
   pub in_top : Around → Bool
   pub declaring : Name → Around → Around
+  pub importing : Name → Around → Around
   pub looping : Around → Around
   pub inside : Around → Around
   pub Found : Type 0
@@ -37,9 +40,11 @@ abbrev pub faulty : Reading
 faulty = record {
   Around = Context;
   names = λ c. c.names;
+  in_imports = λ index path c. is_good_root index path c.imports;
   in_loop = λ c. c.in_loop;
   in_top = λ c. c.in_top;
   declaring = declaring;
+  importing = importing;
   looping = looping;
   inside = inside;
   Found = List CheckFault;
@@ -49,14 +54,16 @@ faulty = record {
   counted = λ links. [];
 }
 
--- whether none stands above some names, wherever the form is, and a list counts the links of each chain
+-- whether none stands above some names, wherever the form is and whatever is imported, and a list counts the links of each chain
 abbrev pub sound : Reading
 sound = record {
   Around = List Name;
   names = λ names. names;
+  in_imports = λ index path names. true;
   in_loop = λ names. true;
   in_top = λ names. true;
   declaring = λ name names. names ++ name ∷ [];
+  importing = λ name names. names;
   looping = λ names. names;
   inside = λ names. names;
   Found = Bool;
@@ -222,10 +229,15 @@ module _ (r : Reading) where
   abbrev pub found_at_offset : Option NonZeroUsize → Name → Position → List Name → r.Found
   found_at_offset offset name pos names = if is_good offset name names then r.none else r.fault (BadOffset pos)
 
-  -- a variable's offset is among the names before it
-  abbrev pub found_in_variable : Option NonZeroUsize → Name → List Name → Position → Finds
-  found_in_variable offset name path pos c =
-      if is_unqualified path then found_at_offset offset name pos (r.names c) else r.fault (NotYet pos)
+  -- the index of a path is among the imports before it
+  abbrev pub found_in_namespace : Namespace → Finds
+  found_in_namespace namespace c =
+      if r.in_imports namespace.index namespace.path c then r.none else r.fault (BadImportOffset namespace.position)
+
+  -- a variable's path, and its offset, which is among the names before it; a name behind a path stands in a module, and has none
+  abbrev pub found_in_variable : Option NonZeroUsize → Name → Namespace → Position → Finds
+  found_in_variable offset name namespace pos c = r.both (found_in_namespace namespace c)
+      (found_at_offset offset name pos (if is_unqualified namespace.path then r.names c else []))
 
   -- so is that of each variable that closures share
   abbrev pub found_in_shared : List SharedVariable → List Name → r.Found
@@ -303,7 +315,7 @@ module _ (r : Reading) where
   form_step (layer.Map entries template pos) = plain pos (found_in_map entries template.0 pos)
   form_step (layer.ThisPtr pos) = place pos nothing
   form_step (layer.Variable offset name namespace pos) =
-      from (start_of_name namespace.path namespace.position pos) (place pos (found_in_variable offset name namespace.path pos))
+      from (start_of_name namespace.path namespace.position pos) (place pos (found_in_variable offset name namespace pos))
   form_step (layer.Property name pos) = named false pos nothing
   form_step (layer.MethodCall call pos) = named true pos (call.method pos)
   form_step (layer.Expr::FnCall call pos) = from (start_of_call call.operand pos) (plain pos (call.value pos))
@@ -324,8 +336,7 @@ module _ (r : Reading) where
     operand = start_of_operands call.op_token (map start_in call.args);
     value = λ pos c.
         if is_eval_call call.namespace call.name (length call.args) then r.fault (EvalCall pos)
-        else if is_unqualified call.namespace.path then found_in_all call.args c
-        else r.fault (NotYet pos);
+        else r.both (found_in_namespace call.namespace c) (found_in_all call.args c);
     method = λ pos c. if is_unqualified call.namespace.path then found_in_all call.args c else r.fault (QualifiedMethod pos);
   }
 
@@ -335,7 +346,7 @@ module _ (r : Reading) where
   abbrev pub conditional_step : layer.ConditionalExpr-F Seen SeenStmt SeenConditional SeenCall SeenEntry Seen → SeenConditional
   conditional_step conditional c = r.both (conditional.condition.value c) (conditional.expr.value c)
 
-  -- what a block declares ends with it
+  -- what a block declares and imports ends with it
   abbrev pub block_step : layer.StmtBlock-F Seen SeenStmt SeenConditional SeenCall SeenEntry Seen → Seen
   block_step block = plain block.position (λ c. (found_in_list block.statements (r.inside c)).0)
 
@@ -357,7 +368,7 @@ module _ (r : Reading) where
   stmt_step (layer.TryCatch body variable branch pos) c =
       (r.both (body.value c) (found_in_catch variable.catch variable.pos branch.value c), c)
   stmt_step (layer.Return expr options pos) c = (found_in_option expr c, c)
-  stmt_step (layer.Import expr alias pos) c = (expr.value c, c)
+  stmt_step (layer.Import expr alias pos) c = (expr.value c, r.importing (name_asked alias) c)
   stmt_step (layer.Export name alias pos) c = (r.none, c)
   stmt_step (layer.Share variables) c = (found_in_shared variables (r.names c), c)
 

@@ -5,6 +5,7 @@ pub use Rattle.rhai_tree.specs.declared.expr.Expr.{Expr}
 pub use Rattle.rhai_tree.specs.declared.expr.FnCallExpr.{FnCallExpr}
 pub use Rattle.rhai_tree.specs.declared.expr.Ident.{Ident}
 pub use Rattle.rhai_tree.specs.declared.expr.MapEntry.{MapEntry}
+pub use Rattle.rhai_tree.specs.declared.expr.Namespace.{Namespace}
 pub use Rattle.rhai_tree.specs.declared.expr.RangeCase.{RangeCase}
 pub use Rattle.rhai_tree.specs.declared.expr.SharedVariable.{SharedVariable}
 pub use Rattle.rhai_tree.specs.declared.expr.Stmt.{Stmt}

@@ -2,8 +2,8 @@
 use Rattle.std.specs.Prelude.{◌≡◌, Bool, false, List, [], ◌∷◌, ◌++◌, map, Option, option_map}
 use Rattle.std.specs.List.{Contains}
 use Rattle.std.specs.declared.num.NonZeroUsize.{NonZeroUsize}
-use Rattle.rhai_tree.specs.Types.{ASTFlags, CheckFault, ConditionalExpr, Expr, FnCallExpr, Ident, MapEntry, Position, ScriptFuncDef}
-use Rattle.rhai_tree.specs.Types.{ScriptFuncPayload, SharedVariable, Stmt, StmtBlock}
+use Rattle.rhai_tree.specs.Types.{ASTFlags, CheckFault, ConditionalExpr, Expr, FnCallExpr, Ident, MapEntry, Namespace, Position}
+use Rattle.rhai_tree.specs.Types.{ScriptFuncDef, ScriptFuncPayload, SharedVariable, Stmt, StmtBlock}
 use Rattle.rhai_tree.specs.Positions.{position_of}
 use Rattle.rhai_tree.specs.Forms.{catch_of}
 use Rattle.rhai_tree.specs.Names.{Name}
@@ -46,6 +46,12 @@ faults_in_option = walk.found_in_option faulty
 
 abbrev pub target_faults : walk.Seen faulty → walk.Finds faulty
 target_faults = walk.found_in_target faulty
+
+abbrev pub namespace_faults : Namespace → walk.Finds faulty
+namespace_faults = walk.found_in_namespace faulty
+
+abbrev pub variable_faults : Option NonZeroUsize → Name → Namespace → Position → walk.Finds faulty
+variable_faults = walk.found_in_variable faulty
 
 abbrev pub control_faults : Position → walk.Finds faulty
 control_faults = walk.found_in_control faulty

@@ -36,9 +36,6 @@ pub enum CheckFault {
     /// There was no memory to check with.
     #[error("NoMemory")]
     NoMemory,
-    /// A form that is not there yet.
-    #[error("NotYet")]
-    NotYet(Position),
 }
 
 impl CheckFault {
@@ -60,7 +57,6 @@ impl CheckFault {
             CheckFault::NotAnExpression(position) => *position,
             CheckFault::QualifiedMethod(position) => *position,
             CheckFault::NoMemory => Position::NONE,
-            CheckFault::NotYet(position) => *position,
         }
     }
 }

@@ -7,7 +7,6 @@ ghost use Rattle.rhai_machine.specs.language.State.{HasMemory};
 ghost use Rattle.rhai_methods.specs.Targets.{stands};
 ghost use Rattle.rhai_eval.specs.Places.{with_place};
 ghost use Rattle.rhai_steps.specs.States.{holding, state_of};
-ghost use Rattle.rhai_eval.specs.Plain.{Plain};
 ghost use Rattle.rhai_twins_eval.specs.Same.{Same};
 
 use rhai_eval::engine::Engine;
@@ -211,7 +210,6 @@ pub fn make_method_call<H: Host, T: NativeTable<H>>(
     requires place { target.old.at.now ≡ also_target.old.at.now }
     requires part { target.old.part ≡ also_target.old.part }
     requires call_args { call_args.old ≡ also_call_args.old }
-    requires plain { Plain engine.now global.old }
     ensures run { (scope : _) (this : _) → Same result.0 result.1
         (state_of (T.state table.new) global.new scope
         (with_place this (Some (stands target.new.part target.new.at.now))))
@@ -328,7 +326,6 @@ pub fn exec_fn_call<H: Host, T: NativeTable<H>>(
     requires scope { scope.old ≡ also_scope.old }
     requires first { first.old ≡ also_first.old }
     requires rest { rest.old ≡ also_rest.old }
-    requires plain { Plain engine.now global.old }
     ensures run { (this : _) → Same result.0 result.1
         (state_of (T.state table.new) global.new scope.new (with_place this (Some first.new)))
         (state_of (T.state also_table.new) also_global.new also_scope.new
@@ -398,7 +395,6 @@ pub fn exec_fn_call_by_value<H: Host, T: NativeTable<H>>(
     requires scope { scope.old ≡ also_scope.old }
     requires first { first.old ≡ also_first.old }
     requires rest { rest.old ≡ also_rest.old }
-    requires plain { Plain engine.now global.old }
     ensures run { (held : _) → Same result.0 result.1
         (state_of (T.state table.new) global.new scope.new (held))
         (state_of (T.state also_table.new) also_global.new also_scope.new (held)) }

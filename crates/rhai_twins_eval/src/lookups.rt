@@ -1,12 +1,13 @@
 //! Places of variables and items, the charge, and a new engine.
 
 ghost use Rattle.std.specs.Prelude.{◌≡◌, false, IfErr, IfOk, IfSome, length, true};
+ghost use Rattle.std.specs.Option.{option_copied};
 ghost use Rattle.rhai_tree.specs.declared.expr.Expr.{out-Expr};
 ghost use Rattle.rhai_values.specs.Cells.{IsNoHandle};
 ghost use Rattle.rhai_state.specs.Errors.{is_out_of_memory};
-ghost use Rattle.rhai_state.specs.Scope.{entries_of, Fits};
+ghost use Rattle.rhai_state.specs.Scope.{entries_of, in_use, Fits};
 ghost use Rattle.rhai_steps.specs.Offsets.{offset_in};
-ghost use Rattle.rhai_eval.specs.Search.{is_variable};
+ghost use Rattle.rhai_eval.specs.Search.{is_variable, names_variable};
 ghost use Rattle.rhai_twins_places.specs.Ends.{SameTarget, Told};
 ghost use Rattle.rhai_twins_eval.specs.Same.{SameEnd};
 
@@ -22,9 +23,9 @@ use rhai_state::limits::Limits;
 use rhai_state::scope::Scope;
 use rhai_state::state::GlobalRuntimeState;
 use rhai_state::table::NativeTable;
-use rhai_tree::expr::Expr;
+use rhai_tree::expr::{Expr, Namespace};
 use rhai_tree::position::Position;
-use rhai_values::base::value::{Dynamic, Host};
+use rhai_values::base::value::{Dynamic, Host, Module};
 use std::alloc::Global;
 
 /// Of `Engine::new`.
@@ -141,6 +142,67 @@ pub fn search_scope_only<'s, H: Host, T: NativeTable<H>>(
             Some(also_this),
             expr,
         ),
+    )
+}
+
+/// Of `Engine::search_namespace`: what its target shows, and what it is a part of.
+pub fn search_namespace<'s, H: Host, T: NativeTable<H>>(
+    engine: &Engine<H>,
+    alloc: Global,
+    global: &mut GlobalRuntimeState<H>,
+    also_global: &mut GlobalRuntimeState<H>,
+    caches: &mut Caches<H>,
+    also_caches: &mut Caches<H>,
+    table: &mut T,
+    also_table: &mut T,
+    scope: &'s mut Scope<H>,
+    also_scope: &'s mut Scope<H>,
+    this: &'s mut Dynamic<H>,
+    also_this: &'s mut Dynamic<H>,
+    expr: &Expr,
+) -> (
+    Result<Target<'s, H>, EvalAltResult<H>>,
+    Result<Target<'s, H>, EvalAltResult<H>>,
+)
+    requires global { global.old ≡ also_global.old }
+    requires caches { caches.old ≡ also_caches.old }
+    requires table { T.state table.old ≡ T.state also_table.old }
+    requires scope { scope.old ≡ also_scope.old }
+    requires this { this.old ≡ also_this.old }
+    requires variable { names_variable (out-Expr expr.now) ≡ true }
+    requires fits { Fits (offset_in global.old.always_search_scope (out-Expr expr.now)) (length
+        (entries_of scope.old)) }
+    ensures result { SameTarget result.0 result.1 }
+    ensures global { global.new ≡ also_global.new }
+    ensures table { T.state table.new ≡ T.state also_table.new }
+    ensures caches { caches.new ≡ also_caches.new }
+{
+    (
+        engine.search_namespace(alloc, global, caches, table, scope, Some(this), expr),
+        engine.search_namespace(
+            alloc,
+            also_global,
+            also_caches,
+            also_table,
+            also_scope,
+            Some(also_this),
+            expr,
+        ),
+    )
+}
+
+/// Of `Engine::search_imports`.
+pub fn search_imports<'m, H: Host>(
+    engine: &'m Engine<H>,
+    global: &'m GlobalRuntimeState<H>,
+    namespace: &Namespace,
+) -> (Option<&'m Module<H>>, Option<&'m Module<H>>)
+    requires { Fits (in_use global.now.always_search_scope namespace.now.index) (length global.now.imports) }
+    ensures { option_copied result.0 ≡ option_copied result.1 }
+{
+    (
+        engine.search_imports(global, namespace),
+        engine.search_imports(global, namespace),
     )
 }
 

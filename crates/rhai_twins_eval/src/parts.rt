@@ -1,8 +1,9 @@
 //! Parts of trees, run with a `this`.
 
-ghost use Rattle.std.specs.Prelude.{◌≡◌, IsTrue, Some, is_some, map, true};
+ghost use Rattle.std.specs.Prelude.{◌≡◌, IsTrue, Some, false, is_some, map, true};
 ghost use Rattle.std.specs.Option.{option_copied};
 ghost use Rattle.rhai_tree.specs.declared.expr.Expr.{out-Expr};
+ghost use Rattle.rhai_tree.specs.Forms.{is_unqualified};
 ghost use Rattle.rhai_tree.specs.Frame.{all_resolve, all_resolve_exprs, resolves_call, resolves_expr};
 ghost use Rattle.rhai_tree.specs.Frame.{resolves_stmt, tests_of};
 ghost use Rattle.rhai_state.specs.Scope.{names_in};
@@ -10,7 +11,6 @@ ghost use Rattle.rhai_machine.specs.language.Links.{first_in};
 ghost use Rattle.rhai_pointers.specs.Leading.{all_args};
 ghost use Rattle.rhai_eval.specs.Chains.{AssignsNoHandle, ChainResolves};
 ghost use Rattle.rhai_steps.specs.States.{holding, state_of};
-ghost use Rattle.rhai_eval.specs.Plain.{Plain};
 ghost use Rattle.rhai_twins_eval.specs.Same.{Same};
 
 use rhai_eval::engine::Engine;
@@ -19,7 +19,7 @@ use rhai_state::error::EvalAltResult;
 use rhai_state::scope::Scope;
 use rhai_state::state::GlobalRuntimeState;
 use rhai_state::table::NativeTable;
-use rhai_tree::expr::{Expr, FnCallExpr, OpAssignment, Stmt};
+use rhai_tree::expr::{Expr, FnCallExpr, Namespace, OpAssignment, Stmt};
 use rhai_tree::position::Position;
 use rhai_tree::token::Token;
 use rhai_values::base::value::{Dynamic, Host};
@@ -50,7 +50,6 @@ pub fn eval_expr<H: Host, T: NativeTable<H>>(
     requires scope { scope.old ≡ also_scope.old }
     requires this { this.old ≡ also_this.old }
     requires resolves { IsTrue (resolves_expr expr.now (names_in scope.old)) }
-    requires plain { Plain engine.now global.old }
     ensures run { Same result.0 result.1
         (state_of (T.state table.new) global.new scope.new (holding (Some this.new)))
         (state_of (T.state also_table.new) also_global.new also_scope.new (holding (Some also_this.new))) }
@@ -97,7 +96,6 @@ pub fn eval_stmt<H: Host, T: NativeTable<H>>(
     requires scope { scope.old ≡ also_scope.old }
     requires this { this.old ≡ also_this.old }
     requires resolves { IsTrue (resolves_stmt stmt.now (names_in scope.old)).0 }
-    requires plain { Plain engine.now global.old }
     ensures run { Same result.0 result.1
         (state_of (T.state table.new) global.new scope.new (holding (Some this.new)))
         (state_of (T.state also_table.new) also_global.new also_scope.new (holding (Some also_this.new))) }
@@ -154,7 +152,6 @@ pub fn eval_stmt_block<H: Host, T: NativeTable<H>>(
     requires scope { scope.old ≡ also_scope.old }
     requires this { this.old ≡ also_this.old }
     requires resolves { IsTrue (all_resolve (map resolves_stmt statements.now) (names_in scope.old)).0 }
-    requires plain { Plain engine.now global.old }
     ensures run { Same result.0 result.1
         (state_of (T.state table.new) global.new scope.new (holding (Some this.new)))
         (state_of (T.state also_table.new) also_global.new also_scope.new (holding (Some also_this.new))) }
@@ -211,7 +208,6 @@ pub fn eval_fn_call_expr<H: Host, T: NativeTable<H>>(
     requires scope { scope.old ≡ also_scope.old }
     requires this { this.old ≡ also_this.old }
     requires resolves { IsTrue (resolves_call expr.now pos (names_in scope.old)) }
-    requires plain { Plain engine.now global.old }
     ensures run { Same result.0 result.1
         (state_of (T.state table.new) global.new scope.new (holding (Some this.new)))
         (state_of (T.state also_table.new) also_global.new also_scope.new (holding (Some also_this.new))) }
@@ -258,7 +254,6 @@ pub fn get_arg_value<H: Host, T: NativeTable<H>>(
     requires scope { scope.old ≡ also_scope.old }
     requires this { this.old ≡ also_this.old }
     requires resolves { IsTrue (resolves_expr arg_expr.now (names_in scope.old)) }
-    requires plain { Plain engine.now global.old }
     ensures run { Same result.0 result.1
         (state_of (T.state table.new) global.new scope.new (holding (Some this.new)))
         (state_of (T.state also_table.new) also_global.new also_scope.new (holding (Some also_this.new))) }
@@ -310,7 +305,6 @@ pub fn make_function_call<H: Host, T: NativeTable<H>>(
     requires this { this.old ≡ also_this.old }
     requires resolves { IsTrue (all_resolve_exprs (map tests_of (all_args (option_copied first_arg)
         args_expr.now)) (names_in scope.old)) }
-    requires plain { Plain engine.now global.old }
     ensures run { Same result.0 result.1
         (state_of (T.state table.new) global.new scope.new (holding (Some this.new)))
         (state_of (T.state also_table.new) also_global.new also_scope.new (holding (Some also_this.new))) }
@@ -349,6 +343,69 @@ pub fn make_function_call<H: Host, T: NativeTable<H>>(
     )
 }
 
+/// Of `Engine::make_qualified_function_call`.
+pub fn make_qualified_function_call<H: Host, T: NativeTable<H>>(
+    engine: &Engine<H>,
+    alloc: Global,
+    global: &mut GlobalRuntimeState<H>,
+    also_global: &mut GlobalRuntimeState<H>,
+    caches: &mut Caches<H>,
+    also_caches: &mut Caches<H>,
+    table: &mut T,
+    also_table: &mut T,
+    scope: &mut Scope<H>,
+    also_scope: &mut Scope<H>,
+    this: &mut Dynamic<H>,
+    also_this: &mut Dynamic<H>,
+    namespace: &Namespace,
+    fn_name: &str,
+    args_expr: &[Expr],
+    pos: Position,
+) -> (
+    Result<Dynamic<H>, EvalAltResult<H>>,
+    Result<Dynamic<H>, EvalAltResult<H>>,
+)
+    requires global { global.old ≡ also_global.old }
+    requires caches { caches.old ≡ also_caches.old }
+    requires table { T.state table.old ≡ T.state also_table.old }
+    requires scope { scope.old ≡ also_scope.old }
+    requires this { this.old ≡ also_this.old }
+    requires resolves { IsTrue (all_resolve_exprs (map tests_of args_expr.now) (names_in scope.old)) }
+    requires behind { is_unqualified namespace.now.path ≡ false }
+    ensures run { Same result.0 result.1
+        (state_of (T.state table.new) global.new scope.new (holding (Some this.new)))
+        (state_of (T.state also_table.new) also_global.new also_scope.new (holding (Some also_this.new))) }
+    ensures caches { caches.new ≡ also_caches.new }
+    ensures search { global.new.always_search_scope ≡ also_global.new.always_search_scope }
+{
+    (
+        engine.make_qualified_function_call(
+            alloc,
+            global,
+            caches,
+            table,
+            scope,
+            Some(this),
+            namespace,
+            fn_name,
+            args_expr,
+            pos,
+        ),
+        engine.make_qualified_function_call(
+            alloc,
+            also_global,
+            also_caches,
+            also_table,
+            also_scope,
+            Some(also_this),
+            namespace,
+            fn_name,
+            args_expr,
+            pos,
+        ),
+    )
+}
+
 /// Of `Engine::eval_dot_index_chain`.
 pub fn eval_dot_index_chain<'a, H: Host, T: NativeTable<H>>(
     engine: &Engine<H>,
@@ -379,7 +436,6 @@ pub fn eval_dot_index_chain<'a, H: Host, T: NativeTable<H>>(
     requires chain { is_some (first_in (out-Expr expr.now)) ≡ true }
     requires resolves { ChainResolves (is_some new_val) expr.now (names_in scope.old) }
     requires value { AssignsNoHandle new_val }
-    requires plain { Plain engine.now global.old }
     ensures run { Same result.0 result.1
         (state_of (T.state table.new) global.new scope.new (holding (Some this.new)))
         (state_of (T.state also_table.new) also_global.new also_scope.new (holding (Some also_this.new))) }

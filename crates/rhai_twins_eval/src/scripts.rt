@@ -3,7 +3,6 @@
 ghost use Rattle.std.specs.Prelude.{◌≡◌, None, Some};
 ghost use Rattle.rhai_twins_eval.specs.Same.{SameEnd};
 ghost use Rattle.rhai_steps.specs.States.{holding, state_of};
-ghost use Rattle.rhai_eval.specs.Plain.{Plain};
 ghost use Rattle.rhai_twins_eval.specs.Same.{Same};
 
 use rhai_eval::engine::Engine;
@@ -40,7 +39,6 @@ pub fn eval_global_statements<H: Host, T: NativeTable<H>>(
     requires caches { caches.old ≡ also_caches.old }
     requires table { T.state table.old ≡ T.state also_table.old }
     requires scope { scope.old ≡ also_scope.old }
-    requires plain { Plain engine.now global.old }
     ensures run { Same result.0 result.1
         (state_of (T.state table.new) global.new scope.new (holding None))
         (state_of (T.state also_table.new) also_global.new also_scope.new (holding None)) }
@@ -102,7 +100,6 @@ pub fn call_script_fn<H: Host, T: NativeTable<H>>(
     requires scope { scope.old ≡ also_scope.old }
     requires this { this.old ≡ also_this.old }
     requires args { args.old ≡ also_args.old }
-    requires plain { Plain engine.now global.old }
     ensures run { Same result.0 result.1
         (state_of (T.state table.new) global.new scope.new (holding (Some this.new)))
         (state_of (T.state also_table.new) also_global.new also_scope.new (holding (Some also_this.new))) }

@@ -8,6 +8,7 @@ pub mod caches;
 pub mod errors;
 pub mod functions;
 pub mod orders;
+pub mod paths;
 pub mod scope;
 pub mod state;
 pub mod table;

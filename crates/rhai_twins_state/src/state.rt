@@ -3,9 +3,10 @@
 ghost use Rattle.std.specs.Prelude.{◌≡◌, is_ok, string_bytes};
 
 use rhai_state::limits;
+use rhai_state::scope::Scope;
 use rhai_state::state::GlobalRuntimeState;
 use rhai_tree::{Items, Shared};
-use rhai_values::base::value::{Dynamic, Module};
+use rhai_values::base::value::{Dynamic, Host, Module};
 use std::alloc::{AllocError, Global};
 use std::num::NonZeroUsize;
 
@@ -89,4 +90,18 @@ pub fn offset_in_use<H>(
     ensures { result.0 ≡ result.1 }
 {
     (one.offset_in_use(offset), other.offset_in_use(offset))
+}
+
+/// Of `GlobalRuntimeState::fits`.
+pub fn fits<H: Host>(
+    one: &GlobalRuntimeState<H>,
+    other: &GlobalRuntimeState<H>,
+    scope: &Scope<H>,
+    also_scope: &Scope<H>,
+) -> (bool, bool)
+    requires state { one.now ≡ other.now }
+    requires scope { scope.now ≡ also_scope.now }
+    ensures { result.0 ≡ result.1 }
+{
+    (one.fits(scope), other.fits(also_scope))
 }

@@ -4,6 +4,7 @@
 
 mod host;
 mod indexing;
+mod modules;
 mod operators;
 mod reader;
 mod shown;

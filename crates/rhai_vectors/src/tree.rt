@@ -40,7 +40,6 @@ fn fault_at(line: &mut Reader<'_>, name: &str, place: Position) -> CheckFault {
         "NotAnExpression" => CheckFault::NotAnExpression(place),
         "QualifiedMethod" => CheckFault::QualifiedMethod(place),
         "NoMemory" => CheckFault::NoMemory,
-        "NotYet" => CheckFault::NotYet(place),
         _ => {
             line.want("a fault of the checker");
             CheckFault::NoMemory

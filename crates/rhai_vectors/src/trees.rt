@@ -1,5 +1,6 @@
-//! Trees that the checker refuses.
+//! Trees that the checker refuses, and some that it passes.
 
+use crate::modules;
 use crate::reader::Reader;
 use crate::shown::Sheet;
 use rhai_check::check::{CheckFault, check_tree};
@@ -12,7 +13,7 @@ use rhai_tree::Items;
 use rhai_tree::expr::Stmt;
 use std::alloc::{AllocError, Global};
 
-/// Writes the fault for which the checker refuses the tree of a name, and its place.
+/// Writes the fault for which the checker refuses the tree of a name, and its place, or that it passed.
 pub fn answer(line: &mut Reader<'_>, out: &mut Sheet) {
     let name = line.word();
     match tree_of(line.allocator(), name) {
@@ -31,9 +32,24 @@ fn tree_of(alloc: Global, name: &str) -> Result<Option<Items<Stmt>>, AllocError>
         "method_assigned" => METHOD_ASSIGNED,
         "property_alone" => PROPERTY_ALONE,
         "method_of_a_module" => return method_of_a_module(alloc).map(Some),
-        _ => return Ok(None),
+        _ => return with_modules(alloc, name),
     };
     statements_of(alloc, parts).map(Some)
+}
+
+/// The tree of a name that has imports or a path.
+fn with_modules(alloc: Global, name: &str) -> Result<Option<Items<Stmt>>, AllocError> {
+    let statements = match name {
+        "offset_behind_a_path" => modules::offset_behind_a_path(alloc),
+        "index_without_imports" => modules::index_without_imports(alloc),
+        "call_without_imports" => modules::call_without_imports(alloc),
+        "index_of_an_import" => modules::index_of_an_import(alloc),
+        "import_of_a_block" => modules::import_of_a_block(alloc),
+        "import_without_an_alias" => modules::import_without_an_alias(alloc),
+        "index_without_a_path" => modules::index_without_a_path(alloc),
+        _ => return Ok(None),
+    };
+    statements.map(Some)
 }
 
 fn check(line: &mut Reader<'_>, statements: Items<Stmt>, out: &mut Sheet) {

@@ -42,7 +42,8 @@ pub fn end_at<H: Host, T: NativeTable<H>>(
         FollowsFrom rules (spot_core rules.setting None (new_of new) (link_seen link.entry) index.now
         (chain_at walker.now.root.now rest all new in_place) source.old)
         (state_of (T.state table.old) global.old scope (lending held source.old))
-        (came_marked result out.new place.new) (state_of (T.state table.new) global.new scope (lending held source.new)) }
+        (came_marked result out.new place.new)
+        (state_of (T.state table.new) global.new scope (lending held source.new)) }
 {
     match new {
         Some(new) => {
@@ -95,7 +96,8 @@ pub fn end_member<H: Host, T: NativeTable<H>>(
         RunsFrom rules (member_core rules.setting None (new_of new) link (access_of access.entry)
         (chain_at walker.now.root.now rest all new in_place))
         (state_of (T.state table.old) global.old scope (lending held focus.old))
-        (came_marked result out.new place.new) (state_of (T.state table.new) global.new scope (lending held focus.new)) }
+        (came_marked result out.new place.new)
+        (state_of (T.state table.new) global.new scope (lending held focus.new)) }
 {
     let mut access = access;
     match new {

@@ -231,7 +231,8 @@ pub fn enter_turn<H: Host, T: NativeTable<H>>(
     ensures enters { (offer : _) (held : _) (left : _) (rest : _) (k : _) →
         next_turn left ≡ Some (item, rest) → parts.entry.body.now.statements ≢ [] →
         Goes (rules_of limits.now H.name_of offer T.natives)
-        (at (ForTurn (loop_in parts.entry) left turn base) k (state_of (T.state table.now) global.old scope.old held))
+        (at (ForTurn (loop_in parts.entry) left turn base) k
+        (state_of (T.state table.now) global.old scope.old held))
         (entered_at (came result tt place.new) (loop_in parts.entry) rest turn base k
         (state_of (T.state table.now) global.new scope.new held)) }
 {

@@ -44,7 +44,8 @@ fn counters_of(counter: &Option<Ident>) -> usize
 
 /// Whether the scope has no room for the variables of a `for`.
 fn has_no_room<H: Host>(limits: &Limits, scope: &Scope<H>, counter: &Option<Ident>) -> bool
-    ensures { result ≡ nat_le limits.now.max_variables (length (entries_of scope.now) + counters counter.now) }
+    ensures { result ≡ nat_le limits.now.max_variables
+        (length (entries_of scope.now) + counters counter.now) }
 {
     scope.len() >= limits.max_variables.saturating_sub(counters_of(counter))
 }

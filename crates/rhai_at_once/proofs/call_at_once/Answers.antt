@@ -4,12 +4,12 @@ use Rattle.rhai_tree.specs.declared.expr.Expr.TheOpen as layer
 use Rattle.rhai_tree.specs.declared.expr.Expr.TheVariants as exprs
 use Rattle.rhai_state.specs.Scope.{names_in}
 use Rattle.rhai_machine.specs.language.Setting.{Rules, rules_of}
-use Rattle.rhai_operands.proofs.Names.{call_is_plain, good_name, plain_name}
+use Rattle.rhai_operands.proofs.Names.{good_name}
 use Rattle.rhai_at_once.proofs.Steps.{argument_resolves, at_once}
 use Rattle.rhai_at_once.proofs.call_at_once.Goals as goal
 
-pub place_of_variable-requires : goal.place_of_variable-requires
-place_of_variable-requires g c =
+pub entry_of_variable-requires : goal.entry_of_variable-requires
+entry_of_variable-requires g c =
     let form : out-Expr c.in-Some.arg.now ≡ layer.Variable c.in-Variable.offset c.in-Variable.name c.in-Variable.namespace
     c.in-Variable.pos = rw (c.in-Variable.is, exprs.outs-Variable) refl in
     good_name c.in-Some.arg.now c.in-Variable.offset c.in-Variable.name c.in-Variable.namespace c.in-Variable.pos
@@ -21,17 +21,12 @@ returns-clause-runs g c offer held offers =
     let rules : Rules _ _ = rules_of c.args.limits.now g.H.Host.name_of offer g.T.NativeTable.natives in
     let form : out-Expr c.in-Some.arg.now ≡ layer.Variable c.in-Variable.offset c.in-Variable.name c.in-Variable.namespace
     c.in-Variable.pos = rw (c.in-Variable.is, exprs.outs-Variable) refl in
-    let resolves = argument_resolves c.args.call.now c.in-Some.arg.now c.args.pos (names_in c.args.scope.now) c.in-Some.ensures
-    c.requires.resolves in
-    at_once rules c.args.call.now c.in-Some.arg.now c.in-Some.ensures c.args.pos
-    (call_is_plain c.args.call.now c.args.pos (names_in c.args.scope.now) c.requires.resolves) c.in-Variable.offset c.in-Variable.name
+    at_once rules c.args.call.now c.in-Some.arg.now c.in-Some.ensures c.args.pos c.in-Variable.offset c.in-Variable.name
     c.in-Variable.namespace c.in-Variable.pos form
-    (plain_name c.in-Some.arg.now c.in-Variable.offset c.in-Variable.name c.in-Variable.namespace c.in-Variable.pos
-    (names_in c.args.scope.now) form resolves)
     (g.T.NativeTable.state c.args.table.now) c.args.global.now c.charge_one.new.global c.args.scope.now held
     (omega (arith, c.if-not-charge_one.ensures.room refl)) (c.if-not-charge_one.ensures.charged refl)
-    c.in-Some-place_of_variable.index c.value_at-value.result.now
-    (sym c.place_of_variable.ensures.exact ∙ c.in-Some-place_of_variable.is) c.value_at-value.ensures
+    c.in-Some-entry_of_variable.index c.value_at-value.result.now
+    (sym c.entry_of_variable.ensures.exact ∙ c.in-Some-entry_of_variable.is) c.value_at-value.ensures
     (sym c.is_lendable.ensures ∙ c.if-not-is_lendable.false)
     (sym (rw (c.as_str-function.ensures, c.get.ensures) at (c.is_found.ensures offer offers)) ∙ c.if-is_found.false) _ _
     (rw (c.as_str-function.ensures, c.get.ensures) at (c.call_entry.ensures.runs offer held c.value_at-value.result.now c.value_at-value.ensures))

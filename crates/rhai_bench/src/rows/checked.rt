@@ -10,17 +10,19 @@ use rhai_samples::checked::{
     OFFSET_OF_NO_VARIABLE, PROPERTY_AS_A_RESULT, TWO_EQUAL_CASES,
 };
 use rhai_samples::functions::CALLS_WITHOUT_END;
+use rhai_samples::imports::UNKNOWN_IMPORTED;
 use rhai_samples::walks::WALK_WITH_A_COUNTER;
 
 /// The scripts of this file, by the numbers of their rows, or by the names of lists that no row has.
 const LISTS: &[Row] = &[Row("16", OFFSETS_AND_LIMITS), Row("checked", CHECKED_ONLY)];
 
-/// Offsets that are not the variable's, calls that are too deep, and too many variables.
+/// Offsets that are not the variable's, calls that are too deep, too many variables, and a module that is not there.
 const OFFSETS_AND_LIMITS: &[Sample] = &[
     Sample(Parts(OFFSET_OF_NO_VARIABLE), Usual),
     Sample(Parts(OFFSET_OF_A_HIDDEN_VARIABLE), Usual),
     Sample(Parts(CALLS_WITHOUT_END), MaxCallLevels(3)),
     Sample(Parts(WALK_WITH_A_COUNTER), MaxVariables(0)),
+    Sample(Parts(UNKNOWN_IMPORTED), Usual),
 ];
 
 /// Results, offsets, cases and catch variables that no row has.

@@ -13,13 +13,14 @@ ghost use Rattle.rhai_tree.specs.WellFormed.{seen_expr, seen_call, dot_faults, n
 ghost use Rattle.rhai_tree.specs.WellFormed.{seen_root, seen_end};
 
 use crate::check::CheckFault;
+use crate::check::declared::Declared;
 use crate::check::expr::{check_expr, check_exprs, is_unqualified};
 use crate::check::place::Place;
 use bitflags::Flags;
+use rhai_tree::Items;
 use rhai_tree::expr::{Expr, FnCallExpr};
 use rhai_tree::flags::ASTFlags;
 use rhai_tree::position::Position;
-use rhai_tree::{Items, Shared, Text};
 use std::alloc::Global;
 
 /// Whether an operator of a chain ends it: the chain stands in brackets of its own.
@@ -83,31 +84,31 @@ pub(crate) fn count_links(alloc: Global, chain: &Expr) -> Result<(), CheckFault>
 /// itself: an index, or a chain that has the index first and goes on, unless it ends there.
 #[cycle(check)]
 pub(crate) fn check_behind_bracket(
-    names: &mut Items<Shared<Text>>,
+    declared: &mut Declared,
     place: Place,
     rhs: &Expr,
     ends: bool,
 ) -> Result<(), CheckFault>
-    ensures same { OnOk result (names.new ≡ names.old) }
-    ensures exact { OnOk result ((seen_expr rhs.now).value (around names.old place) ≡ []) }
+    ensures same { OnOk result (declared.new ≡ declared.old) }
+    ensures exact { OnOk result ((seen_expr rhs.now).value (around declared.old place) ≡ []) }
     ensures resolved { OnOk result ((base : List Name) → IsTrue
-        (bracket_resolves ends (tests_of rhs.now) (base ++ names.old))) }
-    ensures refused { IfErr result (λ fault. Refuses ((seen_expr rhs.now).value (around names.old place))
+        (bracket_resolves ends (tests_of rhs.now) (base ++ declared.old.names))) }
+    ensures refused { IfErr result (λ fault. Refuses ((seen_expr rhs.now).value (around declared.old place))
         (declares_expr rhs.now) fault) }
 {
     if ends {
-        return check_expr(names, place, rhs);
+        return check_expr(declared, place, rhs);
     }
     match rhs {
         Expr::Dot(first, rest, options, dot) => {
-            check_expr(names, place, first.get())?;
-            check_behind_dot(names, place, rest.get(), ends_chain(*options), *dot)
+            check_expr(declared, place, first.get())?;
+            check_behind_dot(declared, place, rest.get(), ends_chain(*options), *dot)
         }
         Expr::Index(first, rest, options, _) => {
-            check_expr(names, place, first.get())?;
-            check_behind_bracket(names, place, rest.get(), ends_chain(*options))
+            check_expr(declared, place, first.get())?;
+            check_behind_bracket(declared, place, rest.get(), ends_chain(*options))
         }
-        _ => check_expr(names, place, rhs),
+        _ => check_expr(declared, place, rhs),
     }
 }
 
@@ -115,33 +116,33 @@ pub(crate) fn check_behind_bracket(
 /// method, or one from which the chain goes on, unless it ends there.
 #[cycle(check)]
 pub(crate) fn check_behind_dot(
-    names: &mut Items<Shared<Text>>,
+    declared: &mut Declared,
     place: Place,
     rhs: &Expr,
     ends: bool,
     pos: Position,
 ) -> Result<(), CheckFault>
-    ensures same { OnOk result (names.new ≡ names.old) }
-    ensures exact { OnOk result (dot_faults ends (seen_expr rhs.now).link pos (around names.old place)
+    ensures same { OnOk result (declared.new ≡ declared.old) }
+    ensures exact { OnOk result (dot_faults ends (seen_expr rhs.now).link pos (around declared.old place)
         ≡ []) }
     ensures resolved { OnOk result ((base : List Name) → IsTrue
-        (dot_resolves ends (tests_of rhs.now).link pos (base ++ names.old))) }
+        (dot_resolves ends (tests_of rhs.now).link pos (base ++ declared.old.names))) }
     ensures refused { IfErr result (λ fault. Refuses (dot_faults ends (seen_expr rhs.now).link pos
-        (around names.old place)) (declares_expr rhs.now) fault) }
+        (around declared.old place)) (declares_expr rhs.now) fault) }
 {
     if ends {
-        return check_named(names, place, rhs, pos);
+        return check_named(declared, place, rhs, pos);
     }
     match rhs {
         Expr::Dot(first, rest, options, dot) => {
-            check_named(names, place, first.get(), pos)?;
-            check_behind_dot(names, place, rest.get(), ends_chain(*options), *dot)
+            check_named(declared, place, first.get(), pos)?;
+            check_behind_dot(declared, place, rest.get(), ends_chain(*options), *dot)
         }
         Expr::Index(first, rest, options, _) => {
-            check_named(names, place, first.get(), pos)?;
-            check_behind_bracket(names, place, rest.get(), ends_chain(*options))
+            check_named(declared, place, first.get(), pos)?;
+            check_behind_bracket(declared, place, rest.get(), ends_chain(*options))
         }
-        _ => check_named(names, place, rhs, pos),
+        _ => check_named(declared, place, rhs, pos),
     }
 }
 
@@ -149,21 +150,22 @@ pub(crate) fn check_behind_dot(
 /// faults.
 #[cycle(check)]
 fn check_named(
-    names: &mut Items<Shared<Text>>,
+    declared: &mut Declared,
     place: Place,
     first: &Expr,
     pos: Position,
 ) -> Result<(), CheckFault>
-    ensures same { OnOk result (names.new ≡ names.old) }
-    ensures exact { OnOk result (name_faults (seen_expr first.now).link pos (around names.old place) ≡ []) }
+    ensures same { OnOk result (declared.new ≡ declared.old) }
+    ensures exact { OnOk result
+        (name_faults (seen_expr first.now).link pos (around declared.old place) ≡ []) }
     ensures resolved { OnOk result ((base : List Name) → IsTrue
-        (name_resolves (tests_of first.now).link pos (base ++ names.old))) }
+        (name_resolves (tests_of first.now).link pos (base ++ declared.old.names))) }
     ensures refused { IfErr result (λ fault. Refuses (name_faults (seen_expr first.now).link pos
-        (around names.old place)) (declares_expr first.now) fault) }
+        (around declared.old place)) (declares_expr first.now) fault) }
 {
     match first {
         Expr::Property(_, _) => Ok(()),
-        Expr::MethodCall(call, name) => check_method(names, place, call, *name),
+        Expr::MethodCall(call, name) => check_method(declared, place, call, *name),
         _ => Err(CheckFault::BadChain(pos)),
     }
 }
@@ -171,20 +173,20 @@ fn check_named(
 /// Passes a method whose name stands at a position, or answers one of its faults.
 #[cycle(check)]
 fn check_method(
-    names: &mut Items<Shared<Text>>,
+    declared: &mut Declared,
     place: Place,
     call: &FnCallExpr,
     pos: Position,
 ) -> Result<(), CheckFault>
-    ensures same { OnOk result (names.new ≡ names.old) }
-    ensures exact { OnOk result ((seen_call call.now).method pos (around names.old place) ≡ []) }
+    ensures same { OnOk result (declared.new ≡ declared.old) }
+    ensures exact { OnOk result ((seen_call call.now).method pos (around declared.old place) ≡ []) }
     ensures resolved { OnOk result ((base : List Name) → IsTrue
-        (resolves_method call.now pos (base ++ names.old))) }
+        (resolves_method call.now pos (base ++ declared.old.names))) }
     ensures refused { IfErr result (λ fault. Refuses ((seen_call call.now).method pos
-        (around names.old place)) (declares_call call.now) fault) }
+        (around declared.old place)) (declares_call call.now) fault) }
 {
     if is_unqualified(call) {
-        check_exprs(names, place, call.args.as_slice())
+        check_exprs(declared, place, call.args.as_slice())
     } else {
         Err(CheckFault::QualifiedMethod(pos))
     }

@@ -7,7 +7,7 @@ ghost use Rattle.rhai_tree.specs.Forms.{is_eval_call, is_unqualified};
 ghost use Rattle.rhai_tree.specs.Frame.{tests_of, resolves_expr, resolves_call, target_resolves};
 ghost use Rattle.rhai_tree.specs.Frame.{option_resolves, all_resolve_exprs, entries_resolve, map_resolves};
 ghost use Rattle.rhai_tree.specs.Frame.{tests_of_entry};
-ghost use Rattle.rhai_tree.specs.Names.{Name, is_good};
+ghost use Rattle.rhai_tree.specs.Names.{Name};
 ghost use Rattle.rhai_check.specs.Refusals.{Refuses};
 ghost use Rattle.rhai_tree.specs.WellFormed.{seen_expr, seen_call, target_faults, faults_in_option};
 ghost use Rattle.rhai_tree.specs.WellFormed.{faults_in_all, faults_in_entries, faults_in_map, seen_entry};
@@ -16,27 +16,28 @@ use crate::check::CheckFault;
 use crate::check::chain::{
     check_behind_bracket, check_behind_dot, count_links, ends_chain, ends_in_method, is_root,
 };
+use crate::check::declared::Declared;
 use crate::check::keys::has_keys;
-use crate::check::names::is_good;
+use crate::check::names::{check_variable, has_good_index};
 use crate::check::place::Place;
 use crate::check::stmt::check_block;
+use rhai_tree::Table;
 use rhai_tree::expr::{Expr, FnCallExpr, MapEntry};
 use rhai_tree::literal::Literal;
 use rhai_tree::position::Position;
-use rhai_tree::{Items, Shared, Table, Text};
 
 /// Passes an expression, or answers one of its faults.
 #[cycle(check)]
 pub(crate) fn check_expr(
-    names: &mut Items<Shared<Text>>,
+    declared: &mut Declared,
     place: Place,
     expr: &Expr,
 ) -> Result<(), CheckFault>
-    ensures same { OnOk result (names.new ≡ names.old) }
-    ensures exact { OnOk result ((seen_expr expr.now).value (around names.old place) ≡ []) }
+    ensures same { OnOk result (declared.new ≡ declared.old) }
+    ensures exact { OnOk result ((seen_expr expr.now).value (around declared.old place) ≡ []) }
     ensures resolved { OnOk result ((base : List Name) → IsTrue
-        (resolves_expr expr.now (base ++ names.old))) }
-    ensures refused { IfErr result (λ fault. Refuses ((seen_expr expr.now).value (around names.old place))
+        (resolves_expr expr.now (base ++ declared.old.names))) }
+    ensures refused { IfErr result (λ fault. Refuses ((seen_expr expr.now).value (around declared.old place))
         (declares_expr expr.now) fault) }
 {
     match expr {
@@ -47,40 +48,32 @@ pub(crate) fn check_expr(
         Expr::StringConstant(_, _) => Ok(()),
         Expr::Unit(_) => Ok(()),
         Expr::ThisPtr(_) => Ok(()),
-        Expr::InterpolatedString(parts, _) => check_exprs(names, place, parts.as_slice()),
-        Expr::Array(items, _) => check_exprs(names, place, items.as_slice()),
+        Expr::InterpolatedString(parts, _) => check_exprs(declared, place, parts.as_slice()),
+        Expr::Array(items, _) => check_exprs(declared, place, items.as_slice()),
         Expr::Variable {
             offset,
             name,
             namespace,
             pos,
-        } => {
-            if namespace.path.len() > 0 {
-                Err(CheckFault::NotYet(*pos))
-            } else if is_good(names.as_slice(), *offset, name.get()) {
-                Ok(())
-            } else {
-                Err(CheckFault::BadOffset(*pos))
-            }
-        }
+        } => check_variable(declared, *offset, name.get(), namespace, *pos),
         Expr::Map(entries, template, pos) => {
-            check_map(names, place, entries.as_slice(), template, *pos)
+            check_map(declared, place, entries.as_slice(), template, *pos)
         }
-        Expr::FnCall(call, pos) => check_call(names, place, call, *pos),
-        Expr::Stmt(block) => check_block(names, place, block),
-        Expr::And(parts, _) => check_exprs(names, place, parts.as_slice()),
-        Expr::Or(parts, _) => check_exprs(names, place, parts.as_slice()),
-        Expr::Coalesce(parts, _) => check_exprs(names, place, parts.as_slice()),
+        Expr::FnCall(call, pos) => check_call(declared, place, call, *pos),
+        Expr::Stmt(block) => check_block(declared, place, block),
+        Expr::And(parts, _) => check_exprs(declared, place, parts.as_slice()),
+        Expr::Or(parts, _) => check_exprs(declared, place, parts.as_slice()),
+        Expr::Coalesce(parts, _) => check_exprs(declared, place, parts.as_slice()),
         Expr::Property(_, pos) | Expr::MethodCall(_, pos) => Err(CheckFault::NotAnExpression(*pos)),
         Expr::Dot(lhs, rhs, options, pos) => {
-            count_links(names.allocator(), expr)?;
-            check_expr(names, place, lhs.get())?;
-            check_behind_dot(names, place, rhs.get(), ends_chain(*options), *pos)
+            count_links(declared.allocator(), expr)?;
+            check_expr(declared, place, lhs.get())?;
+            check_behind_dot(declared, place, rhs.get(), ends_chain(*options), *pos)
         }
         Expr::Index(lhs, rhs, options, _) => {
-            count_links(names.allocator(), expr)?;
-            check_expr(names, place, lhs.get())?;
-            check_behind_bracket(names, place, rhs.get(), ends_chain(*options))
+            count_links(declared.allocator(), expr)?;
+            check_expr(declared, place, lhs.get())?;
+            check_behind_bracket(declared, place, rhs.get(), ends_chain(*options))
         }
     }
 }
@@ -88,19 +81,19 @@ pub(crate) fn check_expr(
 /// Passes a list of expressions, or answers one of their faults.
 #[cycle(check)]
 pub(crate) fn check_exprs(
-    names: &mut Items<Shared<Text>>,
+    declared: &mut Declared,
     place: Place,
     exprs: &[Expr],
 ) -> Result<(), CheckFault>
-    ensures same { OnOk result (names.new ≡ names.old) }
-    ensures exact { OnOk result (faults_in_all (map seen_expr exprs.now) (around names.old place) ≡ []) }
+    ensures same { OnOk result (declared.new ≡ declared.old) }
+    ensures exact { OnOk result (faults_in_all (map seen_expr exprs.now) (around declared.old place) ≡ []) }
     ensures resolved { OnOk result ((base : List Name) → IsTrue
-        (all_resolve_exprs (map tests_of exprs.now) (base ++ names.old))) }
+        (all_resolve_exprs (map tests_of exprs.now) (base ++ declared.old.names))) }
     ensures refused { IfErr result (λ fault. Refuses (faults_in_all (map seen_expr exprs.now)
-        (around names.old place)) (any_need (map needs_of exprs.now)) fault) }
+        (around declared.old place)) (any_need (map needs_of exprs.now)) fault) }
 {
     'each: for expr in exprs {
-        check_expr(names, place, expr)?;
+        check_expr(declared, place, expr)?;
     }
     Ok(())
 }
@@ -108,44 +101,44 @@ pub(crate) fn check_exprs(
 /// Passes a map, or answers one of its faults.
 #[cycle(check)]
 fn check_map(
-    names: &mut Items<Shared<Text>>,
+    declared: &mut Declared,
     place: Place,
     entries: &[MapEntry],
     template: &Table<Literal>,
     pos: Position,
 ) -> Result<(), CheckFault>
-    ensures same { OnOk result (names.new ≡ names.old) }
+    ensures same { OnOk result (declared.new ≡ declared.old) }
     ensures exact { OnOk result (faults_in_map (map seen_entry entries.now) template.now.0 pos
-        (around names.old place) ≡ []) }
+        (around declared.old place) ≡ []) }
     ensures resolved { OnOk result ((base : List Name) → IsTrue
-        (map_resolves (map tests_of_entry entries.now) template.now.0 pos (base ++ names.old))) }
+        (map_resolves (map tests_of_entry entries.now) template.now.0 pos (base ++ declared.old.names))) }
     ensures refused { IfErr result (λ fault. Refuses (faults_in_map (map seen_entry entries.now)
-        template.now.0 pos (around names.old place)) true fault) }
+        template.now.0 pos (around declared.old place)) true fault) }
 {
-    match has_keys(names.allocator(), entries, template) {
+    match has_keys(declared.allocator(), entries, template) {
         Err(_) => Err(CheckFault::NoMemory),
         Ok(false) => Err(CheckFault::BadMapKey(pos)),
-        Ok(true) => check_entries(names, place, entries),
+        Ok(true) => check_entries(declared, place, entries),
     }
 }
 
 /// Passes the values of a map's entries, or answers one of their faults.
 #[cycle(check)]
 fn check_entries(
-    names: &mut Items<Shared<Text>>,
+    declared: &mut Declared,
     place: Place,
     entries: &[MapEntry],
 ) -> Result<(), CheckFault>
-    ensures same { OnOk result (names.new ≡ names.old) }
+    ensures same { OnOk result (declared.new ≡ declared.old) }
     ensures exact { OnOk result (faults_in_entries (map seen_entry entries.now)
-        (around names.old place) ≡ []) }
+        (around declared.old place) ≡ []) }
     ensures resolved { OnOk result ((base : List Name) → IsTrue
-        (entries_resolve (map tests_of_entry entries.now) (base ++ names.old))) }
+        (entries_resolve (map tests_of_entry entries.now) (base ++ declared.old.names))) }
     ensures refused { IfErr result (λ fault. Refuses (faults_in_entries (map seen_entry entries.now)
-        (around names.old place)) true fault) }
+        (around declared.old place)) true fault) }
 {
     'each: for entry in entries {
-        check_expr(names, place, &entry.value)?;
+        check_expr(declared, place, &entry.value)?;
     }
     Ok(())
 }
@@ -153,21 +146,21 @@ fn check_entries(
 /// Passes an expression that may be left out, or answers one of its faults.
 #[cycle(check)]
 pub(crate) fn check_option(
-    names: &mut Items<Shared<Text>>,
+    declared: &mut Declared,
     place: Place,
     expr: &Option<Expr>,
 ) -> Result<(), CheckFault>
-    ensures same { OnOk result (names.new ≡ names.old) }
-    ensures exact { OnOk result (faults_in_option (option_map seen_expr expr.now) (around names.old place)
+    ensures same { OnOk result (declared.new ≡ declared.old) }
+    ensures exact { OnOk result (faults_in_option (option_map seen_expr expr.now) (around declared.old place)
         ≡ []) }
     ensures resolved { OnOk result ((base : List Name) → IsTrue
-        (option_resolves (option_map tests_of expr.now) (base ++ names.old))) }
+        (option_resolves (option_map tests_of expr.now) (base ++ declared.old.names))) }
     ensures refused { IfErr result (λ fault. Refuses (faults_in_option (option_map seen_expr expr.now)
-        (around names.old place)) (in_option (option_map needs_of expr.now)) fault) }
+        (around declared.old place)) (in_option (option_map needs_of expr.now)) fault) }
 {
     match expr {
         None => Ok(()),
-        Some(expr) => check_expr(names, place, expr),
+        Some(expr) => check_expr(declared, place, expr),
     }
 }
 
@@ -189,19 +182,19 @@ fn is_place(expr: &Expr) -> bool
 /// Passes the left side of an assignment, or answers one of its faults.
 #[cycle(check)]
 pub(crate) fn check_target(
-    names: &mut Items<Shared<Text>>,
+    declared: &mut Declared,
     place: Place,
     lhs: &Expr,
 ) -> Result<(), CheckFault>
-    ensures same { OnOk result (names.new ≡ names.old) }
-    ensures exact { OnOk result (target_faults (seen_expr lhs.now) (around names.old place) ≡ []) }
+    ensures same { OnOk result (declared.new ≡ declared.old) }
+    ensures exact { OnOk result (target_faults (seen_expr lhs.now) (around declared.old place) ≡ []) }
     ensures resolved { OnOk result ((base : List Name) → IsTrue
-        (target_resolves (tests_of lhs.now) (base ++ names.old))) }
+        (target_resolves (tests_of lhs.now) (base ++ declared.old.names))) }
     ensures refused { IfErr result (λ fault. Refuses (target_faults (seen_expr lhs.now)
-        (around names.old place)) (declares_expr lhs.now) fault) }
+        (around declared.old place)) (declares_expr lhs.now) fault) }
 {
     if is_place(lhs) {
-        check_expr(names, place, lhs)
+        check_expr(declared, place, lhs)
     } else {
         Err(CheckFault::BadAssignment(first_token(lhs)))
     }
@@ -224,24 +217,24 @@ pub(crate) fn is_unqualified(call: &FnCallExpr) -> bool
 /// Passes a call whose name or operator stands at a position, or answers one of its faults.
 #[cycle(check)]
 pub(crate) fn check_call(
-    names: &mut Items<Shared<Text>>,
+    declared: &mut Declared,
     place: Place,
     call: &FnCallExpr,
     pos: Position,
 ) -> Result<(), CheckFault>
-    ensures same { OnOk result (names.new ≡ names.old) }
-    ensures exact { OnOk result ((seen_call call.now).value pos (around names.old place) ≡ []) }
+    ensures same { OnOk result (declared.new ≡ declared.old) }
+    ensures exact { OnOk result ((seen_call call.now).value pos (around declared.old place) ≡ []) }
     ensures resolved { OnOk result ((base : List Name) → IsTrue
-        (resolves_call call.now pos (base ++ names.old))) }
+        (resolves_call call.now pos (base ++ declared.old.names))) }
     ensures refused { IfErr result (λ fault. Refuses ((seen_call call.now).value pos
-        (around names.old place)) (declares_call call.now) fault) }
+        (around declared.old place)) (declares_call call.now) fault) }
 {
     if is_eval_call(call) {
         Err(CheckFault::EvalCall(pos))
-    } else if is_unqualified(call) {
-        check_exprs(names, place, call.args.as_slice())
+    } else if has_good_index(declared.imports.as_slice(), &call.namespace) {
+        check_exprs(declared, place, call.args.as_slice())
     } else {
-        Err(CheckFault::NotYet(pos))
+        Err(CheckFault::BadImportOffset(call.namespace.position))
     }
 }
 

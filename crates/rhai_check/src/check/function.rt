@@ -8,7 +8,7 @@ ghost use Rattle.rhai_tree.specs.WellFormed.{faults_in_function, faults_in_funct
 ghost use Rattle.rhai_tree.specs.WellFormed.{AreFormed};
 
 use crate::check::CheckFault;
-use crate::check::names::declare;
+use crate::check::declared::Declared;
 use crate::check::place::Place;
 use crate::check::stmt::check_block;
 use rhai_tree::checked::CheckedFn;
@@ -22,12 +22,12 @@ pub(crate) fn check_def(alloc: Global, def: &ScriptFuncDef) -> Result<(), CheckF
     ensures resolved { OnOk result (ResolvesFunction def.now) }
     ensures refused { IfErr result (λ fault. Refuses (faults_in_function def.now) true fault) }
 {
-    let mut names = Items::new(alloc);
+    let mut declared = Declared::new(alloc);
     'each: for param in def.params.as_slice() {
-        declare(&mut names, param)?;
+        declared.declare(param)?;
     }
     match &def.body {
-        ScriptFuncPayload::Statements(body) => check_block(&mut names, Place::BODY, body),
+        ScriptFuncPayload::Statements(body) => check_block(&mut declared, Place::BODY, body),
     }
 }
 

@@ -1,17 +1,20 @@
-//! The names that are declared so far in a frame, oldest first.
+//! Names among those that are declared so far, oldest first.
 
-ghost use Rattle.std.specs.Prelude.{◌≡◌, ◌++◌, ◌∷◌, [], IfErr, OnOk, IsTrue, IsSomeAnd, List, false};
+ghost use Rattle.std.specs.Prelude.{◌≡◌, ◌++◌, [], IfErr, OnOk, IsTrue, List, false, if◌then◌else◌};
 ghost use Rattle.std.specs.Int.NonZero.{non_zero_usize_get};
-ghost use Rattle.rhai_check.specs.Declares.{names_a_catch};
+ghost use Rattle.rhai_check.specs.Around.{around};
 ghost use Rattle.rhai_check.specs.Refusals.{Refuses};
-ghost use Rattle.rhai_tree.specs.Forms.{catch_of};
-ghost use Rattle.rhai_tree.specs.Frame.{with_name, turn_names, var_names, shared_resolve};
-ghost use Rattle.rhai_tree.specs.Names.{Name, offset_of, is_good};
-ghost use Rattle.rhai_tree.specs.WellFormed.{catch_variable_faults, shared_faults};
+ghost use Rattle.rhai_check.specs.declared.check.place.Place.{Place};
+ghost use Rattle.rhai_tree.specs.Forms.{is_unqualified};
+ghost use Rattle.rhai_tree.specs.Frame.{variable_resolves, shared_resolve};
+ghost use Rattle.rhai_tree.specs.Names.{Name, offset_of, is_good, is_good_root};
+ghost use Rattle.rhai_tree.specs.WellFormed.{variable_faults, shared_faults};
 
 use crate::check::CheckFault;
-use rhai_tree::expr::{Expr, Ident, SharedVariable};
-use rhai_tree::{Items, Shared, Text};
+use crate::check::declared::Declared;
+use rhai_tree::expr::{Namespace, SharedVariable};
+use rhai_tree::position::Position;
+use rhai_tree::{Shared, Text};
 use std::num::NonZeroUsize;
 
 /// Where the newest of a name stands, counted from the end; zero where there is none.
@@ -39,71 +42,54 @@ pub(crate) fn is_good(names: &[Shared<Text>], offset: Option<NonZeroUsize>, name
     }
 }
 
-/// Adds a name.
-pub(crate) fn declare(
-    names: &mut Items<Shared<Text>>,
-    name: &Shared<Text>,
-) -> Result<(), CheckFault>
-    ensures added { OnOk result (names.new ≡ names.old ++ name.now ∷ []) }
-    ensures memory { IfErr result (λ fault. fault ≡ CheckFault.NoMemory) }
+/// Whether a namespace has no index, or that of the newest import that has the name of its root.
+pub(crate) fn has_good_index(imports: &[Shared<Text>], namespace: &Namespace) -> bool
+    ensures { result ≡ is_good_root namespace.now.index namespace.now.path imports.now }
 {
-    match name.share() {
-        Err(_) => Err(CheckFault::NoMemory),
-        Ok(name) => match names.push(name) {
-            Ok(()) => Ok(()),
-            Err(_) => Err(CheckFault::NoMemory),
-        },
+    match namespace.path.as_slice() {
+        [] => true,
+        [root, ..] => is_good(imports, namespace.index, root.get()),
     }
 }
 
-/// Adds the name of a variable's declaration, unless that overwrites another variable.
-pub(crate) fn declare_var(
-    names: &mut Items<Shared<Text>>,
-    index: Option<NonZeroUsize>,
-    name: &Shared<Text>,
-) -> Result<(), CheckFault>
-    ensures added { OnOk result (names.new ≡ var_names index name.now names.old) }
-    ensures memory { IfErr result (λ fault. fault ≡ CheckFault.NoMemory) }
+/// Whether a variable has no offset, or that of the newest of its name; behind a path it has none.
+fn has_good_offset(
+    names: &[Shared<Text>],
+    offset: Option<NonZeroUsize>,
+    name: &Text,
+    namespace: &Namespace,
+) -> bool
+    ensures { result ≡ is_good offset name.now
+        (if is_unqualified namespace.now.path then names.now else []) }
 {
-    match index {
-        None => declare(names, name),
-        Some(_) => Ok(()),
+    if namespace.path.is_empty() {
+        is_good(names, offset, name)
+    } else {
+        offset.is_none()
     }
 }
 
-/// Adds the names of a `for`: its counter, where it has one, and then its variable.
-pub(crate) fn declare_turn(
-    names: &mut Items<Shared<Text>>,
-    variable: &Ident,
-    counter: &Option<Ident>,
+/// Passes a variable whose name stands at a position, or answers its fault.
+pub(crate) fn check_variable(
+    declared: &Declared,
+    offset: Option<NonZeroUsize>,
+    name: &Text,
+    namespace: &Namespace,
+    pos: Position,
 ) -> Result<(), CheckFault>
-    ensures added { OnOk result (names.new ≡ turn_names variable.now counter.now names.old) }
-    ensures memory { IfErr result (λ fault. fault ≡ CheckFault.NoMemory) }
+    ensures exact { OnOk result ((place : Place) →
+        variable_faults offset name.now namespace.now pos (around declared.now place) ≡ []) }
+    ensures resolved { OnOk result ((base : List Name) → IsTrue
+        (variable_resolves offset name.now namespace.now pos (base ++ declared.now.names))) }
+    ensures refused { IfErr result (λ fault. (place : Place) → Refuses
+        (variable_faults offset name.now namespace.now pos (around declared.now place)) false fault) }
 {
-    if let Some(counter) = counter {
-        declare(names, &counter.name)?;
-    }
-    declare(names, &variable.name)
-}
-
-/// Adds the name of a catch variable, where it has one, or answers its fault.
-pub(crate) fn declare_catch(
-    names: &mut Items<Shared<Text>>,
-    variable: &Expr,
-) -> Result<(), CheckFault>
-    ensures added { OnOk result (IsSomeAnd (catch_of variable.now) (λ name.
-        names.new ≡ with_name name names.old)) }
-    ensures refused { IfErr result (λ fault. Refuses (catch_variable_faults variable.now)
-        (names_a_catch (catch_of variable.now)) fault) }
-{
-    match variable {
-        Expr::Unit(_) => Ok(()),
-        Expr::Variable {
-            name,
-            namespace,
-            ..
-        } if namespace.path.is_empty() => declare(names, name),
-        _ => Err(CheckFault::BadCatch(variable.position())),
+    if !has_good_index(declared.imports.as_slice(), namespace) {
+        Err(CheckFault::BadImportOffset(namespace.position))
+    } else if has_good_offset(declared.names.as_slice(), offset, name, namespace) {
+        Ok(())
+    } else {
+        Err(CheckFault::BadOffset(pos))
     }
 }
 

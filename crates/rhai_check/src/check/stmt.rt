@@ -2,14 +2,14 @@
 
 ghost use Rattle.std.specs.Prelude.{◌≡◌, ◌++◌, [], true, false, IsTrue, IfErr, OnOk, map, List};
 ghost use Rattle.std.specs.Prelude.{option_map};
-ghost use Rattle.rhai_check.specs.Around.{around};
+ghost use Rattle.rhai_check.specs.Around.{around, Continues};
 ghost use Rattle.rhai_tree.specs.Forms.{any_of};
 ghost use Rattle.rhai_check.specs.Declares.{in_option, needs_of, declares_stmt, declares_block};
 ghost use Rattle.rhai_check.specs.Declares.{declares_catch, declares_conditional};
 ghost use Rattle.rhai_tree.specs.Frame.{tests_of, resolves_stmt, resolves_block, all_resolve};
 ghost use Rattle.rhai_tree.specs.Frame.{option_resolves, var_resolves, var_names, turns_resolve};
 ghost use Rattle.rhai_tree.specs.Frame.{catch_resolves, resolves_conditional, conditionals_resolve};
-ghost use Rattle.rhai_tree.specs.Names.{Name, Begins};
+ghost use Rattle.rhai_tree.specs.Names.{Name};
 ghost use Rattle.rhai_tree.specs.Reading.{Seen, faulty, sound};
 ghost use Rattle.rhai_check.specs.Refusals.{Refuses};
 ghost use Rattle.rhai_tree.specs.WellFormed.{seen_expr, seen_stmt, seen_block, faults_in_list};
@@ -18,53 +18,53 @@ ghost use Rattle.rhai_tree.specs.WellFormed.{catch_faults, seen_conditional, fau
 
 use crate::check::CheckFault;
 use crate::check::cases::is_switch;
+use crate::check::declared::Declared;
 use crate::check::expr::{check_call, check_expr, check_option, check_target};
-use crate::check::names::{check_shared, declare_catch, declare_turn, declare_var, is_good};
+use crate::check::names::{check_shared, is_good};
 use crate::check::place::Place;
 use bitflags::Flags;
 use rhai_tree::expr::{ConditionalExpr, Expr, Ident, Stmt, StmtBlock};
 use rhai_tree::flags::ASTFlags;
 use rhai_tree::position::Position;
-use rhai_tree::{Items, Shared, Text};
 use std::num::NonZeroUsize;
 
-/// Passes a block, or answers one of its faults. The names that it declares end with it.
+/// Passes a block, or answers one of its faults. What it declares and imports ends with it.
 #[cycle(check)]
 pub(crate) fn check_block(
-    names: &mut Items<Shared<Text>>,
+    declared: &mut Declared,
     place: Place,
     block: &StmtBlock,
 ) -> Result<(), CheckFault>
-    ensures same { OnOk result (names.new ≡ names.old) }
-    ensures exact { OnOk result ((seen_block block.now).value (around names.old place) ≡ []) }
+    ensures same { OnOk result (declared.new ≡ declared.old) }
+    ensures exact { OnOk result ((seen_block block.now).value (around declared.old place) ≡ []) }
     ensures resolved { OnOk result ((base : List Name) → IsTrue
-        (resolves_block block.now (base ++ names.old))) }
-    ensures refused { IfErr result (λ fault. Refuses ((seen_block block.now).value (around names.old place))
-        (declares_block block.now) fault) }
+        (resolves_block block.now (base ++ declared.old.names))) }
+    ensures refused { IfErr result (λ fault.
+        Refuses ((seen_block block.now).value (around declared.old place)) (declares_block block.now) fault) }
 {
-    let start = names.len();
-    check_statements(names, place.inside(), block.statements.as_slice())?;
-    names.truncate(start);
+    let start = declared.mark();
+    check_statements(declared, place.inside(), block.statements.as_slice())?;
+    declared.truncate(start);
     Ok(())
 }
 
 /// Passes a list of statements, or answers one of their faults.
 #[cycle(check)]
 pub(crate) fn check_statements(
-    names: &mut Items<Shared<Text>>,
+    declared: &mut Declared,
     place: Place,
     statements: &[Stmt],
 ) -> Result<(), CheckFault>
-    ensures begins { OnOk result (Begins names.old names.new) }
-    ensures exact { OnOk result (faults_in_list (map seen_stmt statements.now) (around names.old place)
-        ≡ ([], around names.new place)) }
+    ensures begins { OnOk result (Continues declared.old declared.new) }
+    ensures exact { OnOk result (faults_in_list (map seen_stmt statements.now) (around declared.old place)
+        ≡ ([], around declared.new place)) }
     ensures resolved { OnOk result ((base : List Name) → all_resolve (map resolves_stmt statements.now)
-        (base ++ names.old) ≡ (true, base ++ names.new)) }
+        (base ++ declared.old.names) ≡ (true, base ++ declared.new.names)) }
     ensures refused { IfErr result (λ fault. Refuses (faults_in_list (map seen_stmt statements.now)
-        (around names.old place)).0 (any_of (map declares_stmt statements.now)) fault) }
+        (around declared.old place)).0 (any_of (map declares_stmt statements.now)) fault) }
 {
     'each: for statement in statements {
-        check_stmt(names, place, statement)?;
+        check_stmt(declared, place, statement)?;
     }
     Ok(())
 }
@@ -72,7 +72,7 @@ pub(crate) fn check_statements(
 /// Passes a `let` or a `const` but for its value, or answers its fault: one that is exported stands in
 /// the tree's top list, and an index is the offset of the newest variable of its name.
 fn check_declaration(
-    names: &[Shared<Text>],
+    declared: &Declared,
     place: Place,
     index: Option<NonZeroUsize>,
     ident: &Ident,
@@ -80,16 +80,17 @@ fn check_declaration(
     pos: Position,
 ) -> Result<(), CheckFault>
     ensures exact { OnOk result ((value : Seen faulty) →
-        var_faults index ident.now value options pos (around names.now place)
-        ≡ value.value (around names.now place)) }
+        var_faults index ident.now value options pos (around declared.now place)
+        ≡ value.value (around declared.now place)) }
     ensures resolved { OnOk result ((base : List Name) → (value : Seen sound) →
-        var_resolves index ident.now value options pos (base ++ names.now) ≡ value.value (base ++ names.now)) }
+        var_resolves index ident.now value options pos (base ++ declared.now.names)
+        ≡ value.value (base ++ declared.now.names)) }
     ensures refused { IfErr result (λ fault. (value : Seen faulty) → Refuses
-        (var_faults index ident.now value options pos (around names.now place)) false fault) }
+        (var_faults index ident.now value options pos (around declared.now place)) false fault) }
 {
     if options.contains(ASTFlags::EXPORTED) && !place.in_top {
         Err(CheckFault::ExportNotGlobal(pos))
-    } else if is_good(names, index, ident.name.get()) {
+    } else if is_good(declared.names.as_slice(), index, ident.name.get()) {
         Ok(())
     } else {
         Err(CheckFault::BadOffset(ident.pos))
@@ -100,7 +101,7 @@ fn check_declaration(
 /// says which variable it overwrites.
 #[cycle(check)]
 fn check_var(
-    names: &mut Items<Shared<Text>>,
+    declared: &mut Declared,
     place: Place,
     index: Option<NonZeroUsize>,
     ident: &Ident,
@@ -108,78 +109,80 @@ fn check_var(
     options: ASTFlags,
     pos: Position,
 ) -> Result<(), CheckFault>
-    ensures declared { OnOk result (names.new ≡ var_names index ident.now.name names.old) }
+    ensures added { OnOk result (declared.new ≡ record declared.old {
+      names = var_names index ident.now.name declared.old.names;
+    }) }
     ensures exact { OnOk result (var_faults index ident.now (seen_expr expr.now) options pos
-        (around names.old place) ≡ []) }
+        (around declared.old place) ≡ []) }
     ensures resolved { OnOk result ((base : List Name) → IsTrue
-        (var_resolves index ident.now (tests_of expr.now) options pos (base ++ names.old))) }
+        (var_resolves index ident.now (tests_of expr.now) options pos (base ++ declared.old.names))) }
     ensures refused { IfErr result (λ fault. Refuses (var_faults index ident.now (seen_expr expr.now)
-        options pos (around names.old place)) true fault) }
+        options pos (around declared.old place)) true fault) }
 {
-    check_declaration(names.as_slice(), place, index, ident, options, pos)?;
-    check_expr(names, place, expr)?;
-    declare_var(names, index, &ident.name)
+    check_declaration(declared, place, index, ident, options, pos)?;
+    check_expr(declared, place, expr)?;
+    declared.declare_var(index, &ident.name)
 }
 
 /// Passes a `break` or a `continue` with its value, or answers its fault.
 #[cycle(check)]
 fn check_control(
-    names: &mut Items<Shared<Text>>,
+    declared: &mut Declared,
     place: Place,
     expr: &Option<Expr>,
     pos: Position,
 ) -> Result<(), CheckFault>
-    ensures same { OnOk result (names.new ≡ names.old) }
-    ensures exact { OnOk result (control_faults pos (around names.old place)
-        ++ faults_in_option (option_map seen_expr expr.now) (around names.old place) ≡ []) }
+    ensures same { OnOk result (declared.new ≡ declared.old) }
+    ensures exact { OnOk result (control_faults pos (around declared.old place)
+        ++ faults_in_option (option_map seen_expr expr.now) (around declared.old place) ≡ []) }
     ensures resolved { OnOk result ((base : List Name) → IsTrue
-        (option_resolves (option_map tests_of expr.now) (base ++ names.old))) }
-    ensures refused { IfErr result (λ fault. Refuses (control_faults pos (around names.old place)
-        ++ faults_in_option (option_map seen_expr expr.now) (around names.old place))
+        (option_resolves (option_map tests_of expr.now) (base ++ declared.old.names))) }
+    ensures refused { IfErr result (λ fault. Refuses (control_faults pos (around declared.old place)
+        ++ faults_in_option (option_map seen_expr expr.now) (around declared.old place))
         (in_option (option_map needs_of expr.now)) fault) }
 {
     if !place.in_loop {
         return Err(CheckFault::LoopControlOutside(pos));
     }
-    check_option(names, place, expr)
+    check_option(declared, place, expr)
 }
 
 /// Passes a condition of a `switch` and its result, or answers one of their faults.
 #[cycle(check)]
 fn check_conditional(
-    names: &mut Items<Shared<Text>>,
+    declared: &mut Declared,
     place: Place,
     conditional: &ConditionalExpr,
 ) -> Result<(), CheckFault>
-    ensures same { OnOk result (names.new ≡ names.old) }
-    ensures exact { OnOk result (seen_conditional conditional.now (around names.old place) ≡ []) }
+    ensures same { OnOk result (declared.new ≡ declared.old) }
+    ensures exact { OnOk result (seen_conditional conditional.now (around declared.old place) ≡ []) }
     ensures resolved { OnOk result ((base : List Name) → IsTrue
-        (resolves_conditional conditional.now (base ++ names.old))) }
+        (resolves_conditional conditional.now (base ++ declared.old.names))) }
     ensures refused { IfErr result (λ fault. Refuses (seen_conditional conditional.now
-        (around names.old place)) (declares_conditional conditional.now) fault) }
+        (around declared.old place)) (declares_conditional conditional.now) fault) }
 {
-    check_expr(names, place, &conditional.condition)?;
-    check_expr(names, place, &conditional.expr)
+    check_expr(declared, place, &conditional.condition)?;
+    check_expr(declared, place, &conditional.expr)
 }
 
 /// Passes the conditions and results of a `switch`, or answers one of their faults.
 #[cycle(check)]
 fn check_conditionals(
-    names: &mut Items<Shared<Text>>,
+    declared: &mut Declared,
     place: Place,
     conditionals: &[ConditionalExpr],
 ) -> Result<(), CheckFault>
-    ensures same { OnOk result (names.new ≡ names.old) }
+    ensures same { OnOk result (declared.new ≡ declared.old) }
     ensures exact { OnOk result (faults_in_conditionals (map seen_conditional conditionals.now)
-        (around names.old place) ≡ []) }
+        (around declared.old place) ≡ []) }
     ensures resolved { OnOk result ((base : List Name) → IsTrue
-        (conditionals_resolve (map resolves_conditional conditionals.now) (base ++ names.old))) }
+        (conditionals_resolve (map resolves_conditional conditionals.now) (base ++ declared.old.names))) }
     ensures refused { IfErr result (λ fault. Refuses (faults_in_conditionals
-        (map seen_conditional conditionals.now) (around names.old place))
+        (map seen_conditional conditionals.now) (around declared.old place))
         (any_of (map declares_conditional conditionals.now)) fault) }
 {
     'each: for conditional in conditionals {
-        check_conditional(names, place, conditional)?;
+        check_conditional(declared, place, conditional)?;
     }
     Ok(())
 }
@@ -188,24 +191,24 @@ fn check_conditionals(
 /// These names end with it.
 #[cycle(check)]
 fn check_turns(
-    names: &mut Items<Shared<Text>>,
+    declared: &mut Declared,
     place: Place,
     variable: &Ident,
     counter: &Option<Ident>,
     body: &StmtBlock,
 ) -> Result<(), CheckFault>
-    ensures same { OnOk result (names.new ≡ names.old) }
-    ensures exact { OnOk result (turn_faults variable.now counter.now body.now (around names.old place)
+    ensures same { OnOk result (declared.new ≡ declared.old) }
+    ensures exact { OnOk result (turn_faults variable.now counter.now body.now (around declared.old place)
         ≡ []) }
     ensures resolved { OnOk result ((base : List Name) → IsTrue
-        (turns_resolve variable.now counter.now body.now (base ++ names.old))) }
+        (turns_resolve variable.now counter.now body.now (base ++ declared.old.names))) }
     ensures refused { IfErr result (λ fault. Refuses (turn_faults variable.now counter.now body.now
-        (around names.old place)) true fault) }
+        (around declared.old place)) true fault) }
 {
-    let start = names.len();
-    declare_turn(names, variable, counter)?;
-    check_block(names, place.looping(), body)?;
-    names.truncate(start);
+    let start = declared.mark();
+    declared.declare_turn(variable, counter)?;
+    check_block(declared, place.looping(), body)?;
+    declared.truncate(start);
     Ok(())
 }
 
@@ -213,62 +216,63 @@ fn check_turns(
 /// variable's name ends with the branch.
 #[cycle(check)]
 fn check_branch(
-    names: &mut Items<Shared<Text>>,
+    declared: &mut Declared,
     place: Place,
     branch: &StmtBlock,
     variable: &Expr,
 ) -> Result<(), CheckFault>
-    ensures same { OnOk result (names.new ≡ names.old) }
-    ensures exact { OnOk result (catch_faults variable.now branch.now (around names.old place) ≡ []) }
+    ensures same { OnOk result (declared.new ≡ declared.old) }
+    ensures exact { OnOk result (catch_faults variable.now branch.now (around declared.old place) ≡ []) }
     ensures resolved { OnOk result ((base : List Name) → IsTrue
-        (catch_resolves variable.now branch.now (base ++ names.old))) }
+        (catch_resolves variable.now branch.now (base ++ declared.old.names))) }
     ensures refused { IfErr result (λ fault. Refuses (catch_faults variable.now branch.now
-        (around names.old place)) (declares_catch variable.now branch.now) fault) }
+        (around declared.old place)) (declares_catch variable.now branch.now) fault) }
 {
-    let start = names.len();
-    declare_catch(names, variable)?;
-    check_block(names, place, branch)?;
-    names.truncate(start);
+    let start = declared.mark();
+    declared.declare_catch(variable)?;
+    check_block(declared, place, branch)?;
+    declared.truncate(start);
     Ok(())
 }
 
 /// Passes a statement, or answers one of its faults.
 #[cycle(check)]
-fn check_stmt(names: &mut Items<Shared<Text>>, place: Place, stmt: &Stmt) -> Result<(), CheckFault>
-    ensures begins { OnOk result (Begins names.old names.new) }
-    ensures exact { OnOk result (seen_stmt stmt.now (around names.old place) ≡ ([], around names.new place)) }
-    ensures resolved { OnOk result ((base : List Name) → resolves_stmt stmt.now (base ++ names.old)
-        ≡ (true, base ++ names.new)) }
-    ensures refused { IfErr result (λ fault. Refuses (seen_stmt stmt.now (around names.old place)).0
+fn check_stmt(declared: &mut Declared, place: Place, stmt: &Stmt) -> Result<(), CheckFault>
+    ensures begins { OnOk result (Continues declared.old declared.new) }
+    ensures exact { OnOk result
+        (seen_stmt stmt.now (around declared.old place) ≡ ([], around declared.new place)) }
+    ensures resolved { OnOk result ((base : List Name) → resolves_stmt stmt.now (base ++ declared.old.names)
+        ≡ (true, base ++ declared.new.names)) }
+    ensures refused { IfErr result (λ fault. Refuses (seen_stmt stmt.now (around declared.old place)).0
         (declares_stmt stmt.now) fault) }
 {
     match stmt {
         Stmt::Noop(_) => Ok(()),
-        Stmt::Expr(expr) => check_expr(names, place, expr),
-        Stmt::FnCall(call, pos) => check_call(names, place, call, *pos),
-        Stmt::Block(block) => check_block(names, place, block),
+        Stmt::Expr(expr) => check_expr(declared, place, expr),
+        Stmt::FnCall(call, pos) => check_call(declared, place, call, *pos),
+        Stmt::Block(block) => check_block(declared, place, block),
         Stmt::Var(ident, expr, index, options, pos) => {
-            check_var(names, place, *index, ident, expr, *options, *pos)
+            check_var(declared, place, *index, ident, expr, *options, *pos)
         }
         Stmt::If(expr, body, branch, _) => {
-            check_expr(names, place, expr)?;
-            check_block(names, place, body)?;
-            check_block(names, place, branch)
+            check_expr(declared, place, expr)?;
+            check_block(declared, place, body)?;
+            check_block(declared, place, branch)
         }
         Stmt::Assignment(_, lhs, rhs) => {
-            check_target(names, place, lhs)?;
-            check_expr(names, place, rhs)
+            check_target(declared, place, lhs)?;
+            check_expr(declared, place, rhs)
         }
         Stmt::While(expr, body, _) => {
-            check_expr(names, place, expr)?;
-            check_block(names, place.looping(), body)
+            check_expr(declared, place, expr)?;
+            check_block(declared, place.looping(), body)
         }
         Stmt::Do(expr, body, _, _) => {
-            check_expr(names, place, expr)?;
-            check_block(names, place.looping(), body)
+            check_expr(declared, place, expr)?;
+            check_block(declared, place.looping(), body)
         }
-        Stmt::BreakLoop(expr, _, pos) => check_control(names, place, expr, *pos),
-        Stmt::Return(expr, _, _) => check_option(names, place, expr),
+        Stmt::BreakLoop(expr, _, pos) => check_control(declared, place, expr, *pos),
+        Stmt::Return(expr, _, _) => check_option(declared, place, expr),
         Stmt::Switch {
             expr,
             expressions,
@@ -281,8 +285,8 @@ fn check_stmt(names: &mut Items<Shared<Text>>, place: Place, stmt: &Stmt) -> Res
             if !is_switch(count, cases.as_slice(), ranges.as_slice(), *def_case) {
                 return Err(CheckFault::BadSwitch(*pos));
             }
-            check_expr(names, place, expr)?;
-            check_conditionals(names, place, expressions.as_slice())
+            check_expr(declared, place, expr)?;
+            check_conditionals(declared, place, expressions.as_slice())
         }
         Stmt::For {
             name,
@@ -291,15 +295,18 @@ fn check_stmt(names: &mut Items<Shared<Text>>, place: Place, stmt: &Stmt) -> Res
             body,
             ..
         } => {
-            check_expr(names, place, expr)?;
-            check_turns(names, place, name, counter, body)
+            check_expr(declared, place, expr)?;
+            check_turns(declared, place, name, counter, body)
         }
         Stmt::TryCatch(body, variable, branch, _) => {
-            check_block(names, place, body)?;
-            check_branch(names, place, branch, variable)
+            check_block(declared, place, body)?;
+            check_branch(declared, place, branch, variable)
         }
-        Stmt::Share(variables) => check_shared(names.as_slice(), variables.as_slice()),
+        Stmt::Share(variables) => check_shared(declared.names.as_slice(), variables.as_slice()),
         Stmt::Export(_, _, _) => Ok(()),
-        Stmt::Import(path, _, _) => check_expr(names, place, path),
+        Stmt::Import(path, alias, _) => {
+            check_expr(declared, place, path)?;
+            declared.import(alias)
+        }
     }
 }

@@ -12,7 +12,6 @@ ghost use Rattle.rhai_chains.specs.Chains.{new_of};
 ghost use Rattle.rhai_eval.specs.Chains.{assigned_in, chain_type, whole_chain};
 ghost use Rattle.rhai_eval.specs.Chains.{AssignsAlong, AssignsNoHandle, ChainResolves};
 ghost use Rattle.rhai_eval.specs.Ends.{EndsAs};
-ghost use Rattle.rhai_eval.specs.Plain.{Plain};
 ghost use Rattle.rhai_eval.specs.States.{under};
 
 use crate::engine::Engine;
@@ -76,8 +75,7 @@ impl<H: Host> Engine<H> {
     ///
     /// The chain is a part of a checked tree, above the variables that the scope has there: an expression,
     /// or with a value to assign the left side of an assignment. `this` is taken out of its place meanwhile,
-    /// and put back on every way out. Asked besides: a value to assign is no handle of a cell; no global
-    /// modules, whose constants the machine has no rule of yet (`Plain`).
+    /// and put back on every way out. Asked besides: a value to assign is no handle of a cell.
     ///
     /// # Errors
     /// Those of what the links ask for, and of the root: at a variable `ErrorVariableNotFound`, and
@@ -101,7 +99,6 @@ impl<H: Host> Engine<H> {
         requires chain { is_some (first_in (out-Expr expr.now)) ≡ true }
         requires resolves { ChainResolves (is_some new_val) expr.now (names_in scope.old) }
         requires value { AssignsNoHandle new_val }
-        requires plain { Plain self.now global.old }
         ensures ends { EndsAs (under H.name_of self.now T.natives)
             (whole_chain expr.now (assigned_in new_val.entry))
             (state_of (T.state table.old) global.old scope.old (holding (was this.entry))) result

@@ -3,24 +3,25 @@
 ghost use Rattle.std.specs.Prelude.{◌≡◌, length, IfOk, IfErr, IsTrue, true, false, Some, Ok, Err};
 ghost use Rattle.rhai_tree.specs.Frame.{resolves_expr};
 ghost use Rattle.rhai_tree.specs.declared.expr.Expr.{out-Expr};
-ghost use Rattle.rhai_values.specs.Cells.{cells_of};
 ghost use Rattle.rhai_state.specs.Errors.{is_out_of_memory};
 ghost use Rattle.rhai_state.specs.Native.{left_by, was};
-ghost use Rattle.rhai_state.specs.Scope.{entries_of, names_in, Fits};
+ghost use Rattle.std.specs.Option.{option_copied};
+ghost use Rattle.rhai_state.specs.Scope.{entries_of, in_use, names_in, Fits};
 ghost use Rattle.rhai_machine.specs.language.Frames.{Eval};
+ghost use Rattle.rhai_machine.specs.language.Setting.{globals_of};
 ghost use Rattle.rhai_steps.specs.Offsets.{offset_in, place_at};
-ghost use Rattle.rhai_steps.specs.States.{holding, state_of};
+ghost use Rattle.rhai_steps.specs.States.{holding, state_of, surroundings_of};
 ghost use Rattle.rhai_laws.specs.Kept.{Kept};
 ghost use Rattle.rhai_eval.specs.Ends.{EndsAs};
-ghost use Rattle.rhai_eval.specs.Plain.{Plain};
-ghost use Rattle.rhai_eval.specs.Search.{is_variable, searched};
-ghost use Rattle.rhai_eval.specs.States.{under};
+ghost use Rattle.rhai_eval.specs.Search.{found_behind, is_variable, names_variable, root_searched, searched};
+ghost use Rattle.rhai_eval.specs.States.{offer_of, under};
 
 use crate::engine::Engine;
-use crate::eval::search::{function_named, seen_variable, variable_mut};
+use crate::eval::search::{is_behind_path, seen_variable, value_named, variable_mut};
 use crate::this::{give_back_with, take_with};
 use rhai_context::ends::finish;
 use rhai_context::{give_back, take};
+use rhai_functions::paths::find_root;
 use rhai_places::target::{Part, Target};
 use rhai_state::caches::Caches;
 use rhai_state::error::EvalAltResult;
@@ -28,8 +29,8 @@ use rhai_state::scope::Scope;
 use rhai_state::state::GlobalRuntimeState;
 use rhai_state::table::NativeTable;
 use rhai_steps::variables::scope_index;
-use rhai_tree::expr::Expr;
-use rhai_values::base::value::{Dynamic, Host};
+use rhai_tree::expr::{Expr, Namespace};
+use rhai_values::base::value::{Dynamic, Host, Module};
 use std::alloc::Global;
 
 impl<H: Host> Engine<H> {
@@ -50,9 +51,10 @@ impl<H: Host> Engine<H> {
 
     /// The place of the variable that an expression names: where it has an offset and variables are not
     /// searched for, the entry there, whatever its name, and else the newest entry of the name. A name that
-    /// no variable has means the first function of the libraries that has it: a temporary pointer, beside a
-    /// place of the scope that holds nothing (`Scope::spare_mut`). Ports upstream's `search_scope_only`; asked
-    /// for a variable alone, whose offset is at most the length.
+    /// no entry has means a constant of the engine's global modules, of which a copy is found, or else the first
+    /// function of the libraries that has it: a temporary, beside a place of the scope that holds nothing
+    /// (`Scope::spare_mut`). Ports upstream's `search_scope_only`; asked for a variable without a path alone,
+    /// whose offset is at most the length.
     ///
     /// The place of a variable is the value that `crate::eval::search::variable_mut` lends, whose clause
     /// `writes_back` tells what becomes of the scope: behind the engine no clause here repeats it.
@@ -74,11 +76,11 @@ impl<H: Host> Engine<H> {
         requires fits { Fits (offset_in global.old.always_search_scope (out-Expr expr.now))
             (length (entries_of scope.old)) }
         ensures found { IfOk result (λ target.
-            searched global.old.always_search_scope (out-Expr expr.now) (cells_of global.old.cells)
-            global.old.lib (entries_of scope.old) ≡ Some (Ok (target.at.now, target.part))) }
+            searched global.old.always_search_scope (out-Expr expr.now) (globals_of (offer_of self.now))
+            (surroundings_of global.old) (entries_of scope.old) ≡ Some (Ok (target.at.now, target.part))) }
         ensures missed { IfErr result (λ e. is_out_of_memory e ≡ false →
-            searched global.old.always_search_scope (out-Expr expr.now) (cells_of global.old.cells)
-            global.old.lib (entries_of scope.old) ≡ Some (Err e)) }
+            searched global.old.always_search_scope (out-Expr expr.now) (globals_of (offer_of self.now))
+            (surroundings_of global.old) (entries_of scope.old) ≡ Some (Err e)) }
         ensures same { global.new ≡ global.old }
         ensures caches { _caches.new ≡ _caches.old }
         ensures table { T.state _table.new ≡ T.state _table.old }
@@ -91,18 +93,81 @@ impl<H: Host> Engine<H> {
                 part: Part::Whole,
             });
         }
-        let pointer = function_named(alloc, global, expr)?;
+        let value = value_named(alloc, &self.offered(), global, expr)?;
         Ok(Target {
             at: scope.spare_mut(),
-            part: Part::Temporary(pointer),
+            part: Part::Temporary(value),
         })
+    }
+
+    /// The place of a variable, behind a path or not. Without a path it is found as `search_scope_only` says; behind one it
+    /// means a constant of the module that the path leads to, of which a copy is found that may not be written: a
+    /// temporary, beside a place of the scope that holds nothing. Ports upstream's `search_namespace`; asked for a variable
+    /// alone, whose offset is at most the length.
+    ///
+    /// # Errors
+    /// Those of `search_scope_only`. At the path: `ErrorModuleNotFound` where nothing has its first name, and
+    /// `ErrorVariableNotFound` where there is no such constant.
+    pub fn search_namespace<'s, T: NativeTable<H>>(
+        &self,
+        alloc: Global,
+        global: &mut GlobalRuntimeState<H>,
+        caches: &mut Caches<H>,
+        table: &mut T,
+        scope: &'s mut Scope<H>,
+        this: Option<&'s mut Dynamic<H>>,
+        expr: &Expr,
+    ) -> Result<Target<'s, H>, EvalAltResult<H>>
+        requires variable { names_variable (out-Expr expr.now) ≡ true }
+        requires fits { Fits (offset_in global.old.always_search_scope (out-Expr expr.now))
+            (length (entries_of scope.old)) }
+        ensures found { IfOk result (λ target.
+            found_behind global.old.always_search_scope (out-Expr expr.now) (globals_of (offer_of self.now))
+            (surroundings_of global.old) (entries_of scope.old) ≡ Some (Ok (target.at.now, target.part))) }
+        ensures missed { IfErr result (λ e. is_out_of_memory e ≡ false →
+            found_behind global.old.always_search_scope (out-Expr expr.now) (globals_of (offer_of self.now))
+            (surroundings_of global.old) (entries_of scope.old) ≡ Some (Err e)) }
+        ensures same { global.new ≡ global.old }
+        ensures caches { caches.new ≡ caches.old }
+        ensures table { T.state table.new ≡ T.state table.old }
+    {
+        if is_behind_path(expr) {
+            let value = value_named(alloc, &self.offered(), global, expr)?;
+            return Ok(Target {
+                at: scope.spare_mut(),
+                part: Part::Temporary(value),
+            });
+        }
+        self.search_scope_only(alloc, global, caches, table, scope, this, expr)
+    }
+
+    /// The module at the root of a path: where the path has an offset and variables are not searched for, that of the
+    /// import there, whatever its name; and else that of the newest import of the name, or the engine's module of that name.
+    /// It takes no memory. Ports upstream's `search_imports`; asked for a path that is not empty, whose offset is at most
+    /// the number of imports.
+    pub fn search_imports<'m>(
+        &'m self,
+        global: &'m GlobalRuntimeState<H>,
+        namespace: &Namespace,
+    ) -> Option<&'m Module<H>>
+        requires fits { Fits (in_use global.now.always_search_scope namespace.now.index)
+            (length global.now.imports) }
+        ensures { option_copied result ≡ root_searched
+            (in_use global.now.always_search_scope namespace.now.index) namespace.now.path global.now.imports
+            self.now.global_sub_modules }
+    {
+        let imports = global.imports.as_slice();
+        if let Some(offset) = global.offset_in_use(namespace.index) {
+            return Some(imports[imports.len() - offset.get()].module.get());
+        }
+        let root = namespace.path.as_slice().first()?;
+        find_root(imports, &self.global_sub_modules, root.get().as_str())
     }
 
     /// The value of an expression, charged first at its position. Ports upstream's `eval_expr`.
     ///
     /// The expression is a part of a checked tree, above the variables that the scope has there.
-    /// `this` is taken out of its place meanwhile, and put back on every way out. Asked besides: no global
-    /// modules, whose constants the machine has no rule of yet (`Plain`).
+    /// `this` is taken out of its place meanwhile, and put back on every way out.
     pub fn eval_expr<T: NativeTable<H>>(
         &self,
         alloc: Global,
@@ -114,7 +179,6 @@ impl<H: Host> Engine<H> {
         expr: &Expr,
     ) -> Result<Dynamic<H>, EvalAltResult<H>>
         requires resolves { IsTrue (resolves_expr expr.now (names_in scope.old)) }
-        requires plain { Plain self.now global.old }
         ensures ends { EndsAs (under H.name_of self.now T.natives) (Eval expr.now)
             (state_of (T.state table.old) global.old scope.old (holding (was this.entry))) result
             (state_of (T.state table.new) global.new scope.new (holding (left_by this.exit))) }

@@ -10,7 +10,6 @@ ghost use Rattle.rhai_machine.specs.language.Script.{end_of_script};
 ghost use Rattle.rhai_steps.specs.States.{holding, state_of};
 ghost use Rattle.rhai_laws.specs.Kept.{Grown};
 ghost use Rattle.rhai_cycle.specs.Memory.{may_ask};
-ghost use Rattle.rhai_eval.specs.Plain.{Plain};
 ghost use Rattle.rhai_eval.specs.States.{under};
 
 use crate::engine::Engine;
@@ -34,8 +33,7 @@ impl<H: Host> Engine<H> {
     /// operations, or with `ErrorOutOfMemory`: then the run is the machine's own up to where memory
     /// ran out, and unwinds from there.
     ///
-    /// The tree's functions are found where the caller put them into a library of the state. Asked: no global
-    /// modules, whose constants the machine has no rule of yet (`Plain`).
+    /// The tree's functions are found where the caller put them into a library of the state.
     pub fn eval_global_statements<T: NativeTable<H>>(
         &self,
         alloc: Global,
@@ -46,7 +44,6 @@ impl<H: Host> Engine<H> {
         tree: &CheckedTree,
         map_exit_to_return_value: bool,
     ) -> Result<Dynamic<H>, EvalAltResult<H>>
-        requires plain { Plain self.now global.old }
         ensures ends { EndsAsMachine (under H.name_of self.now T.natives) tree.now.0 map_exit_to_return_value
             (state_of (T.state table.old) global.old scope.old (holding None)) result
             (state_of (T.state table.new) global.new scope.new (holding None)) }

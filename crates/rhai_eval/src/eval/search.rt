@@ -1,6 +1,6 @@
 //! The place of a variable in a scope. The contracts cite specs/Search.antt and specs/Lends.antt.
 
-ghost use Rattle.std.specs.Prelude.{◌≡◌, Some, Ok, Err, IfOk, IfErr, length, true, false};
+ghost use Rattle.std.specs.Prelude.{◌≡◌, Some, Ok, Err, IfOk, IfErr, IsTrue, length, true, false};
 ghost use Rattle.std.specs.Borrow.{sem};
 ghost use Rattle.std.specs.Option.{option_copied};
 ghost use Rattle.rhai_tree.specs.declared.expr.Expr.{out-Expr};
@@ -8,14 +8,17 @@ ghost use Rattle.rhai_values.specs.Cells.{cells_of};
 ghost use Rattle.rhai_state.specs.Errors.{is_out_of_memory};
 ghost use Rattle.rhai_state.specs.Scope.{entries_of, Fits};
 ghost use Rattle.rhai_steps.specs.Lends.{lends_variable};
+ghost use Rattle.rhai_steps.specs.Offers.{globals_in};
 ghost use Rattle.rhai_steps.specs.Offsets.{offset_in};
+ghost use Rattle.rhai_steps.specs.States.{surroundings_of};
 ghost use Rattle.rhai_eval.specs.Lends.{with_variable};
-ghost use Rattle.rhai_eval.specs.Search.{is_variable, value_there, variable_searched, IsNamedBy};
+ghost use Rattle.rhai_eval.specs.Search.{is_variable, names_variable, value_there, variable_searched, IsBeside};
 
+use rhai_functions::function::Offered;
 use rhai_state::error::EvalAltResult;
 use rhai_state::scope::Scope;
 use rhai_state::state::GlobalRuntimeState;
-use rhai_steps::variables::{find_variable, read_function};
+use rhai_steps::variables::{find_variable, is_plain, read_beside};
 use rhai_tree::expr::Expr;
 use rhai_values::base::value::{Dynamic, Host};
 use std::alloc::Global;
@@ -86,22 +89,38 @@ pub(crate) fn seen_variable<'s, H: Host>(
     }
 }
 
-/// What a name means that no variable has: a pointer to the first function of the libraries that has it.
+/// Whether an expression is a variable behind a path.
+pub(crate) fn is_behind_path(expr: &Expr) -> bool
+    ensures behind { IsTrue result → is_variable (out-Expr expr.now) ≡ false }
+    ensures alone { result ≡ false → names_variable (out-Expr expr.now) ≡ true →
+        is_variable (out-Expr expr.now) ≡ true }
+{
+    match expr {
+        Expr::Variable { namespace, .. } => !is_plain(namespace),
+        _ => false,
+    }
+}
+
+/// What a name means that no variable of the scope has, as `rhai_steps::variables::read_beside` reads it.
 ///
 /// # Errors
-/// `ErrorVariableNotFound` at the variable where there is none.
-pub(crate) fn function_named<H: Host>(
+/// `ErrorVariableNotFound` at the variable where there is no such thing.
+pub(crate) fn value_named<H: Host>(
     alloc: Global,
+    offered: &Offered<'_, H>,
     global: &GlobalRuntimeState<H>,
     expr: &Expr,
 ) -> Result<Dynamic<H>, EvalAltResult<H>>
-    requires variable { is_variable (out-Expr expr.now) ≡ true }
-    ensures { IsNamedBy (cells_of global.now.cells) global.now.lib (out-Expr expr.now) result }
+    requires variable { names_variable (out-Expr expr.now) ≡ true }
+    ensures { IsBeside (globals_in offered.now) (surroundings_of global.now) (out-Expr expr.now) result }
 {
     match expr {
-        Expr::Variable { name, pos, .. } => {
-            read_function(alloc, global.lib.as_slice(), name, *pos)
-        }
+        Expr::Variable {
+            name,
+            namespace,
+            pos,
+            ..
+        } => read_beside(alloc, offered, global, name, namespace, *pos),
         _ => unreachable!(),
     }
 }

@@ -20,7 +20,6 @@ ghost use Rattle.rhai_chains.specs.Chains.{FollowsFrom};
 ghost use Rattle.rhai_eval.specs.Assigned.{assigned, target_assigned, value_assigned, without_value};
 ghost use Rattle.rhai_eval.specs.Ends.{EndsAlone, EndsAs, EndsAssigned};
 ghost use Rattle.rhai_eval.specs.Places.{with_place};
-ghost use Rattle.rhai_eval.specs.Plain.{Plain};
 ghost use Rattle.rhai_eval.specs.States.{under};
 
 use crate::engine::Engine;
@@ -211,8 +210,7 @@ impl<H: Host> Engine<H> {
     /// is set. Ports upstream's `eval_stmt`.
     ///
     /// The statement is a part of a checked tree, above the variables that the scope has there.
-    /// `this` is taken out of its place meanwhile, and put back on every way out. Asked besides: no global
-    /// modules, whose constants the machine has no rule of yet (`Plain`).
+    /// `this` is taken out of its place meanwhile, and put back on every way out.
     pub fn eval_stmt<T: NativeTable<H>>(
         &self,
         alloc: Global,
@@ -225,7 +223,6 @@ impl<H: Host> Engine<H> {
         rewind_scope: bool,
     ) -> Result<Dynamic<H>, EvalAltResult<H>>
         requires resolves { IsTrue (resolves_stmt stmt.now (names_in scope.old)).0 }
-        requires plain { Plain self.now global.old }
         ensures ends { EndsAs (under H.name_of self.now T.natives) (Exec stmt.now rewind_scope)
             (state_of (T.state table.old) global.old scope.old (holding (was this.entry))) result
             (state_of (T.state table.new) global.new scope.new (holding (left_by this.exit))) }
@@ -266,8 +263,7 @@ impl<H: Host> Engine<H> {
     /// of memory included. Ports upstream's `eval_stmt_block`.
     ///
     /// The statements are a part of a checked tree, above the variables that the scope has there.
-    /// `this` is taken out of its place meanwhile, and put back on every way out. Asked besides: no global
-    /// modules, whose constants the machine has no rule of yet (`Plain`).
+    /// `this` is taken out of its place meanwhile, and put back on every way out.
     pub fn eval_stmt_block<T: NativeTable<H>>(
         &self,
         alloc: Global,
@@ -280,7 +276,6 @@ impl<H: Host> Engine<H> {
         restore_orig_state: bool,
     ) -> Result<Dynamic<H>, EvalAltResult<H>>
         requires resolves { IsTrue (all_resolve (map resolves_stmt statements.now) (names_in scope.old)).0 }
-        requires plain { Plain self.now global.old }
         ensures ends { EndsAs (under H.name_of self.now T.natives) (Enter statements.now restore_orig_state)
             (state_of (T.state table.old) global.old scope.old (holding (was this.entry))) result
             (state_of (T.state table.new) global.new scope.new (holding (left_by this.exit))) }

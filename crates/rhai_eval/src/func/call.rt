@@ -1,8 +1,9 @@
 //! Calls of a part of a tree: operators, keywords and pointers. Ports upstream's `func/call.rs`; the
 //! contracts speak of the machine's runs, of specs/Calls.antt and of `rhai_cycle`'s.
 
-ghost use Rattle.std.specs.Prelude.{◌≡◌, IsTrue, IfOk, map};
+ghost use Rattle.std.specs.Prelude.{◌≡◌, IsTrue, IfOk, None, false, map};
 ghost use Rattle.std.specs.Option.{option_copied};
+ghost use Rattle.rhai_tree.specs.Forms.{is_unqualified};
 ghost use Rattle.rhai_tree.specs.Frame.{all_resolve_exprs, resolves_expr, resolves_call, tests_of};
 ghost use Rattle.rhai_tree.specs.declared.expr.Expr.TheOpen as layer;
 ghost use Rattle.rhai_tree.specs.Positions.{start_of};
@@ -12,9 +13,8 @@ ghost use Rattle.rhai_state.specs.Scope.{names_in};
 ghost use Rattle.rhai_steps.specs.States.{holding, state_of};
 ghost use Rattle.rhai_laws.specs.Kept.{Kept};
 ghost use Rattle.rhai_eval.specs.Ends.{EndsAs, EndsFrom};
-ghost use Rattle.rhai_eval.specs.Plain.{Plain};
 ghost use Rattle.rhai_pointers.specs.Leading.{all_args};
-ghost use Rattle.rhai_cycle.specs.Calls.{called};
+ghost use Rattle.rhai_cycle.specs.Calls.{called, in_parts};
 ghost use Rattle.rhai_eval.specs.Calls.{value_with};
 ghost use Rattle.rhai_eval.specs.States.{under};
 
@@ -27,7 +27,7 @@ use rhai_state::error::EvalAltResult;
 use rhai_state::scope::Scope;
 use rhai_state::state::GlobalRuntimeState;
 use rhai_state::table::NativeTable;
-use rhai_tree::expr::{Expr, FnCallExpr};
+use rhai_tree::expr::{Expr, FnCallExpr, Namespace};
 use rhai_tree::position::Position;
 use rhai_tree::token::Token;
 use rhai_values::base::value::{Dynamic, Host};
@@ -52,8 +52,7 @@ impl<H: Host> Engine<H> {
     /// function of a script or a native by its name. Ports upstream's `eval_fn_call_expr`.
     ///
     /// The call is a part of a checked tree, above the variables that the scope has there.
-    /// `this` is taken out of its place meanwhile, and put back on every way out. Asked besides: no global
-    /// modules, whose constants the machine has no rule of yet (`Plain`).
+    /// `this` is taken out of its place meanwhile, and put back on every way out.
     pub fn eval_fn_call_expr<T: NativeTable<H>>(
         &self,
         alloc: Global,
@@ -66,7 +65,6 @@ impl<H: Host> Engine<H> {
         pos: Position,
     ) -> Result<Dynamic<H>, EvalAltResult<H>>
         requires resolves { IsTrue (resolves_call expr.now pos (names_in scope.old)) }
-        requires plain { Plain self.now global.old }
         ensures ends { EndsAs (under H.name_of self.now T.natives)
             (OpenExpr (layer.Expr::FnCall expr.now pos))
             (state_of (T.state table.old) global.old scope.old (holding (was this.entry))) result
@@ -102,8 +100,7 @@ impl<H: Host> Engine<H> {
     /// as an expression. Ports upstream's `get_arg_value`.
     ///
     /// The argument is a part of a checked tree, above the variables that the scope has there.
-    /// `this` is taken out of its place meanwhile, and put back on every way out. Asked besides: no global
-    /// modules, whose constants the machine has no rule of yet (`Plain`).
+    /// `this` is taken out of its place meanwhile, and put back on every way out.
     pub fn get_arg_value<T: NativeTable<H>>(
         &self,
         alloc: Global,
@@ -115,7 +112,6 @@ impl<H: Host> Engine<H> {
         arg_expr: &Expr,
     ) -> Result<(Dynamic<H>, Position), EvalAltResult<H>>
         requires resolves { IsTrue (resolves_expr arg_expr.now (names_in scope.old)) }
-        requires plain { Plain self.now global.old }
         ensures position { IfOk result (λ pair. pair.1 ≡ start_of arg_expr.now) }
         ensures ends { EndsAs (under H.name_of self.now T.natives) (Argument arg_expr.now)
             (state_of (T.state table.old) global.old scope.old (holding (was this.entry))) (value_with result)
@@ -152,8 +148,7 @@ impl<H: Host> Engine<H> {
     /// Ports upstream's `make_function_call`.
     ///
     /// The arguments are parts of a checked tree, above the variables that the scope has there.
-    /// `this` is taken out of its place meanwhile, and put back on every way out. Asked besides: no global
-    /// modules, whose constants the machine has no rule of yet (`Plain`).
+    /// `this` is taken out of its place meanwhile, and put back on every way out.
     pub fn make_function_call<T: NativeTable<H>>(
         &self,
         alloc: Global,
@@ -171,7 +166,6 @@ impl<H: Host> Engine<H> {
     ) -> Result<Dynamic<H>, EvalAltResult<H>>
         requires resolves { IsTrue (all_resolve_exprs (map tests_of
             (all_args (option_copied first_arg) args_expr.now)) (names_in scope.old)) }
-        requires plain { Plain self.now global.old }
         ensures ends { EndsFrom (under H.name_of self.now T.natives)
             (called (record { name = fn_name.now; token = option_copied op_token.entry; at = pos })
             (all_args (option_copied first_arg.entry) args_expr.now) capture_parent_scope)
@@ -202,6 +196,63 @@ impl<H: Host> Engine<H> {
                 let mut run = take(alloc, global, scope);
                 let done = evaluator.run_call(
                     alloc, &mut run, table, fn_name, token, first_arg, args_expr, captures, pos,
+                );
+                let result = finish(done, &mut run.value, &mut run.error);
+                give_back(run, global, scope);
+                result
+            }
+        }
+    }
+
+    /// What a call behind a path comes to, whose charge is made already: its arguments, and then the public function that
+    /// the path leads to. A variable or `this` that stands first is charged first and read last. A path without a module is
+    /// `ErrorModuleNotFound` at the path, and one without the function `ErrorFunctionNotFound` at the call. Ports upstream's
+    /// `make_qualified_function_call`.
+    ///
+    /// The arguments are parts of a checked tree, above the variables that the scope has there.
+    /// `this` is taken out of its place meanwhile, and put back on every way out.
+    pub fn make_qualified_function_call<T: NativeTable<H>>(
+        &self,
+        alloc: Global,
+        global: &mut GlobalRuntimeState<H>,
+        _caches: &mut Caches<H>,
+        table: &mut T,
+        scope: &mut Scope<H>,
+        this: Option<&mut Dynamic<H>>,
+        namespace: &Namespace,
+        fn_name: &str,
+        args_expr: &[Expr],
+        pos: Position,
+    ) -> Result<Dynamic<H>, EvalAltResult<H>>
+        requires resolves { IsTrue (all_resolve_exprs (map tests_of args_expr.now) (names_in scope.old)) }
+        requires behind { is_unqualified namespace.now.path ≡ false }
+        ensures ends { EndsAs (under H.name_of self.now T.natives)
+            (OpenExpr (layer.Expr::FnCall (in_parts namespace.now fn_name.now args_expr.now None false) pos))
+            (state_of (T.state table.old) global.old scope.old (holding (was this.entry))) result
+            (state_of (T.state table.new) global.new scope.new (holding (left_by this.exit))) }
+        ensures kept { Kept (under H.name_of self.now T.natives)
+            (state_of (T.state table.old) global.old scope.old (holding (was this.entry)))
+            (state_of (T.state table.new) global.new scope.new (holding (left_by this.exit))) }
+        ensures names { names_in scope.new ≡ names_in scope.old }
+        ensures caches { _caches.new ≡ _caches.old }
+        ensures search { global.new.always_search_scope ≡ global.old.always_search_scope }
+    {
+        let limits = self.limits();
+        let evaluator = self.evaluator(&limits);
+        match this {
+            Some(place) => {
+                let mut run = take_with(alloc, global, scope, place);
+                let done = evaluator.run_qualified_call(
+                    alloc, &mut run, table, namespace, fn_name, args_expr, pos,
+                );
+                let result = finish(done, &mut run.value, &mut run.error);
+                give_back_with(run, global, scope, place);
+                result
+            }
+            None => {
+                let mut run = take(alloc, global, scope);
+                let done = evaluator.run_qualified_call(
+                    alloc, &mut run, table, namespace, fn_name, args_expr, pos,
                 );
                 let result = finish(done, &mut run.value, &mut run.error);
                 give_back(run, global, scope);

@@ -21,7 +21,6 @@ ghost use Rattle.rhai_laws.specs.Kept.{Kept};
 ghost use Rattle.rhai_eval.specs.Ends.{EndsMarked};
 ghost use Rattle.rhai_eval.specs.Entering.{came_out, ComesOut, ComesTo, IsByItself};
 ghost use Rattle.rhai_eval.specs.Places.{by_name, by_value, left_of, on_place, was_of, with_place};
-ghost use Rattle.rhai_eval.specs.Plain.{Plain};
 ghost use Rattle.rhai_eval.specs.States.{under};
 
 use crate::engine::Engine;
@@ -178,7 +177,7 @@ impl<H: Host> Engine<H> {
     {
         let limits = &self.limits();
         let search = global.always_search_scope;
-        let offered = self.evaluator(limits).offered();
+        let evaluator = self.evaluator(limits);
         let seeks = Seeks {
             of_method: is_method_call,
             natives_alone: false,
@@ -189,7 +188,18 @@ impl<H: Host> Engine<H> {
             marks: true,
         };
         let dispatched = pass_call(
-            limits, alloc, &offered, global, table, seeks, name, token, first, &*rest, passing, pos,
+            limits,
+            alloc,
+            &evaluator.offered,
+            global,
+            table,
+            seeks,
+            name,
+            token,
+            first,
+            &*rest,
+            passing,
+            pos,
         );
         global.always_search_scope = search;
         match dispatched {
@@ -336,11 +346,21 @@ impl<H: Host> Engine<H> {
     {
         let limits = &self.limits();
         let search = global.always_search_scope;
-        let offered = self.evaluator(limits).offered();
+        let evaluator = self.evaluator(limits);
         let mut none = Few::new(alloc);
         let args = none.as_mut_slice();
         let dispatched = pass_all(
-            limits, alloc, &offered, global, table, false, name, token, args, true, pos,
+            limits,
+            alloc,
+            &evaluator.offered,
+            global,
+            table,
+            false,
+            name,
+            token,
+            args,
+            true,
+            pos,
         );
         global.always_search_scope = search;
         match dispatched {
@@ -488,8 +508,7 @@ impl<H: Host> Engine<H> {
     /// caller (`is_ref_mut`) a copy. All arguments are used up, whatever the call comes to: `()` stands in their
     /// places, but in that of a first one that is lent. Without a first argument the others stay.
     ///
-    /// Asked: a first argument where there is a mark; and no global modules, whose constants the machine has no
-    /// rule of yet (`Plain`). Where there is no first argument the call has none.
+    /// Asked: a first argument where there is a mark. Where there is no first argument the call has none.
     ///
     /// # Errors
     /// At the call: `ErrorDataRace` for an argument that is the handle of a cell which is held, by the object of
@@ -510,7 +529,6 @@ impl<H: Host> Engine<H> {
         position: Position,
     ) -> Result<(Dynamic<H>, bool), EvalAltResult<H>>
         requires first { (is_ref_mut || is_method_call) ≡ true → is_some first ≡ true }
-        requires plain { Plain self.now global.old }
         ensures lent { (variables : _) (this : _) → (is_ref_mut || is_method_call) ≡ true →
             let rules = under H.name_of self.now T.natives in EndsMarked rules
             (dispatch_core rules.setting (by_name is_method_call (is_some (was_of scope.entry))) (on_place
@@ -532,7 +550,8 @@ impl<H: Host> Engine<H> {
             (state_of (T.state table.new) global.new (unwrap_or (left_of scope.exit) variables) held) }
         ensures names { (variables : _) → names_in (unwrap_or (left_of scope.exit) variables)
             ≡ names_in (unwrap_or (was_of scope.entry) variables) }
-        ensures rest { rest.new ≡ (if is_some first.entry then replicate (length rest.old) unit else rest.old) }
+        ensures rest { rest.new
+            ≡ (if is_some first.entry then replicate (length rest.old) unit else rest.old) }
         ensures taken { (is_ref_mut || is_method_call) ≡ false →
             left_by first.exit ≡ option_map (λ v. unit) (was first.entry) }
         ensures caches { _caches.new ≡ _caches.old }

@@ -14,7 +14,6 @@ ghost use Rattle.rhai_steps.specs.States.{state_of};
 ghost use Rattle.rhai_laws.specs.Kept.{Kept};
 ghost use Rattle.rhai_eval.specs.Ends.{EndsAlone, EndsMarked};
 ghost use Rattle.rhai_eval.specs.Places.{with_place};
-ghost use Rattle.rhai_eval.specs.Plain.{Plain};
 ghost use Rattle.rhai_eval.specs.States.{under};
 
 use crate::engine::Engine;
@@ -110,8 +109,7 @@ impl<H: Host> Engine<H> {
     /// are used up, whatever the call comes to: `()` stands in their places. The target shows what the method has made of the value
     /// that it worked on, also of a part that went back or was refused. Ports upstream's `make_method_call`.
     ///
-    /// A part that its place does not have goes nowhere. Asked: no global modules, whose constants the machine has
-    /// no rule of yet (`Plain`).
+    /// A part that its place does not have goes nowhere.
     ///
     /// # Errors
     /// At the method: `ErrorDataRace` for an argument that is the handle of a cell which is held, and for
@@ -130,7 +128,6 @@ impl<H: Host> Engine<H> {
         first_arg_pos: Position,
         pos: Position,
     ) -> Result<(Dynamic<H>, bool), EvalAltResult<H>>
-        requires plain { Plain self.now global.old }
         ensures ends { (scope : _) (this : _) → let rules = under H.name_of self.now T.natives in
             EndsMarked rules (on_target rules.setting
             (record {

@@ -18,7 +18,6 @@ ghost use Rattle.rhai_cycle.specs.Bodies.{args_left, entered, is_entered};
 ghost use Rattle.rhai_cycle.specs.States.{state_in};
 ghost use Rattle.rhai_laws.specs.Kept.{Kept};
 ghost use Rattle.rhai_eval.specs.Ends.{AgreesAbove, EndsAs};
-ghost use Rattle.rhai_eval.specs.Plain.{Plain};
 ghost use Rattle.rhai_eval.specs.States.{limits_of, under};
 
 use crate::engine::Engine;
@@ -91,8 +90,6 @@ impl<H: Host> Engine<H> {
     /// list does not restore. `this` is taken out of its place meanwhile, and put back on every way out. Ports
     /// upstream's `call_script_fn`.
     ///
-    /// Asked: no global modules, whose constants the machine has no rule of yet (`Plain`).
-    ///
     /// # Errors
     /// At the call: `ErrorTooManyOperations` where the count has reached the limit; `ErrorStackOverflow` where
     /// the level is above its limit; `ErrorTooManyVariables` where the scope has no room for the parameters.
@@ -112,7 +109,6 @@ impl<H: Host> Engine<H> {
         rewind_scope: bool,
         pos: Position,
     ) -> Result<Dynamic<H>, EvalAltResult<H>>
-        requires plain { Plain self.now global.old }
         ensures ends { EndsAs (under H.name_of self.now T.natives)
             (EnterFunction (entered def.now (option_copied env.entry) OwnThis false rewind_scope args.old
             global.old.level pos))

@@ -3,21 +3,20 @@ use Rattle.rhai_tree.specs.declared.expr.Expr.{out-Expr}
 use Rattle.rhai_tree.specs.declared.expr.Expr.TheVariants as exprs
 use Rattle.rhai_tree.specs.declared.expr.Expr.TheOpen as layer
 use Rattle.rhai_values.specs.Layers.{layer_of}
-use Rattle.rhai_state.specs.Scope.{entries_of, names_in}
+use Rattle.rhai_state.specs.Scope.{entries_of}
 use Rattle.rhai_places.specs.declared.spot.Spot.TheVariants as spot
 use Rattle.rhai_places.specs.Parts.{value_at, with_value}
 use Rattle.rhai_machine.specs.language.Setting.{rules_of}
 use Rattle.rhai_operands.specs.Standing.{assigned_known, integer_of, standing}
 use Rattle.rhai_operands.proofs.Integers.{is_there}
-use Rattle.rhai_operands.proofs.Names.{plain_name}
-use Rattle.rhai_items.proofs.Parts.{item_resolves, parts_shown}
+use Rattle.rhai_items.proofs.Parts.{parts_shown}
 use Rattle.rhai_items.proofs.Path.{item_assigned, item_keeps}
 use Rattle.rhai_items.specs.Items.{parts_in, place_in_array, writable_at}
 use Rattle.rhai_items.proofs.assign_item.Goals as goal
 
 pub returns-clause-keeps : goal.returns-clause-keeps
 returns-clause-keeps g c = item_keeps c.args.global.now c.charge_all.new.global c.args.scope.now c.write_item.new.scope
-    c.in-Some-place_of_variable.entry c.charges-count.result
+    c.in-Some-entry_of_variable.entry c.charges-count.result
     (with_value c.value_at-source.result.now (spot.Item c.in-Some-place_in_value.at) c.in-Some-assign_known.value)
     (c.charge_all.ensures.charged c.if-not-charge_all.false)
     (c.write_item.ensures c.value_at-source.result.now c.value_at-source.ensures)
@@ -26,12 +25,8 @@ pub returns-clause-runs : goal.returns-clause-runs
 returns-clause-runs g c is offer held restoring fast =
     let parts : parts_in (out-Expr c.args.lhs.now) ≡ Some (c.in-Some.root.now, c.in-Some.index.now) = sym c.in-Some.ensures in
     let shown = parts_shown (out-Expr c.args.lhs.now) c.in-Some.root.now c.in-Some.index.now parts in
-    let resolve = item_resolves c.args.lhs.now c.in-Some.root.now c.in-Some.index.now (names_in c.args.scope.now) parts
-    c.requires.resolves_target in
     let form : out-Expr c.in-Some.root.now ≡ layer.Variable c.in-Variable.offset c.in-Variable.name c.in-Variable.namespace
     c.in-Variable.pos = rw (c.in-Variable.is, exprs.outs-Variable) refl in
-    let plain = plain_name c.in-Some.root.now c.in-Variable.offset c.in-Variable.name c.in-Variable.namespace c.in-Variable.pos
-    (names_in c.args.scope.now) form resolve.0 in
     let at_index = is_there c.integer_in_place-position.result
     (integer_of (standing (out-Expr c.in-Some.index.now) (entries_of c.args.scope.now)))
     (c.is_none.ensures ∙ ap not c.if-is_none.false) c.integer_in_place-position.ensures in
@@ -40,9 +35,9 @@ returns-clause-runs g c is offer held restoring fast =
     (c.is_none-3.ensures ∙ ap not c.if-is_none-3.false) c.integer_in_place-operand.ensures in
     item_assigned (rules_of c.args.limits.now g.H.Host.name_of offer g.T.NativeTable.natives)
     (g.T.NativeTable.state c.args._table.now) c.args.scope.now held c.args.op.now c.args.lhs.now c.in-Some.root.now c.in-Some.index.now
-    c.args.rhs.now shown.0 shown.1 restoring shown.2 shown.3 c.requires.resolves resolve.1 c.in-Variable.offset c.in-Variable.name
-    c.in-Variable.namespace c.in-Variable.pos form plain c.in-Some-op.token c.in-Some-op.is fast c.in-Some-place_of_variable.entry
-    c.value_at-source.result.now (sym c.place_of_variable.ensures.exact ∙ c.in-Some-place_of_variable.is) c.value_at-source.ensures
+    c.args.rhs.now shown.0 shown.1 restoring shown.2 shown.3 c.in-Variable.offset c.in-Variable.name
+    c.in-Variable.namespace c.in-Variable.pos form c.in-Some-op.token c.in-Some-op.is fast c.in-Some-entry_of_variable.entry
+    c.value_at-source.result.now (sym c.entry_of_variable.ensures.exact ∙ c.in-Some-entry_of_variable.is) c.value_at-source.ensures
     c.args.global.now c.charge_all.new.global c.write_item.new.scope
     (subst (λ (n : ℕ). c.args.global.now.num_operations + n ≤ c.args.limits.now.max_operations) c.charges-count.ensures
     (c.charge_all.ensures.room c.if-not-charge_all.false))

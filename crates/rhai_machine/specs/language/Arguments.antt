@@ -10,7 +10,6 @@ use Rattle.rhai_tree.specs.declared.expr.FnCallExpr.{FnCallExpr}
 use Rattle.rhai_tree.specs.declared.expr.Expr.TheOpen as layer
 use Rattle.rhai_tree.specs.Layers.{ExprLayer}
 use Rattle.rhai_tree.specs.Positions.{position_of, start_of}
-use Rattle.rhai_tree.specs.Forms.{is_unqualified}
 use Rattle.rhai_values.specs.declared.base.value.FnPtr.{out-FnPtr, roll-FnPtr}
 use Rattle.rhai_values.specs.declared.base.value.FnPtrKind.{FnPtrKind, out-FnPtrKind}
 use Rattle.rhai_values.specs.declared.base.value.FnPtrKind.TheOpen as union
@@ -22,19 +21,20 @@ use Rattle.rhai_values.specs.TypeNames.{type_name_of}
 use Rattle.rhai_state.specs.declared.error.EvalAltResult.TheVariants as error
 use Rattle.rhai_state.specs.Scope.{index_of}
 use Rattle.rhai_machine.specs.machine.Machine.{Move, Go, Charge}
-use Rattle.rhai_machine.specs.language.Setting.{Setting}
-use Rattle.rhai_machine.specs.language.State.{Local}
+use Rattle.rhai_machine.specs.language.Setting.{Globals, Setting, globals_of}
+use Rattle.rhai_machine.specs.language.State.{Local, Surroundings}
 use Rattle.rhai_machine.specs.language.Values.{Cells, bool_value, flat, is_handle, mismatch, through}
 use Rattle.rhai_machine.specs.language.Functions.{Function, in_libraries, key_by}
 use Rattle.rhai_machine.specs.language.Activations.{NoObject}
-use Rattle.rhai_machine.specs.language.Names.{bound_this, meant, variable_of}
+use Rattle.rhai_machine.specs.language.Variables.{Path, Variable, path_of, variable_in}
+use Rattle.rhai_machine.specs.language.Names.{Meaning, AtEntry, AsTemporary, bound_this, meant}
 use Rattle.rhai_machine.specs.language.Places.{is_constant}
 use Rattle.rhai_machine.specs.language.Frames.{Operation, FromEntry, FromThis, Dispatch, Call, Keyword, CallPointer, MakePointer, Curry}
 use Rattle.rhai_machine.specs.language.Frames.{IsShared, IsDefinedVariable, Purpose, ToCall, ToCallOn, ToCallOnThis, ToCallNumber}
 use Rattle.rhai_machine.specs.language.Frames.{ToCallFunction, ToCurry, ToChain, ChainArguments, ChainRoot}
 use Rattle.rhai_machine.specs.language.Frames.{Frame, Core, core, on_value, ended, Argument, CallNamed, EnterFunction, Question, Back, Fail}
 use Rattle.rhai_machine.specs.language.Frames.{CallArgument, KeywordArgument}
-use Rattle.rhai_machine.specs.language.Calls.{call_of, dispatch_core, entry_of, plainly, races, signature}
+use Rattle.rhai_machine.specs.language.Calls.{behind_path, call_of, dispatch_core, entry_of, plainly, races, signature}
 
 -- one level of what a pointer leads to
 abbrev pub KindLayer : Type 0 → Type 0
@@ -89,11 +89,6 @@ is_pointer_name name = is_identifier name || is_operator name
 abbrev pub natives_alone : List ℕ → Bool
 natives_alone name = not (is_identifier name) && not (starts_with nat_eq name (codes "anon$"))
 
--- a name and where it stands, where an expression is a variable by its name alone
-abbrev pub variable_in : ExprLayer → Option (List ℕ × Position)
-variable_in (layer.Variable offset name namespace pos) = if is_unqualified namespace.path then Some (name, pos) else None
-variable_in _ = None
-
 module _ {H : Type 0} where
   -- a pointer by its name alone
   abbrev pub pointer_named : List ℕ → Dynamic H
@@ -142,27 +137,29 @@ module _ {H : Type 0} where
   passed_flat operation args (Err e) = Err e
 
   -- a constant is passed as a copy, and anything else is lent from its entry
-  abbrev pub passed_as : (constant : Bool) → Operation → List (Dynamic H) → (entry : Option ℕ) → Dynamic H → Call H
+  abbrev pub passed_as : (constant : Bool) → Operation → List (Dynamic H) → (entry : ℕ) → Dynamic H → Call H
   passed_as true operation args entry v = call_of operation (copy_of v ∷ args)
   passed_as false operation args entry v =
-      record (call_of operation (v ∷ args)) { lender = option_map FromEntry entry; guarded = true }
+      record (call_of operation (v ∷ args)) { lender = Some (FromEntry entry); guarded = true }
 
   -- of a handle a copy of the cell's value is passed
-  abbrev pub passed : Cells H → Position → Operation → List (Dynamic H) → (entry : Option ℕ) → Union H → Dynamic H →
+  abbrev pub passed : Cells H → Position → Operation → List (Dynamic H) → (entry : ℕ) → Union H → Dynamic H →
       Result (Call H) (EvalAltResult H)
   passed cells at operation args entry (value.Cell id) v = passed_flat operation args (flat cells v at)
   passed cells at operation args entry _ v = Ok (passed_as (is_constant v.mode) operation args entry v)
 
-  abbrev pub passed_seen : Cells H → Position → Operation → List (Dynamic H) → (entry : Option ℕ) →
-      Result (Dynamic H) (EvalAltResult H) → Result (Call H) (EvalAltResult H)
-  passed_seen cells at operation args entry (Ok v) = passed cells at operation args entry v.value v
-  passed_seen cells at operation args entry (Err e) = Err e
+  -- of a temporary a copy is passed, of a handle one of the cell's value
+  abbrev pub passed_seen : Cells H → Position → Operation → List (Dynamic H) → Result (Meaning H) (EvalAltResult H) →
+      Result (Call H) (EvalAltResult H)
+  passed_seen cells at operation args (Ok (AtEntry index v)) = passed cells at operation args index v.value v
+  passed_seen cells at operation args (Ok (AsTemporary v)) = passed_flat operation args (flat cells (copy_of v) at)
+  passed_seen cells at operation args (Err e) = Err e
 
   -- the call with a variable before its other arguments
-  abbrev pub call_on : Cells H → List (Module H) → List (ScopeEntry H) → Operation → (variable : List ℕ) → (at : Position) →
-      List (Dynamic H) → Result (Call H) (EvalAltResult H)
-  call_on cells lib scope operation variable at args =
-      passed_seen cells at operation args (index_of variable scope) (variable_of cells variable at (meant lib variable scope))
+  abbrev pub call_on : Globals H → Surroundings H → List (ScopeEntry H) → Operation → Variable → List (Dynamic H) →
+      Result (Call H) (EvalAltResult H)
+  call_on globals around scope operation variable args =
+      passed_seen around.cells variable.at operation args (meant globals around scope variable)
 
   -- `this` is lent, a constant too
   abbrev pub lent_this : Operation → List (Dynamic H) → Dynamic H → Call H
@@ -182,7 +179,7 @@ module _ {H : Type 0} where
   -- an argument of a call by name or of a chain is flattened, one that a pointer keeps, or that it hands to what it leads to, is not
   abbrev pub flattens : Purpose H → Bool
   flattens (ToCall operation curried how) = true
-  flattens (ToCallOn operation variable variable_at how) = true
+  flattens (ToCallOn operation variable how) = true
   flattens (ToCallOnThis operation this_at how) = true
   flattens (ToChain chain behind) = true
   flattens _ = false
@@ -223,8 +220,8 @@ module _ {H : Type 0} where
     -- all arguments are there
     abbrev pub arguments_there : Purpose H → List (Dynamic H) → List (Frame H) → Local H → Core H
     arguments_there (ToCall operation curried how) args k l = dispatch_core s how (call_of operation (curried ++ args)) k l
-    arguments_there (ToCallOn operation variable variable_at how) args k l =
-        on_value (call_on l.around.cells l.around.lib l.scope operation variable variable_at args)
+    arguments_there (ToCallOn operation variable how) args k l =
+        on_value (call_on (globals_of s.offer) l.around l.scope operation variable args)
         (λ call. dispatch_core s how call k l) k l
     arguments_there (ToCallOnThis operation this_at how) args k l =
         on_value (bound_this this_at l.this) (λ v. dispatch_core s how (lent_this operation args v) k l) k l
@@ -243,10 +240,9 @@ module _ {H : Type 0} where
     -- ---- calls by name
 
     -- a variable that comes first is charged first and read last
-    abbrev pub on_variable : Option (List ℕ × Position) → Operation → (how : Dispatch) → Expr → List Expr → List (Frame H) → Local H →
-        Move H (Core H)
-    on_variable (Some (variable, at)) operation how arg args k l =
-        Charge at (arguments_core (ToCallOn operation variable at how) [] args k l)
+    abbrev pub on_variable : Option Variable → Operation → (how : Dispatch) → Expr → List Expr → List (Frame H) → Local H → Move H (Core H)
+    on_variable (Some variable) operation how arg args k l =
+        Charge variable.at (arguments_core (ToCallOn operation variable how) [] args k l)
     on_variable None operation how arg args k l = Go (arguments_core (ToCall operation [] how) [] (arg ∷ args) k l)
 
     -- and so is `this`, which is lent
@@ -299,6 +295,10 @@ module _ {H : Type 0} where
 
 -- ---- the call
 
+-- what a call as it is written is of
+abbrev pub operation_in : FnCallExpr → Position → Operation
+operation_in call at = record { name = call.name; token = call.op_token; at = at }
+
 module _ {H : Type 0} where
   -- what is no keyword is a call by name
   abbrev pub function_core : Option Keyword → Operation → List Expr → (captures : Bool) → List (Frame H) → Local H → Core H
@@ -307,6 +307,15 @@ module _ {H : Type 0} where
   function_core _ operation args captures k l = core (CallNamed operation [] args captures false) k l
 
   abbrev pub function_of : FnCallExpr → Position → List (Frame H) → Local H → Core H
-  function_of call at k l =
-      function_core (keyword_of call.op_token call.name (length call.args)) (record { name = call.name; token = call.op_token; at = at })
-      call.args call.capture_parent_scope k l
+  function_of call at k l = function_core (keyword_of call.op_token call.name (length call.args)) (operation_in call at) call.args
+      call.capture_parent_scope k l
+
+  module _ (s : Setting H) where
+    -- a call behind a path takes its arguments as any other, and captures no variables
+    abbrev pub behind_move : Path → Operation → List Expr → List (Frame H) → Local H → Move H (Core H)
+    behind_move path operation [] k l = Go (arguments_core s (ToCall operation [] (behind_path path)) [] [] k l)
+    behind_move path operation (arg ∷ args) k l = on_this s (this_in (out-Expr arg) l.this) operation (behind_path path) arg args k l
+
+    abbrev pub function_move : (is_unqualified : Bool) → FnCallExpr → Position → List (Frame H) → Local H → Move H (Core H)
+    function_move true call at k l = Go (function_of call at k l)
+    function_move false call at k l = behind_move (path_of call.namespace) (operation_in call at) call.args k l

@@ -7,7 +7,6 @@ use Rattle.rhai_tree.specs.Layers.{ExprLayer}
 use Rattle.rhai_tree.specs.Positions.{position_of}
 use Rattle.rhai_tree.specs.Tokens.{syntax_of}
 use Rattle.rhai_values.specs.declared.base.value.AccessMode.TheVariants.{ReadWrite}
-use Rattle.rhai_tree.specs.Forms.{is_unqualified}
 use Rattle.rhai_values.specs.declared.base.value.Union.TheVariants as value
 use Rattle.rhai_state.specs.declared.error.EvalAltResult.TheVariants as error
 use Rattle.rhai_values.specs.Modes.{with_mode}
@@ -18,10 +17,11 @@ use Rattle.rhai_machine.specs.machine.Machine.{Move, Halt, Go, Native, AskPure}
 use Rattle.rhai_machine.specs.language.Setting.{Setting}
 use Rattle.rhai_machine.specs.language.State.{Local}
 use Rattle.rhai_machine.specs.language.Values.{unit_value}
+use Rattle.rhai_machine.specs.language.Variables.{Variable, no_path, variable_named}
 use Rattle.rhai_machine.specs.language.Names.{bound_this}
 use Rattle.rhai_machine.specs.language.Places.{Place, Target, is_barred, put, this_target, while_lent}
 use Rattle.rhai_machine.specs.language.Frames.{Operation, Attempt, InPlace, AsValue, Assignment, Update}
-use Rattle.rhai_machine.specs.language.Frames.{Frame, Control, Core, core, on_value, where_there}
+use Rattle.rhai_machine.specs.language.Frames.{Frame, Control, Core, core, on_value}
 use Rattle.rhai_machine.specs.language.Frames.{Eval, AskUpdate, FireUpdate, Back, Fail, AssignValue, AssignThisValue, AssignChain}
 use Rattle.rhai_machine.specs.language.Calls.{operation_at, placed_if_none, sized, applied, replied}
 
@@ -30,15 +30,22 @@ abbrev pub native_of : Attempt → Token → List ℕ
 native_of InPlace token = syntax_of token ++ codes "="
 native_of AsValue token = syntax_of token
 
+abbrev pub assignment_to : Variable → OpAssignment → Assignment
+assignment_to variable op = record { path = variable.path; name = variable.name; at = variable.at; op = op }
+
+-- the variable of an assignment
+abbrev pub variable_of_assignment : Assignment → Variable
+variable_of_assignment assignment = record { path = assignment.path; name = assignment.name; at = assignment.at }
+
 module _ {H : Type 0} where
   -- `this` has to be bound before the right side
   abbrev pub to_this : Result (Dynamic H) (EvalAltResult H) → OpAssignment → Position → Expr → List (Frame H) → Local H → Core H
   to_this r op at rhs k l = on_value r (λ this. core (Eval rhs) (AssignThisValue op at (position_of rhs) ∷ k) l) k l
 
-  -- the right side comes first; an assignment to anything but a variable without a path, `this` or a chain has no step
+  -- the right side comes first; an assignment to anything but a variable, `this` or a chain has no step
   abbrev pub assignment_move : ExprLayer → OpAssignment → Expr → List (Frame H) → Local H → Move H (Core H)
-  assignment_move (layer.Variable offset name namespace pos) op rhs k l = where_there (is_unqualified namespace.path)
-      (core (Eval rhs) (AssignValue (record { name = name; at = pos; op = op }) (position_of rhs) ∷ k) l)
+  assignment_move (layer.Variable offset name namespace pos) op rhs k l =
+      Go (core (Eval rhs) (AssignValue (assignment_to (variable_named name namespace pos) op) (position_of rhs) ∷ k) l)
   assignment_move (layer.ThisPtr pos) op rhs k l = Go (to_this (bound_this pos l.this) op pos rhs k l)
   assignment_move (layer.Index lhs rest options pos) op rhs k l =
       Go (core (Eval rhs) (AssignChain lhs (layer.Index lhs rest options pos) op (position_of rhs) ∷ k) l)
@@ -103,7 +110,7 @@ module _ {H : Type 0} where
     -- `this` likewise
     abbrev pub store_this : OpAssignment → Position → Dynamic H → List (Frame H) → Local H → Core H
     store_this op at v k l =
-        store_core (this_target l.around.cells at l.this) (record { name = []; at = at; op = op }) v k l
+        store_core (this_target l.around.cells at l.this) (record { path = no_path; name = []; at = at; op = op }) v k l
 
     -- the native of an update is called, unless it is barred from its target
     abbrev pub barred_core : (barred : Bool) → Update H → List (Frame H) → Local H → Core H

@@ -2,9 +2,9 @@
 use Rattle.std.specs.Prelude.{ℕ, ◌+◌, ◌-◌, pos, Bool, true, false, not, ◌&&◌, ◌||◌, List, [], ◌∷◌, ◌++◌, Option, Some, None}
 use Rattle.std.specs.Prelude.{Result, Ok, Err, codes, drop, is_some, length, nat_eq, if◌then◌else◌}
 use Rattle.std.specs.List.{starts_with}
-use Rattle.std.specs.Option.{option_map, option_or}
+use Rattle.std.specs.Option.{option_and_then, option_map, option_or}
 use Rattle.std.specs.Str.{bytes_eq}
-use Rattle.rhai_machine.specs.Types.{Dynamic, EvalAltResult, Limits, Position, Token, Union}
+use Rattle.rhai_machine.specs.Types.{Dynamic, EvalAltResult, Import, Limits, Module, ModuleFn, Position, Token, Union}
 use Rattle.rhai_values.specs.declared.base.value.Union.TheVariants as value
 use Rattle.rhai_state.specs.declared.error.EvalAltResult.TheVariants as error
 use Rattle.rhai_state.specs.Native.{Key, Named, Numbered, Reply, Missing, Gives, Faults, purity_of, request}
@@ -15,12 +15,17 @@ use Rattle.rhai_values.specs.TypeNames.{type_name_of}
 use Rattle.rhai_values.specs.declared.base.size.DataSizes.{DataSizes}
 use Rattle.rhai_values.specs.DataSize.{data_sizes, exceeded, fault_text}
 use Rattle.rhai_operators.specs.Answers.{unary_of, binary_of}
+use Rattle.rhai_functions.specs.Called.{function_of as function_in}
+use Rattle.rhai_functions.specs.Functions.{FunctionKey}
+use Rattle.rhai_functions.specs.Namespaces.{down, public_in, root_in}
+use Rattle.rhai_functions.specs.Qualified.{behind, path_text}
 use Rattle.rhai_machine.specs.machine.Machine.{Move, Go, Native, AskPure}
 use Rattle.rhai_machine.specs.language.Setting.{Setting}
 use Rattle.rhai_machine.specs.language.State.{Local, Surroundings, deeper}
 use Rattle.rhai_machine.specs.language.Values.{Cells, bool_value, through}
 use Rattle.rhai_machine.specs.language.Places.{Place, InEntry, InCell, InThis, InFocus, is_barred, put, while_lent}
 use Rattle.rhai_machine.specs.language.Functions.{Function, found_function, key_by as function_key}
+use Rattle.rhai_machine.specs.language.Variables.{Path, no_path}
 use Rattle.rhai_machine.specs.language.Activations.{Object, NoObject, TheFocus, Entered}
 use Rattle.rhai_machine.specs.language.Frames.{Operation, Lender, FromEntry, FromThis, FromFocus, Dispatch, Call, Control, Frame, Core}
 use Rattle.rhai_machine.specs.language.Frames.{core, on_value, ended, changed, Ask, EnterFunction, EnterOnFocus, Fire, Back, Fail}
@@ -41,12 +46,12 @@ abbrev pub signature : List ℕ → List (List ℕ) → List ℕ
 signature name types = name ++ (codes " (" ++ (listed types ++ codes ")"))
 
 -- what is behind a prefix, where a text begins with it
-abbrev pub behind : (prefix text : List ℕ) → Option (List ℕ)
-behind prefix text = if starts_with nat_eq text prefix then Some (drop (length prefix) text) else None
+abbrev pub after_prefix : (prefix text : List ℕ) → Option (List ℕ)
+after_prefix prefix text = if starts_with nat_eq text prefix then Some (drop (length prefix) text) else None
 
 -- the property that a getter or a setter is of, by its name
 abbrev pub property_named : List ℕ → Option (List ℕ)
-property_named name = option_or (behind (codes "get$") name) (behind (codes "set$") name)
+property_named name = option_or (after_prefix (codes "get$") name) (after_prefix (codes "set$") name)
 
 -- the name of an indexer
 abbrev pub names_indexer : List ℕ → Bool
@@ -79,7 +84,11 @@ operation_at name token at = record { name = name; token = Some token; at = at }
 
 -- how a call is dispatched that is no method's
 abbrev pub plainly : (natives_alone on_scope : Bool) → Dispatch
-plainly natives_alone on_scope = record { of_method = false; natives_alone = natives_alone; on_scope = on_scope }
+plainly natives_alone on_scope = record { of_method = false; natives_alone = natives_alone; on_scope = on_scope; path = no_path }
+
+-- and one behind a path
+abbrev pub behind_path : Path → Dispatch
+behind_path path = record { of_method = false; natives_alone = false; on_scope = false; path = path }
 
 module _ {H : Type 0} where
   abbrev pub types_of : (H → List ℕ) → Cells H → List (Dynamic H) → List (List ℕ)
@@ -244,6 +253,23 @@ module _ {H : Type 0} where
 
   -- ---- functions of scripts
 
+  -- the public function of a key in the module that a path leads to, or why there is none
+  abbrev pub public_or_unknown : Option (ModuleFn H) → (path : List (List ℕ)) → (name : List ℕ) → List (List ℕ) → Position →
+      Result (Function H) (EvalAltResult H)
+  public_or_unknown (Some f) path name types at = Ok (function_in f)
+  public_or_unknown None path name types at = Err (error.ErrorFunctionNotFound (signature (path_text path ++ behind (name ∷ [])) types) at)
+
+  abbrev pub public_from : Option (Module H) → (path rest : List (List ℕ)) → (path_at : Position) → FunctionKey → List (List ℕ) →
+      Position → Result (Function H) (EvalAltResult H)
+  public_from (Some root) path rest path_at key types at =
+      public_or_unknown (option_and_then (public_in key) (down rest (Some root))) path key.name types at
+  public_from None path rest path_at key types at = Err (error.ErrorModuleNotFound (path_text path) path_at)
+
+  abbrev pub public_behind : List (Import H) → (named : List (List ℕ) × List (Module H)) → (root : List ℕ) → (path : List (List ℕ)) →
+      (path_at : Position) → FunctionKey → List (List ℕ) → Position → Result (Function H) (EvalAltResult H)
+  public_behind imports named root path path_at key types at =
+      public_from (root_in root imports named) (root ∷ path) path path_at key types at
+
   -- the arguments that a function gets: of a first one that is lent a copy
   abbrev pub args_given : Option Lender → List (Dynamic H) → List (Dynamic H)
   args_given (Some lender) (v ∷ args) = copy_of v ∷ args
@@ -332,11 +358,25 @@ module _ {H : Type 0} where
         else called_core how call k l
     named_core how args call k l = called_core how call k l
 
-    -- a call by name whose arguments are there: no argument's cell may be held
-    abbrev pub dispatch_core : Dispatch → Call H → List (Frame H) → Local H → Core H
-    dispatch_core how call k l =
+    -- a name without a path: no argument's cell may be held
+    abbrev pub by_name_core : Dispatch → Call H → List (Frame H) → Local H → Core H
+    by_name_core how call k l =
         if call_races how.of_method l.around.cells call.args then core (Fail (error.ErrorDataRace call.operation.name call.operation.at)) k l
         else named_core how call.args call k l
+
+    -- the function of a script that a call behind a path means
+    abbrev pub function_behind : (root : List ℕ) → (path : List (List ℕ)) → Dispatch → Call H → Local H → Result (Function H) (EvalAltResult H)
+    function_behind root path how call l = public_behind l.around.imports s.offer.global_sub_modules root path how.path.at
+        (function_key call.operation.name (length call.args) None) (types_of s.host_type l.around.cells call.args) call.operation.at
+
+    -- a call whose arguments are there: by a name alone, or behind a path, where the function is entered
+    abbrev pub dispatch_behind : (path : List (List ℕ)) → Dispatch → Call H → List (Frame H) → Local H → Core H
+    dispatch_behind [] how call k l = by_name_core how call k l
+    dispatch_behind (root ∷ path) how call k l =
+        on_value (function_behind root path how call l) (λ function. enter_core false function how call k l) k l
+
+    abbrev pub dispatch_core : Dispatch → Call H → List (Frame H) → Local H → Core H
+    dispatch_core how call k l = dispatch_behind how.path.names how call k l
 
     -- a built-in operator, or else a call of its name
     abbrev pub operator_core : Option (Result (Dynamic H) (EvalAltResult H)) → Call H → List (Frame H) → Local H → Core H

@@ -6,21 +6,20 @@ use Rattle.rhai_tree.specs.declared.expr.Expr.TheOpen as layer
 use Rattle.rhai_tree.specs.Layers.{ExprLayer}
 use Rattle.rhai_tree.specs.Position.{none}
 use Rattle.rhai_tree.specs.Positions.{position_of, start_of}
-use Rattle.rhai_tree.specs.Forms.{is_unqualified}
 use Rattle.rhai_values.specs.declared.base.value.Union.TheVariants as value
 use Rattle.rhai_values.specs.Copy.{copy_of}
 use Rattle.rhai_values.specs.Layers.{layer_of}
 use Rattle.rhai_state.specs.declared.error.EvalAltResult.TheVariants as error
-use Rattle.rhai_state.specs.Scope.{index_of}
 use Rattle.rhai_places.specs.declared.spot.Spot.{Spot}
 use Rattle.rhai_places.specs.declared.spot.Spot.TheVariants as spot
 use Rattle.rhai_places.specs.Parts.{part_of, value_at}
 use Rattle.rhai_places.specs.Paths.{ToPlace}
 use Rattle.rhai_machine.specs.machine.Machine.{Move, Halt, Go, Charge}
-use Rattle.rhai_machine.specs.language.Setting.{Setting}
+use Rattle.rhai_machine.specs.language.Setting.{Globals, Setting}
 use Rattle.rhai_machine.specs.language.State.{Local}
 use Rattle.rhai_machine.specs.language.Values.{unit_value, is_handle, through}
-use Rattle.rhai_machine.specs.language.Names.{bound_this, meant, variable_of}
+use Rattle.rhai_machine.specs.language.Names.{Meaning, AtEntry, AsTemporary, bound_this, meant}
+use Rattle.rhai_machine.specs.language.Variables.{Variable, no_path, variable_named}
 use Rattle.rhai_machine.specs.language.Places.{focus_target}
 use Rattle.rhai_machine.specs.language.Links.{Link, LinkForm, AtIndex, AtProperty, AtMethod, asked_by, first_position, link_of, name_in}
 use Rattle.rhai_machine.specs.language.Frames.{Lender, FromEntry, FromThis, NewValue, Chain, Member, Property, Item, MemberAccess, ToChain}
@@ -69,10 +68,14 @@ module _ {H : Type 0} where
   begun_core in_place lender v chain k l =
       core (Walk (record chain { in_place = in_place })) (ChainEnd lender l.focus ∷ k) (focused_on (Some v) l)
 
-  -- what a name means that is no variable is a temporary
-  abbrev pub read_root_core : (name : List ℕ) → Position → Chain H → List (Frame H) → Local H → Core H
-  read_root_core name at chain k l = on_value (variable_of l.around.cells name at (meant l.around.lib name l.scope))
-      (λ v. begun_core (is_some (index_of name l.scope)) (option_map FromEntry (index_of name l.scope)) v chain k l) k l
+  -- of an entry the value is somebody's place
+  abbrev pub meant_core : Meaning H → Chain H → List (Frame H) → Local H → Core H
+  meant_core (AtEntry index v) chain k l = begun_core true (Some (FromEntry index)) v chain k l
+  meant_core (AsTemporary v) chain k l = begun_core false None v chain k l
+
+  abbrev pub read_root_core : Globals H → Variable → Chain H → List (Frame H) → Local H → Core H
+  read_root_core globals variable chain k l =
+      on_value (meant globals l.around l.scope variable) (λ meaning. meant_core meaning chain k l) k l
 
   -- a `this` that is the handle of a held cell is another's, as such a variable is
   abbrev pub this_begun : (seen : Result (Dynamic H) (EvalAltResult H)) → Dynamic H → Chain H → List (Frame H) → Local H → Core H
@@ -85,7 +88,7 @@ module _ {H : Type 0} where
   -- a variable is charged, and read after that, and so is `this`; any other root is evaluated, and is not assigned to
   abbrev pub root_move : ExprLayer → Chain H → List (Frame H) → Local H → Move H (Core H)
   root_move (layer.Variable offset name namespace pos) chain k l =
-      if is_unqualified namespace.path then Charge pos (core (ReadRoot name pos chain) k l) else Halt
+      Charge pos (core (ReadRoot (variable_named name namespace pos) chain) k l)
   root_move (layer.ThisPtr pos) chain k l = Charge pos (this_root_core pos chain k l)
   root_move _ chain k l = where_there (is_none chain.new) (core (Eval chain.root) (RootValue chain ∷ k) l)
 
@@ -170,7 +173,7 @@ module _ {H : Type 0} where
     abbrev pub assign_focus : (root : Expr) → NewValue H → List (Frame H) → Local H → Core H
     assign_focus root new k l =
         on_value (focus_target l.around.cells (name_in (out-Expr root)) (start_of root) (focus_of l))
-        (λ target. assign_core s new.op.op (record { name = name_in (out-Expr root); at = position_of root; op = new.op }) target new.value k l)
+        (λ target. assign_core s new.op.op (record { path = no_path; name = name_in (out-Expr root); at = position_of root; op = new.op }) target new.value k l)
         k l
 
     -- the focus is a place of the value above: an item is measured before it goes back, and of a property the map once it has

@@ -11,12 +11,14 @@ use Rattle.rhai_values.specs.declared.base.value.Union.TheVariants as value
 use Rattle.rhai_values.specs.Copy.{plain}
 use Rattle.rhai_values.specs.Literals.{value_of_literal}
 use Rattle.rhai_machine.specs.machine.Machine.{Move, Halt, Go, Charge}
+use Rattle.rhai_machine.specs.language.Setting.{Setting, globals_of}
 use Rattle.rhai_machine.specs.language.State.{Local}
 use Rattle.rhai_machine.specs.language.Values.{copied, unit_value, bool_value}
+use Rattle.rhai_machine.specs.language.Variables.{variable_named}
 use Rattle.rhai_machine.specs.language.Names.{bound_this, read}
-use Rattle.rhai_machine.specs.language.Frames.{Frame, Core, core, chain_on, on_value, where_there, ended, Eval, Argument, Enter, OpenChain, Back}
+use Rattle.rhai_machine.specs.language.Frames.{Frame, Core, core, chain_on, on_value, ended, Eval, Argument, Enter, OpenChain, Back}
 use Rattle.rhai_machine.specs.language.Frames.{UnaryOperand, LeftOperand, AndPart, OrPart, CoalescePart}
-use Rattle.rhai_machine.specs.language.Arguments.{function_of}
+use Rattle.rhai_machine.specs.language.Arguments.{function_move}
 use Rattle.rhai_machine.specs.language.Data.{entries_core, items_core, parts_core}
 
 module _ {H : Type 0} where
@@ -34,15 +36,6 @@ module _ {H : Type 0} where
   abbrev pub argument_move : Option (Dynamic H) → Expr → List (Frame H) → Local H → Move H (Core H)
   argument_move (Some v) e k l = Charge (start_of e) (core (Back v) k l)
   argument_move None e k l = Go (core (Eval e) k l)
-
-  -- a call: under fast operators the operands of one that was written as an operator on one or two come from left to right; a call
-  -- in a namespace has no step
-  abbrev pub call_move : Bool → Option Token → FnCallExpr → List Expr → Position → List (Frame H) → Local H → Move H (Core H)
-  call_move true (Some token) call (operand ∷ []) pos k l =
-      Go (core (Argument operand) (UnaryOperand (record { name = call.name; token = Some token; at = pos }) (position_of operand) ∷ k) l)
-  call_move true (Some token) call (left ∷ right ∷ []) pos k l =
-      Go (core (Argument left) (LeftOperand (record { name = call.name; token = Some token; at = pos }) (position_of left) right ∷ k) l)
-  call_move _ _ call args pos k l = where_there (is_unqualified call.namespace.path) (function_of call pos k l)
 
   -- the parts of an `&&` from left to right, up to the first that is false
   abbrev pub and_core : List Expr → List (Frame H) → Local H → Core H
@@ -74,25 +67,35 @@ module _ {H : Type 0} where
   abbrev pub coalesce_next : (seen : Result (Dynamic H) (EvalAltResult H)) → Dynamic H → List Expr → List (Frame H) → Local H → Core H
   coalesce_next r v parts k l = on_value r (λ seen. coalesce_seen seen.value v parts k l) k l
 
-  -- an expression, after its charge; a form that is not there has no step
-  abbrev pub expr_move : (fast_operators : Bool) → ExprLayer → List (Frame H) → Local H → Move H (Core H)
-  expr_move fast (layer.DynamicConstant literal pos) k l = Go (core (Back (value_of_literal literal)) k l)
-  expr_move fast (layer.BoolConstant b pos) k l = Go (core (Back (bool_value b)) k l)
-  expr_move fast (layer.IntegerConstant n pos) k l = Go (core (Back (plain (value.Int n))) k l)
-  expr_move fast (layer.CharConstant letter pos) k l = Go (core (Back (plain (value.Char letter))) k l)
-  expr_move fast (layer.StringConstant text pos) k l = Go (core (Back (plain (value.Str text))) k l)
-  expr_move fast (layer.Unit pos) k l = Go (core (Back unit_value) k l)
-  expr_move fast (layer.InterpolatedString parts pos) k l = Go (parts_core [] parts k l)
-  expr_move fast (layer.Array items pos) k l = Go (items_core [] items k l)
-  expr_move fast (layer.Map entries template pos) k l = Go (entries_core (map key_of entries) [] entries k l)
-  expr_move fast (layer.Variable offset name namespace pos) k l =
-      where_there (is_unqualified namespace.path) (core (ended (read l.around.cells l.around.lib name pos l.scope)) k l)
-  expr_move fast (layer.ThisPtr pos) k l = Go (core (ended (copied (bound_this pos l.this))) k l)
-  expr_move fast (layer.Expr::FnCall call pos) k l = call_move fast call.op_token call call.args pos k l
-  expr_move fast (layer.Stmt block) k l = Go (core (Enter block.statements true) k l)
-  expr_move fast (layer.Index lhs rhs options pos) k l = Go (core (OpenChain (chain_on lhs (layer.Index lhs rhs options pos) None)) k l)
-  expr_move fast (layer.Dot lhs rhs options pos) k l = Go (core (OpenChain (chain_on lhs (layer.Dot lhs rhs options pos) None)) k l)
-  expr_move fast (layer.And parts pos) k l = Go (and_core parts k l)
-  expr_move fast (layer.Or parts pos) k l = Go (or_core parts k l)
-  expr_move fast (layer.Coalesce parts pos) k l = Go (coalesce_core unit_value parts k l)
-  expr_move fast _ k l = Halt
+  module _ (s : Setting H) where
+    -- a call: under fast operators the operands of one that was written as an operator on one or two come from left to right; any other
+    -- is one by name, or behind a path
+    abbrev pub call_move : (fast_operators : Bool) → Option Token → FnCallExpr → List Expr → Position → List (Frame H) → Local H → Move H (Core H)
+    call_move true (Some token) call (operand ∷ []) pos k l =
+        Go (core (Argument operand) (UnaryOperand (record { name = call.name; token = Some token; at = pos }) (position_of operand) ∷ k) l)
+    call_move true (Some token) call (left ∷ right ∷ []) pos k l =
+        Go (core (Argument left) (LeftOperand (record { name = call.name; token = Some token; at = pos }) (position_of left) right ∷ k) l)
+    call_move _ _ call args pos k l = function_move s (is_unqualified call.namespace.path) call pos k l
+
+    -- an expression, after its charge; a form that is not there has no step
+    abbrev pub expr_move : (fast_operators : Bool) → ExprLayer → List (Frame H) → Local H → Move H (Core H)
+    expr_move fast (layer.DynamicConstant literal pos) k l = Go (core (Back (value_of_literal literal)) k l)
+    expr_move fast (layer.BoolConstant b pos) k l = Go (core (Back (bool_value b)) k l)
+    expr_move fast (layer.IntegerConstant n pos) k l = Go (core (Back (plain (value.Int n))) k l)
+    expr_move fast (layer.CharConstant letter pos) k l = Go (core (Back (plain (value.Char letter))) k l)
+    expr_move fast (layer.StringConstant text pos) k l = Go (core (Back (plain (value.Str text))) k l)
+    expr_move fast (layer.Unit pos) k l = Go (core (Back unit_value) k l)
+    expr_move fast (layer.InterpolatedString parts pos) k l = Go (parts_core [] parts k l)
+    expr_move fast (layer.Array items pos) k l = Go (items_core [] items k l)
+    expr_move fast (layer.Map entries template pos) k l = Go (entries_core (map key_of entries) [] entries k l)
+    expr_move fast (layer.Variable offset name namespace pos) k l =
+        Go (core (ended (read (globals_of s.offer) l.around l.scope (variable_named name namespace pos))) k l)
+    expr_move fast (layer.ThisPtr pos) k l = Go (core (ended (copied (bound_this pos l.this))) k l)
+    expr_move fast (layer.Expr::FnCall call pos) k l = call_move fast call.op_token call call.args pos k l
+    expr_move fast (layer.Stmt block) k l = Go (core (Enter block.statements true) k l)
+    expr_move fast (layer.Index lhs rhs options pos) k l = Go (core (OpenChain (chain_on lhs (layer.Index lhs rhs options pos) None)) k l)
+    expr_move fast (layer.Dot lhs rhs options pos) k l = Go (core (OpenChain (chain_on lhs (layer.Dot lhs rhs options pos) None)) k l)
+    expr_move fast (layer.And parts pos) k l = Go (and_core parts k l)
+    expr_move fast (layer.Or parts pos) k l = Go (or_core parts k l)
+    expr_move fast (layer.Coalesce parts pos) k l = Go (coalesce_core unit_value parts k l)
+    expr_move fast _ k l = Halt

@@ -12,6 +12,7 @@ use Rattle.rhai_machine.specs.language.State.{Local}
 use Rattle.rhai_machine.specs.language.Places.{Place}
 use Rattle.rhai_machine.specs.language.Links.{Link}
 use Rattle.rhai_machine.specs.language.Functions.{Function}
+use Rattle.rhai_machine.specs.language.Variables.{Path, Variable}
 use Rattle.rhai_machine.specs.language.Activations.{Entered, CallExit}
 use Rattle.rhai_machine.specs.language.Cases.{Cases}
 use Rattle.rhai_machine.specs.language.Turns.{ForLoop, Turns}
@@ -28,12 +29,13 @@ pub data Lender : Type 0 where
   FromThis : Lender
   FromFocus : Lender
 
--- How a call by name is dispatched: whether its first argument is the object of a method, whether natives alone are asked, and whether a
--- function of a script runs on the caller's variables.
+-- How a call by name is dispatched: whether its first argument is the object of a method, whether natives alone are asked, whether a
+-- function of a script runs on the caller's variables, and the path in front of the name, behind which a function of a script alone is meant.
 pub record Dispatch : Type 0 where
   pub of_method : Bool
   pub natives_alone : Bool
   pub on_scope : Bool
+  pub path : Path
 
 -- A call with its arguments: of a native by its name, or by a number. The first argument may be lent, and goes back then. Where it is
 -- guarded, a constant is kept from a native that is not pure. Where the call marks, its answer says whether the native may have changed
@@ -84,7 +86,7 @@ pub data Purpose (H : Type 0) : Type 0 where
   -- a call by name, with the values that a pointer has already
   ToCall : Operation → (curried : List (Dynamic H)) → (how : Dispatch) → Purpose H
   -- a call by name, with a variable before the arguments that is read last, or with `this`
-  ToCallOn : Operation → (variable : List ℕ) → (variable_at : Position) → (how : Dispatch) → Purpose H
+  ToCallOn : Operation → Variable → (how : Dispatch) → Purpose H
   ToCallOnThis : Operation → (this_at : Position) → (how : Dispatch) → Purpose H
   -- a call of the function that a pointer is linked to
   ToCallFunction : Function H → (at : Position) → (curried : List (Dynamic H)) → Purpose H
@@ -95,8 +97,9 @@ pub data Purpose (H : Type 0) : Type 0 where
   -- a chain, with what is left of it behind the link that asks for them
   ToChain : Chain H → (behind : Option ExprLayer) → Purpose H
 
--- an assignment to a variable: its name, where it stands, and how the value is assigned
+-- an assignment to a variable: its name with the path in front of it, where it stands, and how the value is assigned
 pub record Assignment : Type 0 where
+  pub path : Path
   pub name : List ℕ
   pub at : Position
   pub op : OpAssignment
@@ -167,7 +170,7 @@ pub data Control (H : Type 0) : Type 0 where
   OpenChain : Chain H → Control H
   ChainArguments : Chain H → (rest : ExprLayer) → (made : List (Dynamic H)) → Control H
   ChainRoot : Chain H → Control H
-  ReadRoot : (name : List ℕ) → (at : Position) → Chain H → Control H
+  ReadRoot : Variable → Chain H → Control H
   -- the next link of a chain works on the focus, and finds there what its index or its key leads to
   Walk : Chain H → Control H
   Locate : Link → Chain H → Control H

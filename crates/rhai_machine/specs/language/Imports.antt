@@ -1,6 +1,7 @@
 -- The rule of `import`: the engine's module under a path is imported under a name, and counted.
 use Rattle.std.specs.Prelude.{ℕ, ◌+◌, ◌-◌, ◌^◌, min, Bool, true, false, List, [], ◌∷◌, ◌++◌, Option, Some, None, Result, Ok, Err}
 use Rattle.rhai_machine.specs.Types.{Dynamic, EvalAltResult, Expr, Ident, Module, Position}
+pub use Rattle.rhai_tree.specs.Forms.{name_asked}
 use Rattle.rhai_tree.specs.Lookup.{value_of}
 use Rattle.rhai_tree.specs.Positions.{position_of, start_of}
 use Rattle.rhai_state.specs.declared.error.EvalAltResult.TheVariants as error
@@ -9,11 +10,6 @@ use Rattle.rhai_machine.specs.language.State.{Local}
 use Rattle.rhai_machine.specs.language.Values.{Cells}
 use Rattle.rhai_machine.specs.language.Arguments.{text_wanted}
 use Rattle.rhai_machine.specs.language.Frames.{Frame, Core, core, Eval, Fail, ImportPath}
-
--- the name that is asked for, or the empty one
-abbrev pub name_asked : Option Ident → List ℕ
-name_asked None = []
-name_asked (Some alias) = alias.name
 
 -- one module more is loaded, up to the greatest count; no count falls
 abbrev pub one_more : ℕ → ℕ

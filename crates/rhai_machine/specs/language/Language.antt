@@ -5,7 +5,7 @@ use Rattle.rhai_tree.specs.declared.expr.Stmt.{out-Stmt}
 use Rattle.rhai_tree.specs.Positions.{position_of, stmt_position_of}
 use Rattle.rhai_state.specs.declared.error.EvalAltResult.TheVariants as error
 use Rattle.rhai_machine.specs.machine.Machine.{Move, Halt, Go, Charge, Machine}
-use Rattle.rhai_machine.specs.language.Setting.{Setting, Rules}
+use Rattle.rhai_machine.specs.language.Setting.{Setting, Rules, globals_of}
 use Rattle.rhai_machine.specs.language.State.{Local}
 use Rattle.rhai_machine.specs.language.Frames.{Control, Frame, Core, core, Eval, Exec, Ask, Assign, AskUpdate, Argument, Question, Fire}
 use Rattle.rhai_machine.specs.language.Frames.{QuestionUpdate, FireUpdate, OpenExpr, OpenStmt, Enter, Run, Store, StoreThis, WhileTurn, DoTurn, Back}
@@ -18,7 +18,7 @@ use Rattle.rhai_machine.specs.language.Bodies.{opened_function}
 use Rattle.rhai_machine.specs.language.Calls.{focus_core, question_move, fire_move}
 use Rattle.rhai_machine.specs.language.Arguments.{named_move}
 use Rattle.rhai_machine.specs.language.Places.{target_of}
-use Rattle.rhai_machine.specs.language.Assignment.{store_core, store_this, question_update, fire_update}
+use Rattle.rhai_machine.specs.language.Assignment.{store_core, store_this, question_update, fire_update, variable_of_assignment}
 use Rattle.rhai_machine.specs.language.Turns.{next_turn}
 use Rattle.rhai_machine.specs.language.Choices.{choose_core}
 use Rattle.rhai_machine.specs.language.Loops.{is_endless, while_move}
@@ -45,12 +45,12 @@ module _ {H : Type 0} (s : Setting H) where
   move_at (Fire call) k l = fire_move s call call.args k l
   move_at (QuestionUpdate u) k l = question_update s u k l
   move_at (FireUpdate u) k l = fire_update s u.target.value u k l
-  move_at (OpenExpr form) k l = expr_move s.offer.fast_operators form k l
+  move_at (OpenExpr form) k l = expr_move s s.offer.fast_operators form k l
   move_at (OpenStmt form restoring) k l = stmt_move s form restoring k l
   move_at (Enter stmts restoring) k l = Go (enter_core stmts restoring k l)
   move_at (Run stmts restoring last) k l = Go (run_core stmts restoring last k l)
   move_at (Store assignment v) k l = Go (store_core s
-      (target_of l.around.cells l.around.lib assignment.name assignment.at l.scope) assignment v k l)
+      (target_of (globals_of s.offer) l.around l.scope (variable_of_assignment assignment)) assignment v k l)
   move_at (StoreThis op at v) k l = Go (store_this s op at v k l)
   move_at (WhileTurn test body) k l = while_move (is_endless (out-Expr test)) body.statements test body k l
   move_at (DoTurn test body options) k l = Go (core (Enter body.statements true) (DoBody test body options ∷ k) l)
@@ -61,7 +61,7 @@ module _ {H : Type 0} (s : Setting H) where
   move_at (OpenChain chain) k l = open_move (link_of chain.rest) chain k l
   move_at (ChainArguments chain rest made) k l = asked_move s (link_of rest) chain made k l
   move_at (ChainRoot chain) k l = root_move (out-Expr chain.root) chain k l
-  move_at (ReadRoot name at chain) k l = Go (read_root_core name at chain k l)
+  move_at (ReadRoot variable chain) k l = Go (read_root_core (globals_of s.offer) variable chain k l)
   move_at (Walk chain) k l = walk_move s (link_of chain.rest) chain k l
   move_at (Locate link chain) k l = Go (locate_core s link chain k l)
   move_at (Back v) [] l = Halt

@@ -17,6 +17,7 @@ use Rattle.rhai_machine.specs.language.Setting.{Setting}
 use Rattle.rhai_machine.specs.language.State.{Local}
 use Rattle.rhai_machine.specs.language.Values.{Cells, bool_value, mismatch, through}
 use Rattle.rhai_machine.specs.language.Functions.{Function}
+use Rattle.rhai_machine.specs.language.Variables.{no_path}
 use Rattle.rhai_machine.specs.language.Frames.{Operation, FromFocus, Dispatch, Call, Frame, Core, core, on_value, EnterOnFocus, Question}
 use Rattle.rhai_machine.specs.language.Frames.{Back, Fail}
 use Rattle.rhai_machine.specs.language.Calls.{call_of, call_races, dispatch_core, plainly}
@@ -47,7 +48,7 @@ word_of name count =
 
 -- a method by name, of which natives alone may be asked
 abbrev pub as_method : (natives_alone : Bool) → Dispatch
-as_method alone = record { of_method = true; natives_alone = alone; on_scope = false }
+as_method alone = record { of_method = true; natives_alone = alone; on_scope = false; path = no_path }
 
 -- where the first argument of a method is looked at
 abbrev pub argument_at : Method → Position

@@ -1,19 +1,26 @@
--- What a name means, by name alone: the newest variable of the name, or else the first function of the name in the libraries.
-use Rattle.std.specs.Prelude.{ℕ, List, Option, Some, None, Result, Ok, Err}
-use Rattle.std.specs.Option.{option_or}
+-- What a variable means, by name alone: an entry of the scope, or a temporary value.
+use Rattle.std.specs.Prelude.{ℕ, List, [], ◌∷◌, Option, Some, None, Result, Ok, Err, slice_get}
+use Rattle.std.specs.Option.{option_map, option_or, unwrap_or}
 use Rattle.rhai_machine.specs.Types.{Dynamic, EvalAltResult, Module, Position, ScopeEntry, Union}
 use Rattle.rhai_values.specs.declared.base.value.Union.TheVariants as value
 use Rattle.rhai_state.specs.declared.error.EvalAltResult.TheVariants as error
 use Rattle.rhai_values.specs.Cells.{value_of_cell}
-use Rattle.rhai_state.specs.Scope.{found}
-use Rattle.rhai_machine.specs.language.Values.{Cells, copied}
+use Rattle.rhai_values.specs.Copy.{copy_of}
+use Rattle.rhai_state.specs.Scope.{found, index_of}
+use Rattle.rhai_functions.specs.Namespaces.{constant_among}
+use Rattle.rhai_functions.specs.Qualified.{qualified}
+use Rattle.rhai_machine.specs.language.Setting.{Globals}
+use Rattle.rhai_machine.specs.language.State.{Surroundings}
+use Rattle.rhai_machine.specs.language.Values.{Cells}
 use Rattle.rhai_machine.specs.language.Functions.{meant_function}
+use Rattle.rhai_machine.specs.language.Variables.{Variable}
+
+-- the value of an entry of the scope, or a temporary
+pub data Meaning (H : Type 0) : Type 0 where
+  AtEntry : (index : ℕ) → (v : Dynamic H) → Meaning H
+  AsTemporary : (v : Dynamic H) → Meaning H
 
 module _ {H : Type 0} where
-  -- the value of a name: a variable's, or a pointer to a function
-  abbrev pub meant : List (Module H) → List ℕ → List (ScopeEntry H) → Option (Dynamic H)
-  meant lib name entries = option_or (found name entries) (meant_function lib name)
-
   -- a variable that is the handle of a held cell is another's
   abbrev pub entered : List ℕ → Position → Dynamic H → Option (Dynamic H) → Result (Dynamic H) (EvalAltResult H)
   entered name at v (Some inner) = Ok v
@@ -28,9 +35,68 @@ module _ {H : Type 0} where
   variable_of cells name at (Some v) = looked_up cells name at v.value v
   variable_of cells name at None = Err (error.ErrorVariableNotFound name at)
 
-  -- what reading a variable gives: a copy of its value, read-write; a copied handle names the same cell
-  abbrev pub read : Cells H → List (Module H) → List ℕ → Position → List (ScopeEntry H) → Result (Dynamic H) (EvalAltResult H)
-  read cells lib name at entries = copied (variable_of cells name at (meant lib name entries))
+  abbrev pub of_entry : ℕ → Result (Dynamic H) (EvalAltResult H) → Result (Meaning H) (EvalAltResult H)
+  of_entry index (Ok v) = Ok (AtEntry index v)
+  of_entry index (Err e) = Err e
+
+  abbrev pub temporary : Result (Dynamic H) (EvalAltResult H) → Result (Meaning H) (EvalAltResult H)
+  temporary (Ok v) = Ok (AsTemporary v)
+  temporary (Err e) = Err e
+
+  -- a value, or that there is no such variable
+  abbrev pub there_or_unknown : Option (Dynamic H) → List ℕ → Position → Result (Dynamic H) (EvalAltResult H)
+  there_or_unknown (Some v) name at = Ok v
+  there_or_unknown None name at = Err (error.ErrorVariableNotFound name at)
+
+  -- what a name means that no entry has: a constant of the engine's modules, of which a copy is taken, or else a pointer to a function of
+  -- the libraries
+  abbrev pub without_entry : Globals H → List (Module H) → List ℕ → Option (Dynamic H)
+  without_entry globals lib name =
+      option_or (option_map copy_of (constant_among name globals.modules)) (meant_function lib name)
+
+  -- the newest entry of a name, or else this
+  abbrev pub entry_or : Cells H → List ℕ → Position → Option ℕ → Option (Dynamic H) → (otherwise : Result (Meaning H) (EvalAltResult H)) →
+      Result (Meaning H) (EvalAltResult H)
+  entry_or cells name at (Some index) (Some v) otherwise = of_entry index (looked_up cells name at v.value v)
+  entry_or cells name at _ _ otherwise = otherwise
+
+  -- the table of constants that is the run's own
+  abbrev pub own_constants : Surroundings H → List (List ℕ) × List (Dynamic H)
+  own_constants around = unwrap_or (slice_get around.constant_tables around.constants) ([], [])
+
+  -- what a variable means that is no entry; behind a path it is a constant of the module that the path leads to
+  module _ (globals : Globals H) (around : Surroundings H) where
+    abbrev pub value_behind : (path : List (List ℕ)) → Variable → Result (Dynamic H) (EvalAltResult H)
+    value_behind [] variable = there_or_unknown (without_entry globals around.lib variable.name) variable.name variable.at
+    value_behind (root ∷ path) variable =
+        qualified around.imports globals.named (own_constants around) (root ∷ path) variable.name variable.path.at
+
+    abbrev pub value_beside : Variable → Result (Dynamic H) (EvalAltResult H)
+    value_beside variable = value_behind variable.path.names variable
+
+  -- the entry of a name that has no path
+  abbrev pub entry_named : (path : List (List ℕ)) → List ℕ → List (ScopeEntry H) → Option ℕ
+  entry_named [] name scope = index_of name scope
+  entry_named (root ∷ path) name scope = None
+
+  module _ (globals : Globals H) (around : Surroundings H) (scope : List (ScopeEntry H)) where
+    -- by itself a name means an entry first
+    abbrev pub meant_behind : (path : List (List ℕ)) → Variable → Result (Meaning H) (EvalAltResult H)
+    meant_behind [] variable = entry_or around.cells variable.name variable.at (index_of variable.name scope) (found variable.name scope)
+        (temporary (value_behind globals around [] variable))
+    meant_behind (root ∷ path) variable = temporary (value_behind globals around (root ∷ path) variable)
+
+    abbrev pub meant : Variable → Result (Meaning H) (EvalAltResult H)
+    meant variable = meant_behind variable.path.names variable
+
+  -- what reading it gives: of an entry a copy, read-write, which of a handle names the same cell, and a temporary as it is
+  abbrev pub read_of : Result (Meaning H) (EvalAltResult H) → Result (Dynamic H) (EvalAltResult H)
+  read_of (Ok (AtEntry index v)) = Ok (copy_of v)
+  read_of (Ok (AsTemporary v)) = Ok v
+  read_of (Err e) = Err e
+
+  abbrev pub read : Globals H → Surroundings H → List (ScopeEntry H) → Variable → Result (Dynamic H) (EvalAltResult H)
+  read globals around scope variable = read_of (meant globals around scope variable)
 
   -- `this`, where it is bound
   abbrev pub bound_this : Position → Option (Dynamic H) → Result (Dynamic H) (EvalAltResult H)

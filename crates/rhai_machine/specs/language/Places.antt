@@ -1,14 +1,16 @@
 -- Where a variable's value stands, as it is assigned to.
 use Rattle.std.specs.Prelude.{ℕ, Bool, true, false, not, ◌&&◌, ◌||◌, List, [], Option, Some, None, Result, Ok, Err, slice_get}
-use Rattle.rhai_machine.specs.Types.{AccessMode, Dynamic, EvalAltResult, Module, Position, ScopeEntry, Union}
+use Rattle.rhai_machine.specs.Types.{AccessMode, Dynamic, EvalAltResult, Position, ScopeEntry, Union}
 use Rattle.rhai_values.specs.declared.base.value.AccessMode.TheVariants.{ReadWrite, ReadOnly}
 use Rattle.rhai_values.specs.declared.base.value.Union.TheVariants as value
 use Rattle.rhai_state.specs.declared.error.EvalAltResult.TheVariants as error
 use Rattle.rhai_values.specs.Cells.{value_of_cell, with_held, with_value}
-use Rattle.rhai_state.specs.Scope.{index_of, found, revalued}
-use Rattle.rhai_machine.specs.language.State.{Local}
+use Rattle.rhai_state.specs.Scope.{revalued}
+use Rattle.rhai_machine.specs.language.Setting.{Globals}
+use Rattle.rhai_machine.specs.language.State.{Local, Surroundings}
 use Rattle.rhai_machine.specs.language.Values.{Cells}
-use Rattle.rhai_machine.specs.language.Functions.{meant_function}
+use Rattle.rhai_machine.specs.language.Variables.{Variable}
+use Rattle.rhai_machine.specs.language.Names.{Meaning, AtEntry, AsTemporary, meant}
 
 -- in an entry of the scope, in a cell, as `this`, or as the value that a chain works on
 pub data Place : Type 0 where
@@ -48,20 +50,15 @@ module _ {H : Type 0} where
   target_at cells name at index (value.Cell id) v = target_in_cell name at v.mode id.number (value_of_cell cells id.number)
   target_at cells name at index _ v = unless_constant (is_constant v.mode) name at (target (InEntry index) v)
 
-  -- what is no variable is unknown, or means a function, which is not assigned to
-  abbrev pub no_variable : (function : Option (Dynamic H)) → List ℕ → Position → EvalAltResult H
-  no_variable (Some pointer) name at = error.ErrorAssignmentToConstant name at
-  no_variable None name at = error.ErrorVariableNotFound name at
+  -- what a variable means, as it is assigned to: a temporary is not
+  abbrev pub target_meant : Cells H → List ℕ → Position → Result (Meaning H) (EvalAltResult H) → Result (Target H) (EvalAltResult H)
+  target_meant cells name at (Ok (AtEntry index v)) = target_at cells name at index v.value v
+  target_meant cells name at (Ok (AsTemporary v)) = Err (error.ErrorAssignmentToConstant name at)
+  target_meant cells name at (Err e) = Err e
 
-  abbrev pub target_found : Cells H → (otherwise : EvalAltResult H) → List ℕ → Position → Option ℕ → Option (Dynamic H) →
-      Result (Target H) (EvalAltResult H)
-  target_found cells otherwise name at (Some index) (Some v) = target_at cells name at index v.value v
-  target_found cells otherwise name at _ _ = Err otherwise
-
-  -- the variable of a name, as it is assigned to
-  abbrev pub target_of : Cells H → List (Module H) → List ℕ → Position → List (ScopeEntry H) → Result (Target H) (EvalAltResult H)
-  target_of cells lib name at entries =
-      target_found cells (no_variable (meant_function lib name) name at) name at (index_of name entries) (found name entries)
+  abbrev pub target_of : Globals H → Surroundings H → List (ScopeEntry H) → Variable → Result (Target H) (EvalAltResult H)
+  target_of globals around scope variable =
+      target_meant around.cells variable.name variable.at (meant globals around scope variable)
 
   -- The focus of a chain, as it is assigned to: the name of the chain's root tells which constant it is. A handle leads to its cell.
   abbrev pub focus_in_cell : List ℕ → Position → AccessMode → ℕ → Option (Dynamic H) → Result (Target H) (EvalAltResult H)

@@ -13,6 +13,11 @@ pub record Offer (H : Type 0) : Type 0 where
   pub global_sub_modules : List (List ℕ) × List (Module H)
   pub modules : List (List ℕ) × List (Module H)
 
+-- the modules of an engine that names lead to: those whose constants and functions are found without a path, and those that have names
+pub record Globals (H : Type 0) : Type 0 where
+  pub modules : List (Module H)
+  pub named : List (List ℕ) × List (Module H)
+
 -- what the rules of the language read
 pub record Setting (H : Type 0) : Type 0 where
   pub limits : Limits
@@ -24,6 +29,9 @@ pub record Setting (H : Type 0) : Type 0 where
 pub record Rules (S H : Type 0) : Type 0 where
   pub setting : Setting H
   pub natives : Natives S H
+
+abbrev pub globals_of : {H : Type 0} → Offer H → Globals H
+globals_of offer = record { modules = offer.global_modules; named = offer.global_sub_modules }
 
 module _ {S H : Type 0} where
   abbrev pub over : Setting H → Natives S H → Rules S H

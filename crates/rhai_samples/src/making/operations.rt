@@ -3,7 +3,6 @@
 use crate::making::{Making, place, shared, take_last};
 use crate::parts::Part;
 use bitflags::Flags;
-use rhai_build::no_namespace;
 use rhai_tree::expr::{Expr, FnCallExpr, MapEntry};
 use rhai_tree::flags::ASTFlags;
 use rhai_tree::literal::Literal;
@@ -65,7 +64,7 @@ impl Making {
     ) -> Result<FnCallExpr, AllocError> {
         let args = self.exprs(count)?;
         Ok(FnCallExpr {
-            namespace: no_namespace(self.alloc),
+            namespace: self.path(),
             name: shared(self.alloc, name)?,
             args,
             op_token,

@@ -22,11 +22,11 @@ use std::io;
 use std::io::Write;
 
 /// The lists whose scripts are run: the rows, with fewer calls in place of row 3, and lists that no row has.
-pub const LISTS: [&str; 47] = [
+pub const LISTS: [&str; 52] = [
     "1", "2", "fewer", "4", "5", "6", "7", "8", "9", "10", "11", "12", "13", "14", "15", "16",
     "17", "18", "19", "20", "21", "22", "23", "24", "26", "27", "28", "29", "30", "31", "32", "33",
-    "34", "35", "36", "37", "38", "calls", "order", "kept", "block", "walks", "choices", "caught",
-    "cells", "exports", "imports",
+    "34", "35", "36", "37", "38", "39", "calls", "order", "kept", "block", "walks", "choices",
+    "caught", "cells", "exports", "imports", "paths", "called", "own", "globals",
 ];
 
 /// A script by its list and its place there, and a way to run it.

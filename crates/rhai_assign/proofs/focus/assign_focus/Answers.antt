@@ -6,6 +6,7 @@ use Rattle.rhai_machine.specs.language.Links.{name_in}
 use Rattle.rhai_machine.specs.language.Places.{InCell, InFocus, focus_target, target}
 use Rattle.rhai_machine.specs.language.Setting.{Rules, rules_of}
 use Rattle.rhai_machine.specs.language.State.{State}
+use Rattle.rhai_machine.specs.language.Variables.{no_path}
 use Rattle.rhai_steps.specs.States.{state_of}
 use Rattle.rhai_assign.specs.Chains.{InItself, InOwnCell}
 use Rattle.rhai_assign.specs.Lending.{placed}
@@ -23,7 +24,7 @@ returns-in-Ok-None-clause-runs g c offer scope held fast =
     let found : InItself c.args.target.now (focus_target (cells_of c.args.global.now.cells) name (start_of c.args.root.now)
     c.args.target.now) = rw c.in-Ok-None.field-0-is at c.in-Ok-None.ensures in
     focus_found rules c.args.root.now c.args.op c.args.value old new (target InFocus c.args.target.now) c.position-pos.result
-    c.assign_lent.result found.is c.position-pos.ensures (c.assign_lent.ensures.runs offer scope held name InFocus fast refl)
+    c.assign_lent.result found.is c.position-pos.ensures (c.assign_lent.ensures.runs offer scope held no_path name InFocus fast refl)
 
 pub returns-in-Ok-Some-clause-runs : goal.returns-in-Ok-Some-clause-runs
 returns-in-Ok-Some-clause-runs g c offer scope held fast =
@@ -37,7 +38,7 @@ returns-in-Ok-Some-clause-runs g c offer scope held fast =
     (start_of c.args.root.now) c.args.target.now) = rw c.in-Ok-Some.field-0-is at c.in-Ok-Some.ensures in
     focus_found rules c.args.root.now c.args.op c.args.value old new (target (InCell c.in-Ok-Some.id.number) found.value)
     c.position-pos.result c.assign_in_cell.result found.is c.position-pos.ensures
-    (c.assign_in_cell.ensures.runs offer scope (record held { focus = Some c.args.target.now }) name found.value fast found.there)
+    (c.assign_in_cell.ensures.runs offer scope (record held { focus = Some c.args.target.now }) no_path name found.value fast found.there)
 
 pub returns-in-Err-clause-runs : goal.returns-in-Err-clause-runs
 returns-in-Err-clause-runs g c offer scope held fast =

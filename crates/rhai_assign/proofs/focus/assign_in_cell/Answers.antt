@@ -13,7 +13,7 @@ returns-clause-keeps g c = keeps_held c.args.global.now c.assign_lent-result.new
     c.assign_lent-result.ensures.keeps c.put_back.ensures refl
 
 pub returns-clause-runs : goal.returns-clause-runs
-returns-clause-runs g c offer scope held name inner fast there =
+returns-clause-runs g c offer scope held path name inner fast there =
     let rules : Rules _ _ = rules_of c.args.limits.now g.H.Host.name_of offer g.T.NativeTable.natives in
     let taken = sym c.take.ensures.value ∙ c.unwrap-target.ensures in
     rw (one_value (value_of_cell (cells_of c.args.global.now.cells) c.args.id.number) inner c.unwrap-target.result there taken)
@@ -21,4 +21,4 @@ returns-clause-runs g c offer scope held name inner fast there =
     (g.T.NativeTable.state c.args.table.now) (g.T.NativeTable.state c.assign_lent-result.new.table) c.args.global.now
     c.assign_lent-result.new.global c.take.new.self c.put_back.new.cells scope scope scope held c.assign_lent-result.result taken
     refl c.take.ensures.held (record { entries = refl; cells = c.put_back.ensures })
-    (c.assign_lent-result.ensures.runs offer scope held name (InCell c.args.id.number) fast refl))
+    (c.assign_lent-result.ensures.runs offer scope held path name (InCell c.args.id.number) fast refl))

@@ -3,11 +3,11 @@ use Rattle.rhai_tree.specs.declared.expr.Expr.{out-Expr}
 use Rattle.rhai_tree.specs.declared.expr.Expr.TheVariants as exprs
 use Rattle.rhai_tree.specs.declared.expr.Expr.TheOpen as layer
 use Rattle.rhai_values.specs.Cells.{cells_of}
-use Rattle.rhai_state.specs.Scope.{entries_of, names_in}
+use Rattle.rhai_state.specs.Scope.{entries_of}
 use Rattle.rhai_machine.specs.language.Setting.{rules_of}
 use Rattle.rhai_operands.specs.Standing.{assigned_known, integer_of, standing}
 use Rattle.rhai_operands.proofs.Integers.{is_there}
-use Rattle.rhai_operands.proofs.Names.{plain_target}
+use Rattle.rhai_operands.proofs.Standing.{plain_entry}
 use Rattle.rhai_assign.specs.InPlace.{charged_at, writable_in}
 use Rattle.rhai_assign.proofs.Integers.{both_charged, integer_assigned, integer_found, integer_keeps}
 use Rattle.rhai_assign.proofs.in_place.assign_integer.Goals as goal
@@ -22,10 +22,11 @@ returns-clause-found g c is =
     let stands = ap (assigned_known c.in-Some.token (writable_in c.value_at.result.now)) (is_there c.integer_in_place-operand.result
     (integer_of (standing (out-Expr c.args.rhs.now) (entries_of c.args.scope.now)))
     (c.is_none-2.ensures ∙ ap not c.if-is_none-2.false) c.integer_in_place-operand.ensures) in
-    integer_found c.args.scope.now c.args.global.now.lib (cells_of c.args.global.now.cells) c.args.op.now c.args.lhs.now c.args.rhs.now
+    integer_found c.args.scope.now (cells_of c.args.global.now.cells) c.args.op.now c.args.lhs.now c.args.rhs.now
     c.in-Variable.offset c.in-Variable.name c.in-Variable.namespace c.in-Variable.pos (rw (c.in-Variable.is, exprs.outs-Variable) refl)
     c.in-Some.token c.in-Some.is c.in-Some-place_by_offset.index c.value_at.result.now c.in-Some-assign_known.value
-    c.in-Some-place_by_offset.ensures.exact c.value_at.ensures
+    (plain_entry c.in-Variable.namespace.path c.in-Variable.name (entries_of c.args.scope.now)
+    (sym c.is_plain.ensures ∙ c.if-not-is_plain.false) ∙ c.in-Some-place_by_offset.ensures.exact) c.value_at.ensures
     (stands ∙ sym (rw c.writable_integer-target.ensures at c.assign_known.ensures) ∙ c.in-Some-assign_known.is)
 
 pub returns-clause-runs : goal.returns-clause-runs
@@ -36,17 +37,18 @@ returns-clause-runs g c is offer held restoring level fast =
     let form : out-Expr c.args.lhs.now ≡ layer.Variable c.in-Variable.offset c.in-Variable.name c.in-Variable.namespace
     c.in-Variable.pos =
     rw (c.in-Variable.is, exprs.outs-Variable) refl in
-    let plain = plain_target c.args.lhs.now c.in-Variable.offset c.in-Variable.name c.in-Variable.namespace c.in-Variable.pos
-    (names_in c.args.scope.now) form c.requires.resolves_target in
     integer_assigned (rules_of c.args.limits.now g.H.Host.name_of offer g.T.NativeTable.natives)
     (g.T.NativeTable.state c.args._table.now) c.args.scope.now held c.args.op.now c.args.lhs.now c.args.rhs.now c.in-Variable.offset
-    c.in-Variable.name c.in-Variable.namespace c.in-Variable.pos restoring form plain c.requires.resolves
+    c.in-Variable.name c.in-Variable.namespace c.in-Variable.pos restoring form
     (charged_at (c.args.charges - 2) level c.args.global.now) (record c.charge_all.new.global { scope_level = level })
     c.write_number.new.scope (omega (arith, c.requires.both, c.charge_all.ensures.room c.if-not-charge_all.false))
     (both_charged c.args.global.now c.charge_all.new.global c.args.charges level c.requires.both
     (c.charge_all.ensures.charged c.if-not-charge_all.false)) c.in-Some.token c.in-Some.is fast c.in-Some-place_by_offset.index
-    c.value_at.result.now c.in-Some-assign_known.value c.in-Some-place_by_offset.ensures.exact
-    c.value_at.ensures (stands ∙ sym (rw c.writable_integer-target.ensures at c.assign_known.ensures) ∙ c.in-Some-assign_known.is) c.write_number.ensures
+    c.value_at.result.now c.in-Some-assign_known.value
+    (plain_entry c.in-Variable.namespace.path c.in-Variable.name (entries_of c.args.scope.now)
+    (sym c.is_plain.ensures ∙ c.if-not-is_plain.false) ∙ c.in-Some-place_by_offset.ensures.exact)
+    c.value_at.ensures (stands ∙ sym (rw c.writable_integer-target.ensures at c.assign_known.ensures) ∙ c.in-Some-assign_known.is)
+    c.write_number.ensures
 
 pub returns-clause-room : goal.returns-clause-room
 returns-clause-room g c is = c.charge_all.ensures.room c.if-not-charge_all.false

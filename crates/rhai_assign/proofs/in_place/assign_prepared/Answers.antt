@@ -2,9 +2,7 @@ use Rattle.std.proofs.Common.{◌≡◌, refl}
 use Rattle.rhai_tree.specs.declared.expr.Expr.{out-Expr}
 use Rattle.rhai_tree.specs.declared.expr.Expr.TheVariants as exprs
 use Rattle.rhai_tree.specs.declared.expr.Expr.TheOpen as layer
-use Rattle.rhai_state.specs.Scope.{names_in}
 use Rattle.rhai_machine.specs.language.Setting.{rules_of}
-use Rattle.rhai_operands.proofs.Names.{plain_target}
 use Rattle.rhai_assign.specs.InPlace.{IsReady}
 use Rattle.rhai_assign.proofs.Prepared.{target_stops, updates_in_place, value_stops}
 use Rattle.rhai_assign.proofs.in_place.assign_prepared.Goals as goal
@@ -12,32 +10,28 @@ use Rattle.rhai_assign.proofs.in_place.assign_prepared.Goals as goal
 pub returns-in-Err-clause-runs : goal.returns-in-Err-clause-runs
 returns-in-Err-clause-runs g c offer held restoring fast =
     let rules = rules_of c.args.limits.now g.H.Host.name_of offer g.T.NativeTable.natives in
-    let ready : IsReady c.in_ok-ready.ready c.in-Variable.name c.in-Variable.pos c.in_ok-token.token (out-Expr c.args.rhs.now)
-    c.args.scope.now c.args.global.now.lib c.args.global.now.cells = c.in_ok-ready.ensures.ready in
+    let ready : IsReady c.in_ok-ready.ready c.in-Variable.namespace.path c.in-Variable.name c.in-Variable.pos c.in_ok-token.token
+    (out-Expr c.args.rhs.now) c.args.scope.now c.args.global.now.cells = c.in_ok-ready.ensures.ready in
     let form : out-Expr c.args.lhs.now ≡ layer.Variable c.in-Variable.offset c.in-Variable.name c.in-Variable.namespace
     c.in-Variable.pos =
     rw (c.in-Variable.is, exprs.outs-Variable) refl in
-    let plain = plain_target c.args.lhs.now c.in-Variable.offset c.in-Variable.name c.in-Variable.namespace c.in-Variable.pos
-    (names_in c.args.scope.now) form c.requires.resolves_target in
     value_stops rules (g.T.NativeTable.state c.args._table.now) c.args.scope.now held c.args.op c.args.lhs.now c.args.rhs.now
     c.in-Variable.offset
-    c.in-Variable.name c.in-Variable.namespace c.in-Variable.pos restoring ready.operand form plain c.requires.resolves ready.given
+    c.in-Variable.name c.in-Variable.namespace c.in-Variable.pos restoring ready.operand form ready.given
     c.args.global.now c.track_operation.new.global c.in-Err.error c.in-Err.ensures.full
     (rw c.position.ensures at c.in-Err.ensures.refused) c.in-Err.ensures.same
 
 pub returns-in-Err-track_operation-clause-runs : goal.returns-in-Err-track_operation-clause-runs
 returns-in-Err-track_operation-clause-runs g c offer held restoring fast =
     let rules = rules_of c.args.limits.now g.H.Host.name_of offer g.T.NativeTable.natives in
-    let ready : IsReady c.in_ok-ready.ready c.in-Variable.name c.in-Variable.pos c.in_ok-token.token (out-Expr c.args.rhs.now)
-    c.args.scope.now c.args.global.now.lib c.args.global.now.cells = c.in_ok-ready.ensures.ready in
+    let ready : IsReady c.in_ok-ready.ready c.in-Variable.namespace.path c.in-Variable.name c.in-Variable.pos c.in_ok-token.token
+    (out-Expr c.args.rhs.now) c.args.scope.now c.args.global.now.cells = c.in_ok-ready.ensures.ready in
     let form : out-Expr c.args.lhs.now ≡ layer.Variable c.in-Variable.offset c.in-Variable.name c.in-Variable.namespace
     c.in-Variable.pos =
     rw (c.in-Variable.is, exprs.outs-Variable) refl in
-    let plain = plain_target c.args.lhs.now c.in-Variable.offset c.in-Variable.name c.in-Variable.namespace c.in-Variable.pos
-    (names_in c.args.scope.now) form c.requires.resolves_target in
     target_stops rules (g.T.NativeTable.state c.args._table.now) c.args.scope.now held c.args.op c.args.lhs.now c.args.rhs.now
     c.in-Variable.offset
-    c.in-Variable.name c.in-Variable.namespace c.in-Variable.pos restoring ready.operand form plain c.requires.resolves ready.given
+    c.in-Variable.name c.in-Variable.namespace c.in-Variable.pos restoring ready.operand form ready.given
     c.args.global.now c.track_operation.new.global c.in_default-track_operation.ensures.room
     c.in_default-track_operation.ensures.charged c.track_operation-2.new.global c.in-Err-track_operation.error
     c.in-Err-track_operation.ensures.full c.in-Err-track_operation.ensures.refused c.in-Err-track_operation.ensures.same
@@ -45,16 +39,14 @@ returns-in-Err-track_operation-clause-runs g c offer held restoring fast =
 pub returns-clause-runs : goal.returns-clause-runs
 returns-clause-runs g c offer held restoring fast =
     let rules = rules_of c.args.limits.now g.H.Host.name_of offer g.T.NativeTable.natives in
-    let ready : IsReady c.in_ok-ready.ready c.in-Variable.name c.in-Variable.pos c.in_ok-token.token (out-Expr c.args.rhs.now)
-    c.args.scope.now c.args.global.now.lib c.args.global.now.cells = c.in_ok-ready.ensures.ready in
+    let ready : IsReady c.in_ok-ready.ready c.in-Variable.namespace.path c.in-Variable.name c.in-Variable.pos c.in_ok-token.token
+    (out-Expr c.args.rhs.now) c.args.scope.now c.args.global.now.cells = c.in_ok-ready.ensures.ready in
     let form : out-Expr c.args.lhs.now ≡ layer.Variable c.in-Variable.offset c.in-Variable.name c.in-Variable.namespace
     c.in-Variable.pos =
     rw (c.in-Variable.is, exprs.outs-Variable) refl in
-    let plain = plain_target c.args.lhs.now c.in-Variable.offset c.in-Variable.name c.in-Variable.namespace c.in-Variable.pos
-    (names_in c.args.scope.now) form c.requires.resolves_target in
     updates_in_place rules (g.T.NativeTable.state c.args._table.now) c.args.scope.now held c.args.op c.args.lhs.now c.args.rhs.now
     c.in-Variable.offset
-    c.in-Variable.name c.in-Variable.namespace c.in-Variable.pos restoring ready.operand form plain c.requires.resolves ready.given
+    c.in-Variable.name c.in-Variable.namespace c.in-Variable.pos restoring ready.operand form ready.given
     c.args.global.now c.track_operation.new.global c.in_default-track_operation.ensures.room
     c.in_default-track_operation.ensures.charged c.track_operation-2.new.global c.in_default-track_operation-2.ensures.room
     c.in_default-track_operation-2.ensures.charged c.in_ok-token.token c.in_ok-token.was fast c.in_ok-ready.ready.place

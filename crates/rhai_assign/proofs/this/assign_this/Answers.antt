@@ -3,6 +3,7 @@ use Rattle.rhai_values.specs.Cells.{cells_of}
 use Rattle.rhai_machine.specs.language.Places.{InCell, InThis, target, this_target}
 use Rattle.rhai_machine.specs.language.Setting.{Rules, rules_of}
 use Rattle.rhai_machine.specs.language.State.{State}
+use Rattle.rhai_machine.specs.language.Variables.{no_path}
 use Rattle.rhai_steps.specs.States.{state_of}
 use Rattle.rhai_assign.specs.Chains.{IsThis, InOwnCell}
 use Rattle.rhai_assign.proofs.Going.{this_fails, this_found}
@@ -18,7 +19,7 @@ returns-in-Ok-None-clause-runs g c offer scope focus fast =
     let found : IsThis c.args.this.now (this_target (cells_of c.args.global.now.cells) c.args.pos (Some c.args.this.now)) =
     rw c.in-Ok-None.field-0-is at c.in-Ok-None.ensures in
     this_found rules c.args.op c.args.pos c.args.value old new (target InThis c.args.this.now) c.assign_lent.result found.is
-    (c.assign_lent.ensures.runs offer scope (record { this = Some c.args.this.now; focus = focus }) [] InThis fast refl)
+    (c.assign_lent.ensures.runs offer scope (record { this = Some c.args.this.now; focus = focus }) no_path [] InThis fast refl)
 
 pub returns-in-Ok-Some-clause-runs : goal.returns-in-Ok-Some-clause-runs
 returns-in-Ok-Some-clause-runs g c offer scope focus fast =
@@ -32,7 +33,7 @@ returns-in-Ok-Some-clause-runs g c offer scope focus fast =
     rw c.in-Ok-Some.field-0-is at c.in-Ok-Some.ensures in
     this_found rules c.args.op c.args.pos c.args.value old new (target (InCell c.in-Ok-Some.id.number) found.value)
     c.assign_in_cell.result found.is
-    (c.assign_in_cell.ensures.runs offer scope (record { this = Some c.args.this.now; focus = focus }) [] found.value fast found.there)
+    (c.assign_in_cell.ensures.runs offer scope (record { this = Some c.args.this.now; focus = focus }) no_path [] found.value fast found.there)
 
 pub returns-in-Err-clause-runs : goal.returns-in-Err-clause-runs
 returns-in-Err-clause-runs g c offer scope focus fast =

@@ -10,18 +10,18 @@ use Rattle.rhai_assign.proofs.Updates.{updates, writes}
 use Rattle.rhai_assign.proofs.update.assign_lent.Goals as goal
 
 pub returns-in-Some-clause-runs : goal.returns-in-Some-clause-runs
-returns-in-Some-clause-runs g c offer scope held name place fast from =
+returns-in-Some-clause-runs g c offer scope held path name place fast from =
     let rules : Rules _ _ = rules_of c.args.limits.now g.H.Host.name_of offer g.T.NativeTable.natives in
-    let assignment : Assignment = record { name = name; at = c.args.pos; op = c.args.op } in
+    let assignment : Assignment = record { path = path; name = name; at = c.args.pos; op = c.args.op } in
     updates rules assignment (target place c.args.target.now) c.args.value
     (placed place c.args.target.now (state_of (g.T.NativeTable.state c.args.table.now) c.args.global.now scope held))
     (placed place c.update.new.target (state_of (g.T.NativeTable.state c.update.new.table) c.update.new.global scope held)) c.update.result
     c.in-Some.token c.in-Some.is (c.update.ensures.runs offer scope held place fast from)
 
 pub returns-in-None-clause-runs : goal.returns-in-None-clause-runs
-returns-in-None-clause-runs g c offer scope held name place fast from =
+returns-in-None-clause-runs g c offer scope held path name place fast from =
     let rules : Rules _ _ = rules_of c.args.limits.now g.H.Host.name_of offer g.T.NativeTable.natives in
-    let assignment : Assignment = record { name = name; at = c.args.pos; op = c.args.op } in
+    let assignment : Assignment = record { path = path; name = name; at = c.args.pos; op = c.args.op } in
     let old : State _ _ = state_of (g.T.NativeTable.state c.args.table.now) c.args.global.now scope held in
     rw (c.unit_value.ensures, c.replace.ensures.after, c.set_access_mode.ensures) (writes rules assignment
     (target place c.args.target.now) c.args.value (placed place c.args.target.now old) _ c.in-None.is

@@ -19,18 +19,18 @@ returns-in-None-clause-keeps g c = record {
 }
 
 pub returns-in-Some-clause-runs : goal.returns-in-Some-clause-runs
-returns-in-Some-clause-runs g c offer held name fast =
+returns-in-Some-clause-runs g c offer held path name fast =
     let rules : Rules _ _ = rules_of c.args.limits.now g.H.Host.name_of offer g.T.NativeTable.natives in
-    let assignment : Assignment = record { name = name; at = c.args.pos; op = c.args.op } in
+    let assignment : Assignment = record { path = path; name = name; at = c.args.pos; op = c.args.op } in
     updates rules assignment (target (place_in c.args.place) (standing_at c.args.place c.args.scope.now c.args.global.now.cells))
     c.args.value (state_of (g.T.NativeTable.state c.args.table.now) c.args.global.now c.args.scope.now held)
     (state_of (g.T.NativeTable.state c.update_at.new.table) c.update_at.new.global c.update_at.new.scope held) c.update_at.result
     c.in-Some.token c.in-Some.is (c.update_at.ensures.runs offer held fast)
 
 pub returns-in-None-clause-runs : goal.returns-in-None-clause-runs
-returns-in-None-clause-runs g c offer held name fast =
+returns-in-None-clause-runs g c offer held path name fast =
     let rules : Rules _ _ = rules_of c.args.limits.now g.H.Host.name_of offer g.T.NativeTable.natives in
-    let assignment : Assignment = record { name = name; at = c.args.pos; op = c.args.op } in
+    let assignment : Assignment = record { path = path; name = name; at = c.args.pos; op = c.args.op } in
     rw c.unit_value.ensures (writes rules assignment
     (target (place_in c.args.place) (standing_at c.args.place c.args.scope.now c.args.global.now.cells)) c.args.value
     (state_of (g.T.NativeTable.state c.args.table.now) c.args.global.now c.args.scope.now held) _ c.in-None.is

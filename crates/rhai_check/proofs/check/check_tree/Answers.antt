@@ -13,7 +13,7 @@ returns-in_err-functions-clause-refused c =
 pub new-requires-clause-resolves : goal.new-requires-clause-resolves
 new-requires-clause-resolves c base =
     ap (λ n. (all_resolve (map resolves_stmt c.args.statements) n).0) (sym (append-nil base))
-    ∙ ap (λ p. p.0) (rw (c.as_slice.ensures, c.new-names.ensures) at (c.in_ok-check_statements.ensures.resolved base))
+    ∙ ap (λ p. p.0) (rw (c.as_slice.ensures, c.new-declared.ensures) at (c.in_ok-check_statements.ensures.resolved base))
 
 pub returns-clause-refused : goal.returns-clause-refused
 returns-clause-refused c = tt

@@ -3,7 +3,7 @@ use Rattle.rhai_cycle.proofs.roots.lend_variable.Goals as goal
 
 pub returns-then-is_anothers-clause-lends : goal.returns-then-is_anothers-clause-lends
 returns-then-is_anothers-clause-lends g c =
-    rw (sym c.place_of_variable.ensures.exact ∙ c.in-Some.is) (
+    rw (sym c.entry_of_variable.ensures.exact ∙ c.in-Some.is) (
       c.value_at.result.now,
       (
         c.value_at.ensures,

@@ -1,4 +1,4 @@
-use Rattle.std.proofs.Common.{◌∷◌, None}
+use Rattle.std.proofs.Common.{◌∷◌, None, false}
 use Rattle.rhai_machine.specs.language.Calls.{plainly}
 use Rattle.rhai_machine.specs.language.Setting.{Rules, rules_of}
 use Rattle.rhai_machine.specs.language.Frames.{Dispatch, Operation}
@@ -17,7 +17,7 @@ returns-in-Ended-clause-runs g c offer scope held on_scope offers =
     let operation : Operation = record { name = c.args.name.now; token = c.args.token; at = c.args.pos } in
     let s : State _ _ = state_of (g.T.NativeTable.state c.args.table.now) c.args.global.now scope held in
     calls_ended rules s (state_of (g.T.NativeTable.state c.pass_call.new.table) c.pass_call.new.global scope held) how
-    (lent_call operation None c.args.guarded (c.args.first ∷ c.args.args.now))
+    (lent_call operation None false (c.args.first ∷ c.args.args.now))
     c.in-Ended.result c.unmarked.result c.in-Ended.ensures.unmarked c.unmarked.ensures
     (rw c.as_slice-rest.ensures at (c.in-Ended.ensures.runs offer scope held None on_scope offers tt))
 
@@ -27,7 +27,7 @@ returns-in-Found-clause-runs g c offer scope held on_scope offers =
     let how : Dispatch = plainly c.args.natives_alone on_scope in
     let operation : Operation = record { name = c.args.name.now; token = c.args.token; at = c.args.pos } in
     let s : State _ _ = state_of (g.T.NativeTable.state c.args.table.now) c.args.global.now scope held in
-    calls_given rules c.args.natives_alone on_scope c.args.guarded operation None c.args.first c.args.args.now c.in-Found.function s
+    calls_given rules c.args.natives_alone on_scope false operation None c.args.first c.args.args.now c.in-Found.function s
     (state_of (g.T.NativeTable.state c.pass_call.new.table) c.pass_call.new.global scope held) (with_args c.entered_with.result c.entered_with.new.args)
     (rw c.as_slice-rest.ensures at (c.in-Found.ensures.runs offer scope held None on_scope offers tt))
     (rw c.in-Found.ensures.same at c.entered_with.ensures)

@@ -27,8 +27,6 @@ returns-then-not-charge-clause-runs g c offer held fast =
     let rules = rules_of c.args.limits.now g.H.Host.name_of offer g.T.NativeTable.natives in
     let form : out-Expr c.args.test.now ≡ layer.Expr::FnCall c.in-FnCall.call c.in-FnCall.pos = rw (c.in-FnCall.is, exprs.outs-FnCall)
     refl in
-    let both = call_resolves c.args.test.now c.in-FnCall.call c.in-FnCall.pos c.in_ok-left.left.now c.in_ok-left.right.now
-    (names_in c.args.scope.now) form (two_args _ _ _ c.in_ok-left.ensures) c.requires in
     let seen = compared_stands c.in_ok-token.token (standing (out-Expr c.in_ok-left.left.now) (entries_of c.args.scope.now))
     (standing (out-Expr c.in_ok-left.right.now) (entries_of c.args.scope.now)) c.in_ok-holds.holds (sym c.in_ok-holds.ensures) in
     from_same rules (g.T.NativeTable.state c.args._table.now) c.args.scope.now held c.args.test.now c.args.global.now
@@ -36,8 +34,8 @@ returns-then-not-charge-clause-runs g c offer held fast =
     test_refused rules (g.T.NativeTable.state c.args._table.now) c.args.scope.now held c.args.test.now c.in-FnCall.call
     c.in_ok-token.token
     c.in_ok-left.left.now c.in_ok-left.right.now c.in-FnCall.pos seen.0 seen.1 fast form c.in_ok-token.was
-    (two_args _ _ _ c.in_ok-left.ensures) both.0
-    both.1 seen.2 seen.3 c.charge_all.new.global c.charge.new.global (error_in c.charge.new.place) (c.if-not-charge.ensures.full refl)
+    (two_args _ _ _ c.in_ok-left.ensures) seen.2 seen.3 c.charge_all.new.global c.charge.new.global
+    (error_in c.charge.new.place) (c.if-not-charge.ensures.full refl)
     (c.if-not-charge.ensures.refused refl) (c.if-not-charge.ensures.same refl))
 
 pub returns-then-not-charge-2-clause-runs : goal.returns-then-not-charge-2-clause-runs
@@ -45,15 +43,13 @@ returns-then-not-charge-2-clause-runs g c offer held fast =
     let rules = rules_of c.args.limits.now g.H.Host.name_of offer g.T.NativeTable.natives in
     let form : out-Expr c.args.test.now ≡ layer.Expr::FnCall c.in-FnCall.call c.in-FnCall.pos = rw (c.in-FnCall.is, exprs.outs-FnCall)
     refl in
-    let both = call_resolves c.args.test.now c.in-FnCall.call c.in-FnCall.pos c.in_ok-left.left.now c.in_ok-left.right.now
-    (names_in c.args.scope.now) form (two_args _ _ _ c.in_ok-left.ensures) c.requires in
     let seen = compared_stands c.in_ok-token.token (standing (out-Expr c.in_ok-left.left.now) (entries_of c.args.scope.now))
     (standing (out-Expr c.in_ok-left.right.now) (entries_of c.args.scope.now)) c.in_ok-holds.holds (sym c.in_ok-holds.ensures) in
     from_same rules (g.T.NativeTable.state c.args._table.now) c.args.scope.now held c.args.test.now c.args.global.now
     c.charge_all.new.global c.charge-2.new.global _ (c.charge_all.ensures.same c.if-charge_all.false) (
     test_left_refused rules (g.T.NativeTable.state c.args._table.now) c.args.scope.now held c.args.test.now c.in-FnCall.call
     c.in_ok-token.token c.in_ok-left.left.now c.in_ok-left.right.now c.in-FnCall.pos seen.0 seen.1 fast form c.in_ok-token.was
-    (two_args _ _ _ c.in_ok-left.ensures) both.0 both.1 seen.2 seen.3 c.charge_all.new.global c.charge.new.global
+    (two_args _ _ _ c.in_ok-left.ensures) seen.2 seen.3 c.charge_all.new.global c.charge.new.global
     (c.if-not-charge.ensures.room refl) (c.if-not-charge.ensures.charged refl) c.charge-2.new.global
     (error_in c.charge-2.new.place) (c.if-not-charge-2.ensures.full refl) (rw c.position.ensures
     at (c.if-not-charge-2.ensures.refused refl))
@@ -64,15 +60,13 @@ returns-then-not-charge-3-clause-runs g c offer held fast =
     let rules = rules_of c.args.limits.now g.H.Host.name_of offer g.T.NativeTable.natives in
     let form : out-Expr c.args.test.now ≡ layer.Expr::FnCall c.in-FnCall.call c.in-FnCall.pos = rw (c.in-FnCall.is, exprs.outs-FnCall)
     refl in
-    let both = call_resolves c.args.test.now c.in-FnCall.call c.in-FnCall.pos c.in_ok-left.left.now c.in_ok-left.right.now
-    (names_in c.args.scope.now) form (two_args _ _ _ c.in_ok-left.ensures) c.requires in
     let seen = compared_stands c.in_ok-token.token (standing (out-Expr c.in_ok-left.left.now) (entries_of c.args.scope.now))
     (standing (out-Expr c.in_ok-left.right.now) (entries_of c.args.scope.now)) c.in_ok-holds.holds (sym c.in_ok-holds.ensures) in
     from_same rules (g.T.NativeTable.state c.args._table.now) c.args.scope.now held c.args.test.now c.args.global.now
     c.charge_all.new.global c.charge-3.new.global _ (c.charge_all.ensures.same c.if-charge_all.false) (
     test_right_refused rules (g.T.NativeTable.state c.args._table.now) c.args.scope.now held c.args.test.now c.in-FnCall.call
     c.in_ok-token.token c.in_ok-left.left.now c.in_ok-left.right.now c.in-FnCall.pos seen.0 seen.1 fast form c.in_ok-token.was
-    (two_args _ _ _ c.in_ok-left.ensures) both.0 both.1 seen.2 seen.3 c.charge_all.new.global c.charge.new.global
+    (two_args _ _ _ c.in_ok-left.ensures) seen.2 seen.3 c.charge_all.new.global c.charge.new.global
     (c.if-not-charge.ensures.room refl) (c.if-not-charge.ensures.charged refl) c.charge-2.new.global
     (c.if-not-charge-2.ensures.room refl) (c.if-not-charge-2.ensures.charged refl) c.charge-3.new.global
     (error_in c.charge-3.new.place) (c.if-not-charge-3.ensures.full refl)
@@ -83,15 +77,13 @@ returns-clause-runs g c offer held fast =
     let rules = rules_of c.args.limits.now g.H.Host.name_of offer g.T.NativeTable.natives in
     let form : out-Expr c.args.test.now ≡ layer.Expr::FnCall c.in-FnCall.call c.in-FnCall.pos = rw (c.in-FnCall.is, exprs.outs-FnCall)
     refl in
-    let both = call_resolves c.args.test.now c.in-FnCall.call c.in-FnCall.pos c.in_ok-left.left.now c.in_ok-left.right.now
-    (names_in c.args.scope.now) form (two_args _ _ _ c.in_ok-left.ensures) c.requires in
     let seen = compared_stands c.in_ok-token.token (standing (out-Expr c.in_ok-left.left.now) (entries_of c.args.scope.now))
     (standing (out-Expr c.in_ok-left.right.now) (entries_of c.args.scope.now)) c.in_ok-holds.holds (sym c.in_ok-holds.ensures) in
     from_same rules (g.T.NativeTable.state c.args._table.now) c.args.scope.now held c.args.test.now c.args.global.now
     c.charge_all.new.global c.charge-3.new.global _ (c.charge_all.ensures.same c.if-charge_all.false) (
     test_holds rules (g.T.NativeTable.state c.args._table.now) c.args.scope.now held c.args.test.now c.in-FnCall.call
     c.in_ok-token.token c.in_ok-left.left.now c.in_ok-left.right.now c.in-FnCall.pos seen.0 seen.1 fast form c.in_ok-token.was
-    (two_args _ _ _ c.in_ok-left.ensures) both.0 both.1 seen.2 seen.3 c.charge_all.new.global c.charge.new.global
+    (two_args _ _ _ c.in_ok-left.ensures) seen.2 seen.3 c.charge_all.new.global c.charge.new.global
     (c.if-not-charge.ensures.room refl) (c.if-not-charge.ensures.charged refl) c.charge-2.new.global
     (c.if-not-charge-2.ensures.room refl) (c.if-not-charge-2.ensures.charged refl) c.charge-3.new.global
     (c.if-not-charge-3.ensures.room refl) (c.if-not-charge-3.ensures.charged refl) c.in_ok-holds.holds seen.4)
@@ -101,11 +93,9 @@ returns-then-charge_all-clause-runs g c offer held fast =
     let rules = rules_of c.args.limits.now g.H.Host.name_of offer g.T.NativeTable.natives in
     let form : out-Expr c.args.test.now ≡ layer.Expr::FnCall c.in-FnCall.call c.in-FnCall.pos = rw (c.in-FnCall.is, exprs.outs-FnCall)
     refl in
-    let both = call_resolves c.args.test.now c.in-FnCall.call c.in-FnCall.pos c.in_ok-left.left.now c.in_ok-left.right.now
-    (names_in c.args.scope.now) form (two_args _ _ _ c.in_ok-left.ensures) c.requires in
     let seen = compared_stands c.in_ok-token.token (standing (out-Expr c.in_ok-left.left.now) (entries_of c.args.scope.now))
     (standing (out-Expr c.in_ok-left.right.now) (entries_of c.args.scope.now)) c.in_ok-holds.holds (sym c.in_ok-holds.ensures) in
     test_holds_at_once rules (g.T.NativeTable.state c.args._table.now) c.args.scope.now held c.args.test.now c.in-FnCall.call
     c.in_ok-token.token c.in_ok-left.left.now c.in_ok-left.right.now c.in-FnCall.pos seen.0 seen.1 fast form c.in_ok-token.was
-    (two_args _ _ _ c.in_ok-left.ensures) both.0 both.1 seen.2 seen.3 c.args.global.now c.charge_all.new.global
+    (two_args _ _ _ c.in_ok-left.ensures) seen.2 seen.3 c.args.global.now c.charge_all.new.global
     (c.charge_all.ensures.room c.if-charge_all.true) (c.charge_all.ensures.charged c.if-charge_all.true) c.in_ok-holds.holds seen.4

@@ -27,8 +27,8 @@ returns-then-operate_integers-clause-runs g c offer held fast k =
     (standing (out-Expr c.args.right.now) (entries_of c.args.scope.now)) c.operate_integers.new.out
     (c.if-operate_integers.ensures.known refl) in
     operates_at_once rules (g.T.NativeTable.state c.args._table.now) c.args.scope.now held c.args.call.now c.args.token c.args.left.now
-    c.args.right.now c.args.pos stand.0 stand.1 k fast c.requires.token c.requires.args c.requires.resolves_left
-    c.requires.resolves_right stand.2 stand.3 c.args.global.now c.operate_integers.new.global (c.if-operate_integers.ensures.room refl)
+    c.args.right.now c.args.pos stand.0 stand.1 k fast c.requires.token c.requires.args stand.2 stand.3 c.args.global.now
+    c.operate_integers.new.global (c.if-operate_integers.ensures.room refl)
     (c.if-operate_integers.ensures.charged refl) c.operate_integers.new.out stand.4 stand.5 stand.6
 
 pub returns-then-not-may_stand-clause-found : goal.returns-then-not-may_stand-clause-found

@@ -12,7 +12,7 @@ unfolding Steps
 returns-in-Err-clause-runs g c offer held fast k =
     let rules = rules_of c.args.limits.now g.H.Host.name_of offer g.T.NativeTable.natives in
     left_refused rules (g.T.NativeTable.state c.args._table.now) c.args.scope.now held c.args.call.now c.args.token c.args.left.now
-    c.args.right.now c.args.pos _ _ k fast c.requires.token c.requires.args c.requires.resolves_left c.requires.resolves_right
+    c.args.right.now c.args.pos _ _ k fast c.requires.token c.requires.args
     (sym c.in_ok-first.ensures) (sym c.in_ok-second.ensures) c.args.global.now c.track_operation.new.global c.in-Err.error
     c.in-Err.ensures.full (rw c.position.ensures at c.in-Err.ensures.refused) c.in-Err.ensures.same
 
@@ -21,7 +21,7 @@ unfolding Steps
 returns-in-Err-track_operation-clause-runs g c offer held fast k =
     let rules = rules_of c.args.limits.now g.H.Host.name_of offer g.T.NativeTable.natives in
     right_refused rules (g.T.NativeTable.state c.args._table.now) c.args.scope.now held c.args.call.now c.args.token c.args.left.now
-    c.args.right.now c.args.pos _ _ k fast c.requires.token c.requires.args c.requires.resolves_left c.requires.resolves_right
+    c.args.right.now c.args.pos _ _ k fast c.requires.token c.requires.args
     (sym c.in_ok-first.ensures) (sym c.in_ok-second.ensures) c.args.global.now c.track_operation.new.global
     c.track_operation-2.new.global c.in_default.ensures.room c.in_default.ensures.charged c.in-Err-track_operation.error
     c.in-Err-track_operation.ensures.full (rw c.position-2.ensures at c.in-Err-track_operation.ensures.refused)
@@ -36,7 +36,7 @@ returns-clause-runs g c offer held fast k =
     let right : standing (out-Expr c.args.right.now) (entries_of c.args.scope.now) ≡ Some c.value-2.result.now =
     rw c.value-2.ensures (sym c.in_ok-second.ensures) in
     operates rules (g.T.NativeTable.state c.args._table.now) c.args.scope.now held c.args.call.now c.args.token c.args.left.now
-    c.args.right.now c.args.pos _ _ k fast c.requires.token c.requires.args c.requires.resolves_left c.requires.resolves_right
+    c.args.right.now c.args.pos _ _ k fast c.requires.token c.requires.args
     left right c.args.global.now c.track_operation.new.global c.track_operation-2.new.global
     c.in_default.ensures.room c.in_default.ensures.charged c.in_default-track_operation.ensures.room
     c.in_default-track_operation.ensures.charged c.builtin_binary.result c.in_ok-outcome.outcome c.applied.result

@@ -11,6 +11,7 @@ mod Loops
 mod Members
 mod Methods
 mod Plain
+mod Qualified
 mod Roots
 mod Spots
 mod Statements
@@ -32,6 +33,7 @@ use Rattle.rhai_cycle.proofs.evaluator.Evaluator.+eval.Answers.Loops as loops
 use Rattle.rhai_cycle.proofs.evaluator.Evaluator.+eval.Answers.Members as members
 use Rattle.rhai_cycle.proofs.evaluator.Evaluator.+eval.Answers.Methods as methods
 use Rattle.rhai_cycle.proofs.evaluator.Evaluator.+eval.Answers.Plain as plain
+use Rattle.rhai_cycle.proofs.evaluator.Evaluator.+eval.Answers.Qualified as qualified
 use Rattle.rhai_cycle.proofs.evaluator.Evaluator.+eval.Answers.Roots as roots
 use Rattle.rhai_cycle.proofs.evaluator.Evaluator.+eval.Answers.Spots as spots
 use Rattle.rhai_cycle.proofs.evaluator.Evaluator.+eval.Answers.Statements as statements
@@ -147,6 +149,12 @@ run_function-run_plain_call-requires = calls.run_function-run_plain_call-require
 
 pub run_function-returns-in-Some-clause-runs : goal.run_function-returns-in-Some-clause-runs
 run_function-returns-in-Some-clause-runs = calls.run_function-returns-in-Some-clause-runs
+
+pub run_function-run_qualified_call-requires : goal.run_function-run_qualified_call-requires
+run_function-run_qualified_call-requires = calls.run_function-run_qualified_call-requires
+
+pub run_function-returns-then-not-is_plain-clause-runs : goal.run_function-returns-then-not-is_plain-clause-runs
+run_function-returns-then-not-is_plain-clause-runs = calls.run_function-returns-then-not-is_plain-clause-runs
 
 pub run_function-returns-in-Some-at_once-clause-runs : goal.run_function-returns-in-Some-at_once-clause-runs
 run_function-returns-in-Some-at_once-clause-runs = calls.run_function-returns-in-Some-at_once-clause-runs
@@ -852,6 +860,21 @@ run_parameters-returns-then-not-push_parameter-clause-fills = plain.run_paramete
 
 pub run_parameters-returns-clause-fills : goal.run_parameters-returns-clause-fills
 run_parameters-returns-clause-fills = plain.run_parameters-returns-clause-fills
+
+pub run_qualified_call-run_more_args-requires : goal.run_qualified_call-run_more_args-requires
+run_qualified_call-run_more_args-requires = qualified.run_qualified_call-run_more_args-requires
+
+pub run_qualified_call-call_behind-called-requires : goal.run_qualified_call-call_behind-called-requires
+run_qualified_call-call_behind-called-requires = qualified.run_qualified_call-call_behind-called-requires
+
+pub run_qualified_call-returns-then-not-charge_last-clause-runs : goal.run_qualified_call-returns-then-not-charge_last-clause-runs
+run_qualified_call-returns-then-not-charge_last-clause-runs = qualified.run_qualified_call-returns-then-not-charge_last-clause-runs
+
+pub run_qualified_call-returns-then-not-run_more_args-clause-runs : goal.run_qualified_call-returns-then-not-run_more_args-clause-runs
+run_qualified_call-returns-then-not-run_more_args-clause-runs = qualified.run_qualified_call-returns-then-not-run_more_args-clause-runs
+
+pub run_qualified_call-returns-clause-runs : goal.run_qualified_call-returns-clause-runs
+run_qualified_call-returns-clause-runs = qualified.run_qualified_call-returns-clause-runs
 
 pub walk_variable-returns-in_default-clause-names : goal.walk_variable-returns-in_default-clause-names
 walk_variable-returns-in_default-clause-names = roots.walk_variable-returns-in_default-clause-names

@@ -73,6 +73,9 @@ decreases-run_operator g l = measured l.self.now l.run.now 0 6
 abbrev pub decreases-run_unary : goal.decreases-run_unary
 decreases-run_unary g l = measured l.self.now l.run.now 0 6
 
+abbrev pub decreases-run_qualified_call : goal.decreases-run_qualified_call
+decreases-run_qualified_call g l = measured l.self.now l.run.now 0 6
+
 abbrev pub decreases-run_function : goal.decreases-run_function
 decreases-run_function g l = measured l.self.now l.run.now 0 13
 

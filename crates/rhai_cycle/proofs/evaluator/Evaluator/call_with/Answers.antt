@@ -1,3 +1,4 @@
+use Rattle.std.proofs.Common.{refl}
 use Rattle.rhai_steps.specs.States.{holding}
 use Rattle.rhai_dispatch.specs.Going.{GoesOut}
 use Rattle.rhai_cycle.specs.States.{offer_of}
@@ -7,4 +8,4 @@ pub returns-clause-runs : goal.returns-clause-runs
 unfolding GoesOut
 returns-clause-runs g c on_scope k =
     (c.call_values.ensures.runs (offer_of c.args.self.now) c.args.run.now.scope (holding c.args.run.now.this) on_scope
-    c.offered-offered.ensures k)
+    (refl, refl) k)

@@ -4,7 +4,7 @@ use Rattle.rhai_machine.specs.language.Calls.{dispatch_core}
 use Rattle.rhai_machine.specs.language.Frames.{Operation, FromFocus}
 use Rattle.rhai_machine.specs.language.Setting.{Offer, Rules}
 use Rattle.rhai_machine.specs.language.State.{State}
-use Rattle.rhai_calls.specs.Dispatch.{Offers}
+use Rattle.rhai_steps.specs.Offers.{Offers}
 use Rattle.rhai_steps.specs.Marked.{lending}
 use Rattle.rhai_steps.specs.States.{state_of}
 use Rattle.rhai_methods.specs.declared.calls.MethodCall.TheVariants.{Ended}
@@ -18,7 +18,7 @@ pub returns-in-Ended-clause-lent : goal.returns-in-Ended-clause-lent
 returns-in-Ended-clause-lent g c scope held on_scope lent =
     let rules : Rules _ _ = under g.H.Host.name_of c.args.self.now g.T.NativeTable.natives in
     let operation : Operation = record { name = c.args.name.now; token = c.args.token; at = c.args.pos } in
-    let offers = subst (λ (o : Offer _). Offers o c.offered-offered.result) c.evaluator.ensures.offer c.offered-offered.ensures in
+    let offers = subst (λ (o : Offer _). Offers o c.evaluator-evaluator.result.offered) c.evaluator-evaluator.ensures.offer (refl, refl) in
     let old : State _ _ = state_of (g.T.NativeTable.state c.args.table.now) c.args.global.now scope (lending held c.args.first.now) in
     subst (λ (v : Dynamic _). ComesTo (not on_scope) c.args.pos rules (dispatch_core rules.setting (by_name c.args.is_method_call on_scope)
     (on_place operation true (Some c.args.first.now) c.args.rest.now)) old (Ended c.in-Ended.result)
@@ -37,7 +37,7 @@ pub returns-in-Ended-clause-by_value : goal.returns-in-Ended-clause-by_value
 returns-in-Ended-clause-by_value g c scope held on_scope none =
     let rules : Rules _ _ = under g.H.Host.name_of c.args.self.now g.T.NativeTable.natives in
     let operation : Operation = record { name = c.args.name.now; token = c.args.token; at = c.args.pos } in
-    let offers = subst (λ (o : Offer _). Offers o c.offered-offered.result) c.evaluator.ensures.offer c.offered-offered.ensures in
+    let offers = subst (λ (o : Offer _). Offers o c.evaluator-evaluator.result.offered) c.evaluator-evaluator.ensures.offer (refl, refl) in
     value_ended rules operation c.args.first.now c.args.rest.now on_scope c.args.is_ref_mut c.args.is_method_call c.is_guarded-is_lent.result
     c.pass_call-dispatched.result (state_of (g.T.NativeTable.state c.args.table.now) c.args.global.now scope held)
     (state_of (g.T.NativeTable.state c.pass_call-dispatched.new.table) c.pass_call-dispatched.new.global scope held)
@@ -48,7 +48,7 @@ pub returns-in-Found-clause-lent : goal.returns-in-Found-clause-lent
 returns-in-Found-clause-lent g c scope held on_scope lent =
     let rules : Rules _ _ = under g.H.Host.name_of c.args.self.now g.T.NativeTable.natives in
     let operation : Operation = record { name = c.args.name.now; token = c.args.token; at = c.args.pos } in
-    let offers = subst (λ (o : Offer _). Offers o c.offered-offered.result) c.evaluator.ensures.offer c.offered-offered.ensures in
+    let offers = subst (λ (o : Offer _). Offers o c.evaluator-evaluator.result.offered) c.evaluator-evaluator.ensures.offer (refl, refl) in
     let old : State _ _ = state_of (g.T.NativeTable.state c.args.table.now) c.args.global.now scope (lending held c.args.first.now) in
     subst (λ (v : Dynamic _). ComesTo (not on_scope) c.args.pos rules (dispatch_core rules.setting (by_name c.args.is_method_call on_scope)
     (on_place operation true (Some c.args.first.now) c.args.rest.now)) old c.to_enter-call.result
@@ -67,7 +67,7 @@ pub returns-in-Found-clause-by_value : goal.returns-in-Found-clause-by_value
 returns-in-Found-clause-by_value g c scope held on_scope none =
     let rules : Rules _ _ = under g.H.Host.name_of c.args.self.now g.T.NativeTable.natives in
     let operation : Operation = record { name = c.args.name.now; token = c.args.token; at = c.args.pos } in
-    let offers = subst (λ (o : Offer _). Offers o c.offered-offered.result) c.evaluator.ensures.offer c.offered-offered.ensures in
+    let offers = subst (λ (o : Offer _). Offers o c.evaluator-evaluator.result.offered) c.evaluator-evaluator.ensures.offer (refl, refl) in
     value_found rules operation c.args.first.now c.args.rest.now on_scope c.args.is_ref_mut c.args.is_method_call c.is_guarded-is_lent.result
     c.pass_call-dispatched.result (state_of (g.T.NativeTable.state c.args.table.now) c.args.global.now scope held)
     (state_of (g.T.NativeTable.state c.pass_call-dispatched.new.table) c.pass_call-dispatched.new.global scope held)

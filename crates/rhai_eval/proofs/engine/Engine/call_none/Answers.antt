@@ -1,7 +1,7 @@
-use Rattle.std.proofs.Common.{◌++◌, drop, length, subst, take, ◌∙◌}
+use Rattle.std.proofs.Common.{◌++◌, drop, length, refl, subst, take, ◌∙◌}
 use Rattle.rhai_machine.specs.language.Frames.{Operation}
 use Rattle.rhai_machine.specs.language.Setting.{Offer, Rules}
-use Rattle.rhai_calls.specs.Dispatch.{Offers}
+use Rattle.rhai_steps.specs.Offers.{Offers}
 use Rattle.rhai_steps.specs.States.{state_of}
 use Rattle.rhai_eval.specs.States.{offer_of, under}
 use Rattle.rhai_eval.proofs.Dispatching.{none_ended, none_found, none_left}
@@ -11,7 +11,7 @@ pub returns-in-Ended-clause-runs : goal.returns-in-Ended-clause-runs
 returns-in-Ended-clause-runs g c scope held on_scope =
     let rules : Rules _ _ = under g.H.Host.name_of c.args.self.now g.T.NativeTable.natives in
     let operation : Operation = record { name = c.args.name.now; token = c.args.token; at = c.args.pos } in
-    let offers = subst (λ (o : Offer _). Offers o c.offered-offered.result) c.evaluator.ensures.offer c.offered-offered.ensures in
+    let offers = subst (λ (o : Offer _). Offers o c.evaluator-evaluator.result.offered) c.evaluator-evaluator.ensures.offer (refl, refl) in
     none_ended rules operation on_scope c.pass_all-dispatched.result
     (state_of (g.T.NativeTable.state c.args.table.now) c.args.global.now scope held)
     (state_of (g.T.NativeTable.state c.pass_all-dispatched.new.table) c.pass_all-dispatched.new.global scope held) c.in-Ended.result
@@ -22,7 +22,7 @@ pub returns-in-Found-clause-runs : goal.returns-in-Found-clause-runs
 returns-in-Found-clause-runs g c scope held on_scope =
     let rules : Rules _ _ = under g.H.Host.name_of c.args.self.now g.T.NativeTable.natives in
     let operation : Operation = record { name = c.args.name.now; token = c.args.token; at = c.args.pos } in
-    let offers = subst (λ (o : Offer _). Offers o c.offered-offered.result) c.evaluator.ensures.offer c.offered-offered.ensures in
+    let offers = subst (λ (o : Offer _). Offers o c.evaluator-evaluator.result.offered) c.evaluator-evaluator.ensures.offer (refl, refl) in
     none_found rules operation on_scope c.pass_all-dispatched.result
     (state_of (g.T.NativeTable.state c.args.table.now) c.args.global.now scope held)
     (state_of (g.T.NativeTable.state c.pass_all-dispatched.new.table) c.pass_all-dispatched.new.global scope held) c.in-Found.function

@@ -286,7 +286,7 @@ enter_on_focus-returns-clause-counts g t c =
 pub run_method-returns-in-Ended-clause-runs : goal.run_method-returns-in-Ended-clause-runs
 unfolding CallsFrom RunsFrom
 run_method-returns-in-Ended-clause-runs g t c scope held k =
-    rw c.settle_marked.ensures ((rw c.in-Ended.is at (c.call_method.ensures.runs (offer_of c.args.self.now) scope held c.offered-offered.ensures)) k)
+    rw c.settle_marked.ensures ((rw c.in-Ended.is at (c.call_method.ensures.runs (offer_of c.args.self.now) scope held (refl, refl))) k)
 
 pub run_method-returns-in-OnTarget-clause-runs : goal.run_method-returns-in-OnTarget-clause-runs
 unfolding CallsFrom RunsFrom Steps
@@ -296,7 +296,7 @@ run_method-returns-in-OnTarget-clause-runs g t c scope held k =
       unmarked_ends c.enter_on_focus-done.result c.enter_on_focus-done.new.run.value
           c.enter_on_focus-done.new.run.error,
     )
-    ((rw c.in-OnTarget.is at (c.call_method.ensures.runs (offer_of c.args.self.now) scope held c.offered-offered.ensures)) k
+    ((rw c.in-OnTarget.is at (c.call_method.ensures.runs (offer_of c.args.self.now) scope held (refl, refl))) k
     ⨾ (rw c.as_mut_slice-values.ensures.value at c.enter_on_focus-done.ensures.runs) scope held k)
 
 pub run_method-returns-in-Alone-clause-runs : goal.run_method-returns-in-Alone-clause-runs
@@ -307,6 +307,6 @@ run_method-returns-in-Alone-clause-runs g t c scope held k =
       unmarked_ends c.enter_fresh-done.result c.enter_fresh-done.new.run.value
           c.enter_fresh-done.new.run.error,
     )
-    ((rw c.in-Alone.is at (c.call_method.ensures.runs (offer_of c.args.self.now) scope held c.offered-offered.ensures)) k
+    ((rw c.in-Alone.is at (c.call_method.ensures.runs (offer_of c.args.self.now) scope held (refl, refl))) k
     ⨾ (rw c.as_mut_slice-values-in-Alone.ensures.value at c.enter_fresh-done.ensures.runs) scope
     (lending held c.call_method.new.target) k)

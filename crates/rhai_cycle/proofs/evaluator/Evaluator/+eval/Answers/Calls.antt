@@ -8,7 +8,7 @@ use Rattle.rhai_machine.specs.language.Runs.{Steps}
 use Rattle.rhai_steps.proofs.Pieces.{step_by}
 use Rattle.rhai_cycle.specs.Calls.{StartsAs}
 use Rattle.rhai_cycle.specs.States.{names, offer_of, state_in, under}
-use Rattle.rhai_operands.proofs.Names.{call_is_plain, operands_of_call, operands_resolve}
+use Rattle.rhai_operands.proofs.Names.{operands_of_call, operands_resolve}
 use Rattle.rhai_operands.proofs.InPlace.{opens_binary}
 use Rattle.rhai_cycle.proofs.NameLemmas.{first_resolves}
 use Rattle.rhai_cycle.proofs.CallSteps.{begins_call}
@@ -87,13 +87,25 @@ unfolding Steps StartsAs
 run_function-returns-in-Some-clause-runs g t c k =
     let rules = under g.H.Host.name_of c.args.self.now g.T.NativeTable.natives in
     plain_begins rules c.args.call.now c.args.run.now.global.lib c.in-Some.function
-    c.in-Some.ensures c.args.pos k _
-    (call_is_plain c.args.call.now c.args.pos _ c.requires.resolves) c.requires.form
+    c.in-Some.ensures c.args.pos k _ c.requires.form
     ⨾ c.run_plain_call.ensures.runs k
+
+pub run_function-run_qualified_call-requires : goal.run_function-run_qualified_call-requires
+run_function-run_qualified_call-requires g t c =
+    let resolved = operands_of_call c.args.call.now c.args.pos (names c.args.run.now) c.requires.resolves in
+    λ κs lives. (
+      omega arith,
+      (lives.0, (lives.1, (rw c.as_slice.ensures resolved, sym c.is_plain.ensures ∙ c.if-not-is_plain.true))),
+    )
+
+pub run_function-returns-then-not-is_plain-clause-runs : goal.run_function-returns-then-not-is_plain-clause-runs
+run_function-returns-then-not-is_plain-clause-runs g t c =
+    (rw (c.as_slice.ensures, c.as_str-name.ensures, c.get.ensures) at c.run_qualified_call.ensures.runs)
+    c.args.call.now.op_token c.args.call.now.capture_parent_scope c.requires.form
 
 pub run_function-returns-in-Some-at_once-clause-runs : goal.run_function-returns-in-Some-at_once-clause-runs
 run_function-returns-in-Some-at_once-clause-runs g t c =
-    c.in-Some-at_once.ensures.runs (offer_of c.args.self.now) (holding c.args.run.now.this) c.offered-offered.ensures
+    c.in-Some-at_once.ensures.runs (offer_of c.args.self.now) (holding c.args.run.now.this) (refl, refl)
 
 pub run_function-run_call-requires : goal.run_function-run_call-requires
 run_function-run_call-requires g t c =
@@ -113,7 +125,7 @@ pub run_function-returns-clause-runs : goal.run_function-returns-clause-runs
 unfolding Steps StartsAs
 run_function-returns-clause-runs g t c k =
     let rules = under g.H.Host.name_of c.args.self.now g.T.NativeTable.natives in
-    begins_call rules c.args.call.now c.args.pos k _ (call_is_plain c.args.call.now c.args.pos _ c.requires.resolves) c.requires.form
+    begins_call rules c.args.call.now c.args.pos k _ (sym c.is_plain.ensures ∙ c.if-not-is_plain.false) c.requires.form
     ⨾ (rw (
       c.call_at_once-at_once.ensures.left_global c.in_default-at_once.is,
       c.call_at_once-at_once.ensures.left_scope c.in_default-at_once.is,

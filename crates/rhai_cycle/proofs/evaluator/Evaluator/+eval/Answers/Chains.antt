@@ -13,9 +13,10 @@ use Rattle.rhai_machine.specs.language.Frames.{AssignChain, AssignedChain, Chain
 use Rattle.rhai_machine.specs.language.Arguments.{arguments_core}
 use Rattle.rhai_machine.specs.language.Chains.{this_root_core}
 use Rattle.rhai_machine.specs.language.Links.{asked_by, first_in}
+use Rattle.rhai_machine.specs.language.Variables.{variable_named}
 use Rattle.rhai_machine.specs.language.Runs.{Steps}
 use Rattle.rhai_steps.proofs.Pieces.{charged, refused}
-use Rattle.rhai_operands.proofs.Names.{good_name, plain_name}
+use Rattle.rhai_operands.proofs.Names.{good_name}
 use Rattle.rhai_chains.specs.Chains.{chain_at, link_seen, new_of}
 use Rattle.rhai_context.specs.Ends.{error_in}
 use Rattle.rhai_context.specs.declared.Context.{Context}
@@ -304,12 +305,10 @@ run_root-returns-then-not-charge-clause-runs g t c in_place k =
     let chain = chain_at c.args.root.now (out-Expr c.args.chain.now) c.args.args.now c.args.new in_place in
     let form : out-Expr c.args.root.now ≡ layer.Variable c.in-Variable.offset c.in-Variable.name c.in-Variable.namespace
     c.in-Variable.pos = rw (c.in-Variable.is, exprs.outs-Variable) refl in
-    let plain = plain_name c.args.root.now c.in-Variable.offset c.in-Variable.name c.in-Variable.namespace c.in-Variable.pos
-    (names c.args.run.now) form c.requires.root in
     refused rules _ c.args.run.now.global c.charge.new.global _ _ (ChainRoot chain)
-    (ReadRoot c.in-Variable.name c.in-Variable.pos chain) c.in-Variable.pos
-    (λ k. variable_root rules c.args.root.now c.in-Variable.offset c.in-Variable.name c.in-Variable.namespace c.in-Variable.pos form plain
-    chain refl k _) _ (c.if-not-charge.ensures.full refl) (c.if-not-charge.ensures.refused refl) (c.if-not-charge.ensures.same refl) k
+    (ReadRoot (variable_named c.in-Variable.name c.in-Variable.namespace c.in-Variable.pos) chain) c.in-Variable.pos
+    (λ k. variable_root rules c.args.root.now c.in-Variable.offset c.in-Variable.name c.in-Variable.namespace c.in-Variable.pos form chain
+    refl k _) _ (c.if-not-charge.ensures.full refl) (c.if-not-charge.ensures.refused refl) (c.if-not-charge.ensures.same refl) k
 
 pub run_root-walk_variable-requires : goal.run_root-walk_variable-requires
 run_root-walk_variable-requires g t c =
@@ -330,13 +329,11 @@ run_root-returns-else-not-charge-clause-runs g t c in_place k =
     let chain = chain_at c.args.root.now (out-Expr c.args.chain.now) c.args.args.now c.args.new in_place in
     let form : out-Expr c.args.root.now ≡ layer.Variable c.in-Variable.offset c.in-Variable.name c.in-Variable.namespace
     c.in-Variable.pos = rw (c.in-Variable.is, exprs.outs-Variable) refl in
-    let plain = plain_name c.args.root.now c.in-Variable.offset c.in-Variable.name c.in-Variable.namespace c.in-Variable.pos
-    (names c.args.run.now) form c.requires.root in
     rw c.walk_variable.ensures.this
     (charged rules _ c.args.run.now.global c.charge.new.global _ _ (ChainRoot chain)
-    (ReadRoot c.in-Variable.name c.in-Variable.pos chain) c.in-Variable.pos
-    (λ k. variable_root rules c.args.root.now c.in-Variable.offset c.in-Variable.name c.in-Variable.namespace c.in-Variable.pos form plain
-    chain refl k _) (c.if-not-charge.ensures.room refl) (c.if-not-charge.ensures.charged refl) k
+    (ReadRoot (variable_named c.in-Variable.name c.in-Variable.namespace c.in-Variable.pos) chain) c.in-Variable.pos
+    (λ k. variable_root rules c.args.root.now c.in-Variable.offset c.in-Variable.name c.in-Variable.namespace c.in-Variable.pos form chain
+    refl k _) (c.if-not-charge.ensures.room refl) (c.if-not-charge.ensures.charged refl) k
     ⨾ c.walk_variable.ensures.runs (holding c.args.run.now.this) in_place k)
 
 pub run_root-returns-then-not-charge-2-clause-runs : goal.run_root-returns-then-not-charge-2-clause-runs

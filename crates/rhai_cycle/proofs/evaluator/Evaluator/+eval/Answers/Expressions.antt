@@ -28,8 +28,8 @@ run_expr-returns-in_default-clause-runs g t c =
     let rules = under g.H.Host.name_of c.args.self.now g.T.NativeTable.natives in
     opens rules _ c.args.run.now.global c.charge_expr.new.global _ _ (c.if-not-charge_expr.ensures.room refl)
     (c.if-not-charge_expr.ensures.charged refl) _ _ _ (out-Expr c.args.expr.now)
-    (read_runs rules _ c.charge_expr.new.global c.args.run.now.scope (holding c.args.run.now.this) c.args.expr.now
-    c.requires.resolves _ (c.read_expr.ensures.exact None)) refl
+    (read_runs rules _ c.charge_expr.new.global c.args.run.now.scope (holding c.args.run.now.this) c.args.expr.now _
+    c.args.self.now.offered (refl, refl) (c.read_expr.ensures.exact None)) refl
 
 pub run_expr-returns-in_default-clause-memory : goal.run_expr-returns-in_default-clause-memory
 run_expr-returns-in_default-clause-memory g t c = rw (asks_as_read c.args.expr.now) c.read_expr.ensures.memory

@@ -12,7 +12,7 @@ use Rattle.rhai_machine.specs.language.Runs.{Steps}
 use Rattle.rhai_steps.proofs.Pieces.{told, step_by}
 use Rattle.rhai_operands.proofs.Names.{good_name}
 use Rattle.rhai_pointers.specs.Keywords.{word_of}
-use Rattle.rhai_pointers.specs.Leading.{all_args, seen}
+use Rattle.rhai_pointers.specs.Leading.{all_args, seen, variable_read}
 use Rattle.rhai_pointers.proofs.LeadingLemmas.{lent_leads, this_goes, values_go, variable_goes}
 use Rattle.rhai_dispatch.specs.Going.{GoesOut}
 use Rattle.rhai_context.specs.declared.Context.{Context}
@@ -304,7 +304,7 @@ run_named-call_with_variable-called-requires g t c =
     let resolved = first_resolves args first.arg leading.rest _ first.comes_first c.requires.1.1.1.1 in (
       omega arith,
       rw (c.if-not-run_more_args-2.ensures.names refl)
-          (good_name first.arg leading.offset leading.name first.namespace leading.at _ first.is_variable resolved.0),
+          (good_name first.arg leading.offset leading.name leading.namespace leading.at _ first.is_variable resolved.0),
     )
 
 pub run_named-returns-then-not-charge-clause-runs : goal.run_named-returns-then-not-charge-clause-runs
@@ -357,7 +357,7 @@ run_named-returns-then-not-charge-2-clause-runs g t c k =
     let operation : machine.Operation = record { name = c.args.name.now; token = c.args.token; at = c.args.pos } in
     let variable = seen c.in-Some-first_variable.variable in
     let purpose : machine.Purpose g.row.H.Denot =
-    ToCallOn operation variable.name variable.at (plainly c.args.natives_alone false) in
+    ToCallOn operation (variable_read variable) (plainly c.args.natives_alone false) in
     let found = sym (rw c.as_slice-2.ensures at c.first_variable.ensures) ∙ ap (option_map seen) c.in-Some-first_variable.is in
     let charges = variable_goes rules.setting operation c.args.curried (all_args (option_copied c.args.first) c.args.rest.now)
     c.args.captures c.args.natives_alone k _ variable found in
@@ -372,7 +372,7 @@ run_named-returns-then-not-run_more_args-2-clause-runs g t c k =
     let operation : machine.Operation = record { name = c.args.name.now; token = c.args.token; at = c.args.pos } in
     let variable = seen c.in-Some-first_variable.variable in
     let purpose : machine.Purpose g.row.H.Denot =
-    ToCallOn operation variable.name variable.at (plainly c.args.natives_alone false) in
+    ToCallOn operation (variable_read variable) (plainly c.args.natives_alone false) in
     let found = sym (rw c.as_slice-2.ensures at c.first_variable.ensures) ∙ ap (option_map seen) c.in-Some-first_variable.is in
     let charges = variable_goes rules.setting operation c.args.curried (all_args (option_copied c.args.first) c.args.rest.now)
     c.args.captures c.args.natives_alone k _ variable found in
@@ -389,7 +389,7 @@ run_named-returns-else-not-run_more_args-2-clause-runs g t c k =
     let operation : machine.Operation = record { name = c.args.name.now; token = c.args.token; at = c.args.pos } in
     let variable = seen c.in-Some-first_variable.variable in
     let purpose : machine.Purpose g.row.H.Denot =
-    ToCallOn operation variable.name variable.at (plainly c.args.natives_alone false) in
+    ToCallOn operation (variable_read variable) (plainly c.args.natives_alone false) in
     let found = sym (rw c.as_slice-2.ensures at c.first_variable.ensures) ∙ ap (option_map seen) c.in-Some-first_variable.is in
     let charges = variable_goes rules.setting operation c.args.curried (all_args (option_copied c.args.first) c.args.rest.now)
     c.args.captures c.args.natives_alone k _ variable found in

@@ -2,6 +2,8 @@ use Rattle.std.proofs.Common.{◌≡◌, false, None, Some, refl, sym, ap, ◌�
 use Rattle.rhai_tree.specs.declared.expr.Expr.{out-Expr}
 use Rattle.rhai_machine.specs.language.Runs.{at}
 use Rattle.rhai_tree.specs.Positions.{position_of}
+use Rattle.rhai_machine.specs.language.Variables.{variable_named}
+use Rattle.rhai_steps.specs.Offers.{globals_in}
 use Rattle.rhai_steps.specs.States.{state_of}
 use Rattle.rhai_state.specs.Scope.{names_in}
 use Rattle.rhai_chains.specs.Chains.{chain_at}
@@ -10,11 +12,11 @@ use Rattle.rhai_context.specs.Ends.{came, came_marked, error_in}
 use Rattle.rhai_cycle.proofs.FocusSteps.{without_came}
 use Rattle.rhai_cycle.specs.Calls.{StartsAs}
 use Rattle.rhai_cycle.specs.States.{under}
-use Rattle.rhai_cycle.proofs.RootLemmas.{begins, lent_back, name_refused, name_runs, this_begins, this_enters, this_refused}
+use Rattle.rhai_cycle.proofs.RootLemmas.{begins, lent_back, variable_refused, variable_runs, this_begins, this_enters, this_refused}
 use Rattle.rhai_cycle.proofs.RootLemmas.{value_begins, value_fails}
 use Rattle.rhai_cycle.proofs.evaluator.Evaluator.+eval.Goals as goal
 
--- a variable that lends its value, or what its name means that is no variable's
+-- a variable that lends its value, or a temporary
 
 pub walk_variable-returns-in_default-clause-names : goal.walk_variable-returns-in_default-clause-names
 walk_variable-returns-in_default-clause-names g t c = ap (λ s. names_in s) (c.in_default.ensures.kept refl)
@@ -23,30 +25,30 @@ pub walk_variable-returns-in_default-clause-runs : goal.walk_variable-returns-in
 walk_variable-returns-in_default-clause-runs g t c held in_place =
     let rules = under g.H.Host.name_of c.args.self.now g.T.NativeTable.natives in
     rw (c.in_default.ensures.kept refl)
-    (name_refused rules c.args.name.now c.args.pos
+    (variable_refused rules (variable_named c.args.name.now c.args.namespace.now c.args.pos)
     (chain_at c.args.root.now (out-Expr c.args.rest.now) c.args.args.now c.args.new in_place)
     (g.T.NativeTable.state c.args.table.now) c.args.run.now.global c.args.run.now.scope held
-    (error_in c.lend_variable.new.place) c.in_default.ensures.lends)
+    (error_in c.lend_variable-lent.new.place) c.in_default.ensures.lends)
 
 pub walk_variable-give_variable-requires : goal.walk_variable-give_variable-requires
 walk_variable-give_variable-requires g t c = rw c.walk_chain-mark.ensures.scope c.in-Some.ensures.within
 
 pub walk_variable-returns-clause-names : goal.walk_variable-returns-clause-names
 walk_variable-returns-clause-names g t c =
-    lent_back c.args.run.now.global c.args.name.now c.args.pos c.args.run.now.scope c.lend_variable.new.scope c.give_variable.new.scope
-    c.in-Some.value c.walk_chain-mark.new.focus c.in-Some.index c.in-Some.ensures.lends
+    lent_back (globals_in c.args.self.now.offered) c.args.run.now.global (variable_named c.args.name.now c.args.namespace.now c.args.pos)
+    c.args.run.now.scope c.lend_variable-lent.new.scope c.give_variable.new.scope c.in-Some.value c.walk_chain-mark.new.focus c.in-Some.index c.in-Some.ensures.lends
     (rw c.walk_chain-mark.ensures.scope at c.give_variable.ensures.back)
 
 pub walk_variable-returns-clause-runs : goal.walk_variable-returns-clause-runs
 walk_variable-returns-clause-runs g t c held in_place =
     let rules = under g.H.Host.name_of c.args.self.now g.T.NativeTable.natives in
-    name_runs rules c.args.name.now c.args.pos
+    variable_runs rules (variable_named c.args.name.now c.args.namespace.now c.args.pos)
     (chain_at c.args.root.now (out-Expr c.args.rest.now) c.args.args.now c.args.new in_place)
     (came_marked c.walk_chain-mark.result c.walk_chain-mark.new.run.value c.walk_chain-mark.new.run.error)
     (came c.give_variable.result c.walk_chain-mark.new.run.value c.walk_chain-mark.new.run.error)
     (without_came c.walk_chain-mark.result c.give_variable.result c.walk_chain-mark.new.run.value c.walk_chain-mark.new.run.error
     c.give_variable.ensures.well)
-    c.args.run.now.scope c.lend_variable.new.scope c.give_variable.new.scope c.in-Some.value c.walk_chain-mark.new.focus
+    c.args.run.now.scope c.lend_variable-lent.new.scope c.give_variable.new.scope c.in-Some.value c.walk_chain-mark.new.focus
     (g.T.NativeTable.state c.args.table.now) (g.T.NativeTable.state c.walk_chain-mark.new.table) c.args.run.now.global
     c.walk_chain-mark.new.run.global held c.in-Some.index c.in-Some.ensures.lends
     (rw c.walk_chain-mark.ensures.scope at c.give_variable.ensures.back)

@@ -20,7 +20,7 @@ use Rattle.rhai_context.specs.Ends.{came, error_in}
 use Rattle.rhai_cycle.specs.Memory.{asks_stmt}
 use Rattle.rhai_cycle.specs.States.{names, offer_of, state_in, under}
 use Rattle.rhai_operands.specs.Tests.{Tests}
-use Rattle.rhai_operands.proofs.Names.{good_target, plain_target}
+use Rattle.rhai_operands.proofs.Names.{good_target}
 use Rattle.rhai_assign.proofs.Alone.{sides_resolve}
 use Rattle.rhai_assign.proofs.Prepared.{begins_assignment}
 use Rattle.rhai_tree.proofs.Links.{few_in_target}
@@ -317,8 +317,6 @@ assign_evaluated-returns-then-not-run_expr-clause-runs g t c restoring k =
     begins_assignment rules c.args.op c.args.lhs.now c.args.rhs.now c.in-Variable.offset c.in-Variable.name c.in-Variable.namespace
     c.in-Variable.pos
     restoring k _ (rw (c.in-Variable.is, exprs.outs-Variable) refl)
-    (plain_target c.args.lhs.now c.in-Variable.offset c.in-Variable.name c.in-Variable.namespace c.in-Variable.pos _
-    (rw (c.in-Variable.is, exprs.outs-Variable) refl) c.requires.resolves_target)
     ⨾ c.if-not-run_expr.ensures.runs (AssignValue _ _ ∷ k) ⨾ next here
 
 pub assign_evaluated-returns-then-not-flatten_at-clause-runs : goal.assign_evaluated-returns-then-not-flatten_at-clause-runs
@@ -328,8 +326,6 @@ assign_evaluated-returns-then-not-flatten_at-clause-runs g t c restoring k =
     begins_assignment rules c.args.op c.args.lhs.now c.args.rhs.now c.in-Variable.offset c.in-Variable.name c.in-Variable.namespace
     c.in-Variable.pos
     restoring k _ (rw (c.in-Variable.is, exprs.outs-Variable) refl)
-    (plain_target c.args.lhs.now c.in-Variable.offset c.in-Variable.name c.in-Variable.namespace c.in-Variable.pos _
-    (rw (c.in-Variable.is, exprs.outs-Variable) refl) c.requires.resolves_target)
     ⨾ c.if-not-run_expr.ensures.runs (AssignValue _ _ ∷ k)
     ⨾ flat_fails rules _ _ k _ _ (AssignValue _ _) refl c.if-not-flatten_at.ensures.exact
 
@@ -346,11 +342,9 @@ assign_evaluated-returns-else-not-flatten_at-clause-runs g t c restoring k =
     begins_assignment rules c.args.op c.args.lhs.now c.args.rhs.now c.in-Variable.offset c.in-Variable.name c.in-Variable.namespace
     c.in-Variable.pos
     restoring k _ (rw (c.in-Variable.is, exprs.outs-Variable) refl)
-    (plain_target c.args.lhs.now c.in-Variable.offset c.in-Variable.name c.in-Variable.namespace c.in-Variable.pos _
-    (rw (c.in-Variable.is, exprs.outs-Variable) refl) c.requires.resolves_target)
     ⨾ c.if-not-run_expr.ensures.runs (AssignValue _ _ ∷ k)
     ⨾ next (rw (← (c.if-not-flatten_at.ensures.exact tt))
-    (c.assign_left.ensures.runs (offer_of c.args.self.now) (holding c.run_expr.new.run.this) refl k))
+    (c.assign_left.ensures.runs (offer_of c.args.self.now) (holding c.run_expr.new.run.this) (refl, refl) refl k))
 
 -- to `this`
 

@@ -1,0 +1,2 @@
+mod Staying
+mod Dispatching

@@ -1,0 +1,11 @@
+use Rattle.rhai_machine.specs.language.Frames.{Argument}
+use Rattle.rhai_eval.specs.Calls.{value_with}
+use Rattle.rhai_eval.specs.States.{under}
+use Rattle.rhai_constants_eval.proofs.Staying.{control_stays}
+use Rattle.rhai_constants_eval.proofs.parts.get_arg_value.Goals as goal
+
+pub returns : goal.returns
+returns g c = let a = c.args in record {
+  stays = control_stays (under g.H.Host.name_of a.engine.now g.T.NativeTable.natives) g.met.T.NativeTable.lawful _ _ c.requires.sealed
+      (Argument a.arg_expr.now) (value_with c.get_arg_value.result) tt (λ index. tt) c.get_arg_value.ensures.ends;
+}

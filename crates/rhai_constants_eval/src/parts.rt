@@ -1,0 +1,267 @@
+//! Parts of trees, run with a `this`.
+
+ghost use Rattle.std.specs.Prelude.{◌≡◌, IsTrue, None, Some, false, is_some, map, true};
+ghost use Rattle.std.specs.Option.{option_copied};
+ghost use Rattle.rhai_tree.specs.declared.expr.Expr.{out-Expr};
+ghost use Rattle.rhai_tree.specs.declared.expr.Expr.TheOpen as layer;
+ghost use Rattle.rhai_tree.specs.Forms.{is_unqualified};
+ghost use Rattle.rhai_tree.specs.Frame.{all_resolve, all_resolve_exprs, resolves_call, resolves_expr};
+ghost use Rattle.rhai_tree.specs.Frame.{resolves_stmt, tests_of};
+ghost use Rattle.rhai_values.specs.Cells.{cells_of};
+ghost use Rattle.rhai_state.specs.Scope.{names_in};
+ghost use Rattle.rhai_machine.specs.language.Frames.{Argument, Enter, Eval, Exec, OpenExpr};
+ghost use Rattle.rhai_machine.specs.language.Links.{first_in};
+ghost use Rattle.rhai_fits.specs.Sealed.{AreSealed};
+ghost use Rattle.rhai_pointers.specs.Leading.{all_args};
+ghost use Rattle.rhai_steps.specs.States.{holding, state_of};
+ghost use Rattle.rhai_cycle.specs.Calls.{called, in_parts};
+ghost use Rattle.rhai_eval.specs.Calls.{value_with};
+ghost use Rattle.rhai_eval.specs.Chains.{assigned_in, whole_chain, AssignsNoHandle, ChainResolves};
+ghost use Rattle.rhai_eval.specs.States.{under};
+ghost use Rattle.rhai_constants_eval.specs.Staying.{StaysAs, StaysFrom};
+
+use rhai_eval::engine::Engine;
+use rhai_state::caches::Caches;
+use rhai_state::error::EvalAltResult;
+use rhai_state::scope::Scope;
+use rhai_state::state::GlobalRuntimeState;
+use rhai_state::table::NativeTable;
+use rhai_tree::expr::{Expr, FnCallExpr, Namespace, OpAssignment, Stmt};
+use rhai_tree::position::Position;
+use rhai_tree::token::Token;
+use rhai_values::base::value::{Dynamic, Host};
+use std::alloc::Global;
+
+/// Of `Engine::eval_expr`.
+pub fn eval_expr<H: Host, T: NativeTable<H>>(
+    engine: &Engine<H>,
+    alloc: Global,
+    global: &mut GlobalRuntimeState<H>,
+    caches: &mut Caches<H>,
+    table: &mut T,
+    scope: &mut Scope<H>,
+    this: &mut Dynamic<H>,
+    expr: &Expr,
+) -> Result<Dynamic<H>, EvalAltResult<H>>
+    requires resolves { IsTrue (resolves_expr expr.now (names_in scope.old)) }
+    requires sealed { AreSealed (cells_of global.old.cells) }
+    ensures stays { StaysAs (under H.name_of engine.now T.natives) (Eval expr.now)
+        (state_of (T.state table.old) global.old scope.old (holding (Some this.old))) result
+        (state_of (T.state table.new) global.new scope.new (holding (Some this.new))) }
+{
+    engine.eval_expr(alloc, global, caches, table, scope, Some(this), expr)
+}
+
+/// Of `Engine::eval_stmt`.
+pub fn eval_stmt<H: Host, T: NativeTable<H>>(
+    engine: &Engine<H>,
+    alloc: Global,
+    global: &mut GlobalRuntimeState<H>,
+    caches: &mut Caches<H>,
+    table: &mut T,
+    scope: &mut Scope<H>,
+    this: &mut Dynamic<H>,
+    stmt: &Stmt,
+    rewind_scope: bool,
+) -> Result<Dynamic<H>, EvalAltResult<H>>
+    requires resolves { IsTrue (resolves_stmt stmt.now (names_in scope.old)).0 }
+    requires sealed { AreSealed (cells_of global.old.cells) }
+    ensures stays { StaysAs (under H.name_of engine.now T.natives) (Exec stmt.now rewind_scope)
+        (state_of (T.state table.old) global.old scope.old (holding (Some this.old))) result
+        (state_of (T.state table.new) global.new scope.new (holding (Some this.new))) }
+{
+    engine.eval_stmt(
+        alloc,
+        global,
+        caches,
+        table,
+        scope,
+        Some(this),
+        stmt,
+        rewind_scope,
+    )
+}
+
+/// Of `Engine::eval_stmt_block`.
+pub fn eval_stmt_block<H: Host, T: NativeTable<H>>(
+    engine: &Engine<H>,
+    alloc: Global,
+    global: &mut GlobalRuntimeState<H>,
+    caches: &mut Caches<H>,
+    table: &mut T,
+    scope: &mut Scope<H>,
+    this: &mut Dynamic<H>,
+    statements: &[Stmt],
+    restore_orig_state: bool,
+) -> Result<Dynamic<H>, EvalAltResult<H>>
+    requires resolves { IsTrue (all_resolve (map resolves_stmt statements.now) (names_in scope.old)).0 }
+    requires sealed { AreSealed (cells_of global.old.cells) }
+    ensures stays { StaysAs (under H.name_of engine.now T.natives)
+        (Enter statements.now restore_orig_state)
+        (state_of (T.state table.old) global.old scope.old (holding (Some this.old))) result
+        (state_of (T.state table.new) global.new scope.new (holding (Some this.new))) }
+{
+    engine.eval_stmt_block(
+        alloc,
+        global,
+        caches,
+        table,
+        scope,
+        Some(this),
+        statements,
+        restore_orig_state,
+    )
+}
+
+/// Of `Engine::eval_fn_call_expr`.
+pub fn eval_fn_call_expr<H: Host, T: NativeTable<H>>(
+    engine: &Engine<H>,
+    alloc: Global,
+    global: &mut GlobalRuntimeState<H>,
+    caches: &mut Caches<H>,
+    table: &mut T,
+    scope: &mut Scope<H>,
+    this: &mut Dynamic<H>,
+    expr: &FnCallExpr,
+    pos: Position,
+) -> Result<Dynamic<H>, EvalAltResult<H>>
+    requires resolves { IsTrue (resolves_call expr.now pos (names_in scope.old)) }
+    requires sealed { AreSealed (cells_of global.old.cells) }
+    ensures stays { StaysAs (under H.name_of engine.now T.natives)
+        (OpenExpr (layer.Expr::FnCall expr.now pos))
+        (state_of (T.state table.old) global.old scope.old (holding (Some this.old))) result
+        (state_of (T.state table.new) global.new scope.new (holding (Some this.new))) }
+{
+    engine.eval_fn_call_expr(alloc, global, caches, table, scope, Some(this), expr, pos)
+}
+
+/// Of `Engine::get_arg_value`.
+pub fn get_arg_value<H: Host, T: NativeTable<H>>(
+    engine: &Engine<H>,
+    alloc: Global,
+    global: &mut GlobalRuntimeState<H>,
+    caches: &mut Caches<H>,
+    table: &mut T,
+    scope: &mut Scope<H>,
+    this: &mut Dynamic<H>,
+    arg_expr: &Expr,
+) -> Result<(Dynamic<H>, Position), EvalAltResult<H>>
+    requires resolves { IsTrue (resolves_expr arg_expr.now (names_in scope.old)) }
+    requires sealed { AreSealed (cells_of global.old.cells) }
+    ensures stays { StaysAs (under H.name_of engine.now T.natives) (Argument arg_expr.now)
+        (state_of (T.state table.old) global.old scope.old (holding (Some this.old)))
+        (value_with result)
+        (state_of (T.state table.new) global.new scope.new (holding (Some this.new))) }
+{
+    engine.get_arg_value(alloc, global, caches, table, scope, Some(this), arg_expr)
+}
+
+/// Of `Engine::make_function_call`.
+pub fn make_function_call<H: Host, T: NativeTable<H>>(
+    engine: &Engine<H>,
+    alloc: Global,
+    global: &mut GlobalRuntimeState<H>,
+    caches: &mut Caches<H>,
+    table: &mut T,
+    scope: &mut Scope<H>,
+    this: &mut Dynamic<H>,
+    fn_name: &str,
+    op_token: Option<&Token>,
+    first_arg: Option<&Expr>,
+    args_expr: &[Expr],
+    capture_parent_scope: bool,
+    pos: Position,
+) -> Result<Dynamic<H>, EvalAltResult<H>>
+    requires resolves { IsTrue (all_resolve_exprs (map tests_of (all_args (option_copied first_arg)
+        args_expr.now)) (names_in scope.old)) }
+    requires sealed { AreSealed (cells_of global.old.cells) }
+    ensures stays { StaysFrom (under H.name_of engine.now T.natives)
+        (called (record { name = fn_name.now; token = option_copied op_token.entry; at = pos })
+        (all_args (option_copied first_arg.entry) args_expr.now) capture_parent_scope)
+        (state_of (T.state table.old) global.old scope.old (holding (Some this.old))) result
+        (state_of (T.state table.new) global.new scope.new (holding (Some this.new))) }
+{
+    engine.make_function_call(
+        alloc,
+        global,
+        caches,
+        table,
+        scope,
+        Some(this),
+        fn_name,
+        op_token,
+        first_arg,
+        args_expr,
+        capture_parent_scope,
+        pos,
+    )
+}
+
+/// Of `Engine::make_qualified_function_call`.
+pub fn make_qualified_function_call<H: Host, T: NativeTable<H>>(
+    engine: &Engine<H>,
+    alloc: Global,
+    global: &mut GlobalRuntimeState<H>,
+    caches: &mut Caches<H>,
+    table: &mut T,
+    scope: &mut Scope<H>,
+    this: &mut Dynamic<H>,
+    namespace: &Namespace,
+    fn_name: &str,
+    args_expr: &[Expr],
+    pos: Position,
+) -> Result<Dynamic<H>, EvalAltResult<H>>
+    requires resolves { IsTrue (all_resolve_exprs (map tests_of args_expr.now) (names_in scope.old)) }
+    requires behind { is_unqualified namespace.now.path ≡ false }
+    requires sealed { AreSealed (cells_of global.old.cells) }
+    ensures stays { StaysAs (under H.name_of engine.now T.natives)
+        (OpenExpr (layer.Expr::FnCall (in_parts namespace.now fn_name.now args_expr.now None false) pos))
+        (state_of (T.state table.old) global.old scope.old (holding (Some this.old))) result
+        (state_of (T.state table.new) global.new scope.new (holding (Some this.new))) }
+{
+    engine.make_qualified_function_call(
+        alloc,
+        global,
+        caches,
+        table,
+        scope,
+        Some(this),
+        namespace,
+        fn_name,
+        args_expr,
+        pos,
+    )
+}
+
+/// Of `Engine::eval_dot_index_chain`, with a value to assign or without.
+pub fn eval_dot_index_chain<H: Host, T: NativeTable<H>>(
+    engine: &Engine<H>,
+    alloc: Global,
+    global: &mut GlobalRuntimeState<H>,
+    caches: &mut Caches<H>,
+    table: &mut T,
+    scope: &mut Scope<H>,
+    this: &mut Dynamic<H>,
+    expr: &Expr,
+    new_val: Option<(Dynamic<H>, &OpAssignment)>,
+) -> Result<Dynamic<H>, EvalAltResult<H>>
+    requires chain { is_some (first_in (out-Expr expr.now)) ≡ true }
+    requires resolves { ChainResolves (is_some new_val) expr.now (names_in scope.old) }
+    requires value { AssignsNoHandle new_val }
+    requires sealed { AreSealed (cells_of global.old.cells) }
+    ensures stays { StaysAs (under H.name_of engine.now T.natives)
+        (whole_chain expr.now (assigned_in new_val.entry))
+        (state_of (T.state table.old) global.old scope.old (holding (Some this.old))) result
+        (state_of (T.state table.new) global.new scope.new (holding (Some this.new))) }
+{
+    engine.eval_dot_index_chain(
+        alloc,
+        global,
+        caches,
+        table,
+        scope,
+        Some(this),
+        expr,
+        new_val,
+    )
+}

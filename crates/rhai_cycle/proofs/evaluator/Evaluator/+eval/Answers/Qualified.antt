@@ -1,0 +1,87 @@
+use Rattle.std.proofs.Common.{◌≡◌, false, true, refl, sym, ap, ◌∙◌, arith}
+use Rattle.rhai_machine.specs.machine.Memory.{◌⨾◌}
+use Rattle.rhai_machine.specs.language.Arguments.{operation_in}
+use Rattle.rhai_machine.specs.language.Calls.{behind_path}
+use Rattle.rhai_machine.specs.language.Runs.{Steps}
+use Rattle.rhai_machine.specs.language.Variables.{path_of}
+use Rattle.rhai_operands.proofs.Names.{good_name}
+use Rattle.rhai_steps.specs.States.{holding, state_of}
+use Rattle.rhai_dispatch.specs.Behind.{last_of, purpose_of}
+use Rattle.rhai_dispatch.specs.Going.{GoesOut}
+use Rattle.rhai_dispatch.proofs.Behind.{before_resolves, behind_begins, behind_goes, behind_spent, good_last}
+use Rattle.rhai_calls.specs.Called.{with_args}
+use Rattle.rhai_context.specs.Ends.{error_in}
+use Rattle.rhai_cycle.specs.Calls.{Collects, StartsAs, in_parts}
+use Rattle.rhai_cycle.specs.States.{names, state_in, under}
+use Rattle.rhai_cycle.proofs.QualifiedLemmas.{flattened_behind}
+use Rattle.rhai_cycle.proofs.evaluator.Evaluator.+eval.Goals as goal
+
+-- a call behind a path
+
+pub run_qualified_call-run_more_args-requires : goal.run_qualified_call-run_more_args-requires
+run_qualified_call-run_more_args-requires g t c =
+    λ κs lives. (
+      omega (arith, c.charge_last.ensures.counts),
+      (
+        lives.0,
+        (
+          lives.1,
+          (
+            omega arith,
+            rw (c.last_read.ensures.others)
+                (before_resolves (names c.args.run.now) c.args.args.now c.args.run.now.this c.requires.1.1.1.1.0),
+          ),
+        ),
+      ),
+    )
+
+pub run_qualified_call-call_behind-called-requires : goal.run_qualified_call-call_behind-called-requires
+run_qualified_call-call_behind-called-requires g t c = (
+  omega arith,
+  rw (c.if-not-run_more_args.ensures.names refl, c.last_read.ensures.last)
+      (good_last (names c.args.run.now) (λ e offset name namespace pos. good_name e offset name namespace pos (names c.args.run.now))
+      c.args.args.now c.args.run.now.this c.requires.1.1.1.1.0),
+)
+
+pub run_qualified_call-returns-then-not-charge_last-clause-runs : goal.run_qualified_call-returns-then-not-charge_last-clause-runs
+unfolding Steps
+run_qualified_call-returns-then-not-charge_last-clause-runs g t c token captures other k =
+    let rules = under g.H.Host.name_of c.args.self.now g.T.NativeTable.natives in
+    let call = in_parts c.args.namespace.now c.args.name.now c.args.args.now token captures in
+    rw (c.if-not-charge_last.ensures.same refl)
+    (behind_spent rules (g.T.NativeTable.state c.args.table.now) c.args.run.now.global c.args.run.now.scope (holding c.args.run.now.this)
+    call c.args.pos other c.requires.1.1.1.1.1 k (error_in c.charge_last.new.place)
+    (rw (c.last_read.ensures.last) at (c.if-not-charge_last.ensures.spent refl)))
+
+pub run_qualified_call-returns-then-not-run_more_args-clause-runs : goal.run_qualified_call-returns-then-not-run_more_args-clause-runs
+unfolding Steps Collects
+run_qualified_call-returns-then-not-run_more_args-clause-runs g t c token captures other k =
+    let rules = under g.H.Host.name_of c.args.self.now g.T.NativeTable.natives in
+    let call = in_parts c.args.namespace.now c.args.name.now c.args.args.now token captures in
+    let operation = operation_in call c.args.pos in
+    let how = behind_path (path_of c.args.namespace.now) in
+    let last = last_of c.args.args.now c.args.run.now.this in
+    behind_begins rules (g.T.NativeTable.state c.args.table.now) c.args.run.now.global c.args.run.now.scope (holding c.args.run.now.this)
+    call c.args.pos other c.requires.1.1.1.1.1 k c.charge_last.new.global
+    (rw (c.last_read.ensures.last) at (c.if-not-charge_last.ensures.charged refl))
+    ⨾ (rw (c.new-values.ensures, c.last_read.ensures.others) at c.if-not-run_more_args.ensures.collects)
+    (purpose_of last operation how) (flattened_behind g.row.H.Denot operation how last) k
+
+pub run_qualified_call-returns-clause-runs : goal.run_qualified_call-returns-clause-runs
+unfolding Steps Collects GoesOut StartsAs
+run_qualified_call-returns-clause-runs g t c token captures other k =
+    let rules = under g.H.Host.name_of c.args.self.now g.T.NativeTable.natives in
+    let call = in_parts c.args.namespace.now c.args.name.now c.args.args.now token captures in
+    let operation = operation_in call c.args.pos in
+    let how = behind_path (path_of c.args.namespace.now) in
+    let last = last_of c.args.args.now c.args.run.now.this in
+    behind_begins rules (g.T.NativeTable.state c.args.table.now) c.args.run.now.global c.args.run.now.scope (holding c.args.run.now.this)
+    call c.args.pos other c.requires.1.1.1.1.1 k c.charge_last.new.global
+    (rw (c.last_read.ensures.last) at (c.if-not-charge_last.ensures.charged refl))
+    ⨾ (rw (c.new-values.ensures, c.last_read.ensures.others) at c.if-not-run_more_args.ensures.collects)
+    (purpose_of last operation how) (flattened_behind g.row.H.Denot operation how last) k
+    ⨾ behind_goes rules c.args.self.now.offered (refl, refl) (path_of c.args.namespace.now) c.requires.1.1.1.1.1 operation last
+    c.run_more_args.new.values (state_in (g.T.NativeTable.state c.run_more_args.new.table) c.run_more_args.new.run)
+    (with_args c.call_behind-called.result c.call_behind-called.new.args)
+    (rw (c.last_read.ensures.last) at c.call_behind-called.ensures) k
+    ⨾ c.run_out-done.ensures.runs k

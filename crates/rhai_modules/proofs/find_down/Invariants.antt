@@ -1,6 +1,0 @@
-use Rattle.std.specs.Prelude.{◌≡◌, drop, Some}
-use Rattle.rhai_modules.specs.Namespaces.{down}
-use Rattle.rhai_modules.proofs.find_down.Given as goal
-
-abbrev pub invariant-path : goal.invariant-path
-invariant-path g l = down (drop l.name-index l.path) (Some l.within) ≡ down l.path (Some l.from)

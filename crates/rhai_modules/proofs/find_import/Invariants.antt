@@ -1,9 +1,0 @@
-use Rattle.std.specs.Prelude.{◌≡◌, ◌≤◌, drop, None, length}
-use Rattle.rhai_modules.specs.Namespaces.{imported}
-use Rattle.rhai_modules.proofs.find_import.Given as goal
-
-abbrev pub invariant-imports : goal.invariant-imports
-invariant-imports g l = (imported l.name (drop l.at l.imports) ≡ None) × (l.at ≤ length l.imports)
-
-abbrev pub decreases-imports : goal.decreases-imports
-decreases-imports g l = l.at

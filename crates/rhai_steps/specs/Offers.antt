@@ -1,0 +1,13 @@
+-- The modules of an engine in code as the rules have them.
+use Rattle.std.specs.Prelude.{◌≡◌}
+use Rattle.rhai_functions.specs.declared.function.Offered.{Offered}
+use Rattle.rhai_machine.specs.language.Setting.{Globals, Offer}
+
+module _ {H : Type 0} where
+  abbrev pub globals_in : Offered H → Globals H
+  globals_in offered = record { modules = offered.global_modules.now; named = offered.global_sub_modules.now }
+
+  -- the modules of an engine are these
+  abbrev pub Offers : Offer H → Offered H → Type 0
+  Offers offer offered =
+      (offer.global_modules ≡ offered.global_modules.now) × (offer.global_sub_modules ≡ offered.global_sub_modules.now)

@@ -1,0 +1,183 @@
+//! Values behind a path. Ports upstream's `search_namespace`.
+
+ghost use Rattle.std.specs.Prelude.{◌≡◌, ◌++◌, ◌∷◌, [], IfOk, Ok, OnOk, false};
+ghost use Rattle.std.specs.String.{string_bytes};
+ghost use Rattle.rhai_state.specs.Errors.{is_out_of_memory};
+ghost use Rattle.rhai_state.specs.declared.error.EvalAltResult.TheVariants as error;
+ghost use Rattle.rhai_tree.specs.Lookup.{value_of};
+ghost use Rattle.rhai_machine.specs.language.Names.{own_constants};
+ghost use Rattle.rhai_machine.specs.language.State.{Answers};
+ghost use Rattle.rhai_steps.specs.States.{surroundings_of};
+ghost use Rattle.rhai_functions.specs.Qualified.{behind, found_or_missing, is_global as is_own, path_text, qualified, read_only};
+ghost use Rattle.std.specs.Option.{option_copied};
+
+use crate::values::copy;
+use rhai_functions::function::Offered;
+use rhai_functions::paths::{find_constant, find_down, find_root};
+use rhai_state::error::EvalAltResult;
+use rhai_state::state::GlobalRuntimeState;
+use rhai_tree::position::Position;
+use rhai_tree::{Shared, Text};
+use rhai_values::base::value::{AccessMode, Dynamic, Host};
+use std::alloc::{AllocError, Global};
+
+/// Adds names to a text, each after `::`.
+fn push_behind(text: &mut String, names: &[Shared<Text>]) -> Result<(), AllocError>
+    ensures { OnOk result (string_bytes text.new ≡ string_bytes text.old ++ behind names.now) }
+{
+    'names: for name in names {
+        text.push_str("::")?;
+        text.push_str(name.get().as_str())?;
+    }
+    Ok(())
+}
+
+/// A path as it is written.
+fn text_of(alloc: Global, path: &[Shared<Text>]) -> Result<String, AllocError>
+    ensures { IfOk result (λ text. string_bytes text ≡ path_text path.now) }
+{
+    let [root, rest @ ..] = path else {
+        return Ok(String::new(alloc));
+    };
+    let mut text = String::from_str(alloc, root.get().as_str())?;
+    push_behind(&mut text, rest)?;
+    Ok(text)
+}
+
+/// There is no module of a path.
+#[cold]
+#[inline(never)]
+pub fn no_module<H>(alloc: Global, path: &[Shared<Text>], pos: Position) -> EvalAltResult<H>
+    ensures { is_out_of_memory result ≡ false → result ≡ error.ErrorModuleNotFound (path_text path.now) pos }
+{
+    let Ok(text) = text_of(alloc, path) else {
+        return EvalAltResult::ErrorOutOfMemory(pos);
+    };
+    match Shared::new(alloc, Text::from_string(text)) {
+        Ok(text) => EvalAltResult::ErrorModuleNotFound(text, pos),
+        Err(_) => EvalAltResult::ErrorOutOfMemory(pos),
+    }
+}
+
+/// A path and a name behind it, as they are written.
+pub fn full_text(alloc: Global, path: &[Shared<Text>], name: &str) -> Result<String, AllocError>
+    ensures { IfOk result (λ text. string_bytes text ≡ path_text path.now ++ behind (name.now ∷ [])) }
+{
+    let mut text = text_of(alloc, path)?;
+    text.push_str("::")?;
+    text.push_str(name)?;
+    Ok(text)
+}
+
+/// There is no variable of a name behind a path.
+#[cold]
+#[inline(never)]
+fn no_variable<H>(
+    alloc: Global,
+    path: &[Shared<Text>],
+    name: &str,
+    pos: Position,
+) -> EvalAltResult<H>
+    ensures { is_out_of_memory result ≡ false →
+        result ≡ error.ErrorVariableNotFound (path_text path.now ++ behind (name.now ∷ [])) pos }
+{
+    let Ok(text) = full_text(alloc, path, name) else {
+        return EvalAltResult::ErrorOutOfMemory(pos);
+    };
+    match Shared::new(alloc, Text::from_string(text)) {
+        Ok(text) => EvalAltResult::ErrorVariableNotFound(text, pos),
+        Err(_) => EvalAltResult::ErrorOutOfMemory(pos),
+    }
+}
+
+/// A copy of a value that may not be written in any part.
+fn read_only_copy<H: Host>(
+    alloc: Global,
+    value: &Dynamic<H>,
+    pos: Position,
+) -> Result<Dynamic<H>, EvalAltResult<H>>
+    ensures { Answers result (Ok (read_only value.now)) }
+{
+    let mut value = copy(alloc, value, pos)?;
+    value.set_access_mode(AccessMode::ReadOnly);
+    Ok(value)
+}
+
+/// A copy of what was found of a name behind a path, or that there is no such variable.
+fn answer<H: Host>(
+    alloc: Global,
+    found: Option<&Dynamic<H>>,
+    path: &[Shared<Text>],
+    name: &str,
+    pos: Position,
+) -> Result<Dynamic<H>, EvalAltResult<H>>
+    ensures { Answers result (found_or_missing (option_copied found.entry)
+        (path_text path.now ++ behind (name.now ∷ [])) pos) }
+{
+    match found {
+        Some(value) => read_only_copy(alloc, value, pos),
+        None => Err(no_variable(alloc, path, name, pos)),
+    }
+}
+
+/// Whether a path is that of the state's own constants, where no module has its name.
+fn is_global(path: &[Shared<Text>]) -> bool
+    ensures { result ≡ is_own path.now }
+{
+    let [root] = path else {
+        return false;
+    };
+    root.get().as_str() == "global"
+}
+
+/// The constant of a name in the table that is the state's own.
+fn find_own_constant<'g, H>(global: &'g GlobalRuntimeState<H>, name: &str) -> Option<&'g Dynamic<H>>
+    ensures { option_copied result ≡ value_of name.now (own_constants (surroundings_of global.now)) }
+{
+    let at = global.constants;
+    let tables = global.constant_tables.as_slice();
+    if at < tables.len() {
+        tables[at].get(name)
+    } else {
+        None
+    }
+}
+
+/// The value of a name behind a path: a copy that may not be written of the constant of that name in the module that
+/// the path leads to, from the newest import of its first name, or else from the engine's module of that name. Where
+/// there is neither and the path is `global` alone, of the state's own constant.
+///
+/// # Errors
+/// Both at the position: `ErrorModuleNotFound` with the path where nothing has its first name, and
+/// `ErrorVariableNotFound` with the path and the name.
+pub fn search_path<H: Host>(
+    alloc: Global,
+    offered: &Offered<'_, H>,
+    global: &GlobalRuntimeState<H>,
+    path: &[Shared<Text>],
+    name: &str,
+    pos: Position,
+) -> Result<Dynamic<H>, EvalAltResult<H>>
+    ensures { Answers result (qualified global.now.imports offered.now.global_sub_modules.now
+        (own_constants (surroundings_of global.now)) path.now name.now pos) }
+{
+    let [root, rest @ ..] = path else {
+        return Err(no_module(alloc, path, pos));
+    };
+    let imports = global.imports.as_slice();
+    match find_root(imports, offered.global_sub_modules, root.get().as_str()) {
+        Some(root) => {
+            let found = match find_down(root, rest) {
+                Some(within) => find_constant(within, name),
+                None => None,
+            };
+            answer(alloc, found, path, name, pos)
+        }
+        None => {
+            if is_global(path) {
+                return answer(alloc, find_own_constant(global, name), path, name, pos);
+            }
+            Err(no_module(alloc, path, pos))
+        }
+    }
+}

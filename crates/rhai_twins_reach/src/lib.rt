@@ -1,6 +1,0 @@
-//! The contract of `fits`, determined. Nothing here is run: a function calls what its law is of twice, from equal
-//! starts, and its contract says that both calls end equally. Its proof sees the contract of the call alone, so a body
-//! that meets that contract and ends differently for a caller does not exist.
-#![tactic(auto)]
-
-pub mod fitting;
