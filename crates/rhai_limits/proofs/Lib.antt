@@ -1,1 +1,10 @@
 mod Passing
+mod Keeping
+mod Calls
+mod Forms
+mod Chains
+mod Rules
+mod Runs
+mod Stopped
+mod Leaving
+mod ChargeLaws

@@ -1,1 +1,3 @@
+pub mod Charging
 pub mod Limits
+pub mod Rooms

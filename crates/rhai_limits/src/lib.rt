@@ -1,9 +1,12 @@
-//! What becomes of the errors of limits. It stands beside the machine, of which it is a law; nothing here
-//! is run.
+//! What becomes of the errors of limits, that every run keeps to the limits of variables and of call levels, and
+//! what charges. It stands beside the machine, of which these are laws; nothing here is run.
 #![tactic(auto)]
+
+pub mod charging;
 
 ghost use Rattle.rhai_machine.specs.language.Setting.{Setting, over};
 ghost use Rattle.rhai_limits.specs.Limits.{LimitsOnlyUnwind};
+ghost use Rattle.rhai_limits.specs.Rooms.{ScopesKeepToTheLimit, LevelsKeepToTheLimit, TooDeepFails};
 
 use rhai_state::table::NativeTable;
 use rhai_values::base::value::Host;
@@ -13,4 +16,19 @@ use std::marker::PhantomData;
 /// run ends with it, moved to a call perhaps, and on its way nothing is charged and no native is called.
 pub fn limits_are_never_caught<H: Host, T: NativeTable<H>>(of: PhantomData<(H, T)>)
     ensures { (setting : Setting H) → LimitsOnlyUnwind (over setting T.natives) }
+{}
+
+/// No scope grows past the limit of variables: at every point of a run, errors and want of memory included,
+/// each scope in hand holds at most as many as the limit allows, the current one and each that the end of a
+/// function's call keeps for its caller. A scope at the bottom that held more at the start holds no more than
+/// it did then.
+pub fn scopes_keep_to_the_limit<H: Host, T: NativeTable<H>>(of: PhantomData<(H, T)>)
+    ensures { (setting : Setting H) → ScopesKeepToTheLimit (over setting T.natives) }
+{}
+
+/// No body of a function is entered at a level above the limit: at every point of a run each function on the
+/// stack runs at a level that the limit allows, and one that is called above it fails at its call.
+pub fn bodies_are_not_too_deep<H: Host, T: NativeTable<H>>(of: PhantomData<(H, T)>)
+    ensures levels { (setting : Setting H) → LevelsKeepToTheLimit (over setting T.natives) }
+    ensures refused { (setting : Setting H) → TooDeepFails (over setting T.natives) }
 {}
