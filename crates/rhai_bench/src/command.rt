@@ -5,7 +5,7 @@ ghost use Rattle.rhai_bench.specs.Arguments.{IsCall};
 
 use crate::outcome::Ending;
 use crate::print::write_line;
-use crate::rows::{scope_for, scripts};
+use crate::rows::{scope_for, scripts_of};
 use crate::sample::Sample;
 use crate::settings::Way;
 use rhai_eval::base::{Dynamic, Shared, Text, Union};
@@ -59,7 +59,7 @@ fn run_row<W: Write>(alloc: Global, row: &str, out: &mut W) -> io::Result<u8>
     if row == "25" {
         return show_function(alloc, out);
     }
-    match scripts(row) {
+    match scripts_of(row) {
         Some(scripts) => run_scripts(alloc, row, scripts, out),
         None => print_usage(out),
     }

@@ -2,6 +2,7 @@
 //! them.
 #![tactic(auto)]
 
+pub mod caller;
 pub mod command;
 pub mod modules;
 pub mod outcome;

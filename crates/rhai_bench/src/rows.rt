@@ -6,7 +6,6 @@ use rhai_tables::host::Pair;
 use std::alloc::{AllocError, Global};
 
 mod around;
-mod called;
 mod calls;
 mod caught;
 mod cells;
@@ -14,70 +13,55 @@ mod chains;
 mod checked;
 mod choices;
 mod data;
-mod exports;
 mod functions;
-mod globals;
-mod imports;
 mod loops;
 mod modules;
 mod operators;
-mod order;
 mod pairs;
-mod paths;
 mod slices;
 mod thrown;
 mod variables;
 mod walks;
 
-/// Scripts under a name.
+/// Scripts under a name, which of a row is its number.
 #[derive(Clone, Copy)]
-struct Row(&'static str, &'static [Sample]);
+pub struct Row(pub &'static str, pub &'static [Sample]);
 
 /// The scripts of a row in their order, None where no row has the number. A number is written in
 /// decimal digits, without zeros in front.
-pub fn scripts(row: &str) -> Option<&'static [Sample]> {
-    match row.parse::<u8>() {
-        Ok(_) => scripts_of(row),
-        Err(_) => None,
-    }
+pub fn scripts_of(row: &str) -> Option<&'static [Sample]> {
+    first_found(&[
+        calls::scripts_of(row),
+        caught::scripts_of(row),
+        cells::scripts_of(row),
+        chains::scripts_of(row),
+        checked::scripts_of(row),
+        choices::scripts_of(row),
+        data::scripts_of(row),
+        functions::scripts_of(row),
+        loops::scripts_of(row),
+        modules::scripts_of(row),
+        operators::scripts_of(row),
+        pairs::scripts_of(row),
+        slices::scripts_of(row),
+        thrown::scripts_of(row),
+        variables::scripts_of(row),
+        walks::scripts_of(row),
+    ])
 }
 
-/// The scripts of a row by its number, or of a list that no row has by its name.
-pub fn scripts_of(list: &str) -> Option<&'static [Sample]> {
-    let found = [
-        called::scripts_of(list),
-        calls::scripts_of(list),
-        caught::scripts_of(list),
-        cells::scripts_of(list),
-        chains::scripts_of(list),
-        checked::scripts_of(list),
-        choices::scripts_of(list),
-        data::scripts_of(list),
-        exports::scripts_of(list),
-        functions::scripts_of(list),
-        globals::scripts_of(list),
-        imports::scripts_of(list),
-        loops::scripts_of(list),
-        modules::scripts_of(list),
-        operators::scripts_of(list),
-        order::scripts_of(list),
-        pairs::scripts_of(list),
-        paths::scripts_of(list),
-        slices::scripts_of(list),
-        thrown::scripts_of(list),
-        variables::scripts_of(list),
-        walks::scripts_of(list),
-    ];
+/// The first scripts that were found.
+pub fn first_found(found: &[Option<&'static [Sample]>]) -> Option<&'static [Sample]> {
     for scripts in found {
         if scripts.is_some() {
-            return scripts;
+            return *scripts;
         }
     }
     None
 }
 
 /// The scripts that stand under a name in a list.
-fn scripts_in(rows: &'static [Row], name: &str) -> Option<&'static [Sample]> {
+pub fn scripts_in(rows: &'static [Row], name: &str) -> Option<&'static [Sample]> {
     for row in rows {
         if row.0 == name {
             return Some(row.1);

@@ -3,24 +3,18 @@
 use crate::errors::write_shown;
 use crate::functions::write_call;
 use crate::handles::write_handled;
+use crate::numbered::Numbered;
 use crate::program::{write_refusals, write_run};
-use crate::scripts::{write_number, write_ways};
 use crate::searches::write_search;
 use crate::signatures::write_told;
 use crate::values::write_sample;
+use rhai_worked::lists;
 use std::alloc::Global;
 use std::io;
 use std::io::Write;
 
 /// The answer of a call:
 ///
-/// - `scripts LIST`: how many scripts a list has
-/// - `ends LIST N`, `charges LIST N`, `leaves LIST N`, `says LIST N`: the line of a script of a
-///   list, counted from 1, its operations, its variables, and what its error says beside its place
-/// - `fixes LIST N`, `shares LIST N`, `exports LIST N`, `reads LIST N`: the names of its constants, the values of its
-///   cells, its variables with their aliases, and its error as a user reads it
-/// - `loads LIST N`, `imports LIST N`: how many modules it loads, and the names of the imports that it leaves
-/// - `above ends LIST N` and so on: the same above a scope of 300 other variables
 /// - `run [WORD] ..`: the lines of the program for the words, and its status
 /// - `refuses [WORD] ..`: the status of the program where one of its writes is refused
 /// - `prints NAME`: a value or a place of that name
@@ -31,6 +25,7 @@ use std::io::Write;
 /// - `shows VARIANT [PART] ..`: an error as a user reads it; behind `nowhere`, without its place
 /// - `tells metadata`, `tells signature`, `tells surroundings`: what is told of a function without its
 ///   body, and what it finds around it
+/// - `ends 26 1` and so on: what is told of a script of a row, counted from 1 (`rhai_worked::lists`)
 pub fn answer(alloc: Global, call: &str) -> io::Result<Vec<u8>> {
     let mut out = Vec::new(alloc);
     write_answer(alloc, call, &mut out)?;
@@ -40,7 +35,6 @@ pub fn answer(alloc: Global, call: &str) -> io::Result<Vec<u8>> {
 fn write_answer(alloc: Global, call: &str, out: &mut Vec<u8>) -> io::Result<()> {
     let (form, rest) = call.split_once(' ').unwrap_or((call, ""));
     match form {
-        "scripts" => write_number(rest, out),
         "run" => write_run(alloc, rest, out),
         "refuses" => write_refusals(alloc, rest, out),
         "prints" => write_sample(alloc, rest, out),
@@ -50,10 +44,6 @@ fn write_answer(alloc: Global, call: &str, out: &mut Vec<u8>) -> io::Result<()> 
         "handles" => write_handled(alloc, rest, out),
         "shows" => write_shown(alloc, rest, out),
         "tells" => write_told(alloc, rest, out),
-        "above" => {
-            let (form, rest) = rest.split_once(' ').unwrap_or((rest, ""));
-            write_ways(alloc, 300, form, rest, out)
-        }
-        _ => write_ways(alloc, 0, form, rest, out),
+        _ => lists::write_answer::<Numbered>(alloc, call, out),
     }
 }

@@ -4,6 +4,7 @@ use rhai_eval::base::{Boxed, Dynamic, EvalAltResult, Position, Shared, Text, Uni
 use rhai_state::error::{Bounds, FunctionCallError, TypeMismatch};
 use rhai_tables::host::Pair;
 use rhai_vectors::text::shared;
+use rhai_worked::errors::write_error;
 use std::alloc::{AllocError, Global};
 use std::io;
 use std::io::Write;
@@ -20,24 +21,6 @@ pub fn write_shown(alloc: Global, words: &str, out: &mut Vec<u8>) -> io::Result<
         Some(error) => write_error(alloc, error, out),
         None => write!(out, "no error"),
     }
-}
-
-/// Writes an error as a user reads it. Between two lines of it stands `\n`.
-pub fn write_error(alloc: Global, error: EvalAltResult<Pair>, out: &mut Vec<u8>) -> io::Result<()> {
-    let shown = format!(in alloc; "{error}");
-    drop(error);
-    write_lines(shown?.as_str(), out)
-}
-
-/// Writes a text, with `\n` between two lines of it.
-pub fn write_lines(text: &str, out: &mut Vec<u8>) -> io::Result<()> {
-    for (at, line) in text.lines().enumerate() {
-        if at > 0 {
-            write!(out, "\\n")?;
-        }
-        write!(out, "{line}")?;
-    }
-    Ok(())
 }
 
 type Made = Result<Option<EvalAltResult<Pair>>, AllocError>;

@@ -3,7 +3,7 @@
 ghost use Rattle.std.specs.Prelude.{IfOk};
 ghost use Rattle.rhai_values.specs.Cells.{IsNoHandle};
 
-use crate::errors::write_error;
+use rhai_bench::caller::eval_tree;
 use rhai_bench::print::write_value;
 use rhai_bench::script::add_library;
 use rhai_bench::settings::{Settings, Way};
@@ -21,6 +21,7 @@ use rhai_samples::parts::{Part, tree_of};
 use rhai_tables::host::Pair;
 use rhai_tables::tables::counting::Counting;
 use rhai_vectors::text::shared;
+use rhai_worked::errors::write_error;
 use std::alloc::{AllocError, Global};
 use std::io;
 use std::io::Write;
@@ -232,8 +233,9 @@ fn write_way(alloc: Global, chain: Chain, way: Way, out: &mut Vec<u8>) -> io::Re
         Ok(tree) => {
             add_library(alloc, &mut global, &tree)?;
             let engine: Engine<Pair> = Settings::USUAL.engine(alloc)?;
-            match engine.eval_global_statements(
+            match eval_tree(
                 alloc,
+                &engine,
                 &mut global,
                 &mut way.caches(alloc),
                 &mut Counting::table(alloc),

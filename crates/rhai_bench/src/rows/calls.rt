@@ -10,8 +10,8 @@ use rhai_samples::calls::{
 };
 use rhai_samples::operators::SUM;
 
-/// The scripts of this file, by the numbers of their rows, or by the names of lists that no row has.
-const LISTS: &[Row] = &[
+/// The scripts of this file, by the numbers of their rows.
+const ROWS: &[Row] = &[
     Row("24", REFUSED_BY_THE_CHECKER),
     Row("31", NATIVES),
     Row("32", POINTERS_AND_NAMES),
@@ -40,7 +40,7 @@ const POINTERS_AND_NAMES: &[Sample] = &[
     Sample(Parts(SUM), WithoutFastOperators),
 ];
 
-/// The scripts of a list of this file.
-pub(super) fn scripts_of(list: &str) -> Option<&'static [Sample]> {
-    scripts_in(LISTS, list)
+/// The scripts of a row of this file.
+pub(super) fn scripts_of(row: &str) -> Option<&'static [Sample]> {
+    scripts_in(ROWS, row)
 }

@@ -12,8 +12,8 @@ use rhai_samples::caught::{
 };
 use rhai_samples::loops::EMPTY_LOOP;
 
-/// The scripts of this file, by the numbers of their rows, or by the names of lists that no row has.
-const LISTS: &[Row] = &[
+/// The scripts of this file, by the numbers of their rows.
+const ROWS: &[Row] = &[
     Row("2", ENDLESS),
     Row("8", KEY_INSERTED),
     Row("9", OBJECT_CHANGED),
@@ -50,7 +50,7 @@ const BREAKS_AND_CAUGHT_ERRORS: &[Sample] = &[
     Sample(Parts(MESSAGE_OF_WHAT_WAS_CAUGHT), Usual),
 ];
 
-/// The scripts of a list of this file.
-pub(super) fn scripts_of(list: &str) -> Option<&'static [Sample]> {
-    scripts_in(LISTS, list)
+/// The scripts of a row of this file.
+pub(super) fn scripts_of(row: &str) -> Option<&'static [Sample]> {
+    scripts_in(ROWS, row)
 }

@@ -6,19 +6,17 @@ use crate::sample::Sample;
 use crate::sample::Tree::{Parts, Statements};
 use crate::settings::Setting::{MaxOperations, Usual};
 use rhai_samples::chains::{
-    ENTRY_OF_A_CONSTANT, INDEX_THAT_COUNTS, ITEM_OF_AN_ITEM_ASSIGNED, ITEM_PAST_THE_END, LAST_ITEM,
-    METHOD_ON_AN_ITEM, MISSING_ENTRY, MISSING_ENTRY_INCREASED, ONLY_ITEM,
+    ENTRY_OF_A_CONSTANT, INDEX_THAT_COUNTS, ITEM_PAST_THE_END, LAST_ITEM, MISSING_ENTRY, ONLY_ITEM,
     PROPERTY_OF_UNIT_ASSIGNED,
 };
 
-/// The scripts of this file, by the numbers of their rows, or by the names of lists that no row has.
-const LISTS: &[Row] = &[
+/// The scripts of this file, by the numbers of their rows.
+const ROWS: &[Row] = &[
     Row("4", ITEMS),
     Row("7", VALUE_BEFORE_INDEX),
     Row("14", NEW_KEY_OF_A_CONSTANT),
     Row("17", ITEM_UNDER_A_LIMIT),
     Row("18", ABSENT),
-    Row("kept", LEFT_IN_PLACE),
 ];
 
 /// The last item of an array, and one past its end.
@@ -44,15 +42,7 @@ const ABSENT: &[Sample] = &[
     Sample(Parts(MISSING_ENTRY), Usual),
 ];
 
-/// What a chain leaves where it stands: a method's change to an item, a key that was inserted before
-/// an operator failed, and an item of an item.
-const LEFT_IN_PLACE: &[Sample] = &[
-    Sample(Parts(METHOD_ON_AN_ITEM), Usual),
-    Sample(Parts(MISSING_ENTRY_INCREASED), Usual),
-    Sample(Parts(ITEM_OF_AN_ITEM_ASSIGNED), Usual),
-];
-
-/// The scripts of a list of this file.
-pub(super) fn scripts_of(list: &str) -> Option<&'static [Sample]> {
-    scripts_in(LISTS, list)
+/// The scripts of a row of this file.
+pub(super) fn scripts_of(row: &str) -> Option<&'static [Sample]> {
+    scripts_in(ROWS, row)
 }

@@ -6,12 +6,10 @@ use crate::sample::MadeTree::{IntegerChosen, TextChosen};
 use crate::sample::Sample;
 use crate::sample::Tree::{Parts, Statements, WithFunctions};
 use crate::settings::Setting::Usual;
-use rhai_samples::choices::{
-    CASE_UNDER_A_TEST, CHARACTER_CHOSEN, DEFAULT_UNDER_FALSE, INTEGER_AS_A_CONDITION,
-};
+use rhai_samples::choices::CHARACTER_CHOSEN;
 
-/// The scripts of this file, by the numbers of their rows, or by the names of lists that no row has.
-const LISTS: &[Row] = &[Row("12", CASES), Row("choices", CONDITIONS)];
+/// The scripts of this file, by the number of their row.
+const ROWS: &[Row] = &[Row("12", CASES)];
 
 /// Cases and ranges of integers, and cases of other types.
 const CASES: &[Sample] = &[
@@ -27,14 +25,7 @@ const CASES: &[Sample] = &[
     Sample(Statements(TruthChosen), Usual),
 ];
 
-/// Conditions of cases, and of a default, which no row has.
-const CONDITIONS: &[Sample] = &[
-    Sample(Parts(INTEGER_AS_A_CONDITION), Usual),
-    Sample(Parts(CASE_UNDER_A_TEST), Usual),
-    Sample(Parts(DEFAULT_UNDER_FALSE), Usual),
-];
-
-/// The scripts of a list of this file.
-pub(super) fn scripts_of(list: &str) -> Option<&'static [Sample]> {
-    scripts_in(LISTS, list)
+/// The scripts of a row of this file.
+pub(super) fn scripts_of(row: &str) -> Option<&'static [Sample]> {
+    scripts_in(ROWS, row)
 }

@@ -7,8 +7,8 @@ use crate::sample::Tree::{Parts, Statements};
 use crate::settings::Setting::{MaxArraySize, Usual};
 use rhai_samples::data::{GREATEST_AND_ONE, THREE_ITEMS};
 
-/// The scripts of this file, by the numbers of their rows, or by the names of lists that no row has.
-const LISTS: &[Row] = &[Row("22", TOO_LARGE), Row("30", JOINED_AND_GATHERED)];
+/// The scripts of this file, by the numbers of their rows.
+const ROWS: &[Row] = &[Row("22", TOO_LARGE), Row("30", JOINED_AND_GATHERED)];
 
 /// An array and a number that are larger than they may be.
 const TOO_LARGE: &[Sample] = &[
@@ -22,7 +22,7 @@ const JOINED_AND_GATHERED: &[Sample] = &[
     Sample(Statements(ItemsOfThreeTypes), Usual),
 ];
 
-/// The scripts of a list of this file.
-pub(super) fn scripts_of(list: &str) -> Option<&'static [Sample]> {
-    scripts_in(LISTS, list)
+/// The scripts of a row of this file.
+pub(super) fn scripts_of(row: &str) -> Option<&'static [Sample]> {
+    scripts_in(ROWS, row)
 }

@@ -7,18 +7,13 @@ use crate::sample::MadeTree::{
 use crate::sample::Sample;
 use crate::sample::Tree::{Parts, WithFunctions};
 use crate::settings::Setting::{MaxCallLevels, Usual};
-use rhai_samples::functions::{
-    CALLS_WITHOUT_END, EMPTY_FUNCTION, FUNCTION_OF_ONE, METHOD_THAT_CHANGES_AN_ITEM,
-    METHOD_THAT_FAILS, PARAMETER_ASSIGNED,
-};
+use rhai_samples::functions::{EMPTY_FUNCTION, METHOD_THAT_CHANGES_AN_ITEM, PARAMETER_ASSIGNED};
 
-/// The scripts of this file, by the numbers of their rows, or by the names of lists that no row has.
-const LISTS: &[Row] = &[
+/// The scripts of this file, by the numbers of their rows.
+const ROWS: &[Row] = &[
     Row("3", CALLED_BY_ITSELF),
     Row("35", CHANGES),
     Row("36", FOUND_AND_TOO_DEEP),
-    Row("calls", IN_NO_ROW),
-    Row("fewer", FEWER_CALLS),
 ];
 
 /// A function that calls itself twice, with 28.
@@ -40,19 +35,7 @@ const FOUND_AND_TOO_DEEP: &[Sample] = &[
     Sample(WithFunctions(FunctionsForTypes), Usual),
 ];
 
-/// Calls that no row has: that function with 10; a method that has changed its object before it fails; and
-/// calls that are too deep, without end and where none is allowed.
-const IN_NO_ROW: &[Sample] = &[
-    Sample(WithFunctions(Fibonacci(10)), Usual),
-    Sample(Parts(METHOD_THAT_FAILS), Usual),
-    Sample(Parts(CALLS_WITHOUT_END), MaxCallLevels(3)),
-    Sample(Parts(FUNCTION_OF_ONE), MaxCallLevels(0)),
-];
-
-/// That function with 6.
-const FEWER_CALLS: &[Sample] = &[Sample(WithFunctions(Fibonacci(6)), Usual)];
-
-/// The scripts of a list of this file.
-pub(super) fn scripts_of(list: &str) -> Option<&'static [Sample]> {
-    scripts_in(LISTS, list)
+/// The scripts of a row of this file.
+pub(super) fn scripts_of(row: &str) -> Option<&'static [Sample]> {
+    scripts_in(ROWS, row)
 }

@@ -7,14 +7,13 @@ use crate::sample::MadeStatements::{
 use crate::sample::Sample;
 use crate::sample::Tree::{Parts, Statements};
 use crate::settings::Setting::{MaxOperations, Usual};
-use rhai_samples::loops::{BREAK_AT_THE_TOP, THREE_TURNS, VALUE_OF_A_LOOP};
+use rhai_samples::loops::{THREE_TURNS, VALUE_OF_A_LOOP};
 
-/// The scripts of this file, by the numbers of their rows, or by the names of lists that no row has.
-const LISTS: &[Row] = &[
+/// The scripts of this file, by the numbers of their rows.
+const ROWS: &[Row] = &[
     Row("11", CONTINUED),
     Row("28", TURNS_UNDER_LIMITS),
     Row("29", LEFT_EARLY),
-    Row("outside", OUTSIDE_OF_LOOPS),
 ];
 
 /// A `continue` that starts the next turn without a test of the condition.
@@ -34,10 +33,7 @@ const LEFT_EARLY: &[Sample] = &[
     Sample(Statements(IntegerAndTrue), Usual),
 ];
 
-/// A `break` that stands in no loop.
-const OUTSIDE_OF_LOOPS: &[Sample] = &[Sample(Parts(BREAK_AT_THE_TOP), Usual)];
-
-/// The scripts of a list of this file.
-pub(super) fn scripts_of(list: &str) -> Option<&'static [Sample]> {
-    scripts_in(LISTS, list)
+/// The scripts of a row of this file.
+pub(super) fn scripts_of(row: &str) -> Option<&'static [Sample]> {
+    scripts_in(ROWS, row)
 }

@@ -6,8 +6,8 @@ use crate::sample::Tree::Parts;
 use crate::settings::Setting::{MaxOperations, Usual};
 use rhai_samples::operators::{INTEGER_AS_CONDITION, SUM, SUM_OF_TWO_TYPES, SUM_WITH_UNKNOWN_NAME};
 
-/// The scripts of this file, by the numbers of their rows, or by the names of lists that no row has.
-const LISTS: &[Row] = &[Row("1", SUM_UNDER_LIMITS), Row("27", REFUSED_OPERANDS)];
+/// The scripts of this file, by the numbers of their rows.
+const ROWS: &[Row] = &[Row("1", SUM_UNDER_LIMITS), Row("27", REFUSED_OPERANDS)];
 
 /// The sum of two integers: three operations are too few, four are enough.
 const SUM_UNDER_LIMITS: &[Sample] = &[
@@ -22,7 +22,7 @@ const REFUSED_OPERANDS: &[Sample] = &[
     Sample(Parts(INTEGER_AS_CONDITION), Usual),
 ];
 
-/// The scripts of a list of this file.
-pub(super) fn scripts_of(list: &str) -> Option<&'static [Sample]> {
-    scripts_in(LISTS, list)
+/// The scripts of a row of this file.
+pub(super) fn scripts_of(row: &str) -> Option<&'static [Sample]> {
+    scripts_in(ROWS, row)
 }

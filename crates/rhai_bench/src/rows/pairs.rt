@@ -11,8 +11,8 @@ use rhai_samples::pairs::{
     UNKNOWN_METHOD_ON_A_CONSTANT,
 };
 
-/// The scripts of this file, by the numbers of their rows, or by the names of lists that no row has.
-const LISTS: &[Row] = &[Row("33", PAIRS_ASSIGNED), Row("34", REFUSED_BY_NATIVES)];
+/// The scripts of this file, by the numbers of their rows.
+const ROWS: &[Row] = &[Row("33", PAIRS_ASSIGNED), Row("34", REFUSED_BY_NATIVES)];
 
 /// Properties and numbers of a pair that are assigned to.
 const PAIRS_ASSIGNED: &[Sample] = &[
@@ -33,7 +33,7 @@ const REFUSED_BY_NATIVES: &[Sample] = &[
     Sample(Parts(UNKNOWN_METHOD_ON_A_CONSTANT), Usual),
 ];
 
-/// The scripts of a list of this file.
-pub(super) fn scripts_of(list: &str) -> Option<&'static [Sample]> {
-    scripts_in(LISTS, list)
+/// The scripts of a row of this file.
+pub(super) fn scripts_of(row: &str) -> Option<&'static [Sample]> {
+    scripts_in(ROWS, row)
 }

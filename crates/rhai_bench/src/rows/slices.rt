@@ -9,8 +9,8 @@ use rhai_samples::chains::{
     SLICE_FROM_BEFORE_THE_START, SLICE_OF_ONE, SLICE_PAST_THE_END,
 };
 
-/// The scripts of this file, by the numbers of their rows, or by the names of lists that no row has.
-const LISTS: &[Row] = &[
+/// The scripts of this file, by the numbers of their rows.
+const ROWS: &[Row] = &[
     Row("5", BITS),
     Row("6", SLICES),
     Row("23", SLICES_PAST_THE_ENDS),
@@ -38,7 +38,7 @@ const SLICES_PAST_THE_ENDS: &[Sample] = &[
     Sample(Parts(SLICE_PAST_THE_END), Usual),
 ];
 
-/// The scripts of a list of this file.
-pub(super) fn scripts_of(list: &str) -> Option<&'static [Sample]> {
-    scripts_in(LISTS, list)
+/// The scripts of a row of this file.
+pub(super) fn scripts_of(row: &str) -> Option<&'static [Sample]> {
+    scripts_in(ROWS, row)
 }

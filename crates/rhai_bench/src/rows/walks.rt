@@ -4,18 +4,11 @@ use crate::rows::{Row, scripts_in};
 use crate::sample::MadeStatements::{IntegerWalked, ItemsAndCounterSummed, RangeAfterACase};
 use crate::sample::Sample;
 use crate::sample::Tree::{Parts, Statements};
-use crate::settings::Setting::{MaxOperations, MaxVariables, Usual};
-use rhai_samples::walks::{
-    ARRAY_EMPTIED_IN_ITS_WALK, EMPTY_RANGE_WALKED, GREATEST_INTEGERS_WALKED, ITEM_SKIPPED,
-    SUM_WALKED, TEXT_REVERSED, THREE_EMPTY_TURNS, UNKNOWN_CALL_WALKED,
-};
+use crate::settings::Setting::Usual;
+use rhai_samples::walks::{ARRAY_EMPTIED_IN_ITS_WALK, EMPTY_RANGE_WALKED, TEXT_REVERSED};
 
-/// The scripts of this file, by the numbers of their rows, or by the names of lists that no row has.
-const LISTS: &[Row] = &[
-    Row("19", ITEMS),
-    Row("38", ENDS_OF_WALKS),
-    Row("walks", TURNS),
-];
+/// The scripts of this file, by the numbers of their rows.
+const ROWS: &[Row] = &[Row("19", ITEMS), Row("38", ENDS_OF_WALKS)];
 
 /// Items with their counter, and an array that is emptied while it is gone over.
 const ITEMS: &[Sample] = &[
@@ -31,16 +24,7 @@ const ENDS_OF_WALKS: &[Sample] = &[
     Sample(Statements(RangeAfterACase), Usual),
 ];
 
-/// The greatest integers, charges and errors of a `for`, and an item that is skipped, which no row has.
-const TURNS: &[Sample] = &[
-    Sample(Parts(GREATEST_INTEGERS_WALKED), Usual),
-    Sample(Parts(THREE_EMPTY_TURNS), MaxOperations(5)),
-    Sample(Parts(SUM_WALKED), Usual),
-    Sample(Parts(UNKNOWN_CALL_WALKED), MaxVariables(0)),
-    Sample(Parts(ITEM_SKIPPED), Usual),
-];
-
-/// The scripts of a list of this file.
-pub(super) fn scripts_of(list: &str) -> Option<&'static [Sample]> {
-    scripts_in(LISTS, list)
+/// The scripts of a row of this file.
+pub(super) fn scripts_of(row: &str) -> Option<&'static [Sample]> {
+    scripts_in(ROWS, row)
 }

@@ -1,9 +1,9 @@
 //! Names that modules of the engine have, or functions of the script.
 
-use crate::rows::{Row, scripts_in};
-use crate::sample::Sample;
-use crate::sample::Tree::Parts;
-use crate::settings::Setting::{Usual, WithGlobalModules};
+use rhai_bench::rows::{Row, scripts_in};
+use rhai_bench::sample::Sample;
+use rhai_bench::sample::Tree::Parts;
+use rhai_bench::settings::Setting::{Usual, WithGlobalModules};
 use rhai_samples::globals::{
     BEFORE_A_FUNCTION, BEHIND_A_VARIABLE, CONSTANT_ADDED, CONSTANT_ADDED_TO_A_VARIABLE,
     CONSTANT_AS_AN_INDEX, CONSTANT_ASSIGNED, CONSTANT_ASSIGNED_TO_AN_ITEM, CONSTANT_BEHIND_A_NAME,
@@ -16,7 +16,7 @@ use rhai_samples::globals::{
     UNKNOWN_NAME,
 };
 
-/// The scripts of this file, by the name of a list that no row has.
+/// The list of this file.
 const LISTS: &[Row] = &[Row("globals", GLOBALS)];
 
 /// Constants of the engine's modules: written, hidden, passed, used by operators, copied, walked, and read in a

@@ -1,4 +1,4 @@
-//! Runs each script of the worked lines in each way, first with all memory granted, and then with the first,
+//! Runs each script of a program's lists in each way, first with all memory granted, and then with the first,
 //! the second, the third .. request for memory refused, alone and with all after it, until none is left to
 //! refuse, and sees to what holds after each run. Refusing wants something outside of the program; without it
 //! all memory is granted in every run.
@@ -7,9 +7,10 @@ mod chain;
 mod part;
 mod refuser;
 
-use crate::refused::part::{LISTS, Part, Report};
+use crate::lists::Lists;
+use crate::refused::part::{Part, Report};
 use crate::refused::refuser::Refusal;
-use rhai_bench::rows::scripts_of;
+use rhai_bench::sample::Sample;
 use rhai_bench::settings::Way;
 use std::alloc::Global;
 use std::io;
@@ -31,10 +32,12 @@ struct Tally {
 }
 
 /// Prints what does not hold after a run, and how many runs there were. Whether all holds.
-pub fn are_all_well<W: Write>(alloc: Global, out: &mut W) -> io::Result<bool> {
+pub fn are_all_well<L: Lists, W: Write>(alloc: Global, out: &mut W) -> io::Result<bool> {
     let mut tally = Tally::default();
-    for list in LISTS {
-        run_list(alloc, list, &mut tally, &mut *out)?;
+    for list in L::refused() {
+        if let Some(scripts) = L::scripts_of(*list) {
+            run_list(alloc, *list, scripts, &mut tally, &mut *out)?;
+        }
     }
     for refusal in Refusal::BOTH {
         run_chain(alloc, refusal, &mut tally, &mut *out)?;
@@ -71,7 +74,12 @@ impl Tally {
             return Ok(());
         };
         self.wrong = self.wrong.saturating_add(1);
-        let Part { list, place, way } = part;
+        let Part {
+            list,
+            place,
+            way,
+            ..
+        } = part;
         writeln!(
             out,
             "{list} part {place} {way:?} {refusal:?} {number}: {what}"
@@ -83,17 +91,19 @@ impl Tally {
 fn run_list<W: Write>(
     alloc: Global,
     list: &'static str,
+    scripts: &[Sample],
     tally: &mut Tally,
     out: &mut W,
 ) -> io::Result<()> {
-    let count = match scripts_of(list) {
-        Some(scripts) => scripts.len(),
-        None => 0,
-    };
-    for place in 0..count {
+    for (place, sample) in scripts.iter().enumerate() {
         tally.parts = tally.parts.saturating_add(1);
         for way in Way::ALL {
-            let part = Part { list, place, way };
+            let part = Part {
+                list,
+                place,
+                sample: *sample,
+                way,
+            };
             for refusal in Refusal::BOTH {
                 run_part(alloc, part, refusal, tally, out)?;
             }

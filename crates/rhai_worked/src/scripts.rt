@@ -1,11 +1,10 @@
 //! What scripts come to.
 
 use crate::errors::write_lines;
-use crate::lists::script_at;
 use rhai_bench::outcome::{Ending, Outcome};
 use rhai_bench::print::{write_ending, write_value};
-use rhai_bench::rows::{scope_for, scripts_of};
-use rhai_bench::script::Script;
+use rhai_bench::rows::scope_for;
+use rhai_bench::sample::Sample;
 use rhai_bench::settings::Way;
 use rhai_eval::base::{AccessMode, CellId, Dynamic, EvalAltResult, Scope, Shared, Text, Union};
 use rhai_eval::cells::CellStore;
@@ -15,34 +14,28 @@ use std::alloc::{AllocError, Global};
 use std::io;
 use std::io::Write;
 
-/// A script by its list and its number there, counted from 1, as `26 1`.
-fn script_of(alloc: Global, name: &str) -> Result<Option<Script>, AllocError> {
-    let (list, number) = name.split_once(' ').unwrap_or((name, ""));
-    let number: usize = number.parse().unwrap_or(0);
-    script_at(alloc, list, number.checked_sub(1).unwrap_or(usize::MAX))
-}
-
 /// Writes how many scripts a list has.
-pub fn write_number(list: &str, out: &mut Vec<u8>) -> io::Result<()> {
-    match scripts_of(list) {
+pub fn write_number(scripts: Option<&[Sample]>, out: &mut Vec<u8>) -> io::Result<()> {
+    match scripts {
         Some(scripts) => write!(out, "{}", scripts.len()),
         None => write!(out, "no list"),
     }
 }
 
-/// Writes what a script comes to in every way of running, above so many other variables. Where two
-/// ways differ both are written.
+/// Writes what a script of a list comes to in every way of running, above so many other variables.
+/// Where two ways differ both are written.
 pub fn write_ways(
     alloc: Global,
     others: usize,
     form: &str,
-    name: &str,
+    list: &str,
+    sample: Sample,
     out: &mut Vec<u8>,
 ) -> io::Result<()> {
-    write_way(alloc, others, form, name, Way::USUAL, out)?;
+    write_way(alloc, others, form, list, sample, Way::USUAL, out)?;
     for way in Way::ALL {
         let mut other = Vec::new(alloc);
-        write_way(alloc, others, form, name, way, &mut other)?;
+        write_way(alloc, others, form, list, sample, way, &mut other)?;
         if other.as_slice() != out.as_slice() {
             write!(out, " or ")?;
             out.write_all(other.as_slice())?;
@@ -51,39 +44,25 @@ pub fn write_ways(
     Ok(())
 }
 
-/// Writes what a script comes to in one of the ways.
+/// Writes what a script of a list comes to in one of the ways.
 fn write_way(
     alloc: Global,
     others: usize,
     form: &str,
-    name: &str,
+    list: &str,
+    sample: Sample,
     way: Way,
     out: &mut Vec<u8>,
 ) -> io::Result<()> {
-    match script_of(alloc, name)? {
-        Some(script) => write_script(alloc, others, form, name, script, way, out),
-        None => write!(out, "no script"),
-    }
-}
-
-fn write_script(
-    alloc: Global,
-    others: usize,
-    form: &str,
-    name: &str,
-    script: Script,
-    way: Way,
-    out: &mut Vec<u8>,
-) -> io::Result<()> {
-    let outcome = script.run_above(alloc, way, scope_of(alloc, others, name)?)?;
+    let script = sample.script(alloc)?;
+    let outcome = script.run_above(alloc, way, scope_of(alloc, others, list)?)?;
     let wrote = write_outcome(alloc, others, form, &outcome, out);
     drop(outcome);
     wrote
 }
 
-/// The variables of a script's list, and so many others, `x0` and so on, each with its number.
-fn scope_of(alloc: Global, others: usize, name: &str) -> Result<Scope<Pair>, AllocError> {
-    let (list, _) = name.split_once(' ').unwrap_or((name, ""));
+/// The variables of a list, and so many others, `x0` and so on, each with its number.
+fn scope_of(alloc: Global, others: usize, list: &str) -> Result<Scope<Pair>, AllocError> {
     let mut scope = scope_for(alloc, list)?;
     for number in 0..others {
         push_numbered(alloc, &mut scope, number)?;

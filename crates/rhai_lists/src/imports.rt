@@ -1,9 +1,9 @@
 //! Modules that are imported.
 
-use crate::rows::{Row, scripts_in};
-use crate::sample::Sample;
-use crate::sample::Tree::Parts;
-use crate::settings::Setting::{MaxModules, WithModules};
+use rhai_bench::rows::{Row, scripts_in};
+use rhai_bench::sample::Sample;
+use rhai_bench::sample::Tree::Parts;
+use rhai_bench::settings::Setting::{MaxModules, WithModules};
 use rhai_samples::imports::{
     CALLED_AFTER_A_BLOCK, CALLED_AFTER_A_TRY, IMPORTED, IMPORTED_AFTER_A_BLOCK,
     IMPORTED_BY_A_BLOCK, IMPORTED_BY_A_VARIABLE, IMPORTED_IN_A_FUNCTION, IMPORTED_TWICE_IN_A_TRY,
@@ -11,7 +11,7 @@ use rhai_samples::imports::{
     UNMARKED_CALLED,
 };
 
-/// The scripts of this file, by the name of a list that no row has.
+/// The list of this file.
 const LISTS: &[Row] = &[Row("imports", IMPORTS)];
 
 /// Modules whose functions are called, the newest of two, and those of a function; then where no more may be loaded;

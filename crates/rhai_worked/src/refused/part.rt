@@ -1,10 +1,11 @@
 //! A script of a list, made, checked and run in a way, and what holds after its run.
 
-use crate::lists::script_at;
 use crate::refused::refuser;
+use rhai_bench::caller::eval_tree;
 use rhai_bench::outcome::Ending;
 use rhai_bench::print::write_ending;
 use rhai_bench::rows::scope_for;
+use rhai_bench::sample::Sample;
 use rhai_bench::script::{Script, add_library};
 use rhai_bench::settings::{Settings, Way};
 use rhai_eval::base::{CellId, Dynamic, EvalAltResult, Items, Scope, Union};
@@ -21,19 +22,12 @@ use std::alloc::Global;
 use std::io;
 use std::io::Write;
 
-/// The lists whose scripts are run: the rows, with fewer calls in place of row 3, and lists that no row has.
-pub const LISTS: [&str; 52] = [
-    "1", "2", "fewer", "4", "5", "6", "7", "8", "9", "10", "11", "12", "13", "14", "15", "16",
-    "17", "18", "19", "20", "21", "22", "23", "24", "26", "27", "28", "29", "30", "31", "32", "33",
-    "34", "35", "36", "37", "38", "39", "calls", "order", "kept", "block", "walks", "choices",
-    "caught", "cells", "exports", "imports", "paths", "called", "own", "globals",
-];
-
-/// A script by its list and its place there, and a way to run it.
-#[derive(Clone, Copy, Debug)]
+/// A script with its list and its place there, and a way to run it.
+#[derive(Clone, Copy)]
 pub struct Part {
     pub list: &'static str,
     pub place: usize,
+    pub sample: Sample,
     pub way: Way,
 }
 
@@ -57,8 +51,8 @@ pub struct Report {
 impl Part {
     /// Makes the script and runs it. None where the script or the state of its run could not be made.
     pub fn run(self, alloc: Global) -> io::Result<Option<Report>> {
-        let (Some(script), Ok(global), Ok(scope)) = (
-            self.script(alloc),
+        let (Ok(script), Ok(global), Ok(scope)) = (
+            self.sample.script(alloc),
             GlobalRuntimeState::new(alloc),
             scope_for(alloc, self.list),
         ) else {
@@ -72,10 +66,6 @@ impl Part {
         };
         run.global.always_search_scope = self.way.always_search_scope;
         run.report(alloc, script)
-    }
-
-    fn script(self, alloc: Global) -> Option<Script> {
-        script_at(alloc, self.list, self.place).ok()?
     }
 }
 
@@ -142,8 +132,9 @@ impl Run {
         let Ok(engine) = settings.engine(alloc) else {
             return None;
         };
-        let outcome = engine.eval_global_statements(
+        let outcome = eval_tree(
             alloc,
+            &engine,
             &mut self.global,
             &mut self.caches,
             &mut self.table,

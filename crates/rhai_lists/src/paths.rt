@@ -1,9 +1,9 @@
 //! Constants behind a path.
 
-use crate::rows::{Row, scripts_in};
-use crate::sample::Sample;
-use crate::sample::Tree::Parts;
-use crate::settings::Setting::{MaxOperationsWithModules, WithModules};
+use rhai_bench::rows::{Row, scripts_in};
+use rhai_bench::sample::Sample;
+use rhai_bench::sample::Tree::Parts;
+use rhai_bench::settings::Setting::{MaxOperationsWithModules, WithModules};
 use rhai_samples::paths::{
     ADDED_TO_A_VARIABLE, AS_AN_INDEX, ASSIGNED, ASSIGNED_TO_AN_ITEM, BOTH_ARGUMENTS,
     COMPARED_AS_A_VARIABLE, COPIED, DOUBLED_AND_ADDED, INCREASED_AS_A_VARIABLE, ITEM_ASSIGNED,
@@ -13,7 +13,7 @@ use rhai_samples::paths::{
     UNKNOWN_MODULE_WITHIN, UNKNOWN_ROOT_ASSIGNED, WALKED,
 };
 
-/// The scripts of this file, by the name of a list that no row has.
+/// The list of this file.
 const LISTS: &[Row] = &[Row("paths", PATHS)];
 
 /// Constants of modules, read, written, walked, copied and passed on, where variables have their names too; paths

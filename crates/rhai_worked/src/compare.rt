@@ -1,9 +1,20 @@
 //! The lines of a file, each compared with what its call answers.
 
-use crate::subject::Subject;
 use std::alloc::Global;
 use std::io;
 use std::io::Write;
+
+/// What a call answers, or what is wanted where its line has something else.
+pub type Answer = Result<Vec<u8>, &'static str>;
+
+/// What a file of lines is about.
+pub trait Subject: Copy {
+    /// The name of the file, without the ending.
+    fn name(self) -> &'static str;
+
+    /// What the call of a line answers.
+    fn answer(self, alloc: Global, call: &str) -> io::Result<Answer>;
+}
 
 /// How many lines agree, and how many differ.
 #[derive(Clone, Copy, Default)]
@@ -23,9 +34,9 @@ enum Verdict {
 
 /// Compares the lines of a file. Prints those that differ, with their numbers, and totals, and answers how
 /// many differ. Empty lines and lines that begin with `//` say nothing.
-pub fn compare_lines<W: Write>(
+pub fn compare_lines<S: Subject, W: Write>(
     alloc: Global,
-    subject: Subject,
+    subject: S,
     lines: &str,
     out: &mut W,
 ) -> io::Result<usize> {
@@ -51,7 +62,7 @@ pub fn compare_lines<W: Write>(
 }
 
 /// Compares one line, `CALL = ANSWER`, with what the call answers.
-fn judge(alloc: Global, subject: Subject, line: &str) -> io::Result<Verdict> {
+fn judge<S: Subject>(alloc: Global, subject: S, line: &str) -> io::Result<Verdict> {
     let Some((call, wanted)) = line.split_once(" = ") else {
         return Ok(Verdict::Unread("an answer after ` = `"));
     };

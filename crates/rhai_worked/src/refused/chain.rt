@@ -1,6 +1,7 @@
 //! `a[0][1] = 5` over an array of two arrays: a chain copies nothing that it goes through, so it asks for no
 //! memory, and wherever its run is reached it is done.
 
+use rhai_bench::caller::eval_tree;
 use rhai_eval::base::{AccessMode, Boxed, Dynamic, Items, Scope, Union};
 use rhai_eval::check::check_tree;
 use rhai_eval::engine::Engine;
@@ -8,7 +9,7 @@ use rhai_eval::state::{Caches, GlobalRuntimeState};
 use rhai_samples::parts::Part::{Assign, Index, IndexOn, Int, Variable};
 use rhai_samples::parts::{Part, statements_of};
 use rhai_tables::host::Pair;
-use rhai_tables::tables::NoNatives;
+use rhai_tables::tables::counting::Counting;
 use std::alloc::{AllocError, Global};
 
 /// `a[0][1] = 5`
@@ -56,11 +57,12 @@ pub fn is_assigned(alloc: Global) -> Option<bool> {
     let tree = check_tree(alloc, statements, Items::new(alloc)).ok()?;
     let mut global = GlobalRuntimeState::new(alloc).ok()?;
     let mut scope = variables(alloc).ok()?;
-    let outcome = Engine::new(alloc).eval_global_statements(
+    let outcome = eval_tree(
         alloc,
+        &Engine::new(alloc),
         &mut global,
         &mut Caches::new(alloc),
-        &mut NoNatives,
+        &mut Counting::table(alloc),
         &mut scope,
         &tree,
         false,

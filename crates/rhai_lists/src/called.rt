@@ -1,9 +1,9 @@
 //! Calls behind a path.
 
-use crate::rows::{Row, scripts_in};
-use crate::sample::Sample;
-use crate::sample::Tree::Parts;
-use crate::settings::Setting::{
+use rhai_bench::rows::{Row, scripts_in};
+use rhai_bench::sample::Sample;
+use rhai_bench::sample::Tree::Parts;
+use rhai_bench::settings::Setting::{
     MaxCallLevelsWithModules, Usual, WithModules, WithoutFastOperators,
 };
 use rhai_samples::called::{
@@ -14,7 +14,7 @@ use rhai_samples::called::{
     UNKNOWN_OPERATOR_BEHIND_A_PATH, UNKNOWN_ROOT_CALLED, VARIABLE_PASSED, WITHIN_OTHERS,
 };
 
-/// The scripts of this file, by the name of a list that no row has.
+/// The list of this file.
 const LISTS: &[Row] = &[Row("called", CALLED)];
 
 /// Calls where no module is; functions that are private, have other parameters, or stand in a module within;

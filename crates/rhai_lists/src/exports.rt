@@ -1,9 +1,9 @@
 //! Variables that are exported, and those that a `let` overwrites.
 
-use crate::rows::{Row, scripts_in};
-use crate::sample::Sample;
-use crate::sample::Tree::Parts;
-use crate::settings::Setting::{MaxVariables, Usual, WithoutShadowing};
+use rhai_bench::rows::{Row, scripts_in};
+use rhai_bench::sample::Sample;
+use rhai_bench::sample::Tree::Parts;
+use rhai_bench::settings::Setting::{MaxVariables, Usual, WithoutShadowing};
 use rhai_samples::exports::{
     CONSTANT_OVER_A_VARIABLE, EXPORTED_AS_NOTHING, EXPORTED_CONSTANT, EXPORTED_IN_A_BLOCK,
     EXPORTED_OVER_A_SHARED_CONSTANT, EXPORTED_TWICE, EXPORTED_WHERE_DECLARED,
@@ -11,7 +11,7 @@ use rhai_samples::exports::{
     UNKNOWN_EXPORTED,
 };
 
-/// The scripts of this file, by the name of a list that no row has.
+/// The list of this file.
 const LISTS: &[Row] = &[Row("exports", EXPORTS)];
 
 /// Variables that get one alias twice, two aliases, one in a block that they end with, and none; then those that are

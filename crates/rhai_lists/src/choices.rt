@@ -1,0 +1,22 @@
+//! The conditions of a `switch`.
+
+use rhai_bench::rows::{Row, scripts_in};
+use rhai_bench::sample::Sample;
+use rhai_bench::sample::Tree::Parts;
+use rhai_bench::settings::Setting::Usual;
+use rhai_samples::choices::{CASE_UNDER_A_TEST, DEFAULT_UNDER_FALSE, INTEGER_AS_A_CONDITION};
+
+/// The list of this file.
+const LISTS: &[Row] = &[Row("choices", CONDITIONS)];
+
+/// Conditions of cases, and of a default.
+const CONDITIONS: &[Sample] = &[
+    Sample(Parts(INTEGER_AS_A_CONDITION), Usual),
+    Sample(Parts(CASE_UNDER_A_TEST), Usual),
+    Sample(Parts(DEFAULT_UNDER_FALSE), Usual),
+];
+
+/// The scripts of a list of this file.
+pub(super) fn scripts_of(list: &str) -> Option<&'static [Sample]> {
+    scripts_in(LISTS, list)
+}

@@ -1,0 +1,26 @@
+//! `for`, over ranges and arrays.
+
+use rhai_bench::rows::{Row, scripts_in};
+use rhai_bench::sample::Sample;
+use rhai_bench::sample::Tree::Parts;
+use rhai_bench::settings::Setting::{MaxOperations, MaxVariables, Usual};
+use rhai_samples::walks::{
+    GREATEST_INTEGERS_WALKED, ITEM_SKIPPED, SUM_WALKED, THREE_EMPTY_TURNS, UNKNOWN_CALL_WALKED,
+};
+
+/// The list of this file.
+const LISTS: &[Row] = &[Row("walks", TURNS)];
+
+/// The greatest integers, charges and errors of a `for`, and an item that is skipped.
+const TURNS: &[Sample] = &[
+    Sample(Parts(GREATEST_INTEGERS_WALKED), Usual),
+    Sample(Parts(THREE_EMPTY_TURNS), MaxOperations(5)),
+    Sample(Parts(SUM_WALKED), Usual),
+    Sample(Parts(UNKNOWN_CALL_WALKED), MaxVariables(0)),
+    Sample(Parts(ITEM_SKIPPED), Usual),
+];
+
+/// The scripts of a list of this file.
+pub(super) fn scripts_of(list: &str) -> Option<&'static [Sample]> {
+    scripts_in(LISTS, list)
+}

@@ -1,0 +1,10 @@
+//! Compares what scripts come to with lines that were worked out by hand, as `ends 26 1 = ok 42`, and runs scripts
+//! with their requests for memory refused.
+#![tactic(auto)]
+
+pub mod compare;
+pub mod errors;
+pub mod lists;
+pub mod program;
+mod refused;
+mod scripts;
