@@ -5,13 +5,13 @@ ghost use Rattle.std.specs.Prelude.{◌≡◌, ◌<◌, ◌≤◌, ◌+◌, ◌-
 ghost use Rattle.rhai_tree.specs.declared.expr.Expr.{out-Expr};
 ghost use Rattle.rhai_tree.specs.declared.expr.Expr.TheOpen as layer;
 ghost use Rattle.rhai_tree.specs.Frame.{tests_of, target_resolves, resolves_expr};
-ghost use Rattle.rhai_tree.specs.Names.{is_good};
 ghost use Rattle.rhai_values.specs.Cells.{cells_of};
-ghost use Rattle.rhai_state.specs.Scope.{entries_of, names_in};
+ghost use Rattle.rhai_state.specs.Scope.{entries_of};
 ghost use Rattle.rhai_machine.specs.language.Frames.{OpenStmt};
 ghost use Rattle.rhai_machine.specs.language.Runs.{Runs};
 ghost use Rattle.rhai_machine.specs.language.Setting.{rules_of};
 ghost use Rattle.rhai_machine.specs.language.Values.{unit_value as unit};
+ghost use Rattle.rhai_steps.specs.Agreement.{AgreesAt, KeepsSearch, variable_is_good};
 ghost use Rattle.rhai_steps.specs.States.{state_of};
 ghost use Rattle.rhai_context.specs.Ends.{came};
 ghost use Rattle.rhai_operands.specs.Standing.{standing};
@@ -60,8 +60,8 @@ fn prepare<H: Host>(
     pos: Position,
     operand: &Expr,
 ) -> Option<Ready<H>>
-    requires good { IsTrue (is_good offset name.now (names_in scope.now)) }
-    requires resolves { IsTrue (resolves_expr operand.now (names_in scope.now)) }
+    requires good { AgreesAt global.now scope.now (variable_is_good offset name.now) }
+    requires resolves { AgreesAt global.now scope.now (resolves_expr operand.now) }
     ensures found { is_some result ≡ is_some (assigned_by (Some token)
         (named_target (cells_of global.now.cells) namespace.now.path name.now pos (entries_of scope.now))
         (standing (out-Expr operand.now) (entries_of scope.now))) }
@@ -100,8 +100,8 @@ pub(crate) fn assign_integer<H: Host, T: NativeTable<H>>(
     charges: u64,
 ) -> bool
     requires both { 2 ≤ charges }
-    requires resolves_target { IsTrue (target_resolves (tests_of lhs.now) (names_in scope.old)) }
-    requires resolves { IsTrue (resolves_expr rhs.now (names_in scope.old)) }
+    requires resolves_target { AgreesAt global.old scope.old (target_resolves (tests_of lhs.now)) }
+    requires resolves { AgreesAt global.old scope.old (resolves_expr rhs.now) }
     ensures found { result ≡ true → is_some (assigned op.now.op (out-Expr lhs.now) (out-Expr rhs.now)
         (entries_of scope.old) (cells_of global.old.cells)) ≡ true }
     ensures left_global { result ≡ false → global.new ≡ global.old }
@@ -110,6 +110,7 @@ pub(crate) fn assign_integer<H: Host, T: NativeTable<H>>(
     ensures charged { result ≡ true → global.new ≡ record global.old
         { num_operations = global.old.num_operations + charges } }
     ensures keeps { Keeps global.old global.new scope.old scope.new }
+    ensures search { KeepsSearch global.old global.new }
     ensures runs { result ≡ true → (offer : _) (held : _) (restoring : _) (level : _) →
         offer.fast_operators ≡ true → Runs (rules_of limits.now H.name_of offer T.natives)
         (OpenStmt (layer.Assignment op.now lhs.now rhs.now) restoring)
@@ -166,13 +167,14 @@ fn assign_prepared<H: Host, T: NativeTable<H>>(
     lhs: &Expr,
     rhs: &Expr,
 ) -> Option<Result<Dynamic<H>, EvalAltResult<H>>>
-    requires resolves_target { IsTrue (target_resolves (tests_of lhs.now) (names_in scope.old)) }
-    requires resolves { IsTrue (resolves_expr rhs.now (names_in scope.old)) }
+    requires resolves_target { AgreesAt global.old scope.old (target_resolves (tests_of lhs.now)) }
+    requires resolves { AgreesAt global.old scope.old (resolves_expr rhs.now) }
     ensures found { is_some result ≡ is_some (assigned op.op (out-Expr lhs.now) (out-Expr rhs.now)
         (entries_of scope.old) (cells_of global.old.cells)) }
     ensures left_global { result ≡ None → global.new ≡ global.old }
     ensures left_scope { result ≡ None → scope.new ≡ scope.old }
     ensures keeps { Keeps global.old global.new scope.old scope.new }
+    ensures search { KeepsSearch global.old global.new }
     ensures runs { (offer : _) (held : _) (restoring : _) → offer.fast_operators ≡ true →
         IfSome result (λ result. Runs (rules_of limits.now H.name_of offer T.natives)
         (OpenStmt (layer.Assignment op lhs.now rhs.now) restoring)
@@ -219,13 +221,14 @@ fn assign_others<H: Host, T: NativeTable<H>>(
     lhs: &Expr,
     rhs: &Expr,
 ) -> Option<bool>
-    requires resolves_target { IsTrue (target_resolves (tests_of lhs.now) (names_in scope.old)) }
-    requires resolves { IsTrue (resolves_expr rhs.now (names_in scope.old)) }
+    requires resolves_target { AgreesAt global.old scope.old (target_resolves (tests_of lhs.now)) }
+    requires resolves { AgreesAt global.old scope.old (resolves_expr rhs.now) }
     ensures found { is_some result ≡ is_some (assigned op.now.op (out-Expr lhs.now) (out-Expr rhs.now)
         (entries_of scope.old) (cells_of global.old.cells)) }
     ensures left_global { result ≡ None → global.new ≡ global.old }
     ensures left_scope { result ≡ None → scope.new ≡ scope.old }
     ensures keeps { Keeps global.old global.new scope.old scope.new }
+    ensures search { KeepsSearch global.old global.new }
     ensures runs { (offer : _) (held : _) (restoring : _) → offer.fast_operators ≡ true →
         IfSome result (λ done. Runs (rules_of limits.now H.name_of offer T.natives)
         (OpenStmt (layer.Assignment op.now lhs.now rhs.now) restoring)
@@ -258,13 +261,14 @@ pub fn assign_in_place<H: Host, T: NativeTable<H>>(
     lhs: &Expr,
     rhs: &Expr,
 ) -> Option<bool>
-    requires resolves_target { IsTrue (target_resolves (tests_of lhs.now) (names_in scope.old)) }
-    requires resolves { IsTrue (resolves_expr rhs.now (names_in scope.old)) }
+    requires resolves_target { AgreesAt global.old scope.old (target_resolves (tests_of lhs.now)) }
+    requires resolves { AgreesAt global.old scope.old (resolves_expr rhs.now) }
     ensures found { is_some result ≡ is_some (assigned op.now.op (out-Expr lhs.now) (out-Expr rhs.now)
         (entries_of scope.old) (cells_of global.old.cells)) }
     ensures left_global { result ≡ None → global.new ≡ global.old }
     ensures left_scope { result ≡ None → scope.new ≡ scope.old }
     ensures keeps { Keeps global.old global.new scope.old scope.new }
+    ensures search { KeepsSearch global.old global.new }
     ensures runs { (offer : _) (held : _) (restoring : _) → offer.fast_operators ≡ true →
         IfSome result (λ done. Runs (rules_of limits.now H.name_of offer T.natives)
         (OpenStmt (layer.Assignment op.now lhs.now rhs.now) restoring)

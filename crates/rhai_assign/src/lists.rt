@@ -8,7 +8,8 @@ ghost use Rattle.rhai_machine.specs.language.Runs.{Runs};
 ghost use Rattle.rhai_machine.specs.language.Setting.{rules_of};
 ghost use Rattle.rhai_machine.specs.language.Statements.{deeper};
 ghost use Rattle.rhai_machine.specs.language.Values.{unit_value as unit};
-ghost use Rattle.rhai_steps.specs.Saves.{saved_in, saved_now};
+ghost use Rattle.rhai_steps.specs.Agreement.{AgreesAt, KeepsSearch, passes};
+ghost use Rattle.rhai_steps.specs.Saves.{left_global, saved_in, saved_now};
 ghost use Rattle.rhai_steps.specs.States.{state_of};
 
 use crate::in_place::assign_integer;
@@ -31,10 +32,12 @@ fn assign_alone<H: Host, T: NativeTable<H>>(
     statements: &[Stmt],
     is_fast: bool,
 ) -> bool
-    requires resolves { IsTrue (all_resolve (map resolves_stmt statements.now) (names_in scope.old)).0 }
+    requires resolves { AgreesAt global.old scope.old
+        (passes (all_resolve (map resolves_stmt statements.now))) }
     ensures left_global { result ≡ false → global.new ≡ global.old }
     ensures left_scope { result ≡ false → scope.new ≡ scope.old }
     ensures counts { global.old.num_operations ≤ global.new.num_operations }
+    ensures search { KeepsSearch global.old global.new }
     ensures names { names_in scope.new ≡ names_in scope.old }
     ensures runs { result ≡ true → (offer : _) (held : _) → offer.fast_operators ≡ is_fast →
         Runs (rules_of limits.now H.name_of offer T.natives) (Enter statements.now true)
@@ -63,12 +66,16 @@ pub fn open_list<H: Host, T: NativeTable<H>>(
     statements: &[Stmt],
     is_fast: bool,
 ) -> Option<Saved>
-    requires resolves { IsTrue (all_resolve (map resolves_stmt statements.now) (names_in scope.old)).0 }
+    requires resolves { AgreesAt global.old scope.old
+        (passes (all_resolve (map resolves_stmt statements.now))) }
     ensures saved { IfSome result (λ saved. saved_in saved ≡ saved_now global.old scope.old) }
+    ensures searches { IfSome result (λ saved.
+        (left_global saved global.old).always_search_scope ≡ global.old.always_search_scope) }
     ensures deeper { IfSome result (λ _. global.new
         ≡ record global.old { scope_level = deeper global.old.scope_level }) }
     ensures scope { IfSome result (λ _. scope.new ≡ scope.old) }
     ensures counts { global.old.num_operations ≤ global.new.num_operations }
+    ensures search { KeepsSearch global.old global.new }
     ensures names { names_in scope.new ≡ names_in scope.old }
     ensures done { result ≡ None → (offer : _) (held : _) → offer.fast_operators ≡ is_fast →
         Runs (rules_of limits.now H.name_of offer T.natives) (Enter statements.now true)

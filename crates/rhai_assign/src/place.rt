@@ -2,15 +2,15 @@
 //! written there.
 
 ghost use Rattle.std.specs.Prelude.{◌≡◌, ◌||◌, Err, Some, IsTrue, false, true};
-ghost use Rattle.rhai_tree.specs.Names.{is_good};
 ghost use Rattle.rhai_values.specs.Cells.{cells_of, value_of_cell};
-ghost use Rattle.rhai_state.specs.Scope.{entries_of, names_in, value_in};
+ghost use Rattle.rhai_state.specs.Scope.{entries_of, value_in};
 ghost use Rattle.rhai_machine.specs.language.Values.{unit_value as unit};
 ghost use Rattle.rhai_machine.specs.language.Names.{temporary, value_beside};
 ghost use Rattle.rhai_machine.specs.language.Places.{is_constant as constant_at, target, target_in_cell};
 ghost use Rattle.rhai_machine.specs.language.Places.{target_at, target_meant, target_of};
 ghost use Rattle.rhai_machine.specs.language.Places.{unless_constant as allowed, while_lent};
 ghost use Rattle.rhai_machine.specs.language.Variables.{variable_named};
+ghost use Rattle.rhai_steps.specs.Agreement.{AgreesAt, variable_is_good};
 ghost use Rattle.rhai_steps.specs.Offers.{globals_in};
 ghost use Rattle.rhai_steps.specs.States.{surroundings_of};
 ghost use Rattle.rhai_state.specs.Errors.{is_out_of_memory};
@@ -135,7 +135,7 @@ pub(crate) fn find_named<H: Host>(
     namespace: &Namespace,
     pos: Position,
 ) -> Option<Place>
-    requires { IsTrue (is_good offset name.now (names_in scope.now)) }
+    requires { AgreesAt global.now scope.now (variable_is_good offset name.now) }
     ensures { FindsNamed result (entries_of scope.now) (cells_of global.now.cells)
         (named_target (cells_of global.now.cells) namespace.now.path name.now pos (entries_of scope.now)) }
 {
@@ -186,7 +186,7 @@ pub(crate) fn find_target<H: Host>(
     namespace: &Namespace,
     pos: Position,
 ) -> Result<Place, EvalAltResult<H>>
-    requires { IsTrue (is_good offset name.now (names_in scope.now)) }
+    requires { AgreesAt global.now scope.now (variable_is_good offset name.now) }
     ensures { Finds result (entries_of scope.now) (cells_of global.now.cells)
         (target_of (globals_in offered.now) (surroundings_of global.now) (entries_of scope.now)
         (variable_named name.now namespace.now pos)) }

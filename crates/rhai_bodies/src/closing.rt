@@ -145,6 +145,7 @@ pub fn close_function<H: Host>(
     pos: Position,
 ) -> Result<Dynamic<H>, EvalAltResult<H>>
     ensures state { global.new ≡ taken_back exit global.old }
+    ensures search { global.new.always_search_scope ≡ global.old.always_search_scope }
     ensures outcome { (end : machine.CallExit H) →
         Ends def.now.name (option_copied environ.entry) global.old.source pos end →
         Answers result (outcome_of end outcome) }
@@ -177,6 +178,7 @@ pub fn close_body<H: Host>(
     pos: Position,
 ) -> bool
     ensures state { global.new ≡ taken_back exit global.old }
+    ensures search { global.new.always_search_scope ≡ global.old.always_search_scope }
     ensures outcome { (end : machine.CallExit H) →
         Ends def.now.name (option_copied environ.entry) global.old.source pos end →
         Answers (came result out.new place.new) (outcome_of end (came done out.old place.old)) }

@@ -7,7 +7,7 @@ ghost use Rattle.std.specs.Option.{option_copied};
 ghost use Rattle.rhai_state.specs.declared.error.EvalAltResult.TheVariants as error;
 ghost use Rattle.rhai_state.specs.Errors.{is_out_of_memory};
 ghost use Rattle.rhai_state.specs.Scope.{entries_of};
-ghost use Rattle.rhai_functions.specs.Entering.{left_of, parameters};
+ghost use Rattle.rhai_functions.specs.Entering.{left_of, parameters, TakesSome};
 ghost use Rattle.rhai_machine.specs.language.Bodies.{statements_of as statements_in};
 ghost use Rattle.rhai_context.specs.Ends.{error_in};
 ghost use Rattle.rhai_bodies.specs.Closing.{taken_back};
@@ -134,6 +134,7 @@ fn bring<H: Host>(
     ensures ok { OnOk result (global.new ≡ brought (option_copied environ.entry) global.old) }
     ensures err { OnErr result ((scope : _) →
         taken_back (exit_seen global.old scope) global.new ≡ global.old) }
+    ensures search { global.new.always_search_scope ≡ global.old.always_search_scope }
 {
     let Some(environ) = environ else {
         return Ok(());
@@ -156,7 +157,9 @@ fn surround<H: Host>(
     ensures variables { OnOk result (entries_of scope.new ≡ entries_of scope.old
         ++ parameters def.now.params args.old) }
     ensures left { OnOk result (args.new ≡ left_of (length def.now.params) args.old) }
+    ensures taken { TakesSome args.old args.new }
     ensures state_back { OnErr result (taken_back (exit_seen global.old scope.old) global.new ≡ global.old) }
+    ensures search { global.new.always_search_scope ≡ global.old.always_search_scope }
     ensures variables_back { OnErr result (take (length (entries_of scope.old)) (entries_of scope.new)
         ≡ entries_of scope.old) }
 {
@@ -167,7 +170,8 @@ fn surround<H: Host>(
 /// Everything that a call has brought goes again.
 #[inline(always)]
 pub fn take_back<H: Host>(global: &mut GlobalRuntimeState<H>, exit: CallExit)
-    ensures { global.new ≡ taken_back exit global.old }
+    ensures state { global.new ≡ taken_back exit global.old }
+    ensures search { global.new.always_search_scope ≡ global.old.always_search_scope }
 {
     global.lib.truncate(exit.lib_length);
     global.truncate_imports(exit.imports_length);
@@ -207,12 +211,14 @@ pub fn open_function<H: Host>(
         ++ parameters def.now.params args.old) }
     ensures state { OnEntered result (global.new
         ≡ entered_global (option_copied environ.entry) level global.old) }
+    ensures search { global.new.always_search_scope ≡ global.old.always_search_scope }
     ensures left { OnEntered result (args.new ≡ left_of (length def.now.params) args.old) }
     ensures no_body { OnPassed result (statements_in def.now.body ≡ []) }
     ensures same_scope { UnlessEntered result (entries_of scope.new ≡ entries_of scope.old) }
     ensures same_state { UnlessEntered result (global.new ≡ global.old) }
     ensures same_args { OnPassed result (args.new ≡ args.old) }
     ensures untaken { IfErr result (λ e. is_out_of_memory e ≡ false → args.new ≡ args.old) }
+    ensures taken { TakesSome args.old args.new }
 {
     may_enter(limits, level, scope, def.params.len(), pos)?;
     if statements_of(def).is_empty() {
@@ -266,6 +272,7 @@ pub fn may_run<H: Host>(
 pub fn enter_level<H: Host>(global: &mut GlobalRuntimeState<H>, level: usize) -> CallExit
     ensures exit { (scope : _) → result ≡ record (exit_seen global.old scope) { scope_length = 0 } }
     ensures state { global.new ≡ entered_global None level global.old }
+    ensures search { global.new.always_search_scope ≡ global.old.always_search_scope }
 {
     let exit = CallExit {
         scope_length: 0,

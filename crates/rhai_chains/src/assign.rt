@@ -21,6 +21,7 @@ ghost use Rattle.rhai_machine.specs.language.Setting.{rules_of};
 ghost use Rattle.rhai_machine.specs.language.State.{Answers};
 ghost use Rattle.rhai_machine.specs.language.Unwinding.{looked_at};
 ghost use Rattle.rhai_machine.specs.language.Values.{unit_value as unit};
+ghost use Rattle.rhai_steps.specs.Agreement.{KeepsSearch};
 ghost use Rattle.rhai_steps.specs.States.{state_of};
 ghost use Rattle.rhai_calls.specs.Marks.{with_mark};
 ghost use Rattle.rhai_steps.specs.Marked.{lending, RunsFrom};
@@ -168,6 +169,7 @@ fn assign_to<H: Host, T: NativeTable<H>>(
     new: NewValue<H>,
 ) -> Result<Dynamic<H>, EvalAltResult<H>>
     ensures counts { global.old.num_operations ≤ global.new.num_operations }
+    ensures search { KeepsSearch global.old global.new }
     ensures runs { (offer : _) (scope : _) (held : _) → offer.fast_operators ≡ fast →
         let rules = rules_of limits.now H.name_of offer T.natives in
         FollowsUnless (target.old ≡ unit) rules (assign_focus_core rules.setting root.now (new_value new))
@@ -195,6 +197,7 @@ fn assign_item<H: Host, T: NativeTable<H>>(
 ) -> Result<(Dynamic<H>, bool), EvalAltResult<H>>
     requires { IsPlace (layer_of source.old) spot }
     ensures counts { global.old.num_operations ≤ global.new.num_operations }
+    ensures search { KeepsSearch global.old global.new }
     ensures runs { (offer : _) (scope : _) (held : _) → offer.fast_operators ≡ fast →
         let rules = rules_of limits.now H.name_of offer T.natives in
         FollowsUnless (value_at source.old spot ≡ Some unit) rules
@@ -222,6 +225,7 @@ fn assign_property<H: Host, T: NativeTable<H>>(
 ) -> Result<(Dynamic<H>, bool), EvalAltResult<H>>
     requires { IsPlace (layer_of source.old) spot }
     ensures counts { global.old.num_operations ≤ global.new.num_operations }
+    ensures search { KeepsSearch global.old global.new }
     ensures runs { (offer : _) (scope : _) (held : _) → offer.fast_operators ≡ fast →
         let rules = rules_of limits.now H.name_of offer T.natives in
         FollowsUnless (value_at source.old spot ≡ Some unit) rules
@@ -269,6 +273,7 @@ fn assign_read<H: Host, T: NativeTable<H>>(
     requires there { IsPart (layer_of source.old) spot }
     requires read { part ≡ part_of source.old spot }
     ensures counts { global.old.num_operations ≤ global.new.num_operations }
+    ensures search { KeepsSearch global.old global.new }
     ensures runs { (offer : _) (scope : _) (held : _) (link : _) → offer.fast_operators ≡ fast →
         let rules = rules_of limits.now H.name_of offer T.natives in
         FollowsFrom rules (assign_spot_core rules.setting false spot link root.now (new_value new) source.old)
@@ -303,6 +308,7 @@ fn assign_part<H: Host, T: NativeTable<H>>(
 ) -> Result<(Dynamic<H>, bool), EvalAltResult<H>>
     requires { IsPart (layer_of source.old) spot }
     ensures counts { global.old.num_operations ≤ global.new.num_operations }
+    ensures search { KeepsSearch global.old global.new }
     ensures runs { (offer : _) (scope : _) (held : _) (link : _) → offer.fast_operators ≡ fast →
         let rules = rules_of limits.now H.name_of offer T.natives in
         FollowsFrom rules (assign_spot_core rules.setting false spot link root.now (new_value new) source.old)
@@ -336,6 +342,7 @@ fn assign_place<H: Host, T: NativeTable<H>>(
 ) -> Result<(Dynamic<H>, bool), EvalAltResult<H>>
     requires { IsPlace (layer_of source.old) spot }
     ensures counts { global.old.num_operations ≤ global.new.num_operations }
+    ensures search { KeepsSearch global.old global.new }
     ensures runs { (offer : _) (scope : _) (held : _) → offer.fast_operators ≡ fast →
         let rules = rules_of limits.now H.name_of offer T.natives in
         FollowsUnless (value_at source.old spot ≡ Some unit) rules
@@ -378,6 +385,7 @@ fn assign_spot<H: Host, T: NativeTable<H>>(
 ) -> Result<(Dynamic<H>, bool), EvalAltResult<H>>
     requires { IsKept (layer_of source.old) spot }
     ensures counts { global.old.num_operations ≤ global.new.num_operations }
+    ensures search { KeepsSearch global.old global.new }
     ensures runs { (offer : _) (scope : _) (held : _) → offer.fast_operators ≡ fast →
         let rules = rules_of limits.now H.name_of offer T.natives in
         FollowsUnless (value_at source.old spot ≡ Some unit) rules
@@ -415,6 +423,7 @@ pub fn assign_at<H: Host, T: NativeTable<H>>(
     new: NewValue<H>,
 ) -> Result<(Dynamic<H>, bool), EvalAltResult<H>>
     ensures counts { global.old.num_operations ≤ global.new.num_operations }
+    ensures search { KeepsSearch global.old global.new }
     ensures runs { (offer : _) (scope : _) (held : _) (rest : _) (args : _) (in_place : _) →
         HasSwitches offer switches →
         let rules = rules_of limits.now H.name_of offer T.natives in
@@ -472,6 +481,7 @@ fn set_assigned<H: Host, T: NativeTable<H>>(
     value: Dynamic<H>,
 ) -> Result<(Dynamic<H>, bool), EvalAltResult<H>>
     ensures counts { global.old.num_operations ≤ global.new.num_operations }
+    ensures search { KeepsSearch global.old global.new }
     ensures runs { (offer : _) (scope : _) (held : _) →
         RunsFrom (rules_of limits.now H.name_of offer T.natives) (set_last (access_of access.old) value)
         (state_of (T.state table.old) global.old scope (lending held focus.old))
@@ -498,6 +508,7 @@ fn set_operated<H: Host, T: NativeTable<H>>(
     pos: Position,
 ) -> Result<(Dynamic<H>, bool), EvalAltResult<H>>
     ensures counts { global.old.num_operations ≤ global.new.num_operations }
+    ensures search { KeepsSearch global.old global.new }
     ensures runs { (offer : _) (scope : _) (held : _) (answer : _) →
         RunsFrom (rules_of limits.now H.name_of offer T.natives)
         (value_operated (access_of access.old) value pos answer)
@@ -527,6 +538,7 @@ fn operate<H: Host, T: NativeTable<H>>(
     new: NewValue<H>,
 ) -> Result<(Dynamic<H>, bool), EvalAltResult<H>>
     ensures counts { global.old.num_operations ≤ global.new.num_operations }
+    ensures search { KeepsSearch global.old global.new }
     ensures runs { (offer : _) (scope : _) (held : _) → offer.fast_operators ≡ fast →
         RunsFrom (rules_of limits.now H.name_of offer T.natives)
         (value_got (access_of access.old) root.now (new_value new) value)
@@ -570,6 +582,7 @@ fn set_ungot<H: Host, T: NativeTable<H>>(
     new: NewValue<H>,
 ) -> Result<(Dynamic<H>, bool), EvalAltResult<H>>
     ensures counts { global.old.num_operations ≤ global.new.num_operations }
+    ensures search { KeepsSearch global.old global.new }
     ensures runs { (offer : _) (scope : _) (held : _) (root : _) →
         RunsFrom (rules_of limits.now H.name_of offer T.natives)
         (none_got (access_of access.old) root (new_value new) error)
@@ -602,6 +615,7 @@ pub fn assign_member<H: Host, T: NativeTable<H>>(
     new: NewValue<H>,
 ) -> Result<(Dynamic<H>, bool), EvalAltResult<H>>
     ensures counts { global.old.num_operations ≤ global.new.num_operations }
+    ensures search { KeepsSearch global.old global.new }
     ensures runs { (offer : _) (scope : _) (held : _) → HasSwitches offer switches →
         let rules = rules_of limits.now H.name_of offer T.natives in
         RunsFrom rules (assign_member_core rules.setting new.op.op (access_of access.old) root.now

@@ -7,6 +7,7 @@ ghost use Rattle.rhai_eval.specs.States.{under};
 ghost use Rattle.rhai_laws.specs.Kept.{Grown, Kept};
 ghost use Rattle.rhai_methods.specs.Targets.{StaysAlike, stands};
 ghost use Rattle.rhai_state.specs.Scope.{names_in};
+ghost use Rattle.rhai_steps.specs.Agreement.{AgreesAt, passes};
 ghost use Rattle.rhai_steps.specs.States.{holding, state_of};
 ghost use Rattle.rhai_values.specs.Cells.{IsNoHandle};
 ghost use Rattle.std.specs.Prelude.{IsTrue, Some, length, map, ◌≡◌, ◌≤◌};
@@ -34,7 +35,8 @@ pub fn eval_stmt_block<H: Host, T: NativeTable<H>>(
     statements: &[Stmt],
     restore_orig_state: bool,
 ) -> Result<Dynamic<H>, EvalAltResult<H>>
-    requires resolves { IsTrue (all_resolve (map resolves_stmt statements.now) (names_in scope.old)).0 }
+    requires resolves { AgreesAt global.old scope.old
+        (passes (all_resolve (map resolves_stmt statements.now))) }
     ensures kept { Grown (under H.name_of engine.now T.natives)
         (state_of (T.state table.old) global.old scope.old (holding (Some this.old)))
         (state_of (T.state table.new) global.new scope.new (holding (Some this.new))) }

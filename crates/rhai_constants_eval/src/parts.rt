@@ -8,15 +8,15 @@ ghost use Rattle.rhai_tree.specs.Forms.{is_unqualified};
 ghost use Rattle.rhai_tree.specs.Frame.{all_resolve, all_resolve_exprs, resolves_call, resolves_expr};
 ghost use Rattle.rhai_tree.specs.Frame.{resolves_stmt, tests_of};
 ghost use Rattle.rhai_values.specs.Cells.{cells_of};
-ghost use Rattle.rhai_state.specs.Scope.{names_in};
 ghost use Rattle.rhai_machine.specs.language.Frames.{Argument, Enter, Eval, Exec, OpenExpr};
 ghost use Rattle.rhai_machine.specs.language.Links.{first_in};
 ghost use Rattle.rhai_fits.specs.Sealed.{AreSealed};
 ghost use Rattle.rhai_pointers.specs.Leading.{all_args};
+ghost use Rattle.rhai_steps.specs.Agreement.{AgreesAt, passes};
 ghost use Rattle.rhai_steps.specs.States.{holding, state_of};
 ghost use Rattle.rhai_cycle.specs.Calls.{called, in_parts};
 ghost use Rattle.rhai_eval.specs.Calls.{value_with};
-ghost use Rattle.rhai_eval.specs.Chains.{assigned_in, whole_chain, AssignsNoHandle, ChainResolves};
+ghost use Rattle.rhai_eval.specs.Chains.{assigned_in, whole_chain, AssignsNoHandle, chain_resolves};
 ghost use Rattle.rhai_eval.specs.States.{under};
 ghost use Rattle.rhai_constants_eval.specs.Staying.{StaysAs, StaysFrom};
 
@@ -43,7 +43,7 @@ pub fn eval_expr<H: Host, T: NativeTable<H>>(
     this: &mut Dynamic<H>,
     expr: &Expr,
 ) -> Result<Dynamic<H>, EvalAltResult<H>>
-    requires resolves { IsTrue (resolves_expr expr.now (names_in scope.old)) }
+    requires resolves { AgreesAt global.old scope.old (resolves_expr expr.now) }
     requires sealed { AreSealed (cells_of global.old.cells) }
     ensures stays { StaysAs (under H.name_of engine.now T.natives) (Eval expr.now)
         (state_of (T.state table.old) global.old scope.old (holding (Some this.old))) result
@@ -64,7 +64,7 @@ pub fn eval_stmt<H: Host, T: NativeTable<H>>(
     stmt: &Stmt,
     rewind_scope: bool,
 ) -> Result<Dynamic<H>, EvalAltResult<H>>
-    requires resolves { IsTrue (resolves_stmt stmt.now (names_in scope.old)).0 }
+    requires resolves { AgreesAt global.old scope.old (passes (resolves_stmt stmt.now)) }
     requires sealed { AreSealed (cells_of global.old.cells) }
     ensures stays { StaysAs (under H.name_of engine.now T.natives) (Exec stmt.now rewind_scope)
         (state_of (T.state table.old) global.old scope.old (holding (Some this.old))) result
@@ -94,7 +94,8 @@ pub fn eval_stmt_block<H: Host, T: NativeTable<H>>(
     statements: &[Stmt],
     restore_orig_state: bool,
 ) -> Result<Dynamic<H>, EvalAltResult<H>>
-    requires resolves { IsTrue (all_resolve (map resolves_stmt statements.now) (names_in scope.old)).0 }
+    requires resolves { AgreesAt global.old scope.old
+        (passes (all_resolve (map resolves_stmt statements.now))) }
     requires sealed { AreSealed (cells_of global.old.cells) }
     ensures stays { StaysAs (under H.name_of engine.now T.natives)
         (Enter statements.now restore_orig_state)
@@ -125,7 +126,7 @@ pub fn eval_fn_call_expr<H: Host, T: NativeTable<H>>(
     expr: &FnCallExpr,
     pos: Position,
 ) -> Result<Dynamic<H>, EvalAltResult<H>>
-    requires resolves { IsTrue (resolves_call expr.now pos (names_in scope.old)) }
+    requires resolves { AgreesAt global.old scope.old (resolves_call expr.now pos) }
     requires sealed { AreSealed (cells_of global.old.cells) }
     ensures stays { StaysAs (under H.name_of engine.now T.natives)
         (OpenExpr (layer.Expr::FnCall expr.now pos))
@@ -146,7 +147,7 @@ pub fn get_arg_value<H: Host, T: NativeTable<H>>(
     this: &mut Dynamic<H>,
     arg_expr: &Expr,
 ) -> Result<(Dynamic<H>, Position), EvalAltResult<H>>
-    requires resolves { IsTrue (resolves_expr arg_expr.now (names_in scope.old)) }
+    requires resolves { AgreesAt global.old scope.old (resolves_expr arg_expr.now) }
     requires sealed { AreSealed (cells_of global.old.cells) }
     ensures stays { StaysAs (under H.name_of engine.now T.natives) (Argument arg_expr.now)
         (state_of (T.state table.old) global.old scope.old (holding (Some this.old)))
@@ -172,8 +173,8 @@ pub fn make_function_call<H: Host, T: NativeTable<H>>(
     capture_parent_scope: bool,
     pos: Position,
 ) -> Result<Dynamic<H>, EvalAltResult<H>>
-    requires resolves { IsTrue (all_resolve_exprs (map tests_of (all_args (option_copied first_arg)
-        args_expr.now)) (names_in scope.old)) }
+    requires resolves { AgreesAt global.old scope.old
+        (all_resolve_exprs (map tests_of (all_args (option_copied first_arg) args_expr.now))) }
     requires sealed { AreSealed (cells_of global.old.cells) }
     ensures stays { StaysFrom (under H.name_of engine.now T.natives)
         (called (record { name = fn_name.now; token = option_copied op_token.entry; at = pos })
@@ -211,7 +212,7 @@ pub fn make_qualified_function_call<H: Host, T: NativeTable<H>>(
     args_expr: &[Expr],
     pos: Position,
 ) -> Result<Dynamic<H>, EvalAltResult<H>>
-    requires resolves { IsTrue (all_resolve_exprs (map tests_of args_expr.now) (names_in scope.old)) }
+    requires resolves { AgreesAt global.old scope.old (all_resolve_exprs (map tests_of args_expr.now)) }
     requires behind { is_unqualified namespace.now.path ≡ false }
     requires sealed { AreSealed (cells_of global.old.cells) }
     ensures stays { StaysAs (under H.name_of engine.now T.natives)
@@ -246,7 +247,7 @@ pub fn eval_dot_index_chain<H: Host, T: NativeTable<H>>(
     new_val: Option<(Dynamic<H>, &OpAssignment)>,
 ) -> Result<Dynamic<H>, EvalAltResult<H>>
     requires chain { is_some (first_in (out-Expr expr.now)) ≡ true }
-    requires resolves { ChainResolves (is_some new_val) expr.now (names_in scope.old) }
+    requires resolves { AgreesAt global.old scope.old (chain_resolves (is_some new_val) expr.now) }
     requires value { AssignsNoHandle new_val }
     requires sealed { AreSealed (cells_of global.old.cells) }
     ensures stays { StaysAs (under H.name_of engine.now T.natives)

@@ -18,9 +18,12 @@ use Rattle.rhai_state.specs.declared.error.EvalAltResult.{EvalAltResult}
 use Rattle.rhai_state.specs.declared.scope.ScopeEntry.{ScopeEntry}
 use Rattle.rhai_state.specs.Scope.{name_of}
 use Rattle.rhai_machine.specs.language.Tries.{catch_variable}
+use Rattle.rhai_steps.specs.Agreement.{Agrees, Frame, Leads, Restores, above, passes}
+use Rattle.rhai_steps.proofs.Agreeing.{brings}
 use Rattle.rhai_machine.specs.language.Turns.{ForLoop}
 use Rattle.rhai_machine.specs.language.Walks.{counters, loop_entries}
 use Rattle.rhai_catches.specs.Branches.{bound}
+use Rattle.rhai_cycle.proofs.NameLemmas.{names_restored}
 
 -- a block may run where its statements may
 pub block_value : (block : StmtBlock) (names : List Name) →
@@ -28,6 +31,22 @@ pub block_value : (block : StmtBlock) (names : List Name) →
 block_value block names = ap (λ (seen : walk.Seen sound). seen.value names) (fold_out-StmtBlock (walk.Seen sound) (walk.SeenStmt sound)
     (walk.SeenConditional sound) (walk.SeenCall sound) (walk.SeenEntry sound) (walk.Seen sound) (walk.expr_step sound) (walk.stmt_step sound)
     (walk.conditional_step sound) (walk.call_step sound) (walk.entry_step sound) (walk.block_step sound) block)
+
+-- so those of a block that suits suit
+pub block_suits : {searched : Bool} {frame : Frame} (block : StmtBlock) → Agrees searched frame (resolves_block block) →
+    Agrees searched frame (passes (all_resolve (map resolves_stmt block.statements)))
+block_suits block h = brings (λ frame. subst IsTrue (block_value block frame)) h
+
+pub chosen_suits : {searched : Bool} {frame : Frame} (holds : Bool) (body branch : StmtBlock) →
+    Agrees searched frame (resolves_block body) → Agrees searched frame (resolves_block branch) →
+    Agrees searched frame (passes (all_resolve (map resolves_stmt (if holds then body.statements else branch.statements))))
+chosen_suits true body branch h other = block_suits body h
+chosen_suits false body branch h other = block_suits branch other
+
+-- what holds of a catch variable that is there brings another
+pub catches : {A : Type 0} {P Q : A → Type 0} (o : Option A) → ((x : A) → P x → Q x) → IsSomeAnd o P → IsSomeAnd o Q
+catches None f h = h
+catches (Some x) f h = f x h
 
 -- ---- a `for`
 
@@ -58,31 +77,47 @@ module _ {H : Type 0} where
   loop_names loop old new is = ap (map name_of) is ∙ map-append name_of old (loop_entries loop)
       ∙ names_pushed H loop loop.counter (map name_of old) refl
 
+  -- its variables are taken back
+  pub loop_left : {was on now : Bool} (variable : Ident) (counter : Option Ident) (old mid last new : List (ScopeEntry H)) (base : ℕ) →
+      base + counters counter + 1 ≡ length (map name_of mid) →
+      Leads was (turn_names variable counter (map name_of old)) on (map name_of mid) → Restores on (map name_of mid) now
+      (map name_of last) →
+      new ≡ take base last → Leads was (map name_of old) now (map name_of new)
+  loop_left variable counter old mid last new base count leads back cut = record {
+    off = λ off. leads.off (sym back.search ∙ off);
+    leads = λ off.
+        let is = leads.leads (sym back.search ∙ off) in
+        let from : base ≡ length old =
+        omega (arith, count, ap length is, turn_count variable counter (map name_of old), length-map old name_of) in
+        names_restored old last new base cut from (turn_begins variable counter (map name_of old) _ (back.frame ∙ is));
+  }
+
   -- ---- a branch
 
-  module _ (branch : StmtBlock) (source : Option (List ℕ)) (caught : EvalAltResult H) where
-    abbrev Runs : Option Name → List Name → Type 0
-    Runs name names = IsTrue (resolves_block branch (with_name name names))
+  module _ (branch : StmtBlock) (source : Option (List ℕ)) (caught : EvalAltResult H) (searched : Bool) where
+    abbrev Suits : List Name → Option Name → Type 0
+    Suits names name = Agrees searched names (above (with_name name) (resolves_block branch))
 
-    named : (plain : Bool) (name : Name) (names : List Name) →
-        IsSomeAnd (if plain then Some (Some name) else None) (λ name. Runs name names) → Runs (Some name) names
-    named true name names h = h
+    named : (plain : Bool) (name : Name) (names : List Name) → IsSomeAnd (if plain then Some (Some name) else None) (Suits names) →
+        Agrees searched (names ++ name ∷ []) (resolves_block branch)
+    named true name names h =
+        record { known = h.known ++ name ∷ []; holds = h.holds; stands = λ off. ap (λ frame. frame ++ name ∷ []) (h.stands off) }
     named false name names h = absurd h
 
-    runs_behind : (l : ExprLayer) (names : List Name) → IsSomeAnd (catch_name l) (λ name. Runs name names) →
-        IsTrue (resolves_block branch (names ++ map name_of (bound (catch_variable l) source caught)))
-    runs_behind (layer.Unit pos) names h = rw (append-nil names) h
-    runs_behind (layer.Variable offset name namespace pos) names h = named (is_unqualified namespace.path) name names h
-    runs_behind _ names h = absurd h
+    suits_behind : (l : ExprLayer) (names : List Name) → IsSomeAnd (catch_name l) (Suits names) →
+        Agrees searched (names ++ map name_of (bound (catch_variable l) source caught)) (resolves_block branch)
+    suits_behind (layer.Unit pos) names h =
+        record { known = h.known; holds = h.holds; stands = λ off. append-nil names ∙ h.stands off }
+    suits_behind (layer.Variable offset name namespace pos) names h = named (is_unqualified namespace.path) name names h
+    suits_behind _ names h = absurd h
 
-    -- it may run behind its variable
-    pub branch_runs : (variable : Expr) (old new : List (ScopeEntry H)) →
-        IsSomeAnd (catch_of variable) (λ name. Runs name (map name_of old)) →
-        new ≡ old ++ bound (catch_variable (out-Expr variable)) source caught → IsTrue (resolves_block branch (map name_of new))
-    branch_runs variable old new h is =
+    -- it suits behind its variable
+    pub branch_suits : (variable : Expr) (old new : List (ScopeEntry H)) → IsSomeAnd (catch_of variable) (Suits (map name_of old)) →
+        new ≡ old ++ bound (catch_variable (out-Expr variable)) source caught → Agrees searched (map name_of new) (resolves_block branch)
+    branch_suits variable old new h is =
         let pushed = bound (catch_variable (out-Expr variable)) source caught in
-        subst (λ (names : List Name). IsTrue (resolves_block branch names))
-        (sym (ap (map name_of) is ∙ map-append name_of old pushed)) (runs_behind (out-Expr variable) (map name_of old) h)
+        subst (λ (frame : Frame). Agrees searched frame (resolves_block branch))
+        (sym (ap (map name_of) is ∙ map-append name_of old pushed)) (suits_behind (out-Expr variable) (map name_of old) h)
 
   module _ (variable : Option Ident) (source : Option (List ℕ)) (caught : EvalAltResult H) (old mid new : List (ScopeEntry H))
       (is : mid ≡ old ++ bound variable source caught) (stay : map name_of new ≡ map name_of mid) where

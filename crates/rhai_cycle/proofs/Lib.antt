@@ -14,7 +14,7 @@ mod ForSteps
 mod FormNames
 mod ImportSteps
 mod LoopSteps
-mod NameLemmas
+pub mod NameLemmas
 mod PlainLemmas
 mod QualifiedLemmas
 mod RootLemmas

@@ -4,7 +4,7 @@ use Rattle.std.proofs.Common.{take, map, refl, sym, ap, ◌∙◌}
 use Rattle.std.proofs.lemmas.List.{take-append-drop, take-map, length-map}
 use Rattle.std.proofs.Math.Seq.{take-append_seam}
 use Rattle.rhai_tree.specs.Names.{Name, Begins, is_good}
-use Rattle.rhai_tree.specs.declared.expr.Expr.{Expr}
+use Rattle.rhai_tree.specs.declared.expr.Expr.{Expr, out-Expr}
 use Rattle.rhai_tree.specs.declared.expr.Expr.TheFolds.{fold_out-MapEntry}
 use Rattle.rhai_tree.specs.declared.expr.MapEntry.{MapEntry}
 use Rattle.rhai_tree.specs.declared.literal.Literal.{Literal}
@@ -20,14 +20,19 @@ use Rattle.rhai_tree.specs.declared.expr.Expr.TheOpen as layer
 use Rattle.rhai_tree.specs.declared.flags.ASTFlags.{ASTFlags}
 use Rattle.rhai_tree.specs.declared.position.Position.{Position}
 use Rattle.std.specs.declared.num.NonZeroUsize.{NonZeroUsize}
-use Rattle.rhai_tree.specs.Frame.{resolves_stmt, var_names, var_resolves}
-use Rattle.rhai_tree.specs.Layers.{StmtLayer}
-use Rattle.rhai_tree.proofs.Walk.{resolves-stmt, stmt_tests}
+use Rattle.rhai_tree.specs.Frame.{option_resolves, resolves_stmt, var_names, var_resolves}
+use Rattle.rhai_tree.specs.Layers.{ExprLayer, StmtLayer}
+use Rattle.rhai_tree.proofs.Walk.{expr_tests, resolves-expr, resolves-stmt, stmt_tests}
+use Rattle.rhai_steps.specs.Agreement.{Agrees, Frame, Leads, Restores, Test, changes, passes}
+use Rattle.rhai_steps.proofs.Agreeing.{behind, brings, leads_then, same, stays}
 use Rattle.std.proofs.Common.{Option, None, Some}
+use Rattle.std.specs.Prelude.{IfSome, option_map}
 use Rattle.rhai_values.specs.declared.base.value.Dynamic.{Dynamic}
 use Rattle.rhai_pointers.specs.Leading.{all_args, this_lent}
 use Rattle.rhai_tree.specs.declared.expr.Ident.{Ident}
 use Rattle.rhai_operands.proofs.Names.{both}
+use Rattle.rhai_laws.specs.Kept.{declares}
+use Rattle.rhai_cycle.specs.Agreement.{Declared}
 use Rattle.rhai_cycle.proofs.Chain.{drop_item}
 
 module _ {H : Type 0} where
@@ -94,14 +99,58 @@ value_resolves entries i entry names lt is h =
     entry_resolves entry names
     (both ((tests_of_entry entry).value names) (entries_resolve (map tests_of_entry (drop (i + 1) entries)) names) later).0
 
--- the rest of a list resolves above the names after its first statement
-rest_of_list : (first : Bool) (rest whole : Bool × List Name) → (first && rest.0, rest.1) ≡ whole → IsTrue whole.0 → rest ≡ whole
-rest_of_list true rest whole e h = e
-rest_of_list false rest whole e h = cc
+-- what holds, holds of whatever there is
+pub holds_of_all : {A P : Type 0} (o : Option A) → P → IfSome o (λ x. P)
+holds_of_all None p = tt
+holds_of_all (Some x) p = p
 
-pub rest_resolves : (part : walk.SeenStmt sound) (parts : List (walk.SeenStmt sound)) (names after : List Name) (whole : Bool × List Name) →
-    all_resolve (part ∷ parts) names ≡ whole → IsTrue whole.0 → after ≡ (part names).1 → all_resolve parts after ≡ whole
-rest_resolves part parts names after whole e h is = rw is (rest_of_list (part names).0 (all_resolve parts (part names).1) whole e h)
+-- what is put back after nothing changed
+pub back_over : {a b c : Bool} {k l m : Frame} → b ≡ a → l ≡ k → Restores b l c m → Restores a k c m
+back_over search frame p = record { search = p.search ∙ search; frame = p.frame ∙ frame }
+
+-- a test that holds of a frame suits it
+pub suits_now : {a : Bool} {test : Test} (frame : Frame) → IsTrue (test frame) → Agrees a frame test
+suits_now frame holds = record { known = frame; holds = holds; stands = λ off. refl }
+
+-- what else holds of the frame that was known
+pub at_known : {a : Bool} {k : Frame} {test other : Test} (h : Agrees a k test) → IsTrue (other h.known) → Agrees a k other
+at_known h holds = record { known = h.known; holds = holds; stands = h.stands }
+
+-- the rest of a list suits what its first statement makes of the names
+pub rest_suits : {a b : Bool} {k l : Frame} (part : Stmt) (parts : List Stmt) → Leads a (changes (resolves_stmt part) k) b l →
+    Agrees a k (passes (all_resolve (map resolves_stmt (part ∷ parts)))) → Agrees b l (passes (all_resolve (map resolves_stmt parts)))
+rest_suits part parts leads h = behind (changes (resolves_stmt part))
+    (λ frame all. (both (resolves_stmt part frame).0 (all_resolve (map resolves_stmt parts) (resolves_stmt part frame).1).0 all).1) leads h
+
+-- and its first statement suits
+pub first_suits : {a : Bool} {k : Frame} (part : Stmt) (parts : List Stmt) →
+    Agrees a k (passes (all_resolve (map resolves_stmt (part ∷ parts)))) → Agrees a k (passes (resolves_stmt part))
+first_suits part parts h =
+    brings (λ frame all. (both (resolves_stmt part frame).0 (all_resolve (map resolves_stmt parts) (resolves_stmt part frame).1).0 all).0) h
+
+-- what an expression or a statement of a form says of its parts
+pub expr_suits : {a b : Bool} {k : Frame} (e : Expr) (l : ExprLayer) → out-Expr e ≡ l → b ≡ a → Agrees a k (resolves_expr e) →
+    Agrees b k (walk.expr_step sound (expr_tests l)).value
+expr_suits e l is search h = same search refl
+    (brings (λ frame. subst (λ (s : walk.Seen sound). IsTrue (s.value frame)) (resolves-expr e l is)) h)
+
+pub stmt_suits : {a b : Bool} {k : Frame} (stmt : Stmt) (l : StmtLayer) → out-Stmt stmt ≡ l → b ≡ a →
+    Agrees a k (passes (resolves_stmt stmt)) → Agrees b k (passes (walk.stmt_step sound (stmt_tests l)))
+stmt_suits stmt l is search h = same search refl
+    (brings (λ frame. subst (λ (f : walk.SeenStmt sound). IsTrue (f frame).0) (resolves-stmt stmt l is)) h)
+
+-- the value that a `break` has, or a `return`, suits the names
+pub broken_suits : {a : Bool} {k : Frame} (value : Option Expr) (options : ASTFlags) (pos : Position) →
+    Agrees a k (passes (walk.stmt_step sound (stmt_tests (layer.BreakLoop value options pos)))) →
+    Agrees a k (option_resolves (option_map tests_of value))
+broken_suits None options pos h = brings (λ frame all. all) h
+broken_suits (Some part) options pos h = brings (λ frame all. all) h
+
+pub returned_suits : {a : Bool} {k : Frame} (value : Option Expr) (options : ASTFlags) (pos : Position) →
+    Agrees a k (passes (walk.stmt_step sound (stmt_tests (layer.Return value options pos)))) →
+    Agrees a k (option_resolves (option_map tests_of value))
+returned_suits None options pos h = brings (λ frame all. all) h
+returned_suits (Some part) options pos h = brings (λ frame all. all) h
 
 -- a part of a list that may ask for memory
 or_right : (a b : Bool) → IsTrue b → IsTrue (a || b)
@@ -144,6 +193,42 @@ pub var_good : (index : Option NonZeroUsize) (ident : Ident) (value : Expr) (opt
 var_good index ident value options pos names h = (offset_holds (is_good index ident.name names) (resolves_expr value names) h).0
 
 -- a statement that adds no name leaves the names
-pub names_left : (stmt : Stmt) (l : StmtLayer) (names : List Name) → out-Stmt stmt ≡ l →
+names_left : (stmt : Stmt) (l : StmtLayer) (names : List Name) → out-Stmt stmt ≡ l →
     (walk.stmt_step sound (stmt_tests l) names).1 ≡ names → (resolves_stmt stmt names).1 ≡ names
 names_left stmt l names is e = ap (λ (f : walk.SeenStmt sound). (f names).1) (resolves-stmt stmt l is) ∙ e
+
+pub stmt_keeps : {was on now : Bool} {left : Frame} (stmt : Stmt) (l : StmtLayer) (names : Frame) → out-Stmt stmt ≡ l →
+    (walk.stmt_step sound (stmt_tests l) names).1 ≡ names → on ≡ was → Leads on names now left →
+    Leads was (changes (resolves_stmt stmt) names) now left
+stmt_keeps {was} {now} {left} stmt l names is e search p =
+    subst (λ (known : Frame). Leads was known now left) (sym (names_left stmt l names is e)) (leads_then (stays search refl) p)
+
+-- and one that declares a variable leaves them as that does
+pub stmt_declares : {was on now : Bool} {left : Frame} (stmt : Stmt) (names : Frame) (ident : Ident) (value : Expr)
+    (index : Option NonZeroUsize) (options : ASTFlags) (pos : Position) → out-Stmt stmt ≡ layer.Var ident value index options pos →
+    on ≡ was → Leads on (var_names index ident.name names) now left → Leads was (changes (resolves_stmt stmt) names) now left
+stmt_declares {was} {now} {left} stmt names ident value index options pos is search p = subst (λ (known : Frame). Leads was known now left)
+    (sym (declared_names stmt names ident value index options pos is)) (leads_then (stays search refl) p)
+
+-- the names behind a statement are those that it makes of them
+pub stmt_names : (stmt : Stmt) (l : StmtLayer) (old new : Frame) → out-Stmt stmt ≡ l → Declared l old new →
+    (declares l ≡ false → new ≡ old) → new ≡ (resolves_stmt stmt old).1
+stmt_names stmt (layer.Var ident value index options pos) old new is declared stay =
+    declared ∙ sym (declared_names stmt old ident value index options pos is)
+stmt_names stmt (layer.Noop pos) old new is declared stay = stay refl ∙ sym (names_left stmt _ old is refl)
+stmt_names stmt (layer.Expr expr) old new is declared stay = stay refl ∙ sym (names_left stmt _ old is refl)
+stmt_names stmt (layer.Stmt::FnCall call pos) old new is declared stay = stay refl ∙ sym (names_left stmt _ old is refl)
+stmt_names stmt (layer.Block block) old new is declared stay = stay refl ∙ sym (names_left stmt _ old is refl)
+stmt_names stmt (layer.Assignment op lhs rhs) old new is declared stay = stay refl ∙ sym (names_left stmt _ old is refl)
+stmt_names stmt (layer.If expr body branch pos) old new is declared stay = stay refl ∙ sym (names_left stmt _ old is refl)
+stmt_names stmt (layer.Switch expr expressions cases ranges def_case pos) old new is declared stay = stay refl ∙
+    sym (names_left stmt _ old is refl)
+stmt_names stmt (layer.While expr body pos) old new is declared stay = stay refl ∙ sym (names_left stmt _ old is refl)
+stmt_names stmt (layer.Do expr body options pos) old new is declared stay = stay refl ∙ sym (names_left stmt _ old is refl)
+stmt_names stmt (layer.For name counter expr body pos) old new is declared stay = stay refl ∙ sym (names_left stmt _ old is refl)
+stmt_names stmt (layer.BreakLoop expr options pos) old new is declared stay = stay refl ∙ sym (names_left stmt _ old is refl)
+stmt_names stmt (layer.TryCatch body variable branch pos) old new is declared stay = stay refl ∙ sym (names_left stmt _ old is refl)
+stmt_names stmt (layer.Return expr options pos) old new is declared stay = stay refl ∙ sym (names_left stmt _ old is refl)
+stmt_names stmt (layer.Import expr alias pos) old new is declared stay = stay refl ∙ sym (names_left stmt _ old is refl)
+stmt_names stmt (layer.Export name alias pos) old new is declared stay = stay refl ∙ sym (names_left stmt _ old is refl)
+stmt_names stmt (layer.Share variables) old new is declared stay = stay refl ∙ sym (names_left stmt _ old is refl)

@@ -23,7 +23,7 @@ use Rattle.rhai_machine.specs.language.Runs.{at, Goes}
 use Rattle.rhai_steps.specs.States.{local_of, state_of}
 use Rattle.rhai_steps.proofs.Pieces.{step_by}
 use Rattle.rhai_context.specs.Ends.{came, error_in}
-use Rattle.rhai_sharing.specs.Declares.{Declares}
+use Rattle.rhai_sharing.specs.Declares.{Declares, Misses}
 use Rattle.rhai_cycle.proofs.Chain.{fails_on}
 
 module _ {S H : Type 0} (rules : Rules S H) (t : S) (g entered : GlobalRuntimeState H) (old new : Scope H) (held : Held H) (ident : Ident)
@@ -47,13 +47,33 @@ module _ {S H : Type 0} (rules : Rules S H) (t : S) (g entered : GlobalRuntimeSt
   defines_not e wants same = rw same (fails_on rules given frame k (state_of t g old held) e (λ x. refl)
       (λ told. let never : true ≡ false = sym wants ∙ told in cc))
 
-  -- it is there, or the run stops for want of memory
+  -- or it is to be exported, and no variable has its name
+  misses : (e : EvalAltResult H) → Ok v ≡ flat (cells_of g.cells) given value_at → entered.num_operations ≡ g.num_operations →
+      Misses v ident index options restoring e (local_of g old held) (local_of entered new held) →
+      Goes rules (at (Back given) (frame ∷ k) (state_of t g old held)) (at (Fail e) k (state_of t entered new held))
+  misses e flattened counts is =
+      step_by rules _ _ (Go (core (Fail e) k (local_of entered new held)))
+      (ap (λ (r : Result (Dynamic H) (EvalAltResult H)). Go (on_value r (λ x. defined_core x ident index options restoring k
+      (local_of g old held)) k (local_of g old held))) (sym flattened) ∙ ap Go (is k)) (rw counts here)
+
+  -- where there was memory, or not
+  declared_not : (e : EvalAltResult H) (wants : Bool) → is_out_of_memory e ≡ wants → Ok v ≡ flat (cells_of g.cells) given value_at →
+      entered.num_operations ≡ g.num_operations →
+      (wants ≡ false → Misses v ident index options restoring e (local_of g old held) (local_of entered new held)) →
+      (wants ≡ true → entered ≡ g) → entries_of new ≡ entries_of old →
+      Goes rules (at (Back given) (frame ∷ k) (state_of t g old held)) (at (Fail e) k (state_of t entered new held))
+  declared_not e true is flattened counts missed same same_scope = rw (same refl) (defines_not e is same_scope)
+  declared_not e false is flattened counts missed same same_scope = misses e flattened counts (missed refl)
+
+  -- it is there, or the run stops by that error or for want of memory
   pub declared : (done : Bool) (out : Dynamic H) (place : Option (EvalAltResult H)) → Ok v ≡ flat (cells_of g.cells) given value_at →
       (IsTrue done → out ≡ unit_value) →
       (IsTrue done → Declares v ident index options restoring (local_of g old held) (local_of entered new held)) →
-      entered.num_operations ≡ g.num_operations → (done ≡ false → is_out_of_memory (error_in place) ≡ true) →
-      (done ≡ false → entered ≡ g) → (done ≡ false → entries_of new ≡ entries_of old) →
+      entered.num_operations ≡ g.num_operations →
+      (done ≡ false → is_out_of_memory (error_in place) ≡ false →
+      Misses v ident index options restoring (error_in place) (local_of g old held) (local_of entered new held)) →
+      (done ≡ false → is_out_of_memory (error_in place) ≡ true → entered ≡ g) → (done ≡ false → entries_of new ≡ entries_of old) →
       Goes rules (at (Back given) (frame ∷ k) (state_of t g old held)) (at (ended (came done out place)) k (state_of t entered new held))
-  declared true out place flattened value is counts wants same same_scope = rw (value refl) (defines flattened counts (is refl))
-  declared false out place flattened value is counts wants same same_scope = rw (same refl)
-      (defines_not (error_in place) (wants refl) (same_scope refl))
+  declared true out place flattened value is counts missed same same_scope = rw (value refl) (defines flattened counts (is refl))
+  declared false out place flattened value is counts missed same same_scope =
+      declared_not (error_in place) (is_out_of_memory (error_in place)) refl flattened counts (missed refl) (same refl) (same_scope refl)

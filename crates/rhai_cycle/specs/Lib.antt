@@ -1,3 +1,4 @@
+pub mod Agreement
 pub mod Bodies
 pub mod Calls
 pub mod Chains

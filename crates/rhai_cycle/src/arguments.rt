@@ -5,18 +5,19 @@ ghost use Rattle.std.specs.Prelude.{◌≡◌, ◌≤◌, ◌+◌, [], IsTrue, f
 ghost use Rattle.std.specs.Prelude.{true};
 ghost use Rattle.std.specs.Option.{option_copied};
 ghost use Rattle.rhai_tree.specs.Frame.{all_resolve_exprs, tests_of};
-ghost use Rattle.rhai_tree.specs.Names.{is_good};
 ghost use Rattle.rhai_state.specs.Scope.{entries_of};
 ghost use Rattle.rhai_machine.specs.language.Arguments.{arguments_core, is_captured};
 ghost use Rattle.rhai_machine.specs.language.Calls.{plainly};
 ghost use Rattle.rhai_machine.specs.language.Frames.{CallNamed, ToCall, ToCallOn, ToCallOnThis};
 ghost use Rattle.rhai_machine.specs.language.Runs.{Runs};
+ghost use Rattle.rhai_steps.specs.Agreement.{KeepsSearch, variable_is_good};
 ghost use Rattle.rhai_calls.specs.Called.{with_args};
 ghost use Rattle.rhai_pointers.specs.Leading.{all_args, seen, variable_read};
 ghost use Rattle.rhai_dispatch.specs.Going.{GoesOut};
 ghost use Rattle.rhai_context.specs.Ends.{came};
+ghost use Rattle.rhai_cycle.specs.Agreement.{KeepsNames, SuitsNames};
 ghost use Rattle.rhai_cycle.specs.Calls.{Collects, StartsAs};
-ghost use Rattle.rhai_cycle.specs.States.{names, state_in, under};
+ghost use Rattle.rhai_cycle.specs.States.{state_in, under};
 
 use crate::evaluator::Evaluator;
 use rhai_calls::dispatch::Called;
@@ -64,10 +65,10 @@ impl<'e, H: Host> Evaluator<'e, H> {
         natives_alone: bool,
         pos: Position,
     ) -> bool
-        requires { IsTrue (all_resolve_exprs (map tests_of (all_args (option_copied first) rest.now))
-            (names run.old)) }
+        requires { SuitsNames run.old
+            (all_resolve_exprs (map tests_of (all_args (option_copied first) rest.now))) }
         ensures counts { IsTrue result → run.old.global.num_operations ≤ run.new.global.num_operations }
-        ensures names { IsTrue result → names run.new ≡ names run.old }
+        ensures names { IsTrue result → KeepsNames run.old run.new }
         ensures runs { Runs (under H.name_of self.now T.natives)
             (CallNamed (record { name = name.now; token = token; at = pos }) curried
             (all_args (option_copied first.entry) rest.now) captures natives_alone)
@@ -160,9 +161,9 @@ impl<'e, H: Host> Evaluator<'e, H> {
         natives_alone: bool,
         pos: Position,
     ) -> Called<H>
-        requires { IsTrue (is_good variable.offset variable.name.now (names run.old)) }
+        requires { SuitsNames run.old (variable_is_good variable.offset variable.name.now) }
         ensures counts { run.old.global.num_operations ≤ run.new.global.num_operations }
-        ensures names { names run.new ≡ names run.old }
+        ensures names { KeepsNames run.old run.new }
         ensures runs { GoesOut (under H.name_of self.now T.natives)
             (ToCallOn (record { name = name.now; token = token; at = pos })
             (variable_read (seen variable.entry))
@@ -202,6 +203,7 @@ impl<'e, H: Host> Evaluator<'e, H> {
         pos: Position,
     ) -> Called<H>
         ensures counts { run.old.global.num_operations ≤ run.new.global.num_operations }
+        ensures search { KeepsSearch run.old.global run.new.global }
         ensures scope { run.new.scope ≡ run.old.scope }
         ensures runs { GoesOut (under H.name_of self.now T.natives)
             (ToCallOnThis (record { name = name.now; token = token; at = pos }) this_at
@@ -238,6 +240,7 @@ impl<'e, H: Host> Evaluator<'e, H> {
         pos: Position,
     ) -> Called<H>
         ensures counts { run.old.global.num_operations ≤ run.new.global.num_operations }
+        ensures search { KeepsSearch run.old.global run.new.global }
         ensures scope { run.new.scope ≡ run.old.scope }
         ensures runs { (on_scope : _) → GoesOut (under H.name_of self.now T.natives)
             (ToCall (record { name = name.now; token = token; at = pos }) curried
@@ -277,10 +280,10 @@ impl<'e, H: Host> Evaluator<'e, H> {
         natives_alone: bool,
         pos: Position,
     ) -> bool
-        requires { IsTrue (all_resolve_exprs (map tests_of (all_args (option_copied first) rest.now))
-            (names run.old)) }
+        requires { SuitsNames run.old
+            (all_resolve_exprs (map tests_of (all_args (option_copied first) rest.now))) }
         ensures counts { IsTrue result → run.old.global.num_operations ≤ run.new.global.num_operations }
-        ensures names { IsTrue result → names run.new ≡ names run.old }
+        ensures names { IsTrue result → KeepsNames run.old run.new }
         ensures runs { let rules = under H.name_of self.now T.natives in
             StartsAs rules (arguments_core rules.setting
             (ToCall (record { name = name.now; token = token; at = pos }) curried
@@ -324,10 +327,10 @@ impl<'e, H: Host> Evaluator<'e, H> {
         first: Option<&Expr>,
         rest: &[Expr],
     ) -> bool
-        requires { IsTrue (all_resolve_exprs (map tests_of (all_args (option_copied first) rest.now))
-            (names run.old)) }
+        requires { SuitsNames run.old
+            (all_resolve_exprs (map tests_of (all_args (option_copied first) rest.now))) }
         ensures counts { IsTrue result → run.old.global.num_operations ≤ run.new.global.num_operations }
-        ensures names { IsTrue result → names run.new ≡ names run.old }
+        ensures names { IsTrue result → KeepsNames run.old run.new }
         ensures collects { Collects (under H.name_of self.now T.natives) true values.old
             (all_args (option_copied first.entry) rest.now) (state_in (T.state table.old) run.old)
             (came result values.new run.new.error) (state_in (T.state table.new) run.new) }
@@ -358,9 +361,9 @@ impl<'e, H: Host> Evaluator<'e, H> {
         args: &[Expr],
         flattened: bool,
     ) -> bool
-        requires { IsTrue (all_resolve_exprs (map tests_of args.now) (names run.old)) }
+        requires { SuitsNames run.old (all_resolve_exprs (map tests_of args.now)) }
         ensures counts { IsTrue result → run.old.global.num_operations ≤ run.new.global.num_operations }
-        ensures names { IsTrue result → names run.new ≡ names run.old }
+        ensures names { IsTrue result → KeepsNames run.old run.new }
         ensures more { IsTrue result → length values.new ≡ length values.old + length args.now }
         ensures collects { Collects (under H.name_of self.now T.natives) flattened values.old args.now
             (state_in (T.state table.old) run.old) (came result values.new run.new.error)

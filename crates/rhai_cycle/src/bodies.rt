@@ -11,13 +11,16 @@ ghost use Rattle.rhai_machine.specs.language.Frames.{EnterFunction, EnterOnFocus
 ghost use Rattle.rhai_machine.specs.language.Methods.{method_core};
 ghost use Rattle.rhai_machine.specs.language.Runs.{Runs};
 ghost use Rattle.rhai_machine.specs.language.State.{HasMemory};
+ghost use Rattle.rhai_steps.specs.Agreement.{KeepsSearch};
 ghost use Rattle.rhai_steps.specs.States.{local_of, state_of};
 ghost use Rattle.rhai_calls.specs.Called.{came_out, with_args};
 ghost use Rattle.rhai_context.specs.Ends.{came, came_marked};
 ghost use Rattle.rhai_steps.specs.Marked.{lending, RunsFrom};
+ghost use Rattle.rhai_functions.specs.Entering.{TakesSome};
+ghost use Rattle.rhai_cycle.specs.Agreement.{KeepsNames};
 ghost use Rattle.rhai_cycle.specs.Bodies.{args_left, behind_call, entered, is_entered};
 ghost use Rattle.rhai_cycle.specs.Calls.{StartsAs};
-ghost use Rattle.rhai_cycle.specs.States.{names, state_in, under};
+ghost use Rattle.rhai_cycle.specs.States.{state_in, under};
 
 use crate::evaluator::Evaluator;
 use rhai_bodies::callers::{body_of, capture, end_fresh, release};
@@ -56,10 +59,12 @@ impl<'e, H: Host> Evaluator<'e, H> {
         pos: Position,
     ) -> bool
         ensures charges { IsTrue result → run.old.global.num_operations < run.new.global.num_operations }
+        ensures search { IsTrue restores → KeepsSearch run.old.global run.new.global }
         ensures args { HasMemory (came result run.new.value run.new.error) → args.new ≡ args_left
             (is_entered self.now.limits.now run.old.global.num_operations level
             (length (entries_of run.old.scope)) def.now)
             (length def.now.params) args.old }
+        ensures taken { TakesSome args.old args.new }
         ensures runs { (scope : _) (held : _) (object : _) (is_fresh : _) →
             let caller = local_of run.old.global scope held in
             let e = entered def.now (option_copied environ.entry) object is_fresh restores args.old level
@@ -104,6 +109,7 @@ impl<'e, H: Host> Evaluator<'e, H> {
         pos: Position,
     ) -> bool
         ensures counts { run.old.global.num_operations ≤ run.new.global.num_operations }
+        ensures search { KeepsSearch run.old.global run.new.global }
         ensures scope { run.new.scope ≡ run.old.scope }
         ensures this { run.new.this ≡ run.old.this }
         ensures runs { (scope : _) (held : _) → let caller = local_of run.old.global scope held in
@@ -132,7 +138,7 @@ impl<'e, H: Host> Evaluator<'e, H> {
         pos: Position,
     ) -> bool
         ensures counts { run.old.global.num_operations ≤ run.new.global.num_operations }
-        ensures names { IsTrue result → names run.new ≡ names run.old }
+        ensures names { IsTrue result → KeepsNames run.old run.new }
         ensures this { run.new.this ≡ run.old.this }
         ensures runs { (held : _) → let caller = local_of run.old.global run.old.scope held in
             Runs (under H.name_of self.now T.natives)
@@ -163,7 +169,7 @@ impl<'e, H: Host> Evaluator<'e, H> {
         pos: Position,
     ) -> bool
         ensures counts { run.old.global.num_operations ≤ run.new.global.num_operations }
-        ensures names { IsTrue result → names run.new ≡ names run.old }
+        ensures names { IsTrue result → KeepsNames run.old run.new }
         ensures runs { StartsAs (under H.name_of self.now T.natives)
             (came_out is_fresh pos (with_args called args.old))
             (state_in (T.state table.old) run.old)
@@ -196,6 +202,7 @@ impl<'e, H: Host> Evaluator<'e, H> {
         pos: Position,
     ) -> bool
         ensures counts { run.old.global.num_operations ≤ run.new.global.num_operations }
+        ensures search { KeepsSearch run.old.global run.new.global }
         ensures scope { run.new.scope ≡ run.old.scope }
         ensures this { run.new.this ≡ run.old.this }
         ensures runs { (scope : _) (held : _) → Runs (under H.name_of self.now T.natives)
@@ -233,6 +240,7 @@ impl<'e, H: Host> Evaluator<'e, H> {
         was_handle: bool,
     ) -> Option<bool>
         ensures counts { run.old.global.num_operations ≤ run.new.global.num_operations }
+        ensures search { KeepsSearch run.old.global run.new.global }
         ensures scope { run.new.scope ≡ run.old.scope }
         ensures this { run.new.this ≡ run.old.this }
         ensures runs { (scope : _) (held : _) → let rules = under H.name_of self.now T.natives in

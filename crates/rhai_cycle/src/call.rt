@@ -12,6 +12,7 @@ ghost use Rattle.rhai_machine.specs.language.Frames.{Argument, KeywordArgument, 
 ghost use Rattle.rhai_values.specs.declared.base.value.FnPtr.{out-FnPtr};
 ghost use Rattle.rhai_machine.specs.language.Arguments.{arguments_core, linked_to};
 ghost use Rattle.rhai_machine.specs.language.Runs.{Runs};
+ghost use Rattle.rhai_steps.specs.Agreement.{KeepsSearch};
 ghost use Rattle.rhai_calls.specs.Called.{with_args};
 ghost use Rattle.rhai_calls.specs.Operates.{Operates};
 ghost use Rattle.rhai_pointers.specs.Forms.{IsForm};
@@ -20,6 +21,7 @@ ghost use Rattle.rhai_pointers.specs.declared.forms.CallForm.TheVariants as form
 ghost use Rattle.rhai_pointers.specs.Leading.{all_args};
 ghost use Rattle.rhai_dispatch.specs.Going.{GoesOut};
 ghost use Rattle.rhai_context.specs.Ends.{came};
+ghost use Rattle.rhai_cycle.specs.Agreement.{KeepsNames, SuitsNames};
 ghost use Rattle.rhai_cycle.specs.Calls.{RunsUnder, StartsAs, called, purpose_of};
 ghost use Rattle.rhai_cycle.specs.States.{names, state_in, under};
 
@@ -94,9 +96,9 @@ impl<'e, H: Host> Evaluator<'e, H> {
         call: &FnCallExpr,
         pos: Position,
     ) -> bool
-        requires resolves { IsTrue (resolves_call call.now pos (names run.old)) }
+        requires resolves { SuitsNames run.old (resolves_call call.now pos) }
         ensures counts { IsTrue result → run.old.global.num_operations ≤ run.new.global.num_operations }
-        ensures names { IsTrue result → names run.new ≡ names run.old }
+        ensures names { IsTrue result → KeepsNames run.old run.new }
         ensures runs { Runs (under H.name_of self.now T.natives) (OpenExpr (layer.Expr::FnCall call.now pos))
             (state_in (T.state table.old) run.old)
             (came result run.new.value run.new.error) (state_in (T.state table.new) run.new) }
@@ -118,9 +120,9 @@ impl<'e, H: Host> Evaluator<'e, H> {
         call: &FnCallExpr,
         pos: Position,
     ) -> bool
-        requires resolves { IsTrue (resolves_call call.now pos (names run.old)) }
+        requires resolves { SuitsNames run.old (resolves_call call.now pos) }
         ensures counts { IsTrue result → run.old.global.num_operations ≤ run.new.global.num_operations }
-        ensures names { IsTrue result → names run.new ≡ names run.old }
+        ensures names { IsTrue result → KeepsNames run.old run.new }
         ensures runs { Runs (under H.name_of self.now T.natives) (OpenExpr (layer.Expr::FnCall call.now pos))
             (state_in (T.state table.old) run.old)
             (came result run.new.value run.new.error) (state_in (T.state table.new) run.new) }
@@ -164,10 +166,10 @@ impl<'e, H: Host> Evaluator<'e, H> {
         call: &FnCallExpr,
         pos: Position,
     ) -> bool
-        requires resolves { IsTrue (resolves_call call.now pos (names run.old)) }
+        requires resolves { SuitsNames run.old (resolves_call call.now pos) }
         requires form { IsForm form.Function self.now.fast_operators call.now.op_token call.now.args }
         ensures counts { IsTrue result → run.old.global.num_operations ≤ run.new.global.num_operations }
-        ensures names { IsTrue result → names run.new ≡ names run.old }
+        ensures names { IsTrue result → KeepsNames run.old run.new }
         ensures runs { Runs (under H.name_of self.now T.natives) (OpenExpr (layer.Expr::FnCall call.now pos))
             (state_in (T.state table.old) run.old)
             (came result run.new.value run.new.error) (state_in (T.state table.new) run.new) }
@@ -232,10 +234,10 @@ impl<'e, H: Host> Evaluator<'e, H> {
     ) -> bool
         requires token { call.now.op_token ≡ Some token }
         requires args { call.now.args ≡ operand.now ∷ [] }
-        requires resolves { IsTrue (resolves_expr operand.now (names run.old)) }
+        requires resolves { SuitsNames run.old (resolves_expr operand.now) }
         requires fast { self.now.fast_operators ≡ true }
         ensures counts { IsTrue result → run.old.global.num_operations ≤ run.new.global.num_operations }
-        ensures names { IsTrue result → names run.new ≡ names run.old }
+        ensures names { IsTrue result → KeepsNames run.old run.new }
         ensures runs { Runs (under H.name_of self.now T.natives) (OpenExpr (layer.Expr::FnCall call.now pos))
             (state_in (T.state table.old) run.old)
             (came result run.new.value run.new.error) (state_in (T.state table.new) run.new) }
@@ -269,10 +271,10 @@ impl<'e, H: Host> Evaluator<'e, H> {
         captures: bool,
         pos: Position,
     ) -> bool
-        requires { IsTrue (all_resolve_exprs (map tests_of (all_args (option_copied first) rest.now))
-            (names run.old)) }
+        requires { SuitsNames run.old
+            (all_resolve_exprs (map tests_of (all_args (option_copied first) rest.now))) }
         ensures counts { IsTrue result → run.old.global.num_operations ≤ run.new.global.num_operations }
-        ensures names { IsTrue result → names run.new ≡ names run.old }
+        ensures names { IsTrue result → KeepsNames run.old run.new }
         ensures runs { StartsAs (under H.name_of self.now T.natives)
             (called (record { name = name.now; token = token; at = pos })
             (all_args (option_copied first.entry) rest.now) captures)
@@ -312,10 +314,10 @@ impl<'e, H: Host> Evaluator<'e, H> {
         captures: bool,
         pos: Position,
     ) -> bool
-        requires resolves { IsTrue (resolves_expr first.now (names run.old)) }
-        requires resolves_rest { IsTrue (all_resolve_exprs (map tests_of rest.now) (names run.old)) }
+        requires resolves { SuitsNames run.old (resolves_expr first.now) }
+        requires resolves_rest { SuitsNames run.old (all_resolve_exprs (map tests_of rest.now)) }
         ensures counts { IsTrue result → run.old.global.num_operations ≤ run.new.global.num_operations }
-        ensures names { IsTrue result → names run.new ≡ names run.old }
+        ensures names { IsTrue result → KeepsNames run.old run.new }
         ensures runs { RunsUnder (under H.name_of self.now T.natives) (Argument first.now)
             (KeywordArgument (word_of word) pos (start_of first.now) rest.now captures)
             (state_in (T.state table.old) run.old)
@@ -404,6 +406,7 @@ impl<'e, H: Host> Evaluator<'e, H> {
         pos: Position,
     ) -> Called<H>
         ensures counts { run.old.global.num_operations ≤ run.new.global.num_operations }
+        ensures search { KeepsSearch run.old.global run.new.global }
         ensures scope { run.new.scope ≡ run.old.scope }
         ensures runs { GoesOut (under H.name_of self.now T.natives)
             (purpose_of pointer pos) values.old true pos
@@ -440,9 +443,9 @@ impl<'e, H: Host> Evaluator<'e, H> {
         args: &[Expr],
         pos: Position,
     ) -> bool
-        requires { IsTrue (all_resolve_exprs (map tests_of args.now) (names run.old)) }
+        requires { SuitsNames run.old (all_resolve_exprs (map tests_of args.now)) }
         ensures counts { IsTrue result → run.old.global.num_operations ≤ run.new.global.num_operations }
-        ensures names { IsTrue result → names run.new ≡ names run.old }
+        ensures names { IsTrue result → KeepsNames run.old run.new }
         ensures runs { StartsAs (under H.name_of self.now T.natives)
             (arguments_core (under H.name_of self.now T.natives).setting (purpose_of pointer pos) [] args.now)
             (state_in (T.state table.old) run.old)
@@ -475,6 +478,7 @@ impl<'e, H: Host> Evaluator<'e, H> {
     ) -> Called<H>
         requires { operands.old ≡ [] }
         ensures counts { run.old.global.num_operations ≤ run.new.global.num_operations }
+        ensures search { KeepsSearch run.old.global run.new.global }
         ensures scope { run.new.scope ≡ run.old.scope }
         ensures runs { Operates (under H.name_of self.now T.natives)
             (call_at call.now.name token pos (run.old.value ∷ [])) (state_in (T.state table.old) run.old)
@@ -511,6 +515,7 @@ impl<'e, H: Host> Evaluator<'e, H> {
     ) -> Called<H>
         requires { operands.old ≡ [] }
         ensures counts { run.old.global.num_operations ≤ run.new.global.num_operations }
+        ensures search { KeepsSearch run.old.global run.new.global }
         ensures scope { run.new.scope ≡ run.old.scope }
         ensures runs { Operates (under H.name_of self.now T.natives)
             (call_at call.now.name token pos (left ∷ run.old.value ∷ []))
@@ -549,11 +554,11 @@ impl<'e, H: Host> Evaluator<'e, H> {
     ) -> bool
         requires token { call.now.op_token ≡ Some token }
         requires args { call.now.args ≡ left.now ∷ right.now ∷ [] }
-        requires resolves_left { IsTrue (resolves_expr left.now (names run.old)) }
-        requires resolves_right { IsTrue (resolves_expr right.now (names run.old)) }
+        requires resolves_left { SuitsNames run.old (resolves_expr left.now) }
+        requires resolves_right { SuitsNames run.old (resolves_expr right.now) }
         requires fast { self.now.fast_operators ≡ true }
         ensures counts { IsTrue result → run.old.global.num_operations ≤ run.new.global.num_operations }
-        ensures names { IsTrue result → names run.new ≡ names run.old }
+        ensures names { IsTrue result → KeepsNames run.old run.new }
         ensures runs { Runs (under H.name_of self.now T.natives) (OpenExpr (layer.Expr::FnCall call.now pos))
             (state_in (T.state table.old) run.old)
             (came result run.new.value run.new.error) (state_in (T.state table.new) run.new) }
@@ -596,9 +601,9 @@ impl<'e, H: Host> Evaluator<'e, H> {
         table: &mut T,
         arg: &Expr,
     ) -> bool
-        requires { IsTrue (resolves_expr arg.now (names run.old)) }
+        requires { SuitsNames run.old (resolves_expr arg.now) }
         ensures charges { IsTrue result → run.old.global.num_operations < run.new.global.num_operations }
-        ensures names { IsTrue result → names run.new ≡ names run.old }
+        ensures names { IsTrue result → KeepsNames run.old run.new }
         ensures runs { Runs (under H.name_of self.now T.natives) (Argument arg.now)
             (state_in (T.state table.old) run.old)
             (came result run.new.value run.new.error) (state_in (T.state table.new) run.new) }

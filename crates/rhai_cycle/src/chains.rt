@@ -13,9 +13,10 @@ ghost use Rattle.rhai_machine.specs.language.Runs.{Runs};
 ghost use Rattle.rhai_chains.specs.Chains.{Walks, chain_at, new_of};
 ghost use Rattle.rhai_chains.specs.Ready.{at_once, IsReady};
 ghost use Rattle.rhai_context.specs.Ends.{came, error_in};
+ghost use Rattle.rhai_cycle.specs.Agreement.{KeepsNames, SuitsNames};
 ghost use Rattle.rhai_cycle.specs.Chains.{Gathers, HasAsked, IsGiven, MayWalk, StartsFrom, AsksFirst};
 ghost use Rattle.rhai_cycle.specs.Chains.{behind_resolves};
-ghost use Rattle.rhai_cycle.specs.States.{names, state_in, under};
+ghost use Rattle.rhai_cycle.specs.States.{state_in, under};
 
 use crate::evaluator::Evaluator;
 use crate::roots::take_flat;
@@ -101,12 +102,12 @@ impl<'e, H: Host> Evaluator<'e, H> {
         chain: &Expr,
         new: Option<NewValue<H>>,
     ) -> bool
-        requires root { IsTrue (resolves_expr root.now (names run.old)) }
-        requires behind { IsTrue (behind_resolves (out-Expr chain.now) (names run.old)) }
+        requires root { SuitsNames run.old (resolves_expr root.now) }
+        requires behind { SuitsNames run.old (behind_resolves (out-Expr chain.now)) }
         requires walks { MayWalk (is_some new) (out-Expr chain.now) }
         requires starts { StartsFrom (is_some new) (out-Expr root.now) }
         ensures counts { IsTrue result → run.old.global.num_operations ≤ run.new.global.num_operations }
-        ensures names { IsTrue result → names run.new ≡ names run.old }
+        ensures names { IsTrue result → KeepsNames run.old run.new }
         ensures runs { Runs (under H.name_of self.now T.natives)
             (OpenChain (chain_on root.now (out-Expr chain.now) (new_of new)))
             (state_in (T.state table.old) run.old)
@@ -150,12 +151,12 @@ impl<'e, H: Host> Evaluator<'e, H> {
         root: &Expr,
         chain: &Expr,
     ) -> bool
-        requires root { IsTrue (resolves_expr root.now (names run.old)) }
-        requires behind { IsTrue (behind_resolves (out-Expr chain.now) (names run.old)) }
+        requires root { SuitsNames run.old (resolves_expr root.now) }
+        requires behind { SuitsNames run.old (behind_resolves (out-Expr chain.now)) }
         requires walks { MayWalk false (out-Expr chain.now) }
         requires starts { StartsFrom false (out-Expr root.now) }
         ensures counts { IsTrue result → run.old.global.num_operations ≤ run.new.global.num_operations }
-        ensures names { IsTrue result → names run.new ≡ names run.old }
+        ensures names { IsTrue result → KeepsNames run.old run.new }
         ensures runs { Runs (under H.name_of self.now T.natives)
             (OpenChain (chain_on root.now (out-Expr chain.now) None))
             (state_in (T.state table.old) run.old)
@@ -175,9 +176,9 @@ impl<'e, H: Host> Evaluator<'e, H> {
         values: &mut Few<Dynamic<H>>,
         chain: &Expr,
     ) -> bool
-        requires { IsTrue (behind_resolves (out-Expr chain.now) (names run.old)) }
+        requires { SuitsNames run.old (behind_resolves (out-Expr chain.now)) }
         ensures counts { IsTrue result → run.old.global.num_operations ≤ run.new.global.num_operations }
-        ensures names { IsTrue result → names run.new ≡ names run.old }
+        ensures names { IsTrue result → KeepsNames run.old run.new }
         ensures asked { HasAsked (came result values.new run.new.error) (length values.old)
             (out-Expr chain.now) }
         ensures gathers { Gathers (under H.name_of self.now T.natives) (out-Expr chain.now) values.old
@@ -212,11 +213,11 @@ impl<'e, H: Host> Evaluator<'e, H> {
         args: &mut [Dynamic<H>],
         new: Option<NewValue<H>>,
     ) -> bool
-        requires root { IsTrue (resolves_expr root.now (names run.old)) }
+        requires root { SuitsNames run.old (resolves_expr root.now) }
         requires walks { Walks (is_some new) (out-Expr chain.now) (length args.old) }
         requires starts { StartsFrom (is_some new) (out-Expr root.now) }
         ensures counts { IsTrue result → run.old.global.num_operations ≤ run.new.global.num_operations }
-        ensures names { IsTrue result → names run.new ≡ names run.old }
+        ensures names { IsTrue result → KeepsNames run.old run.new }
         ensures runs { (in_place : _) → Runs (under H.name_of self.now T.natives)
             (ChainRoot (chain_at root.now (out-Expr chain.now) args.old new in_place))
             (state_in (T.state table.old) run.old)
@@ -266,10 +267,10 @@ impl<'e, H: Host> Evaluator<'e, H> {
         rhs: &Expr,
     ) -> bool
         requires chain { is_some (first_in (out-Expr lhs.now)) ≡ true }
-        requires resolves_target { IsTrue (target_resolves (tests_of lhs.now) (names run.old)) }
-        requires resolves { IsTrue (resolves_expr rhs.now (names run.old)) }
+        requires resolves_target { SuitsNames run.old (target_resolves (tests_of lhs.now)) }
+        requires resolves { SuitsNames run.old (resolves_expr rhs.now) }
         ensures counts { IsTrue result → run.old.global.num_operations ≤ run.new.global.num_operations }
-        ensures names { IsTrue result → names run.new ≡ names run.old }
+        ensures names { IsTrue result → KeepsNames run.old run.new }
         ensures runs { (restoring : _) → Runs (under H.name_of self.now T.natives)
             (OpenStmt (layer.Assignment op lhs.now rhs.now) restoring)
             (state_in (T.state table.old) run.old)

@@ -7,7 +7,8 @@ ghost use Rattle.rhai_tree.specs.declared.expr.Expr.TheOpen as layer;
 ghost use Rattle.rhai_machine.specs.language.Frames.{OpenExpr};
 ghost use Rattle.rhai_machine.specs.language.Runs.{Runs};
 ghost use Rattle.rhai_context.specs.Ends.{came};
-ghost use Rattle.rhai_cycle.specs.States.{names, state_in, under};
+ghost use Rattle.rhai_cycle.specs.Agreement.{KeepsNames, SuitsNames};
+ghost use Rattle.rhai_cycle.specs.States.{state_in, under};
 
 use crate::evaluator::Evaluator;
 use rhai_context::Context;
@@ -39,9 +40,9 @@ impl<'e, H: Host> Evaluator<'e, H> {
         parts: &[Expr],
         stop: bool,
     ) -> bool
-        requires resolves { IsTrue (all_resolve_exprs (map tests_of parts.now) (names run.old)) }
+        requires resolves { SuitsNames run.old (all_resolve_exprs (map tests_of parts.now)) }
         ensures counts { IsTrue result → run.old.global.num_operations ≤ run.new.global.num_operations }
-        ensures names { IsTrue result → names run.new ≡ names run.old }
+        ensures names { IsTrue result → KeepsNames run.old run.new }
         ensures runs { (pos : _) → Runs (under H.name_of self.now T.natives)
             (OpenExpr (if stop then layer.Or parts.now pos else layer.And parts.now pos))
             (state_in (T.state table.old) run.old)
@@ -71,9 +72,9 @@ impl<'e, H: Host> Evaluator<'e, H> {
         table: &mut T,
         parts: &[Expr],
     ) -> bool
-        requires resolves { IsTrue (all_resolve_exprs (map tests_of parts.now) (names run.old)) }
+        requires resolves { SuitsNames run.old (all_resolve_exprs (map tests_of parts.now)) }
         ensures counts { IsTrue result → run.old.global.num_operations ≤ run.new.global.num_operations }
-        ensures names { IsTrue result → names run.new ≡ names run.old }
+        ensures names { IsTrue result → KeepsNames run.old run.new }
         ensures runs { (pos : _) → Runs (under H.name_of self.now T.natives)
             (OpenExpr (layer.Coalesce parts.now pos))
             (state_in (T.state table.old) run.old)

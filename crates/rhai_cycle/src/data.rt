@@ -6,7 +6,8 @@ ghost use Rattle.rhai_tree.specs.declared.expr.Expr.TheOpen as layer;
 ghost use Rattle.rhai_machine.specs.language.Frames.{OpenExpr};
 ghost use Rattle.rhai_machine.specs.language.Runs.{Runs};
 ghost use Rattle.rhai_context.specs.Ends.{came};
-ghost use Rattle.rhai_cycle.specs.States.{names, state_in, under};
+ghost use Rattle.rhai_cycle.specs.Agreement.{KeepsNames, SuitsNames};
+ghost use Rattle.rhai_cycle.specs.States.{state_in, under};
 
 use crate::evaluator::Evaluator;
 use rhai_context::Context;
@@ -32,9 +33,9 @@ impl<'e, H: Host> Evaluator<'e, H> {
         items: &[Expr],
         pos: Position,
     ) -> bool
-        requires resolves { IsTrue (all_resolve_exprs (map tests_of items.now) (names run.old)) }
+        requires resolves { SuitsNames run.old (all_resolve_exprs (map tests_of items.now)) }
         ensures counts { IsTrue result → run.old.global.num_operations ≤ run.new.global.num_operations }
-        ensures names { IsTrue result → names run.new ≡ names run.old }
+        ensures names { IsTrue result → KeepsNames run.old run.new }
         ensures runs { Runs (under H.name_of self.now T.natives) (OpenExpr (layer.Array items.now pos))
             (state_in (T.state table.old) run.old)
             (came result run.new.value run.new.error) (state_in (T.state table.new) run.new) }
@@ -67,9 +68,9 @@ impl<'e, H: Host> Evaluator<'e, H> {
         entries: &[MapEntry],
         pos: Position,
     ) -> bool
-        requires resolves { IsTrue (entries_resolve (map tests_of_entry entries.now) (names run.old)) }
+        requires resolves { SuitsNames run.old (entries_resolve (map tests_of_entry entries.now)) }
         ensures counts { IsTrue result → run.old.global.num_operations ≤ run.new.global.num_operations }
-        ensures names { IsTrue result → names run.new ≡ names run.old }
+        ensures names { IsTrue result → KeepsNames run.old run.new }
         ensures runs { (template : _) → Runs (under H.name_of self.now T.natives)
             (OpenExpr (layer.Map entries.now template pos))
             (state_in (T.state table.old) run.old)
@@ -103,9 +104,9 @@ impl<'e, H: Host> Evaluator<'e, H> {
         parts: &[Expr],
         pos: Position,
     ) -> bool
-        requires resolves { IsTrue (all_resolve_exprs (map tests_of parts.now) (names run.old)) }
+        requires resolves { SuitsNames run.old (all_resolve_exprs (map tests_of parts.now)) }
         ensures counts { IsTrue result → run.old.global.num_operations ≤ run.new.global.num_operations }
-        ensures names { IsTrue result → names run.new ≡ names run.old }
+        ensures names { IsTrue result → KeepsNames run.old run.new }
         ensures runs { Runs (under H.name_of self.now T.natives)
             (OpenExpr (layer.InterpolatedString parts.now pos))
             (state_in (T.state table.old) run.old)

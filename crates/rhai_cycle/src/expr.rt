@@ -4,17 +4,19 @@ ghost use Rattle.std.specs.Prelude.{◌≡◌, ◌<◌, ◌&&◌, IfErr, IfSome,
 ghost use Rattle.rhai_tree.specs.declared.expr.Expr.{out-Expr};
 ghost use Rattle.rhai_tree.specs.Frame.{resolves_expr};
 ghost use Rattle.rhai_state.specs.Errors.{is_out_of_memory};
-ghost use Rattle.rhai_state.specs.Scope.{entries_of, names_in};
+ghost use Rattle.rhai_state.specs.Scope.{entries_of};
 ghost use Rattle.rhai_machine.specs.language.Values.{is_handle, is_truth};
 ghost use Rattle.rhai_machine.specs.language.Frames.{Eval};
 ghost use Rattle.rhai_machine.specs.language.Runs.{Runs};
 ghost use Rattle.rhai_machine.specs.language.Setting.{rules_of};
+ghost use Rattle.rhai_steps.specs.Agreement.{AgreesAt, KeepsSearch};
 ghost use Rattle.rhai_steps.specs.States.{state_of};
 ghost use Rattle.rhai_operands.specs.Standing.{said};
 ghost use Rattle.rhai_operands.specs.Tests.{Tests};
 ghost use Rattle.rhai_context.specs.Ends.{came, came_test, error_in};
+ghost use Rattle.rhai_cycle.specs.Agreement.{KeepsNames, SuitsNames};
 ghost use Rattle.rhai_cycle.specs.Memory.{asks_expr};
-ghost use Rattle.rhai_cycle.specs.States.{names, state_in, under};
+ghost use Rattle.rhai_cycle.specs.States.{state_in, under};
 
 use crate::evaluator::Evaluator;
 use rhai_context::Context;
@@ -47,12 +49,13 @@ fn holds_at_once<H: Host, T: NativeTable<H>>(
     test: &Expr,
     is_fast: bool,
 ) -> Option<Option<bool>>
-    requires { IsTrue (resolves_expr test.now (names_in scope.now)) }
+    requires { AgreesAt global.old scope.now (resolves_expr test.now) }
     ensures found { is_some result ≡ (is_fast && is_some (said (out-Expr test.now) (entries_of scope.now))) }
     ensures left_alone { result ≡ None → global.new ≡ global.old }
     ensures charges { IfSome result (λ told. IfSome told (λ _.
         global.old.num_operations < global.new.num_operations)) }
     ensures memory { IfSome result (λ told. told ≡ None → is_out_of_memory (error_in place.new) ≡ false) }
+    ensures search { KeepsSearch global.old global.new }
     ensures runs { (offer : _) (held : _) → offer.fast_operators ≡ is_fast →
         IfSome result (λ told. Tests (rules_of limits.now H.name_of offer T.natives) test.now
         (state_of (T.state table.now) global.old scope.now held)
@@ -75,9 +78,9 @@ impl<'e, H: Host> Evaluator<'e, H> {
         table: &mut T,
         expr: &Expr,
     ) -> bool
-        requires resolves { IsTrue (resolves_expr expr.now (names run.old)) }
+        requires resolves { SuitsNames run.old (resolves_expr expr.now) }
         ensures charges { IsTrue result → run.old.global.num_operations < run.new.global.num_operations }
-        ensures names { IsTrue result → names run.new ≡ names run.old }
+        ensures names { IsTrue result → KeepsNames run.old run.new }
         ensures runs { Runs (under H.name_of self.now T.natives) (Eval expr.now)
             (state_in (T.state table.old) run.old)
             (came result run.new.value run.new.error) (state_in (T.state table.new) run.new) }
@@ -130,10 +133,10 @@ impl<'e, H: Host> Evaluator<'e, H> {
         table: &mut T,
         test: &Expr,
     ) -> Option<bool>
-        requires resolves { IsTrue (resolves_expr test.now (names run.old)) }
+        requires resolves { SuitsNames run.old (resolves_expr test.now) }
         ensures charges { IfSome result (λ _.
             run.old.global.num_operations < run.new.global.num_operations) }
-        ensures names { IfSome result (λ _. names run.new ≡ names run.old) }
+        ensures names { IfSome result (λ _. KeepsNames run.old run.new) }
         ensures runs { Tests (under H.name_of self.now T.natives) test.now
             (state_in (T.state table.old) run.old) (came_test result run.new.error)
             (state_in (T.state table.new) run.new) }

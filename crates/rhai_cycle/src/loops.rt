@@ -12,8 +12,9 @@ ghost use Rattle.rhai_state.specs.Errors.{is_out_of_memory};
 ghost use Rattle.rhai_state.specs.declared.error.EvalAltResult.TheVariants as error;
 ghost use Rattle.rhai_steps.specs.Loops.{after_turn};
 ghost use Rattle.rhai_context.specs.Ends.{came, came_turn, error_in};
+ghost use Rattle.rhai_cycle.specs.Agreement.{KeepsNames, SuitsNames};
 ghost use Rattle.rhai_cycle.specs.Ends.{left_with};
-ghost use Rattle.rhai_cycle.specs.States.{names, state_in, under};
+ghost use Rattle.rhai_cycle.specs.States.{state_in, under};
 
 use crate::evaluator::Evaluator;
 use rhai_context::Context;
@@ -100,10 +101,10 @@ impl<'e, H: Host> Evaluator<'e, H> {
         test: &Expr,
         body: &StmtBlock,
     ) -> bool
-        requires resolves_test { IsTrue (resolves_expr test.now (names run.old)) }
-        requires resolves_body { IsTrue (resolves_block body.now (names run.old)) }
+        requires resolves_test { SuitsNames run.old (resolves_expr test.now) }
+        requires resolves_body { SuitsNames run.old (resolves_block body.now) }
         ensures counts { IsTrue result → run.old.global.num_operations ≤ run.new.global.num_operations }
-        ensures names { IsTrue result → names run.new ≡ names run.old }
+        ensures names { IsTrue result → KeepsNames run.old run.new }
         ensures runs { Runs (under H.name_of self.now T.natives) (WhileTurn test.now body.now)
             (state_in (T.state table.old) run.old) (came result run.new.value run.new.error)
             (state_in (T.state table.new) run.new) }
@@ -126,11 +127,11 @@ impl<'e, H: Host> Evaluator<'e, H> {
         test: &Expr,
         body: &StmtBlock,
     ) -> Option<bool>
-        requires resolves_test { IsTrue (resolves_expr test.now (names run.old)) }
-        requires resolves_body { IsTrue (resolves_block body.now (names run.old)) }
+        requires resolves_test { SuitsNames run.old (resolves_expr test.now) }
+        requires resolves_body { SuitsNames run.old (resolves_block body.now) }
         ensures charges { OnOk (came_turn result run.new.value run.new.error)
             (run.old.global.num_operations < run.new.global.num_operations) }
-        ensures names { OnOk (came_turn result run.new.value run.new.error) (names run.new ≡ names run.old) }
+        ensures names { OnOk (came_turn result run.new.value run.new.error) (KeepsNames run.old run.new) }
         ensures runs { Steps (under H.name_of self.now T.natives) (WhileTurn test.now body.now)
             (state_in (T.state table.old) run.old)
             (after_turn (came_turn result run.new.value run.new.error) (WhileTurn test.now body.now))
@@ -173,10 +174,10 @@ impl<'e, H: Host> Evaluator<'e, H> {
         body: &StmtBlock,
         options: ASTFlags,
     ) -> bool
-        requires resolves_test { IsTrue (resolves_expr test.now (names run.old)) }
-        requires resolves_body { IsTrue (resolves_block body.now (names run.old)) }
+        requires resolves_test { SuitsNames run.old (resolves_expr test.now) }
+        requires resolves_body { SuitsNames run.old (resolves_block body.now) }
         ensures counts { IsTrue result → run.old.global.num_operations ≤ run.new.global.num_operations }
-        ensures names { IsTrue result → names run.new ≡ names run.old }
+        ensures names { IsTrue result → KeepsNames run.old run.new }
         ensures runs { Runs (under H.name_of self.now T.natives) (DoTurn test.now body.now options)
             (state_in (T.state table.old) run.old) (came result run.new.value run.new.error)
             (state_in (T.state table.new) run.new) }
@@ -200,11 +201,11 @@ impl<'e, H: Host> Evaluator<'e, H> {
         body: &StmtBlock,
         options: ASTFlags,
     ) -> Option<bool>
-        requires resolves_test { IsTrue (resolves_expr test.now (names run.old)) }
-        requires resolves_body { IsTrue (resolves_block body.now (names run.old)) }
+        requires resolves_test { SuitsNames run.old (resolves_expr test.now) }
+        requires resolves_body { SuitsNames run.old (resolves_block body.now) }
         ensures charges { OnOk (came_turn result run.new.value run.new.error)
             (run.old.global.num_operations < run.new.global.num_operations) }
-        ensures names { OnOk (came_turn result run.new.value run.new.error) (names run.new ≡ names run.old) }
+        ensures names { OnOk (came_turn result run.new.value run.new.error) (KeepsNames run.old run.new) }
         ensures runs { Steps (under H.name_of self.now T.natives) (DoTurn test.now body.now options)
             (state_in (T.state table.old) run.old)
             (after_turn (came_turn result run.new.value run.new.error) (DoTurn test.now body.now options))
@@ -238,7 +239,7 @@ impl<'e, H: Host> Evaluator<'e, H> {
         options: ASTFlags,
         pos: Position,
     ) -> bool
-        requires resolves { IsTrue (option_resolves (option_map tests_of value.now) (names run.old)) }
+        requires resolves { SuitsNames run.old (option_resolves (option_map tests_of value.now)) }
         ensures stops { result ≡ false }
         ensures runs { (restoring : _) → Runs (under H.name_of self.now T.natives)
             (OpenStmt (layer.BreakLoop value.now options pos) restoring)
@@ -272,7 +273,7 @@ impl<'e, H: Host> Evaluator<'e, H> {
         options: ASTFlags,
         pos: Position,
     ) -> bool
-        requires resolves { IsTrue (option_resolves (option_map tests_of value.now) (names run.old)) }
+        requires resolves { SuitsNames run.old (option_resolves (option_map tests_of value.now)) }
         ensures stops { result ≡ false }
         ensures runs { (restoring : _) → Runs (under H.name_of self.now T.natives)
             (OpenStmt (layer.Return value.now options pos) restoring)

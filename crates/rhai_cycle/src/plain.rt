@@ -8,8 +8,9 @@ ghost use Rattle.rhai_machine.specs.language.Calls.{plainly};
 ghost use Rattle.rhai_machine.specs.language.Frames.{ToCall};
 ghost use Rattle.rhai_context.specs.Ends.{came};
 ghost use Rattle.rhai_plain.specs.Callees.{IsPlain};
+ghost use Rattle.rhai_cycle.specs.Agreement.{KeepsNames, SuitsNames};
 ghost use Rattle.rhai_cycle.specs.Calls.{Fills, StartsAs};
-ghost use Rattle.rhai_cycle.specs.States.{names, state_in, under};
+ghost use Rattle.rhai_cycle.specs.States.{state_in, under};
 
 use crate::evaluator::Evaluator;
 use rhai_bodies::callers::definition_of;
@@ -41,10 +42,10 @@ impl<'e, H: Host> Evaluator<'e, H> {
         function: Shared<CheckedFn>,
         pos: Position,
     ) -> bool
-        requires resolves { IsTrue (all_resolve_exprs (map tests_of call.now.args) (names run.old)) }
+        requires resolves { SuitsNames run.old (all_resolve_exprs (map tests_of call.now.args)) }
         requires plain { IsPlain call.now run.old.global.lib function }
         ensures counts { IsTrue result → run.old.global.num_operations ≤ run.new.global.num_operations }
-        ensures names { IsTrue result → names run.new ≡ names run.old }
+        ensures names { IsTrue result → KeepsNames run.old run.new }
         ensures runs { let rules = under H.name_of self.now T.natives in
             StartsAs rules (arguments_core rules.setting
             (ToCall (record { name = call.now.name; token = None; at = pos })
@@ -94,11 +95,11 @@ impl<'e, H: Host> Evaluator<'e, H> {
         def: &ScriptFuncDef,
         args: &[Expr],
     ) -> bool
-        requires resolves { IsTrue (all_resolve_exprs (map tests_of args.now) (names run.old)) }
+        requires resolves { SuitsNames run.old (all_resolve_exprs (map tests_of args.now)) }
         requires empty { variables.old ≡ [] }
         requires takes { length def.now.params ≡ length args.now }
         ensures counts { IsTrue result → run.old.global.num_operations ≤ run.new.global.num_operations }
-        ensures names { IsTrue result → names run.new ≡ names run.old }
+        ensures names { IsTrue result → KeepsNames run.old run.new }
         ensures fills { Fills (under H.name_of self.now T.natives) def.now.params args.now result
             variables.new (state_in (T.state table.old) run.old) run.new.error
             (state_in (T.state table.new) run.new) }

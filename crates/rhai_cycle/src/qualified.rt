@@ -10,8 +10,9 @@ ghost use Rattle.rhai_machine.specs.language.Runs.{Runs};
 ghost use Rattle.rhai_pointers.specs.Forms.{IsForm};
 ghost use Rattle.rhai_pointers.specs.declared.forms.CallForm.TheVariants as form;
 ghost use Rattle.rhai_context.specs.Ends.{came};
+ghost use Rattle.rhai_cycle.specs.Agreement.{KeepsNames, SuitsNames};
 ghost use Rattle.rhai_cycle.specs.Calls.{in_parts};
-ghost use Rattle.rhai_cycle.specs.States.{names, state_in, under};
+ghost use Rattle.rhai_cycle.specs.States.{state_in, under};
 
 use crate::evaluator::Evaluator;
 use rhai_context::Context;
@@ -38,10 +39,10 @@ impl<'e, H: Host> Evaluator<'e, H> {
         args: &[Expr],
         pos: Position,
     ) -> bool
-        requires resolves { IsTrue (all_resolve_exprs (map tests_of args.now) (names run.old)) }
+        requires resolves { SuitsNames run.old (all_resolve_exprs (map tests_of args.now)) }
         requires behind { is_unqualified namespace.now.path ≡ false }
         ensures counts { IsTrue result → run.old.global.num_operations ≤ run.new.global.num_operations }
-        ensures names { IsTrue result → names run.new ≡ names run.old }
+        ensures names { IsTrue result → KeepsNames run.old run.new }
         ensures runs { (token : Option Token) → (captures : Bool) →
             IsForm form.Function self.now.fast_operators token args.now →
             Runs (under H.name_of self.now T.natives)

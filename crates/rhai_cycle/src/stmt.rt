@@ -5,16 +5,18 @@ ghost use Rattle.std.specs.Prelude.{None, length, map};
 ghost use Rattle.rhai_tree.specs.Frame.{tests_of, target_resolves, resolves_expr, resolves_stmt};
 ghost use Rattle.rhai_tree.specs.Frame.{all_resolve, resolves_block, var_names, var_resolves};
 ghost use Rattle.rhai_tree.specs.declared.expr.Expr.{out-Expr};
+ghost use Rattle.rhai_tree.specs.declared.expr.Stmt.{out-Stmt};
 ghost use Rattle.rhai_tree.specs.declared.expr.Expr.TheOpen as layer;
 ghost use Rattle.rhai_state.specs.Errors.{is_out_of_memory};
-ghost use Rattle.rhai_state.specs.Scope.{names_in};
 ghost use Rattle.rhai_machine.specs.language.Values.{unit_value as unit};
 ghost use Rattle.rhai_machine.specs.language.Frames.{Exec, OpenStmt, Enter, Run};
 ghost use Rattle.rhai_machine.specs.language.Runs.{Runs};
 ghost use Rattle.rhai_machine.specs.language.Setting.{rules_of};
+ghost use Rattle.rhai_steps.specs.Agreement.{AgreesAt, KeepsSearch, changes, passes};
 ghost use Rattle.rhai_steps.specs.States.{state_of};
 ghost use Rattle.rhai_assign.specs.Keeps.{Keeps};
 ghost use Rattle.rhai_context.specs.Ends.{came};
+ghost use Rattle.rhai_cycle.specs.Agreement.{ChangesNames, Declared, KeepsNames, RestoresNames, SuitsNames};
 ghost use Rattle.rhai_cycle.specs.Memory.{asks_if, asks_stmt, may_ask};
 ghost use Rattle.rhai_cycle.specs.States.{names, state_in, under};
 
@@ -64,11 +66,12 @@ fn assign_at_once<H: Host, T: NativeTable<H>>(
     rhs: &Expr,
     is_fast: bool,
 ) -> Option<bool>
-    requires resolves_target { IsTrue (target_resolves (tests_of lhs.now) (names_in scope.old)) }
-    requires resolves { IsTrue (resolves_expr rhs.now (names_in scope.old)) }
+    requires resolves_target { AgreesAt global.old scope.old (target_resolves (tests_of lhs.now)) }
+    requires resolves { AgreesAt global.old scope.old (resolves_expr rhs.now) }
     ensures left_global { result ≡ None → global.new ≡ global.old }
     ensures left_scope { result ≡ None → scope.new ≡ scope.old }
     ensures keeps { Keeps global.old global.new scope.old scope.new }
+    ensures search { KeepsSearch global.old global.new }
     ensures runs { (offer : _) (held : _) (restoring : _) → offer.fast_operators ≡ is_fast →
         IfSome result (λ done. Runs (rules_of limits.now H.name_of offer T.natives)
         (OpenStmt (layer.Assignment op.now lhs.now rhs.now) restoring)
@@ -101,9 +104,10 @@ impl<'e, H: Host> Evaluator<'e, H> {
         stmt: &Stmt,
         restoring: bool,
     ) -> bool
-        requires resolves { IsTrue (resolves_stmt stmt.now (names run.old)).0 }
+        requires resolves { SuitsNames run.old (passes (resolves_stmt stmt.now)) }
         ensures charges { IsTrue result → run.old.global.num_operations < run.new.global.num_operations }
-        ensures names { IsTrue result → names run.new ≡ (resolves_stmt stmt.now (names run.old)).1 }
+        ensures names { IsTrue result → ChangesNames run.old (changes (resolves_stmt stmt.now)) run.new }
+        ensures declared { IsTrue result → Declared (out-Stmt stmt.now) (names run.old) (names run.new) }
         ensures runs { Runs (under H.name_of self.now T.natives) (Exec stmt.now restoring)
             (state_in (T.state table.old) run.old) (came result run.new.value run.new.error)
             (state_in (T.state table.new) run.new) }
@@ -215,11 +219,11 @@ impl<'e, H: Host> Evaluator<'e, H> {
         body: &StmtBlock,
         branch: &StmtBlock,
     ) -> bool
-        requires resolves_test { IsTrue (resolves_expr test.now (names run.old)) }
-        requires resolves_body { IsTrue (resolves_block body.now (names run.old)) }
-        requires resolves_branch { IsTrue (resolves_block branch.now (names run.old)) }
+        requires resolves_test { SuitsNames run.old (resolves_expr test.now) }
+        requires resolves_body { SuitsNames run.old (resolves_block body.now) }
+        requires resolves_branch { SuitsNames run.old (resolves_block branch.now) }
         ensures counts { IsTrue result → run.old.global.num_operations ≤ run.new.global.num_operations }
-        ensures names { IsTrue result → names run.new ≡ names run.old }
+        ensures names { IsTrue result → KeepsNames run.old run.new }
         ensures runs { (pos : _) (restoring : _) → Runs (under H.name_of self.now T.natives)
             (OpenStmt (layer.If test.now body.now branch.now pos) restoring)
             (state_in (T.state table.old) run.old)
@@ -249,10 +253,10 @@ impl<'e, H: Host> Evaluator<'e, H> {
         lhs: &Expr,
         rhs: &Expr,
     ) -> bool
-        requires resolves_target { IsTrue (target_resolves (tests_of lhs.now) (names run.old)) }
-        requires resolves { IsTrue (resolves_expr rhs.now (names run.old)) }
+        requires resolves_target { SuitsNames run.old (target_resolves (tests_of lhs.now)) }
+        requires resolves { SuitsNames run.old (resolves_expr rhs.now) }
         ensures counts { IsTrue result → run.old.global.num_operations ≤ run.new.global.num_operations }
-        ensures names { IsTrue result → names run.new ≡ names run.old }
+        ensures names { IsTrue result → KeepsNames run.old run.new }
         ensures runs { (restoring : _) → Runs (under H.name_of self.now T.natives)
             (OpenStmt (layer.Assignment op.now lhs.now rhs.now) restoring)
             (state_in (T.state table.old) run.old)
@@ -289,10 +293,10 @@ impl<'e, H: Host> Evaluator<'e, H> {
         lhs: &Expr,
         rhs: &Expr,
     ) -> bool
-        requires resolves_target { IsTrue (target_resolves (tests_of lhs.now) (names run.old)) }
-        requires resolves { IsTrue (resolves_expr rhs.now (names run.old)) }
+        requires resolves_target { SuitsNames run.old (target_resolves (tests_of lhs.now)) }
+        requires resolves { SuitsNames run.old (resolves_expr rhs.now) }
         ensures counts { IsTrue result → run.old.global.num_operations ≤ run.new.global.num_operations }
-        ensures names { IsTrue result → names run.new ≡ names run.old }
+        ensures names { IsTrue result → KeepsNames run.old run.new }
         ensures runs { (restoring : _) → Runs (under H.name_of self.now T.natives)
             (OpenStmt (layer.Assignment op lhs.now rhs.now) restoring) (state_in (T.state table.old) run.old)
             (came result run.new.value run.new.error) (state_in (T.state table.new) run.new) }
@@ -371,10 +375,11 @@ impl<'e, H: Host> Evaluator<'e, H> {
         pos: Position,
         restoring: bool,
     ) -> bool
-        requires resolves { IsTrue (var_resolves index ident.now (tests_of value.now)
-            options pos (names run.old)) }
+        requires resolves { SuitsNames run.old
+            (var_resolves index ident.now (tests_of value.now) options pos) }
         ensures counts { IsTrue result → run.old.global.num_operations ≤ run.new.global.num_operations }
-        ensures names { IsTrue result → names run.new ≡ var_names index ident.now.name (names run.old) }
+        ensures names { IsTrue result → ChangesNames run.old (var_names index ident.now.name) run.new }
+        ensures declared { IsTrue result → names run.new ≡ var_names index ident.now.name (names run.old) }
         ensures runs { Runs (under H.name_of self.now T.natives)
             (OpenStmt (layer.Var ident.now value.now index options pos) restoring)
             (state_in (T.state table.old) run.old) (came result run.new.value run.new.error)
@@ -429,9 +434,9 @@ impl<'e, H: Host> Evaluator<'e, H> {
         alias: &Option<Ident>,
         pos: Position,
     ) -> bool
-        requires resolves { IsTrue (resolves_expr path.now (names run.old)) }
+        requires resolves { SuitsNames run.old (resolves_expr path.now) }
         ensures counts { IsTrue result → run.old.global.num_operations ≤ run.new.global.num_operations }
-        ensures names { IsTrue result → names run.new ≡ names run.old }
+        ensures names { IsTrue result → KeepsNames run.old run.new }
         ensures runs { (restoring : _) → Runs (under H.name_of self.now T.natives)
             (OpenStmt (layer.Import path.now alias.now pos) restoring)
             (state_in (T.state table.old) run.old) (came result run.new.value run.new.error)
@@ -458,9 +463,9 @@ impl<'e, H: Host> Evaluator<'e, H> {
         statements: &[Stmt],
         restoring: bool,
     ) -> bool
-        requires resolves { IsTrue (all_resolve (map resolves_stmt statements.now) (names run.old)).0 }
+        requires resolves { SuitsNames run.old (passes (all_resolve (map resolves_stmt statements.now))) }
         ensures counts { IsTrue result → run.old.global.num_operations ≤ run.new.global.num_operations }
-        ensures restores { IsTrue result → IsTrue restoring → names run.new ≡ names run.old }
+        ensures restores { IsTrue restoring → RestoresNames run.old run.new }
         ensures runs { Runs (under H.name_of self.now T.natives) (Enter statements.now restoring)
             (state_in (T.state table.old) run.old) (came result run.new.value run.new.error)
             (state_in (T.state table.new) run.new) }
@@ -501,7 +506,7 @@ impl<'e, H: Host> Evaluator<'e, H> {
         restoring: bool,
     ) -> bool
         requires some { 1 ≤ length statements.now }
-        requires resolves { IsTrue (all_resolve (map resolves_stmt statements.now) (names run.old)).0 }
+        requires resolves { SuitsNames run.old (passes (all_resolve (map resolves_stmt statements.now))) }
         ensures counts { IsTrue result → run.old.global.num_operations ≤ run.new.global.num_operations }
         ensures runs { Runs (under H.name_of self.now T.natives) (Run statements.now restoring unit)
             (state_in (T.state table.old) run.old) (came result run.new.value run.new.error)

@@ -6,7 +6,8 @@ ghost use Rattle.rhai_tree.specs.declared.expr.Expr.TheOpen as layer;
 ghost use Rattle.rhai_machine.specs.language.Frames.{OpenStmt};
 ghost use Rattle.rhai_machine.specs.language.Runs.{Runs};
 ghost use Rattle.rhai_context.specs.Ends.{came};
-ghost use Rattle.rhai_cycle.specs.States.{names, state_in, under};
+ghost use Rattle.rhai_cycle.specs.Agreement.{KeepsNames, SuitsNames};
+ghost use Rattle.rhai_cycle.specs.States.{state_in, under};
 
 use crate::evaluator::Evaluator;
 use rhai_choices::{candidates_for, default_result, written_truth};
@@ -34,11 +35,11 @@ impl<'e, H: Host> Evaluator<'e, H> {
         ranges: &[RangeCase],
         default: Option<usize>,
     ) -> bool
-        requires resolves_value { IsTrue (resolves_expr value.now (names run.old)) }
-        requires resolves_results { IsTrue (conditionals_resolve
-            (map resolves_conditional results.now) (names run.old)) }
+        requires resolves_value { SuitsNames run.old (resolves_expr value.now) }
+        requires resolves_results { SuitsNames run.old
+            (conditionals_resolve (map resolves_conditional results.now)) }
         ensures counts { IsTrue result → run.old.global.num_operations ≤ run.new.global.num_operations }
-        ensures names { IsTrue result → names run.new ≡ names run.old }
+        ensures names { IsTrue result → KeepsNames run.old run.new }
         ensures runs { (pos : _) (restoring : _) → Runs (under H.name_of self.now T.natives)
             (OpenStmt (layer.Switch value.now results.now cases.now ranges.now default pos) restoring)
             (state_in (T.state table.old) run.old)

@@ -8,8 +8,10 @@ ghost use Rattle.rhai_tree.specs.declared.expr.Expr.TheOpen as layer;
 ghost use Rattle.rhai_machine.specs.language.Frames.{OpenStmt, ended};
 ghost use Rattle.rhai_machine.specs.language.Runs.{Goes, Runs, at, with_core};
 ghost use Rattle.rhai_machine.specs.language.Tries.{branch_core, catch_variable};
+ghost use Rattle.rhai_steps.specs.Agreement.{above};
 ghost use Rattle.rhai_context.specs.Ends.{came};
-ghost use Rattle.rhai_cycle.specs.States.{names, state_in, under};
+ghost use Rattle.rhai_cycle.specs.Agreement.{KeepsNames, SuitsNames};
+ghost use Rattle.rhai_cycle.specs.States.{state_in, under};
 
 use crate::evaluator::Evaluator;
 use rhai_catches::branches::{bind_caught, leave_branch};
@@ -35,11 +37,11 @@ impl<'e, H: Host> Evaluator<'e, H> {
         variable: &Expr,
         branch: &StmtBlock,
     ) -> bool
-        requires resolves_body { IsTrue (resolves_block body.now (names run.old)) }
+        requires resolves_body { SuitsNames run.old (resolves_block body.now) }
         requires resolves_branch { IsSomeAnd (catch_of variable.now) (λ name.
-            IsTrue (resolves_block branch.now (with_name name (names run.old)))) }
+            SuitsNames run.old (above (with_name name) (resolves_block branch.now))) }
         ensures counts { IsTrue result → run.old.global.num_operations ≤ run.new.global.num_operations }
-        ensures names { IsTrue result → names run.new ≡ names run.old }
+        ensures names { IsTrue result → KeepsNames run.old run.new }
         ensures runs { (pos : _) (restoring : _) → Runs (under H.name_of self.now T.natives)
             (OpenStmt (layer.TryCatch body.now variable.now branch.now pos) restoring)
             (state_in (T.state table.old) run.old)
@@ -68,9 +70,9 @@ impl<'e, H: Host> Evaluator<'e, H> {
         branch: &StmtBlock,
     ) -> bool
         requires resolves { IsSomeAnd (catch_of variable.now) (λ name.
-            IsTrue (resolves_block branch.now (with_name name (names run.old)))) }
+            SuitsNames run.old (above (with_name name) (resolves_block branch.now))) }
         ensures counts { IsTrue result → run.old.global.num_operations ≤ run.new.global.num_operations }
-        ensures names { IsTrue result → names run.new ≡ names run.old }
+        ensures names { IsTrue result → KeepsNames run.old run.new }
         ensures runs { let rules = under H.name_of self.now T.natives in
             let old = state_in (T.state table.old) run.old in
             (k : _) → Goes rules (with_core (branch_core rules.setting

@@ -6,10 +6,12 @@ ghost use Rattle.rhai_tree.specs.declared.expr.Expr.TheOpen as layer;
 ghost use Rattle.rhai_machine.specs.language.Frames.{ForTurn, OpenStmt};
 ghost use Rattle.rhai_machine.specs.language.Runs.{Runs, Steps};
 ghost use Rattle.rhai_machine.specs.language.Walks.{counters};
+ghost use Rattle.rhai_steps.specs.Agreement.{above};
 ghost use Rattle.rhai_steps.specs.Loops.{after_turn};
 ghost use Rattle.rhai_walks.specs.Left.{turns_in};
 ghost use Rattle.rhai_walks.specs.Loops.{loop_in};
 ghost use Rattle.rhai_context.specs.Ends.{came, came_turn};
+ghost use Rattle.rhai_cycle.specs.Agreement.{KeepsNames, RestoresNames, SuitsNames};
 ghost use Rattle.rhai_cycle.specs.States.{names, state_in, under};
 
 use crate::evaluator::Evaluator;
@@ -47,11 +49,11 @@ impl<'e, H: Host> Evaluator<'e, H> {
         items: &Expr,
         body: &StmtBlock,
     ) -> bool
-        requires resolves_items { IsTrue (resolves_expr items.now (names run.old)) }
-        requires resolves_body { IsTrue (resolves_block body.now
-            (turn_names variable.now counter.now (names run.old))) }
+        requires resolves_items { SuitsNames run.old (resolves_expr items.now) }
+        requires resolves_body { SuitsNames run.old
+            (above (turn_names variable.now counter.now) (resolves_block body.now)) }
         ensures counts { IsTrue result → run.old.global.num_operations ≤ run.new.global.num_operations }
-        ensures names { IsTrue result → names run.new ≡ names run.old }
+        ensures names { IsTrue result → KeepsNames run.old run.new }
         ensures runs { (pos : _) (restoring : _) → Runs (under H.name_of self.now T.natives)
             (OpenStmt (layer.For variable.now counter.now items.now body.now pos) restoring)
             (state_in (T.state table.old) run.old)
@@ -108,13 +110,13 @@ impl<'e, H: Host> Evaluator<'e, H> {
         turn: u64,
         base: usize,
     ) -> Option<bool>
-        requires resolves { IsTrue (resolves_block parts.body.now (names run.old)) }
+        requires resolves { SuitsNames run.old (resolves_block parts.body.now) }
         requires variables { base + counters parts.counter.now + 1 ≡ length (names run.old) }
         ensures charges { result ≡ None → run.old.global.num_operations < run.new.global.num_operations }
         ensures counts { IfSome result (λ done. IsTrue done →
             run.old.global.num_operations ≤ run.new.global.num_operations) }
-        ensures names_stay { result ≡ None → names run.new ≡ names run.old }
-        ensures names { IfSome result (λ done. IsTrue done → names run.new ≡ names run.old) }
+        ensures names_stay { result ≡ None → RestoresNames run.old run.new }
+        ensures names { IfSome result (λ done. IsTrue done → RestoresNames run.old run.new) }
         ensures runs { Steps (under H.name_of self.now T.natives)
             (ForTurn (loop_in parts.entry) (turns_in turns.old) turn base)
             (state_in (T.state table.old) run.old)

@@ -52,7 +52,7 @@ use Rattle.rhai_calls.specs.Lending.{lent_call}
 use Rattle.rhai_pointers.specs.Forms.{is_operator_form}
 use Rattle.rhai_pointers.proofs.FormLemmas.{function_goes}
 use Rattle.rhai_dispatch.specs.Behind.{before_last, behind_call, enters, is_read_last, last_of, led_by, public_call}
-use Rattle.rhai_dispatch.specs.Behind.{public_at, purpose_of, purpose_on, value_at, IsCharged, IsGoodAt, IsGoodLast, IsSpent}
+use Rattle.rhai_dispatch.specs.Behind.{public_at, purpose_of, purpose_on, value_at, form_is_good, last_is_good, IsCharged, IsSpent}
 use Rattle.rhai_dispatch.specs.Going.{GoesOut}
 use Rattle.rhai_dispatch.specs.Linked.{Comes}
 use Rattle.rhai_dispatch.specs.Variables.{meaning_passed}
@@ -172,18 +172,20 @@ module _ (names : List Name) where
 
   module _ (good : (e : Expr) (offset : Option NonZeroUsize) (name : Name) (namespace : Namespace) (pos : Position) →
       out-Expr e ≡ layer.Variable offset name namespace pos → IsTrue (resolves_expr e names) → IsTrue (is_good offset name names)) where
-    good_at : (arg : Expr) (o : ExprLayer) → out-Expr arg ≡ o → IsTrue (resolves_expr arg names) → IsGoodAt o names
+    good_at : (arg : Expr) (o : ExprLayer) → out-Expr arg ≡ o → IsTrue (resolves_expr arg names) →
+        IsTrue (form_is_good o names)
     good_at arg (layer.Variable offset name namespace pos) is h = good arg offset name namespace pos is h
-    good_at arg _ is h = tt
+    good_at arg _ is h = refl
 
-    good_chosen : (is_last : Bool) (arg : Expr) → IsTrue (resolves_expr arg names) → IsGoodLast (if is_last then Some arg else None) names
+    good_chosen : (is_last : Bool) (arg : Expr) → IsTrue (resolves_expr arg names) →
+        IsTrue (last_is_good (if is_last then Some arg else None) names)
     good_chosen true arg h = good_at arg (out-Expr arg) refl h
-    good_chosen false arg h = tt
+    good_chosen false arg h = refl
 
     -- and the offset is good of what is read last, where that is so of each variable that resolves
     pub good_last : {H : Type 0} (args : List Expr) (this : Option (Dynamic H)) → IsTrue (all_resolve_exprs (map tests_of args) names) →
-        IsGoodLast (last_of args this) names
-    good_last [] this h = tt
+        IsTrue (last_is_good (last_of args this) names)
+    good_last [] this h = refl
     good_last (arg ∷ args) this h = good_chosen (is_read_last (out-Expr arg) this) arg
         (first_true (resolves_expr arg names) (all_resolve_exprs (map tests_of args) names) h)
 

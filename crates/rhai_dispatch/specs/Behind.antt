@@ -1,11 +1,10 @@
 -- Calls behind a path: which argument is charged first and read last, and what comes of the call once the others are there.
-use Rattle.std.specs.Prelude.{◌≡◌, ◌<◌, ◌≤◌, ◌+◌, ⊤, ℕ, Bool, ◌||◌, IsTrue, List, [], ◌∷◌, length, Option, Some, None, Result, Ok, Err}
+use Rattle.std.specs.Prelude.{◌≡◌, ◌<◌, ◌≤◌, ◌+◌, ℕ, Bool, true, ◌||◌, List, [], ◌∷◌, length, Option, Some, None, Result, Ok, Err}
 use Rattle.std.specs.Prelude.{is_some, if◌then◌else◌}
 use Rattle.rhai_tree.specs.declared.expr.Expr.{Expr, out-Expr}
 use Rattle.rhai_tree.specs.declared.expr.Expr.TheOpen as layer
 use Rattle.rhai_tree.specs.declared.position.Position.{Position}
 use Rattle.rhai_tree.specs.Layers.{ExprLayer}
-use Rattle.rhai_tree.specs.Names.{Name, is_good}
 use Rattle.rhai_tree.specs.Positions.{position_of}
 use Rattle.rhai_values.specs.declared.base.value.Dynamic.{Dynamic}
 use Rattle.rhai_state.specs.declared.error.EvalAltResult.{EvalAltResult}
@@ -23,17 +22,18 @@ use Rattle.rhai_machine.specs.language.Names.{bound_this, meant}
 use Rattle.rhai_machine.specs.language.Frames.{Dispatch, Operation, Purpose, ToCall, ToCallOn, ToCallOnThis}
 use Rattle.rhai_machine.specs.language.Calls.{public_behind, types_of}
 use Rattle.rhai_machine.specs.language.Arguments.{this_in}
+use Rattle.rhai_steps.specs.Agreement.{Test, variable_is_good}
 use Rattle.rhai_calls.specs.Called.{Ended, Enters, Outcome}
 use Rattle.rhai_dispatch.specs.Variables.{meaning_passed}
 
 -- the offset of a variable leads to the newest of its name
-abbrev pub IsGoodAt : ExprLayer → List Name → Type 0
-IsGoodAt (layer.Variable offset name namespace pos) names = IsTrue (is_good offset name names)
-IsGoodAt _ names = ⊤
+abbrev pub form_is_good : ExprLayer → Test
+form_is_good (layer.Variable offset name namespace pos) frame = variable_is_good offset name frame
+form_is_good _ frame = true
 
-abbrev pub IsGoodLast : (last : Option Expr) → List Name → Type 0
-IsGoodLast (Some arg) names = IsGoodAt (out-Expr arg) names
-IsGoodLast None names = ⊤
+abbrev pub last_is_good : (last : Option Expr) → Test
+last_is_good (Some arg) frame = form_is_good (out-Expr arg) frame
+last_is_good None frame = true
 
 module _ {H : Type 0} where
   -- an argument that is charged first and read last: `this` that is bound and no handle, or a variable

@@ -6,10 +6,9 @@ ghost use Rattle.std.specs.Prelude.{◌≡◌, ◌≤◌, ◌∷◌, ◌++◌, [
 ghost use Rattle.std.specs.Prelude.{false, is_some, true};
 ghost use Rattle.std.specs.Option.{option_and_then, option_copied};
 ghost use Rattle.rhai_tree.specs.declared.expr.Expr.{out-Expr};
-ghost use Rattle.rhai_tree.specs.Names.{is_good};
 ghost use Rattle.rhai_values.specs.Cells.{cells_of};
 ghost use Rattle.rhai_state.specs.Errors.{is_out_of_memory};
-ghost use Rattle.rhai_state.specs.Scope.{entries_of, names_in};
+ghost use Rattle.rhai_state.specs.Scope.{entries_of};
 ghost use Rattle.rhai_state.specs.declared.error.EvalAltResult.TheVariants as error;
 ghost use Rattle.rhai_functions.specs.Keys.{key_seen};
 ghost use Rattle.rhai_functions.specs.Namespaces.{down, public_in};
@@ -18,14 +17,15 @@ ghost use Rattle.rhai_machine.specs.language.Calls.{public_or_unknown, signature
 ghost use Rattle.rhai_machine.specs.language.Names.{looked_up, meant};
 ghost use Rattle.rhai_machine.specs.language.State.{Answers};
 ghost use Rattle.rhai_machine.specs.language.Variables.{path_of, variable_in, variable_named};
+ghost use Rattle.rhai_steps.specs.Agreement.{AgreesAt, KeepsSearch, variable_is_good};
 ghost use Rattle.rhai_steps.specs.Offers.{globals_in};
 ghost use Rattle.rhai_steps.specs.States.{surroundings_of};
 ghost use Rattle.rhai_context.specs.Ends.{error_in};
 ghost use Rattle.rhai_calls.specs.Called.{with_args};
 ghost use Rattle.rhai_calls.specs.Dispatch.{Means};
 ghost use Rattle.rhai_dispatch.specs.Behind.{before_last, behind_call, last_of, last_value, led_by, public_call};
-ghost use Rattle.rhai_dispatch.specs.Behind.{public_for, value_at, is_read_last as read_last, IsCharged, IsGoodAt};
-ghost use Rattle.rhai_dispatch.specs.Behind.{IsGoodLast, IsSpent};
+ghost use Rattle.rhai_dispatch.specs.Behind.{public_for, value_at, is_read_last as read_last, IsCharged, IsSpent};
+ghost use Rattle.rhai_dispatch.specs.Behind.{form_is_good, last_is_good};
 ghost use Rattle.rhai_dispatch.specs.Linked.{Comes};
 ghost use Rattle.rhai_dispatch.specs.Variables.{copy_passed, meaning_passed};
 
@@ -100,6 +100,7 @@ pub fn charge_last<H: Host>(
         IsSpent limits.now.max_operations (option_copied last.entry) global.old (error_in place.new) }
     ensures same { result ≡ false → global.new ≡ global.old }
     ensures counts { global.old.num_operations ≤ global.new.num_operations }
+    ensures search { KeepsSearch global.old global.new }
 {
     match last {
         Some(last) => charge_expr(limits, global, place, last),
@@ -135,7 +136,7 @@ fn passed_variable<H: Host>(
     namespace: &Namespace,
     pos: Position,
 ) -> Result<Dynamic<H>, EvalAltResult<H>>
-    requires { IsTrue (is_good offset name.now (names_in scope.now)) }
+    requires { AgreesAt global.now scope.now (variable_is_good offset name.now) }
     ensures { Answers result (meaning_passed (cells_of global.now.cells) pos
         (meant (globals_in offered.now) (surroundings_of global.now) (entries_of scope.now)
         (variable_named name.now namespace.now pos))) }
@@ -155,7 +156,7 @@ fn read_last_value<H: Host>(
     this: &Option<Dynamic<H>>,
     last: &Expr,
 ) -> Option<Result<Dynamic<H>, EvalAltResult<H>>>
-    requires { IsGoodAt (out-Expr last.now) (names_in scope.now) }
+    requires { AgreesAt global.now scope.now (form_is_good (out-Expr last.now)) }
     ensures { Means result (value_at (globals_in offered.now) (surroundings_of global.now)
         (entries_of scope.now) this.now (out-Expr last.now)) }
 {
@@ -199,7 +200,7 @@ fn lead<H: Host>(
     args: &mut Few<Dynamic<H>>,
     pos: Position,
 ) -> Result<(), EvalAltResult<H>>
-    requires { IsGoodLast (option_copied last) (names_in scope.now) }
+    requires { AgreesAt global.now scope.now (last_is_good (option_copied last)) }
     ensures led { OnOk result (led_by (last_value (globals_in offered.now) (surroundings_of global.now)
         (entries_of scope.now) this.now (option_copied last.entry)) args.old ≡ Ok args.new) }
     ensures refused { IfErr result (λ e. is_out_of_memory e ≡ false →
@@ -346,7 +347,7 @@ pub fn call_behind<H: Host>(
     args: &mut Few<Dynamic<H>>,
     pos: Position,
 ) -> Called<H>
-    requires { IsGoodLast (option_copied last) (names_in scope.now) }
+    requires { AgreesAt global.now scope.now (last_is_good (option_copied last)) }
     ensures { Comes (with_args result args.new) (behind_call (globals_in offered.now)
         (surroundings_of global.now) (entries_of scope.now) this.now H.name_of (option_copied last.entry)
         (path_of namespace.now) name.now args.old pos) }

@@ -21,7 +21,7 @@ use Rattle.rhai_laws.proofs.RootLaws.{assigns_from_root}
 use Rattle.rhai_laws.proofs.WantLaws.{wants, with_memory}
 use Rattle.rhai_cycle.specs.Chains.{AsksFirst, MayWalk, StartsFrom, behind_resolves}
 use Rattle.rhai_cycle.proofs.ChainLemmas.{may_walk, root_resolves, target_parts}
-use Rattle.rhai_eval.specs.Chains.{AssignsAlong, ChainResolves, chain_of, chain_with, whole_chain}
+use Rattle.rhai_eval.specs.Chains.{AssignsAlong, chain_of, chain_resolves, chain_with, whole_chain}
 
 -- what the run of a chain relies on
 pub record MayRun (assigned : Bool) (root : Expr) (form : ExprLayer) (names : List Name) : Type 0 where
@@ -32,7 +32,7 @@ pub record MayRun (assigned : Bool) (root : Expr) (form : ExprLayer) (names : Li
 
 -- a whole chain of a checked tree has it
 pub chain_may_run : (assigned : Bool) (e root : Expr) (names : List Name) → first_in (out-Expr e) ≡ Some root →
-    ChainResolves assigned e names → MayRun assigned root (out-Expr e) names
+    IsTrue (chain_resolves assigned e names) → MayRun assigned root (out-Expr e) names
 chain_may_run true e root names is h =
     let parts = target_parts e root names is h in
     record {

@@ -1,12 +1,11 @@
 -- A whole chain, what it is assigned, and what an assignment without an operator leaves.
 use Rattle.std.specs.Borrow.{Bor}
-use Rattle.std.specs.Prelude.{⊤, ℕ, Bool, true, false, List, [], Option, Some, None, IsTrue, option_map, unwrap_or}
+use Rattle.std.specs.Prelude.{⊤, ℕ, Bool, true, false, List, [], Option, Some, None, option_map, unwrap_or}
 use Rattle.rhai_tree.specs.declared.expr.Expr.{Expr, out-Expr}
 use Rattle.rhai_tree.specs.declared.expr.Expr.TheOpen as layer
 use Rattle.rhai_tree.specs.declared.expr.OpAssignment.{OpAssignment}
 use Rattle.rhai_tree.specs.Layers.{ExprLayer}
 use Rattle.rhai_tree.specs.Frame.{resolves_expr, target_resolves, tests_of}
-use Rattle.rhai_tree.specs.Names.{Name}
 use Rattle.rhai_values.specs.declared.base.value.AccessMode.TheVariants.{ReadWrite}
 use Rattle.rhai_values.specs.declared.base.value.Dynamic.{Dynamic}
 use Rattle.rhai_values.specs.Cells.{IsNoHandle}
@@ -18,6 +17,7 @@ use Rattle.rhai_machine.specs.language.Frames.{Chain, ChainRoot, Control, NewVal
 use Rattle.rhai_machine.specs.language.Language.{machine}
 use Rattle.rhai_machine.specs.language.Links.{first_in}
 use Rattle.rhai_machine.specs.language.Runs.{at}
+use Rattle.rhai_steps.specs.Agreement.{Test}
 use Rattle.rhai_laws.specs.Selectors.{Selector}
 use Rattle.rhai_laws.specs.Assigned.{AssignedFrom, AssignsFrom}
 use Rattle.rhai_eval.specs.declared.eval.chaining.ChainType.{ChainType}
@@ -29,9 +29,9 @@ chain_type (layer.Index lhs rhs options pos) = Indexing
 chain_type _ = Dotting
 
 -- A whole chain is a part of a checked tree, above some names: an expression, or where it is assigned to the left side of an assignment.
-abbrev pub ChainResolves : (assigned : Bool) → Expr → List Name → Type 0
-ChainResolves true e names = IsTrue (target_resolves (tests_of e) names)
-ChainResolves false e names = IsTrue (resolves_expr e names)
+abbrev pub chain_resolves : (assigned : Bool) → Expr → Test
+chain_resolves true e frame = target_resolves (tests_of e) frame
+chain_resolves false e frame = resolves_expr e frame
 
 -- the root of a whole chain is what its first operator works on
 abbrev pub root_of : Expr → Expr

@@ -1,5 +1,6 @@
 -- What an index keeps: it leads to a part or a copy of the object, or to what an indexer made of what it reached.
-use Rattle.std.proofs.Common.{◌≡◌, ◌≤◌, ◌<◌, ◌+◌, ◌⊎◌, inl, inr, ℕ, Bool, true, false, List, [], ◌∷◌, refl, sym, subst, arith}
+use Rattle.std.proofs.Common.{◌≡◌, ◌≤◌, ◌<◌, ◌+◌, ◌⊎◌, inl, inr, ℕ, Bool, true, false, List, [], ◌∷◌, refl, sym, subst}
+use Rattle.std.proofs.Common.{true≢false, arith}
 use Rattle.std.proofs.lemmas.Bool.{cases_lt}
 use Rattle.std.proofs.Math.Nat.{eq-or-lt_of_le}
 use Rattle.std.specs.Prelude.{Option, Some, None, Result, Ok, Err, MatchResult, IfOk}
@@ -10,7 +11,7 @@ use Rattle.rhai_state.specs.declared.limits.Limits.{Limits}
 use Rattle.rhai_state.specs.declared.scope.Scope.{Scope}
 use Rattle.rhai_state.specs.declared.state.GlobalRuntimeState.{GlobalRuntimeState}
 use Rattle.rhai_state.specs.Errors.{is_out_of_memory}
-use Rattle.rhai_state.specs.Native.{Effect, Natives, Request, Reply, Missing, Gives as Answers, Faults, ByFirst, Lawful}
+use Rattle.rhai_state.specs.Native.{Effect, Natives, Request, Reply, Missing, Gives as Answers, Faults, ByFirst, ByState, Lawful}
 use Rattle.rhai_state.specs.Reach.{Reached, Cell}
 use Rattle.rhai_places.specs.declared.spot.Access.{Access}
 use Rattle.rhai_places.specs.declared.spot.Spot.{Spot}
@@ -30,14 +31,14 @@ use Rattle.rhai_fits.proofs.Properties.{all_at, all_of}
 use Rattle.rhai_fits.proofs.Values.{Fit, fit_unit}
 use Rattle.rhai_fits.proofs.Errors.{FitError, fit_error}
 use Rattle.rhai_fits.proofs.Fitting.{AllFit, Flat, FlatMaybe, Gives}
-use Rattle.rhai_fits.proofs.Natives.{FitReply, FitRequest, FitState, reply_fits, first_fits, starved_state_fits}
+use Rattle.rhai_fits.proofs.Natives.{FitReply, FitRequest, FitState, reply_fits, first_fits, starved_first_fits, starved_state_fits}
 use Rattle.rhai_fits.proofs.Calls.{sized_gives}
 use Rattle.rhai_fits.proofs.Firing.{placed_fits}
 use Rattle.rhai_fits.proofs.Spots.{FlatSource, found_gives, part_fits, value_at_fits}
 use Rattle.rhai_index.specs.Indexers.{as_temporary, asks_indexer, called, effect_of, indexer_result, is_barred, is_pure_for, reading}
 use Rattle.rhai_index.specs.Indexers.{is_called, request_of}
 use Rattle.rhai_index.specs.Indexes.{Indexes}
-use Rattle.rhai_index.specs.Lends.{EndsRefused}
+use Rattle.rhai_index.specs.Lends.{EndsRefused, MayEndAs}
 use Rattle.rhai_index.proofs.Following.{index_counts}
 use Rattle.rhai_fits_eval.specs.InHand.{FitsAgain, IsHeld, IsWithin, cells_in, of_lent}
 use Rattle.rhai_fits_eval.proofs.Ends.{Stays, fit_holds, given_fits, memory_fits, state_fits}
@@ -177,17 +178,31 @@ module _ {S H T : Type 0} (limits : Limits) (host : H → List ℕ) (natives : N
           | inr more ↦ indexer_fits more asked
         ]
 
-    -- what is left of the object at an error
-    ended_fits : (called : Bool) (left : Option (Dynamic H)) (end : Dynamic H) →
-        AllFit natives.holds.of_host P least (of_maybe left) → EndsRefused called left r x end → HasMemory r →
-        Fit natives.holds.of_host P end
-    ended_fits true left end h ends has = subst (λ there. AllFit natives.holds.of_host P least (of_maybe there)) (ends has) h
-    ended_fits false left end h ends has = rw ends object
+    -- the same natives, of which none is known to be pure
+    abbrev unpure : Natives S H
+    unpure = record natives { pure = λ state asked. false }
 
+    -- what an indexer may leave of the object
+    left_fits : (end : Dynamic H) → MayEndAs natives (table_of t) asks end → Fit natives.holds.of_host P end
+    left_fits end may = (starved_first_fits host unpure P least host (table_of t) asks (Some end) (table_of t) table asks_fits (record {
+      no_handle = may.0;
+      leaves = record {
+        pure_keeps = λ pure. absurd (true≢false (sym pure));
+        first_reached = may.1;
+        state_reached = λ r held. ByState held;
+      };
+    })).0
+
+    ended_fits : (called : Bool) (left : Option (Dynamic H)) (end : Dynamic H) →
+        EndsRefused called left (MayEndAs natives (table_of t) asks) r x end → Fit natives.holds.of_host P end
+    ended_fits true left end ends = left_fits end ends.1
+    ended_fits false left end ends = rw ends object
+
+    -- what is left of it at an error
     pub refused_fits : (end : Dynamic H) → EndsRefused (is_called limits g use_indexers (layer_of x))
-        (effect_of natives host (cells_of g.cells) (table_of t) (reading i how.op_pos) x).first r x end → HasMemory r →
-        Fit natives.holds.of_host P end
-    refused_fits end ends has = ended_fits _ _ end (maybe_fits _ (effect_fits barred).1) ends has
+        (effect_of natives host (cells_of g.cells) (table_of t) (reading i how.op_pos) x).first
+        (MayEndAs natives (table_of t) asks) r x end → Fit natives.holds.of_host P end
+    refused_fits end ends = ended_fits _ _ end ends
 
     -- what the target borrows and shows, or the error
     pub lent_fits : Lent r
@@ -244,7 +259,8 @@ module _ {S H T : Type 0} (rules : Rules S H) (limits : Limits) (names : H → L
   -- what the object ends as where it is refused
   abbrev Ends : Dynamic H → Type 0
   Ends end = EndsRefused (is_called limits g use_indexers (layer_of x))
-      (effect_of rules.natives names (cells_of g.cells) (table_of t) (reading i how.op_pos) x).first r x end
+      (effect_of rules.natives names (cells_of g.cells) (table_of t) (reading i how.op_pos) x).first
+      (MayEndAs rules.natives (table_of t) (request_of (cells_of g.cells) (reading i how.op_pos) x)) r x end
 
   module _ (n : ℕ) where
     abbrev new : State S H
@@ -282,11 +298,11 @@ module _ {S H T : Type 0} (rules : Rules S H) (limits : Limits) (names : H → L
     found_again : FitsAgain rules given old (Both (of_lent r) (OneValue i')) new
     found_again = same_again rules given (Both (of_lent r) (OneValue i')) old s (table_of t') n (lent_at, index_at) table_at
 
-    missed_again : (end : Dynamic H) → Ends end → HasMemory r →
+    missed_again : (end : Dynamic H) → Ends end →
         FitsAgain rules given old (Both (of_lent r) (Both (OneValue end) (OneValue i'))) new
-    missed_again end ends has =
+    missed_again end ends =
         let object = refused_fits limits names rules.natives table_of how use_indexers g t x i g' t' i' r does P (cells_in old) lawful flat
-        cells_fit object_fits index_fits table_before end ends has in
+        cells_fit object_fits index_fits table_before end ends in
         same_again rules given (Both (of_lent r) (Both (OneValue end) (OneValue i'))) old s (table_of t') n
         (lent_at, (object, index_at)) table_at
 
@@ -300,6 +316,6 @@ module _ {S H T : Type 0} (rules : Rules S H) (limits : Limits) (names : H → L
   index_again = subst (Again (Both (of_lent r) (OneValue i'))) (sym counted) (found_again g'.num_operations)
 
   -- where it is refused, with what is left of the object
-  pub refused_again : (end : Dynamic H) → Ends end → HasMemory r → Again (Both (of_lent r) (Both (OneValue end) (OneValue i'))) g'
-  refused_again end ends has = subst (Again (Both (of_lent r) (Both (OneValue end) (OneValue i')))) (sym counted)
-      (missed_again g'.num_operations end ends has)
+  pub refused_again : (end : Dynamic H) → Ends end → Again (Both (of_lent r) (Both (OneValue end) (OneValue i'))) g'
+  refused_again end ends = subst (Again (Both (of_lent r) (Both (OneValue end) (OneValue i')))) (sym counted)
+      (missed_again g'.num_operations end ends)

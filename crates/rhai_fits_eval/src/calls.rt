@@ -2,7 +2,6 @@
 
 ghost use Rattle.std.specs.Prelude.{◌≡◌, ◌∷◌, ◌||◌, IfSome, Some, false, true};
 ghost use Rattle.rhai_values.specs.Cells.{cells_of, IsNoHandle};
-ghost use Rattle.rhai_state.specs.Errors.{is_out_of_memory};
 ghost use Rattle.rhai_places.specs.Targets.{shown};
 ghost use Rattle.rhai_machine.specs.language.Setting.{rules_of};
 ghost use Rattle.rhai_machine.specs.language.State.{HasMemory};
@@ -148,8 +147,8 @@ pub fn get_indexed_mut<'t, H: Host, T: NativeTable<H>>(
     )
 }
 
-/// The same where it is refused, of the function of `rhai_index` that the call makes: what is left of the
-/// object is known where memory was not wanting.
+/// The same where it is refused, of the function of `rhai_index` that the call makes, with what is left of
+/// the object.
 pub fn refused_index<H: Host, T: NativeTable<H>>(
     alloc: Global,
     limits: &Limits,
@@ -163,7 +162,7 @@ pub fn refused_index<H: Host, T: NativeTable<H>>(
     requires object { IsNoHandle object.old.value }
     requires sealed { AreSealed (cells_of global.old.cells) }
     ensures fits { (offer : _) (scope : _) (this : _) → IfSome result (λ error.
-        is_out_of_memory error ≡ false → FitsAgain (rules_of limits.now H.name_of offer T.natives)
+        FitsAgain (rules_of limits.now H.name_of offer T.natives)
         (Both (OneValue object.old) (OneValue idx.old))
         (state_of (T.state table.old) global.old scope (holding this))
         (Both (OneError error) (Both (OneValue object.new) (OneValue idx.new)))

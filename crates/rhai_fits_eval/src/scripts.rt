@@ -3,7 +3,6 @@
 ghost use Rattle.std.specs.Option.{option_copied};
 ghost use Rattle.std.specs.Prelude.{None, Some};
 ghost use Rattle.rhai_values.specs.Cells.{cells_of};
-ghost use Rattle.rhai_machine.specs.language.State.{HasMemory};
 ghost use Rattle.rhai_fits.specs.Contents.{Both, Nothing, of_environ, of_result, of_values};
 ghost use Rattle.rhai_fits.specs.Sealed.{AreSealed};
 ghost use Rattle.rhai_steps.specs.States.{holding, state_of};
@@ -48,8 +47,7 @@ pub fn eval_global_statements<H: Host, T: NativeTable<H>>(
     )
 }
 
-/// Of `Engine::call_script_fn` on a `this`: what is left of the arguments is known where memory was not
-/// wanting.
+/// Of `Engine::call_script_fn` on a `this`, and of what it leaves of the arguments.
 pub fn call_script_fn<H: Host, T: NativeTable<H>>(
     engine: &Engine<H>,
     alloc: Global,
@@ -69,7 +67,7 @@ pub fn call_script_fn<H: Host, T: NativeTable<H>>(
         (Both (of_values args.old) (of_environ (option_copied env.entry)))
         (state_of (T.state table.old) global.old scope.old (holding (Some this.old))) (of_result result)
         (state_of (T.state table.new) global.new scope.new (holding (Some this.new))) }
-    ensures args { HasMemory result → FitsAgain (under H.name_of engine.now T.natives)
+    ensures args { FitsAgain (under H.name_of engine.now T.natives)
         (Both (of_values args.old) (of_environ (option_copied env.entry)))
         (state_of (T.state table.old) global.old scope.old (holding (Some this.old)))
         (Both (of_result result) (of_values args.new))

@@ -3,7 +3,7 @@
 ghost use Rattle.std.specs.Prelude.{◌≡◌, ◌++◌, suc, drop, length, slice_get, slice_set, take, OnErr, OnOk};
 ghost use Rattle.std.specs.Option.{unwrap_or};
 ghost use Rattle.rhai_state.specs.Scope.{entries_of};
-ghost use Rattle.rhai_functions.specs.Entering.{left_of, parameters, unit};
+ghost use Rattle.rhai_functions.specs.Entering.{left_of, parameters, unit, TakesSome};
 
 use rhai_state::scope::Scope;
 use rhai_tree::{Shared, Text};
@@ -36,6 +36,7 @@ pub fn push_parameters<H: Host>(
     ensures ok { OnOk result (entries_of scope.new
         ≡ entries_of scope.old ++ parameters params.now args.old) }
     ensures left { OnOk result (args.new ≡ left_of (length params.now) args.old) }
+    ensures taken { TakesSome args.old args.new }
     ensures err { OnErr result (take (length (entries_of scope.old)) (entries_of scope.new)
         ≡ entries_of scope.old) }
 {

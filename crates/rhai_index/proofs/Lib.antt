@@ -1,2 +1,3 @@
 pub mod Following
 mod Reached
+mod Uncalled

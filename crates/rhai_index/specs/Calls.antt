@@ -1,8 +1,7 @@
 -- What a call of an indexer does, as one record.
 use Rattle.std.specs.Prelude.{◌≡◌, ℕ, Bool, List, Option, Some, Result}
 use Rattle.rhai_index.specs.Types.{Dynamic, EvalAltResult, Limits}
-use Rattle.rhai_state.specs.Native.{AreReached, Effect, Natives, Reply, Request}
-use Rattle.rhai_state.specs.Reach.{held_by}
+use Rattle.rhai_state.specs.Native.{Effect, Natives, Reply}
 use Rattle.rhai_machine.specs.language.State.{Answers, HasMemory}
 use Rattle.rhai_index.specs.Indexers.{IndexerCall, effect_of, indexer_result, is_pure_for}
 
@@ -13,11 +12,6 @@ pub record Leaves {S H A : Type 0} (e : Effect S H) (wanted : Reply H → Result
   pub value : Answers r (wanted e.reply)
   pub first : HasMemory r → e.first ≡ Some object
   pub state : HasMemory r → e.state ≡ t
-
--- on every way out, want of memory too: what the object and the table's state hold then was reached by what was asked
-pub record LeavesReached {S H : Type 0} (natives : Natives S H) (t : S) (q : Request H) (object : Dynamic H) (left : S) : Type 0 where
-  pub object_reached : AreReached natives.holds t q (held_by natives.holds.of_host object)
-  pub state_reached : AreReached natives.holds t q (natives.holds.of_state left)
 
 module _ {S H A : Type 0} (limits : Limits) (host : H → List ℕ) (natives : Natives S H) (cells : List (Option (Dynamic H)))
     (call : IndexerCall H) (made : (is_pure : Bool) → Result (Dynamic H) (EvalAltResult H) → Result A (EvalAltResult H)) where

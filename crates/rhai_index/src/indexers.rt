@@ -5,10 +5,10 @@ ghost use Rattle.std.specs.Prelude.{◌≡◌, ◌<◌, length, slice_get, Some,
 ghost use Rattle.rhai_values.specs.Cells.{cells_of, IsNoHandle};
 ghost use Rattle.rhai_values.specs.TypeNames.{type_name_of};
 ghost use Rattle.rhai_state.specs.Errors.{indexing_text, is_out_of_memory};
-ghost use Rattle.rhai_state.specs.Native.{reply_of};
+ghost use Rattle.rhai_state.specs.Native.{MayLeave, reply_of};
 ghost use Rattle.rhai_state.specs.declared.error.EvalAltResult.TheVariants as error;
 ghost use Rattle.rhai_machine.specs.language.State.{Answers, HasMemory};
-ghost use Rattle.rhai_index.specs.Calls.{Asked, Leaves, LeavesReached};
+ghost use Rattle.rhai_index.specs.Calls.{Asked, Leaves};
 ghost use Rattle.rhai_index.specs.Indexers.{by_itself, called, indexer_request, indexer_result, reading};
 ghost use Rattle.rhai_index.specs.Indexers.{request_of};
 ghost use Rattle.rhai_index.specs.Indexers.{is_barred as is_barred_from, is_pure_on as is_pure_at};
@@ -118,9 +118,9 @@ fn call_indexer<H: Host, T: NativeTable<H>>(
         name.now object.old others.now)
         (indexer_result limits.now H.name_of (cells_of cells.now) object.old index.now pos)
         object.new (T.state table.new) result }
-    ensures reached { LeavesReached T.natives (T.state table.old)
+    ensures reached { MayLeave H.name_of T.natives (T.state table.old)
         (indexer_request (cells_of cells.now) name.now object.old others.now pos)
-        object.new (T.state table.new) }
+        (Some object.new) (T.state table.new) }
 {
     if barred {
         return Err(non_pure(alloc, name, pos));
@@ -143,9 +143,9 @@ pub(crate) fn ask_get<H: Host, T: NativeTable<H>>(
     ensures asked { Asked limits.now H.name_of T.natives (cells_of cells.now)
         (reading index.old pos) by_itself
         (T.state table.old) object.old (T.state table.new) object.new result }
-    ensures reached { LeavesReached T.natives (T.state table.old)
+    ensures reached { MayLeave H.name_of T.natives (T.state table.old)
         (request_of (cells_of cells.now) (reading index.old pos) object.old)
-        object.new (T.state table.new) }
+        (Some object.new) (T.state table.new) }
     ensures index { index.new ≡ index.old }
 {
     let is_pure = is_pure_on(cells, &*table, "index$get$", object, 2);

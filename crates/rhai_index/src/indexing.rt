@@ -9,8 +9,9 @@ ghost use Rattle.rhai_values.specs.Layers.{layer_of};
 ghost use Rattle.rhai_values.specs.Cells.{IsNoHandle};
 ghost use Rattle.rhai_places.specs.Found.{found};
 ghost use Rattle.rhai_index.specs.Indexers.{asks_indexer as is_asked, effect_of, is_called, reading};
+ghost use Rattle.rhai_index.specs.Indexers.{request_of};
 ghost use Rattle.rhai_index.specs.Indexes.{Indexes};
-ghost use Rattle.rhai_index.specs.Lends.{lends_indexed};
+ghost use Rattle.rhai_index.specs.Lends.{lends_indexed, MayEndAs};
 
 use crate::indexers::ask_get;
 use rhai_places::indexing;
@@ -45,7 +46,8 @@ fn asks_indexer<H: Host>(object: &Dynamic<H>, use_indexers: bool) -> bool
 /// The object comes first, so that a clause can tell what becomes of it: when the target's borrow
 /// ends, what was written through it stands in the object at the place where the index leads, beside
 /// a missing key that was inserted. The place of a part or a temporary is the whole object. At an
-/// error the object stays, and where an indexer was called it is as that left it, want of memory aside.
+/// error the object stays, and where an indexer was called it is as that left it, want of memory aside; it
+/// is no handle then either, and holds only what that call reached.
 ///
 /// # Errors
 /// `ErrorTooManyOperations` where the count has reached the limit: without a position, and nothing
@@ -68,7 +70,9 @@ pub fn get_indexed_mut<'t, H: Host, T: NativeTable<H>>(
         (is_asked use_indexers (layer_of target.entry.now))
         (is_called limits.now global.entry.now use_indexers (layer_of target.entry.now))
         (effect_of T.natives H.name_of (cells_of global.entry.now.cells) (T.state table.entry.now)
-        (reading idx.entry.now how.op_pos) target.entry.now).first target.entry
+        (reading idx.entry.now how.op_pos) target.entry.now).first
+        (MayEndAs T.natives (T.state table.entry.now) (request_of (cells_of global.entry.now.cells)
+        (reading idx.entry.now how.op_pos) target.entry.now)) target.entry
         (found how H.name_of (cells_of global.entry.now.cells) target.entry.now idx.entry.now) result) }
     ensures indexes { Indexes limits.now H.name_of T.natives T.state how use_indexers
         global.old table.old target.old idx.old global.new table.new idx.new result }

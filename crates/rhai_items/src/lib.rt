@@ -11,7 +11,7 @@ ghost use Rattle.rhai_tree.specs.declared.expr.Expr.{out-Expr};
 ghost use Rattle.rhai_tree.specs.declared.expr.Expr.TheOpen as layer;
 ghost use Rattle.rhai_tree.specs.Frame.{tests_of, target_resolves, resolves_expr};
 ghost use Rattle.rhai_values.specs.Layers.{layer_of};
-ghost use Rattle.rhai_state.specs.Scope.{entries_of, names_in, revalued, value_of};
+ghost use Rattle.rhai_state.specs.Scope.{entries_of, revalued, value_of};
 ghost use Rattle.rhai_places.specs.declared.spot.Spot.TheVariants as spot;
 ghost use Rattle.rhai_places.specs.Indexing.{index_in};
 ghost use Rattle.rhai_places.specs.Parts.{IsPlace, value_at, with_value};
@@ -19,6 +19,7 @@ ghost use Rattle.rhai_machine.specs.language.Frames.{OpenStmt};
 ghost use Rattle.rhai_machine.specs.language.Runs.{Runs};
 ghost use Rattle.rhai_machine.specs.language.Setting.{rules_of};
 ghost use Rattle.rhai_machine.specs.language.Values.{unit_value as unit};
+ghost use Rattle.rhai_steps.specs.Agreement.{AgreesAt, KeepsSearch};
 ghost use Rattle.rhai_steps.specs.States.{state_of};
 ghost use Rattle.rhai_assign.specs.Keeps.{Keeps};
 ghost use Rattle.rhai_items.specs.Items.{charges_of, index_alone, parts_in, place_in_array, writable_at};
@@ -159,11 +160,12 @@ pub fn assign_item<H: Host, T: NativeTable<H>>(
     lhs: &Expr,
     rhs: &Expr,
 ) -> bool
-    requires resolves_target { IsTrue (target_resolves (tests_of lhs.now) (names_in scope.old)) }
-    requires resolves { IsTrue (resolves_expr rhs.now (names_in scope.old)) }
+    requires resolves_target { AgreesAt global.old scope.old (target_resolves (tests_of lhs.now)) }
+    requires resolves { AgreesAt global.old scope.old (resolves_expr rhs.now) }
     ensures left_global { result ≡ false → global.new ≡ global.old }
     ensures left_scope { result ≡ false → scope.new ≡ scope.old }
     ensures keeps { Keeps global.old global.new scope.old scope.new }
+    ensures search { KeepsSearch global.old global.new }
     ensures runs { result ≡ true → (offer : _) (held : _) (restoring : _) → offer.fast_operators ≡ true →
         Runs (rules_of limits.now H.name_of offer T.natives)
         (OpenStmt (layer.Assignment op.now lhs.now rhs.now) restoring)

@@ -63,6 +63,7 @@ fn push_module<H: Host>(
     ensures imported { (scope : _) (held : _) → OnOk result (local_of global.new scope held
         ≡ importing (name_asked alias.now) found.now (local_of global.old scope held)) }
     ensures counts { global.new.num_operations ≡ global.old.num_operations }
+    ensures search { global.new.always_search_scope ≡ global.old.always_search_scope }
     ensures same { OnErr result (global.new ≡ global.old) }
 {
     let name = name_of(alloc, alias)?;
@@ -93,6 +94,7 @@ pub fn import_module<H: Host>(
         (position_of path.now)
         (start_of path.now)) alias.now (local_of global.old scope held) (local_of global.new scope held) }
     ensures counts { global.new.num_operations ≡ global.old.num_operations }
+    ensures search { global.new.always_search_scope ≡ global.old.always_search_scope }
     ensures refused { result ≡ false → is_out_of_memory (error_in place.new) ≡ false →
         Err (error_in place.new)
         ≡ module_meant H.name_of (cells_of global.old.cells) modules.now.modules out.old

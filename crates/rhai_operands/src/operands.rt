@@ -4,8 +4,9 @@ ghost use Rattle.std.specs.Prelude.{◌≡◌, IfSome, IsTrue, Some};
 ghost use Rattle.std.specs.Option.{option_map};
 ghost use Rattle.rhai_tree.specs.declared.expr.Expr.{out-Expr};
 ghost use Rattle.rhai_tree.specs.Frame.{resolves_expr};
-ghost use Rattle.rhai_state.specs.Scope.{entries_of, names_in};
+ghost use Rattle.rhai_state.specs.Scope.{entries_of};
 ghost use Rattle.rhai_operators.specs.Direct.{integer_in};
+ghost use Rattle.rhai_steps.specs.Agreement.{AgreesAt};
 ghost use Rattle.rhai_operands.specs.Standing.{integer_of, standing, two_in, value_of};
 
 use rhai_state::scope::Scope;
@@ -43,7 +44,7 @@ pub fn operand_in_place<'a, H: Host>(
     scope: &'a Scope<H>,
     expr: &Expr,
 ) -> Option<Operand<'a, H>>
-    requires { IsTrue (resolves_expr expr.now (names_in scope.now)) }
+    requires { AgreesAt global.now scope.now (resolves_expr expr.now) }
     ensures { option_map value_of result ≡ standing (out-Expr expr.now) (entries_of scope.now) }
 {
     match expr {
@@ -87,7 +88,7 @@ pub fn integer_in_place<H: Host>(
     scope: &Scope<H>,
     expr: &Expr,
 ) -> Option<i64>
-    requires { IsTrue (resolves_expr expr.now (names_in scope.now)) }
+    requires { AgreesAt global.now scope.now (resolves_expr expr.now) }
     ensures { IfSome result (λ number.
         integer_of (standing (out-Expr expr.now) (entries_of scope.now)) ≡ Some number) }
 {

@@ -7,10 +7,11 @@ ghost use Rattle.rhai_tree.specs.declared.expr.Expr.{out-Expr};
 ghost use Rattle.rhai_tree.specs.declared.expr.Expr.TheOpen as layer;
 ghost use Rattle.rhai_tree.specs.Frame.{resolves_expr};
 ghost use Rattle.rhai_state.specs.Errors.{is_out_of_memory};
-ghost use Rattle.rhai_state.specs.Scope.{entries_of, names_in};
+ghost use Rattle.rhai_state.specs.Scope.{entries_of};
 ghost use Rattle.rhai_machine.specs.language.Frames.{OpenExpr};
 ghost use Rattle.rhai_machine.specs.language.Runs.{Runs};
 ghost use Rattle.rhai_machine.specs.language.Setting.{rules_of};
+ghost use Rattle.rhai_steps.specs.Agreement.{AgreesAt, KeepsSearch};
 ghost use Rattle.rhai_steps.specs.States.{state_of};
 ghost use Rattle.rhai_operators.specs.Direct.{integer_in};
 ghost use Rattle.rhai_operands.specs.Standing.{assigned_known, compared, compared_known, integer_of};
@@ -63,13 +64,14 @@ fn operate_values<H: Host, T: NativeTable<H>>(
 ) -> Option<Result<Dynamic<H>, EvalAltResult<H>>>
     requires token { call.now.op_token ≡ Some token }
     requires args { call.now.args ≡ left.now ∷ right.now ∷ [] }
-    requires resolves_left { IsTrue (resolves_expr left.now (names_in scope.now)) }
-    requires resolves_right { IsTrue (resolves_expr right.now (names_in scope.now)) }
+    requires resolves_left { AgreesAt global.old scope.now (resolves_expr left.now) }
+    requires resolves_right { AgreesAt global.old scope.now (resolves_expr right.now) }
     ensures found { is_some result ≡ is_some (operated token
         (standing (out-Expr left.now) (entries_of scope.now))
         (standing (out-Expr right.now) (entries_of scope.now))) }
     ensures left_alone { result ≡ None → global.new ≡ global.old }
     ensures counts { global.old.num_operations ≤ global.new.num_operations }
+    ensures search { KeepsSearch global.old global.new }
     ensures runs { (offer : _) (held : _) → offer.fast_operators ≡ true →
         IfSome result (λ result. Runs (rules_of limits.now H.name_of offer T.natives)
         (OpenExpr (layer.Expr::FnCall call.now pos))
@@ -108,13 +110,14 @@ fn operate_others<H: Host, T: NativeTable<H>>(
 ) -> Option<bool>
     requires token { call.now.op_token ≡ Some token }
     requires args { call.now.args ≡ left.now ∷ right.now ∷ [] }
-    requires resolves_left { IsTrue (resolves_expr left.now (names_in scope.now)) }
-    requires resolves_right { IsTrue (resolves_expr right.now (names_in scope.now)) }
+    requires resolves_left { AgreesAt global.old scope.now (resolves_expr left.now) }
+    requires resolves_right { AgreesAt global.old scope.now (resolves_expr right.now) }
     ensures found { is_some result ≡ is_some (operated token
         (standing (out-Expr left.now) (entries_of scope.now))
         (standing (out-Expr right.now) (entries_of scope.now))) }
     ensures left_alone { result ≡ None → global.new ≡ global.old }
     ensures counts { global.old.num_operations ≤ global.new.num_operations }
+    ensures search { KeepsSearch global.old global.new }
     ensures runs { (offer : _) (held : _) → offer.fast_operators ≡ true →
         IfSome result (λ done. Runs (rules_of limits.now H.name_of offer T.natives)
         (OpenExpr (layer.Expr::FnCall call.now pos))
@@ -156,8 +159,8 @@ fn operate_integers<H: Host>(
     left: &Expr,
     right: &Expr,
 ) -> bool
-    requires resolves_left { IsTrue (resolves_expr left.now (names_in scope.now)) }
-    requires resolves_right { IsTrue (resolves_expr right.now (names_in scope.now)) }
+    requires resolves_left { AgreesAt global.old scope.now (resolves_expr left.now) }
+    requires resolves_right { AgreesAt global.old scope.now (resolves_expr right.now) }
     ensures known { IsTrue result → assigned_known token
         (integer_of (standing (out-Expr left.now) (entries_of scope.now)))
         (integer_of (standing (out-Expr right.now) (entries_of scope.now))) ≡ Some out.new }
@@ -165,6 +168,7 @@ fn operate_integers<H: Host>(
     ensures charged { IsTrue result → global.new ≡ record global.old
         { num_operations = global.old.num_operations + 2 } }
     ensures left_alone { result ≡ false → global.new ≡ global.old }
+    ensures search { KeepsSearch global.old global.new }
 {
     let first = integer_in_place(global, scope, left);
     if first.is_none() {
@@ -209,13 +213,14 @@ pub fn operate_in_place<H: Host, T: NativeTable<H>>(
 ) -> Option<bool>
     requires token { call.now.op_token ≡ Some token }
     requires args { call.now.args ≡ left.now ∷ right.now ∷ [] }
-    requires resolves_left { IsTrue (resolves_expr left.now (names_in scope.now)) }
-    requires resolves_right { IsTrue (resolves_expr right.now (names_in scope.now)) }
+    requires resolves_left { AgreesAt global.old scope.now (resolves_expr left.now) }
+    requires resolves_right { AgreesAt global.old scope.now (resolves_expr right.now) }
     ensures found { is_some result ≡ is_some (operated token
         (standing (out-Expr left.now) (entries_of scope.now))
         (standing (out-Expr right.now) (entries_of scope.now))) }
     ensures left_alone { result ≡ None → global.new ≡ global.old }
     ensures counts { global.old.num_operations ≤ global.new.num_operations }
+    ensures search { KeepsSearch global.old global.new }
     ensures runs { (offer : _) (held : _) → offer.fast_operators ≡ true →
         IfSome result (λ done. Runs (rules_of limits.now H.name_of offer T.natives)
         (OpenExpr (layer.Expr::FnCall call.now pos))
@@ -276,8 +281,8 @@ fn compare_known<H: Host>(
     left: &Expr,
     right: &Expr,
 ) -> Option<bool>
-    requires resolves_left { IsTrue (resolves_expr left.now (names_in scope.now)) }
-    requires resolves_right { IsTrue (resolves_expr right.now (names_in scope.now)) }
+    requires resolves_left { AgreesAt global.now scope.now (resolves_expr left.now) }
+    requires resolves_right { AgreesAt global.now scope.now (resolves_expr right.now) }
     ensures { IfSome result (λ holds. compared_known H token
         (integer_of (standing (out-Expr left.now) (entries_of scope.now)))
         (integer_of (standing (out-Expr right.now) (entries_of scope.now))) ≡ Some holds) }
@@ -298,8 +303,8 @@ fn compare_values<H: Host>(
     left: &Expr,
     right: &Expr,
 ) -> Option<bool>
-    requires resolves_left { IsTrue (resolves_expr left.now (names_in scope.now)) }
-    requires resolves_right { IsTrue (resolves_expr right.now (names_in scope.now)) }
+    requires resolves_left { AgreesAt global.now scope.now (resolves_expr left.now) }
+    requires resolves_right { AgreesAt global.now scope.now (resolves_expr right.now) }
     ensures { result ≡ compared token (standing (out-Expr left.now) (entries_of scope.now))
         (standing (out-Expr right.now) (entries_of scope.now)) }
 {
@@ -321,8 +326,8 @@ fn compare_in_place<H: Host>(
     left: &Expr,
     right: &Expr,
 ) -> Option<bool>
-    requires resolves_left { IsTrue (resolves_expr left.now (names_in scope.now)) }
-    requires resolves_right { IsTrue (resolves_expr right.now (names_in scope.now)) }
+    requires resolves_left { AgreesAt global.now scope.now (resolves_expr left.now) }
+    requires resolves_right { AgreesAt global.now scope.now (resolves_expr right.now) }
     ensures { result ≡ compared token (standing (out-Expr left.now) (entries_of scope.now))
         (standing (out-Expr right.now) (entries_of scope.now)) }
 {
@@ -347,11 +352,12 @@ pub fn holds_in_place<H: Host, T: NativeTable<H>>(
     place: &mut Option<EvalAltResult<H>>,
     test: &Expr,
 ) -> Option<Option<bool>>
-    requires { IsTrue (resolves_expr test.now (names_in scope.now)) }
+    requires { AgreesAt global.old scope.now (resolves_expr test.now) }
     ensures found { is_some result ≡ is_some (said (out-Expr test.now) (entries_of scope.now)) }
     ensures left_alone { result ≡ None → global.new ≡ global.old }
     ensures charges { IfSome result (λ told. IfSome told (λ _.
         global.old.num_operations < global.new.num_operations)) }
+    ensures search { KeepsSearch global.old global.new }
     ensures memory { IfSome result (λ told. told ≡ None → is_out_of_memory (error_in place.new) ≡ false) }
     ensures runs { (offer : _) (held : _) → offer.fast_operators ≡ true →
         IfSome result (λ told. Tests (rules_of limits.now H.name_of offer T.natives) test.now

@@ -5,9 +5,9 @@ ghost use Rattle.std.specs.Prelude.{◌≡◌, IfErr, IsTrue, false, true};
 ghost use Rattle.rhai_tree.specs.declared.expr.Expr.{out-Expr};
 ghost use Rattle.rhai_tree.specs.Frame.{resolves_expr};
 ghost use Rattle.rhai_state.specs.Errors.{is_out_of_memory};
-ghost use Rattle.rhai_state.specs.Scope.{names_in};
 ghost use Rattle.rhai_machine.specs.language.State.{Answers};
 ghost use Rattle.rhai_machine.specs.language.Values.{is_handle, is_truth};
+ghost use Rattle.rhai_steps.specs.Agreement.{AgreesAt};
 ghost use Rattle.rhai_steps.specs.Offers.{globals_in};
 ghost use Rattle.rhai_steps.specs.States.{local_of};
 ghost use Rattle.rhai_context.specs.Ends.{came};
@@ -40,7 +40,7 @@ fn read_any<H: Host>(
     place: &mut Option<EvalAltResult<H>>,
     expr: &Expr,
 ) -> bool
-    requires { IsTrue (resolves_expr expr.now (names_in scope.now)) }
+    requires { AgreesAt global.now scope.now (resolves_expr expr.now) }
     ensures exact { (focus : _) → Answers (came result out.new place.new)
         (read_as (globals_in offered.now) (local_of global.now scope.now (record { this = this.now; focus = focus }))
         (out-Expr expr.now)) }
@@ -106,7 +106,7 @@ pub fn read_expr<H: Host>(
     place: &mut Option<EvalAltResult<H>>,
     expr: &Expr,
 ) -> bool
-    requires { IsTrue (resolves_expr expr.now (names_in scope.now)) }
+    requires { AgreesAt global.now scope.now (resolves_expr expr.now) }
     ensures exact { (focus : _) → Answers (came result out.new place.new)
         (read_as (globals_in offered.now) (local_of global.now scope.now (record { this = this.now; focus = focus }))
         (out-Expr expr.now)) }

@@ -1,6 +1,6 @@
 -- A variable that is declared stands in the scope as it was given, and is entered so.
 use Rattle.std.proofs.Common.{◌≡◌, ℕ, zero, suc, Bool, true, false, List, [], ◌∷◌, ◌++◌, Option, Some, None, Result, Ok, Err, length, map, take}
-use Rattle.std.proofs.Common.{slice_get, slice_set, if◌then◌else◌, refl, sym, ap, ◌∙◌}
+use Rattle.std.proofs.Common.{slice_get, slice_set, if◌then◌else◌, refl, sym, ap, subst, ◌∙◌}
 use Rattle.std.proofs.lemmas.List.{length-set, set-set}
 use Rattle.std.proofs.lemmas.Option.{get_or_from_slice_get}
 use Rattle.std.proofs.lemmas.Slice.Eq.{bytes_eq-Decides}
@@ -8,7 +8,11 @@ use Rattle.std.proofs.Math.Seq.{map-set_same, take-append_seam, take-length}
 use Rattle.std.specs.List.{list_any}
 use Rattle.std.specs.Option.{option_map}
 use Rattle.std.specs.Result.{OnOk}
+use Rattle.std.specs.Prelude.{IfErr}
 use Rattle.std.specs.Str.{bytes_eq}
+use Rattle.std.specs.declared.num.NonZeroUsize.{NonZeroUsize}
+use Rattle.rhai_tree.specs.Forms.{is_exported}
+use Rattle.rhai_tree.specs.declared.flags.ASTFlags.{ASTFlags}
 use Rattle.rhai_values.specs.Copy.{copy_of, copy_union, copy_array, copy_map, copy_row}
 use Rattle.rhai_values.specs.Modes.{with_mode, union_with_mode, array_with_mode, map_with_mode, row_with_mode}
 use Rattle.rhai_values.specs.declared.base.value.AccessMode.{AccessMode}
@@ -21,10 +25,11 @@ use Rattle.rhai_values.specs.declared.base.value.FnPtrKind.TheBlock.{more_of-Uni
 use Rattle.rhai_values.specs.declared.base.value.FnPtrKind.TheBlock.{Row_of-Union-Map-0-1 as Map_row, end_of-Union-Map-0-1 as map_end}
 use Rattle.rhai_values.specs.declared.base.value.FnPtrKind.TheBlock.{more_of-Union-Map-0-1 as map_more}
 use Rattle.rhai_values.specs.declared.base.value.Union.{Union, Array', Map'}
+use Rattle.rhai_state.specs.declared.error.EvalAltResult.TheVariants as error
 use Rattle.rhai_state.specs.declared.scope.ScopeEntry.{ScopeEntry}
 use Rattle.rhai_machine.specs.language.State.{Local}
-use Rattle.rhai_machine.specs.language.Frames.{Frame, Back, core}
-use Rattle.rhai_machine.specs.language.Statements.{constant_core, declared_core, with_entry_at}
+use Rattle.rhai_machine.specs.language.Frames.{Frame, Back, Fail, core}
+use Rattle.rhai_machine.specs.language.Statements.{constant_core, declared_core, defined_core, enters, with_entry_at}
 use Rattle.rhai_machine.specs.language.Values.{unit_value}
 use Rattle.rhai_tree.specs.declared.expr.Ident.{Ident}
 use Rattle.rhai_state.specs.Scope.{aliased, first_aliases, index_of, name_of, new_entry, revalued, value_of, with_alias}
@@ -35,6 +40,19 @@ use Rattle.rhai_sharing.proofs.ExportSteps.{aliased_names}
 pub of_ok : {A E P : Type 0} (r : Result A E) {v : A} → r ≡ Ok v → OnOk r P → P
 of_ok (Ok v) is h = h
 of_ok (Err e) is h = cc
+
+-- what follows of it where it did, and of an error where it did not
+pub then_ok : {A E P Q : Type 0} (r : Result A E) → (P → Q) → OnOk r P → OnOk r Q
+then_ok (Ok v) f h = f h
+then_ok (Err e) f h = tt
+
+pub then_err : {A E : Type 0} {P Q : E → Type 0} (r : Result A E) → ((e : E) → P e → Q e) → IfErr r P → IfErr r Q
+then_err (Ok v) f h = tt
+then_err (Err e) f h = f e h
+
+pub of_err : {A E : Type 0} (P : E → Type 0) (r : Result A E) (e : E) → r ≡ Err e → IfErr r P → P e
+of_err P (Ok v) e is h = cc
+of_err P (Err x) e is h = let same : x ≡ e = cc in subst P same h
 
 last_there : {A : Type 0} (xs : List A) (x : A) → slice_get (xs ++ x ∷ []) (length xs) ≡ Some x
 last_there [] x = refl
@@ -217,3 +235,15 @@ module _ {H : Type 0} where
       declared_core exported ident k l ≡ core (Back unit_value) k (record l { scope = own_alias exported l.scope at ident.name })
   declares_at false ident k l at is = refl
   declares_at true ident k l at is = rw is refl
+
+-- where no variable has the name of one that is to overwrite another, its value is entered, and an export finds nothing
+module _ {H : Type 0} (v : Dynamic H) (ident : Ident) (offset : NonZeroUsize) (options : ASTFlags) (restoring : Bool) (old new : Local H)
+    (entered : new ≡ constant_core (enters options restoring old) ident.name v old) (none : index_of ident.name new.scope ≡ None)
+    (k : List (Frame H)) where
+  pub overwrites_none : is_exported options ≡ false →
+      defined_core v ident (Some offset) options restoring k old ≡ core (Back unit_value) k new
+  overwrites_none plain = rw (plain, ← entered, none) refl
+
+  pub exports_none : is_exported options ≡ true →
+      defined_core v ident (Some offset) options restoring k old ≡ core (Fail (error.ErrorVariableNotFound ident.name ident.pos)) k new
+  exports_none exported = rw (exported, ← entered, none, none) refl

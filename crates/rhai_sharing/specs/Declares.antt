@@ -4,9 +4,10 @@ use Rattle.std.specs.declared.num.NonZeroUsize.{NonZeroUsize}
 use Rattle.rhai_tree.specs.declared.expr.Ident.{Ident}
 use Rattle.rhai_tree.specs.declared.flags.ASTFlags.{ASTFlags}
 use Rattle.rhai_values.specs.declared.base.value.Dynamic.{Dynamic}
+use Rattle.rhai_state.specs.declared.error.EvalAltResult.{EvalAltResult}
 use Rattle.rhai_state.specs.declared.scope.ScopeEntry.{ScopeEntry}
 use Rattle.rhai_state.specs.Scope.{aliased}
-use Rattle.rhai_machine.specs.language.Frames.{Frame, Back, core}
+use Rattle.rhai_machine.specs.language.Frames.{Frame, Back, Fail, core}
 use Rattle.rhai_machine.specs.language.State.{Local}
 use Rattle.rhai_machine.specs.language.Statements.{defined_core}
 use Rattle.rhai_machine.specs.language.Values.{unit_value}
@@ -16,6 +17,12 @@ module _ {H : Type 0} where
   abbrev pub Declares : Dynamic H → Ident → (index : Option NonZeroUsize) → ASTFlags → (restoring : Bool) → (old new : Local H) → Type 0
   Declares v ident index options restoring old new =
       (k : List (Frame H)) → defined_core v ident index options restoring k old ≡ core (Back unit_value) k new
+
+  -- or by the error that it ends with, where it is to be exported and no variable has its name
+  abbrev pub Misses : Dynamic H → Ident → (index : Option NonZeroUsize) → ASTFlags → (restoring : Bool) → EvalAltResult H →
+      (old new : Local H) → Type 0
+  Misses v ident index options restoring e old new =
+      (k : List (Frame H)) → defined_core v ident index options restoring k old ≡ core (Fail e) k new
 
   -- an exported variable's entry has its name as an alias
   abbrev pub own_alias : (exported : Bool) → List (ScopeEntry H) → (at : ℕ) → List ℕ → List (ScopeEntry H)

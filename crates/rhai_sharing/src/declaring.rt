@@ -6,16 +6,16 @@ ghost use Rattle.std.specs.Prelude.{is_none, length, slice_get};
 ghost use Rattle.std.specs.Option.{option_map};
 ghost use Rattle.rhai_tree.specs.Forms.{is_exported as exported};
 ghost use Rattle.rhai_tree.specs.Frame.{var_names};
-ghost use Rattle.rhai_tree.specs.Names.{is_good};
 ghost use Rattle.rhai_state.specs.Errors.{is_out_of_memory};
-ghost use Rattle.rhai_state.specs.Scope.{entries_of, names_in, value_of};
+ghost use Rattle.rhai_state.specs.Scope.{entries_of, index_of, names_in, value_of};
 ghost use Rattle.rhai_machine.specs.language.State.{Answers};
 ghost use Rattle.rhai_machine.specs.language.Statements.{constant_core, enters};
 ghost use Rattle.rhai_machine.specs.language.Values.{unit_value as unit};
+ghost use Rattle.rhai_steps.specs.Agreement.{AgreesAt, KeepsSearch, variable_is_good};
 ghost use Rattle.rhai_steps.specs.Declaring.{declarable, is_full, is_taken};
 ghost use Rattle.rhai_steps.specs.States.{local_of};
 ghost use Rattle.rhai_context.specs.Ends.{came, error_in};
-ghost use Rattle.rhai_sharing.specs.Declares.{Declares, own_alias};
+ghost use Rattle.rhai_sharing.specs.Declares.{own_alias, Declares, Misses};
 
 use rhai_context::ends::{stop, take_value};
 use rhai_state::error::EvalAltResult;
@@ -111,6 +111,7 @@ fn publish<H: Host>(
         ≡ constant_core (enters options restoring (local_of global.old s held)) name.now v
         (local_of global.old s held)) }
     ensures counts { global.new.num_operations ≡ global.old.num_operations }
+    ensures search { KeepsSearch global.old global.new }
     ensures refused { IfErr result (λ e. is_out_of_memory e ≡ true) }
     ensures same { OnErr result (global.new ≡ global.old) }
     ensures same_scope { OnErr result (entries_of scope.new ≡ entries_of scope.old) }
@@ -144,6 +145,7 @@ fn add_variable<H: Host>(
         (local_of global.old scope.old held) (local_of global.new scope.new held)) }
     ensures names { OnOk result (names_in scope.new ≡ var_names None ident.now.name (names_in scope.old)) }
     ensures counts { global.new.num_operations ≡ global.old.num_operations }
+    ensures search { KeepsSearch global.old global.new }
     ensures refused { IfErr result (λ e. is_out_of_memory e ≡ true) }
     ensures same { OnErr result (global.new ≡ global.old) }
     ensures same_scope { OnErr result (entries_of scope.new ≡ entries_of scope.old) }
@@ -167,11 +169,50 @@ fn add_variable<H: Host>(
     Ok(())
 }
 
-/// Puts a value into the newest variable of a name as it stands there, a constant or a handle too. Where there is no
-/// memory nothing is changed. Asked: the offset leads to that variable.
+/// What is left of a variable that is to overwrite another where none has its name: its value among the constants, as
+/// `publish` has it. Where there is no memory nothing is changed.
 ///
 /// # Errors
-/// `ErrorOutOfMemory` at the position alone.
+/// `ErrorVariableNotFound` at the name where the variable is exported, and `ErrorOutOfMemory` at the position.
+#[cold]
+#[inline(never)]
+fn overwrite_none<H: Host>(
+    alloc: Global,
+    global: &mut GlobalRuntimeState<H>,
+    value: &Dynamic<H>,
+    ident: &Ident,
+    options: ASTFlags,
+    restoring: bool,
+    pos: Position,
+) -> Result<(), EvalAltResult<H>>
+    ensures declares { (offset : _) (scope : _) (held : _) → index_of ident.now.name (entries_of scope) ≡ None →
+        OnOk result (Declares value.now ident.now (Some offset) options restoring
+        (local_of global.old scope held) (local_of global.new scope held)) }
+    ensures misses { (offset : _) (scope : _) (held : _) → index_of ident.now.name (entries_of scope) ≡ None →
+        IfErr result (λ e. is_out_of_memory e ≡ false → Misses value.now ident.now (Some offset) options
+        restoring e (local_of global.old scope held) (local_of global.new scope held)) }
+    ensures counts { global.new.num_operations ≡ global.old.num_operations }
+    ensures search { KeepsSearch global.old global.new }
+    ensures same { IfErr result (λ e. is_out_of_memory e ≡ true → global.new ≡ global.old) }
+{
+    if !is_exported(options) {
+        return enter_constant(alloc, global, &ident.name, value, options, restoring, pos);
+    }
+    let Ok(name) = ident.name.share() else {
+        return Err(EvalAltResult::ErrorOutOfMemory(pos));
+    };
+    match enter_constant(alloc, global, &ident.name, value, options, restoring, pos) {
+        Ok(()) => Err(EvalAltResult::ErrorVariableNotFound(name, ident.pos)),
+        Err(error) => Err(error),
+    }
+}
+
+/// Puts a value into the newest variable of a name as it stands there, a constant or a handle too. Where there is no
+/// memory nothing is changed. Asked: the offset leads to that variable, or variables are searched for.
+///
+/// # Errors
+/// `ErrorOutOfMemory` at the position, and `ErrorVariableNotFound` at the name where no variable has it and it is to be
+/// exported.
 fn overwrite_variable<H: Host>(
     alloc: Global,
     global: &mut GlobalRuntimeState<H>,
@@ -183,18 +224,21 @@ fn overwrite_variable<H: Host>(
     restoring: bool,
     pos: Position,
 ) -> Result<(), EvalAltResult<H>>
-    requires { IsTrue (is_good (Some offset) ident.now.name (names_in scope.old)) }
+    requires { AgreesAt global.old scope.old (variable_is_good (Some offset) ident.now.name) }
     ensures declares { (held : _) → OnOk result (Declares value ident.now (Some offset) options restoring
         (local_of global.old scope.old held) (local_of global.new scope.new held)) }
     ensures names { OnOk result (names_in scope.new
         ≡ var_names (Some offset) ident.now.name (names_in scope.old)) }
     ensures counts { global.new.num_operations ≡ global.old.num_operations }
-    ensures refused { IfErr result (λ e. is_out_of_memory e ≡ true) }
-    ensures same { OnErr result (global.new ≡ global.old) }
+    ensures search { KeepsSearch global.old global.new }
+    ensures misses { (held : _) → IfErr result (λ e. is_out_of_memory e ≡ false → Misses value ident.now
+        (Some offset) options restoring e (local_of global.old scope.old held)
+        (local_of global.new scope.new held)) }
+    ensures same { IfErr result (λ e. is_out_of_memory e ≡ true → global.new ≡ global.old) }
     ensures same_scope { OnErr result (entries_of scope.new ≡ entries_of scope.old) }
 {
     let Some(at) = place_of_variable(global, scope, Some(offset), &ident.name) else {
-        unreachable!()
+        return overwrite_none(alloc, global, &value, ident, options, restoring, pos);
     };
     value.set_access_mode(mode_of(options));
     let before = scope.replace_value(at, value);
@@ -218,10 +262,11 @@ fn overwrite_variable<H: Host>(
 /// Declares a variable with the value of a run, which is `()` then: a new one, or, with an offset, by overwriting the
 /// one that it leads to. An exported one has its own name as an alias; a constant at the top of a script that has a
 /// library is entered among its constants. Where there is no memory the run stops, and nothing but its value is
-/// changed. Asked: the offset leads to the newest variable of the name.
+/// changed. Asked: the offset leads to the newest variable of the name, or variables are searched for.
 ///
 /// # Errors
-/// `ErrorOutOfMemory` at the position alone.
+/// `ErrorOutOfMemory` at the position, and `ErrorVariableNotFound` at the name of one that is to overwrite another and
+/// to be exported, where no variable has it.
 pub fn declare<H: Host>(
     alloc: Global,
     global: &mut GlobalRuntimeState<H>,
@@ -234,14 +279,17 @@ pub fn declare<H: Host>(
     restoring: bool,
     pos: Position,
 ) -> bool
-    requires { IsTrue (is_good index ident.now.name (names_in scope.old)) }
+    requires { AgreesAt global.old scope.old (variable_is_good index ident.now.name) }
     ensures value { IsTrue result → out.new ≡ unit }
     ensures declares { (held : _) → IsTrue result → Declares out.old ident.now index options restoring
         (local_of global.old scope.old held) (local_of global.new scope.new held) }
     ensures names { IsTrue result → names_in scope.new ≡ var_names index ident.now.name (names_in scope.old) }
     ensures counts { global.new.num_operations ≡ global.old.num_operations }
-    ensures refused { result ≡ false → is_out_of_memory (error_in place.new) ≡ true }
-    ensures same { result ≡ false → global.new ≡ global.old }
+    ensures search { KeepsSearch global.old global.new }
+    ensures misses { (held : _) → result ≡ false → is_out_of_memory (error_in place.new) ≡ false →
+        Misses out.old ident.now index options restoring (error_in place.new)
+        (local_of global.old scope.old held) (local_of global.new scope.new held) }
+    ensures same { result ≡ false → is_out_of_memory (error_in place.new) ≡ true → global.new ≡ global.old }
     ensures same_scope { result ≡ false → entries_of scope.new ≡ entries_of scope.old }
 {
     let value = take_value(out);

@@ -1,3 +1,4 @@
+pub mod Agreement
 pub mod Declaring
 pub mod Lends
 pub mod Loops

@@ -7,9 +7,8 @@ ghost use Rattle.rhai_values.specs.Cells.{cells_of};
 ghost use Rattle.rhai_state.specs.Errors.{is_out_of_memory};
 ghost use Rattle.rhai_state.specs.declared.error.EvalAltResult.TheVariants as error;
 ghost use Rattle.rhai_tree.specs.Forms.{is_exported as exported, is_unqualified};
-ghost use Rattle.rhai_tree.specs.Names.{is_good};
 ghost use Rattle.rhai_tree.specs.declared.expr.Expr.{out-Expr};
-ghost use Rattle.rhai_state.specs.Scope.{entries_of, found_by, index_of, names_in, new_entry, Fits};
+ghost use Rattle.rhai_state.specs.Scope.{entries_of, found_by, index_of, new_entry, Fits};
 ghost use Rattle.rhai_machine.specs.language.State.{Answers};
 ghost use Rattle.rhai_machine.specs.language.Values.{copied, unit_value as unit};
 ghost use Rattle.rhai_machine.specs.language.Functions.{pointer_to};
@@ -17,6 +16,7 @@ ghost use Rattle.rhai_machine.specs.language.Names.{bound_this, entry_named, loo
 ghost use Rattle.rhai_machine.specs.language.Names.{value_beside, variable_of, without_entry};
 ghost use Rattle.rhai_machine.specs.language.Variables.{variable_named};
 ghost use Rattle.rhai_machine.specs.language.Statements.{deeper, mode_of as mode_asked};
+ghost use Rattle.rhai_steps.specs.Agreement.{AgreesAt, variable_is_good};
 ghost use Rattle.rhai_steps.specs.Declaring.{declarable, is_full, is_taken};
 ghost use Rattle.rhai_steps.specs.Lends.{lends_variable, with_value};
 ghost use Rattle.rhai_steps.specs.Offers.{globals_in};
@@ -52,7 +52,7 @@ pub fn place_of_variable<H: Host>(
     offset: Option<NonZeroUsize>,
     name: &Shared<Text>,
 ) -> Option<usize>
-    requires { IsTrue (is_good offset name.now (names_in scope.now)) }
+    requires { AgreesAt global.now scope.now (variable_is_good offset name.now) }
     ensures exact { result ≡ index_of name.now (entries_of scope.now) }
     ensures within { IfSome result (λ at. at < length (entries_of scope.now)) }
 {
@@ -78,7 +78,7 @@ pub fn entry_of_variable<H: Host>(
     name: &Shared<Text>,
     namespace: &Namespace,
 ) -> Option<usize>
-    requires { IsTrue (is_good offset name.now (names_in scope.now)) }
+    requires { AgreesAt global.now scope.now (variable_is_good offset name.now) }
     ensures exact { result ≡ entry_named namespace.now.path name.now (entries_of scope.now) }
     ensures within { IfSome result (λ at. at < length (entries_of scope.now)) }
 {
@@ -98,7 +98,7 @@ pub fn place_by_offset<H: Host>(
     offset: Option<NonZeroUsize>,
     name: &Shared<Text>,
 ) -> Option<usize>
-    requires { IsTrue (is_good offset name.now (names_in scope.now)) }
+    requires { AgreesAt global.now scope.now (variable_is_good offset name.now) }
     ensures exact { IfSome result (λ at. index_of name.now (entries_of scope.now) ≡ Some at) }
     ensures within { IfSome result (λ at. at < length (entries_of scope.now)) }
 {
@@ -212,7 +212,7 @@ pub fn read_variable<H: Host>(
     namespace: &Namespace,
     pos: Position,
 ) -> Result<Dynamic<H>, EvalAltResult<H>>
-    requires { IsTrue (is_good offset name.now (names_in scope.now)) }
+    requires { AgreesAt global.now scope.now (variable_is_good offset name.now) }
     ensures { Answers result (read (globals_in offered.now) (surroundings_of global.now)
         (entries_of scope.now) (variable_named name.now namespace.now pos)) }
 {

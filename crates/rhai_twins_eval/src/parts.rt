@@ -6,10 +6,10 @@ ghost use Rattle.rhai_tree.specs.declared.expr.Expr.{out-Expr};
 ghost use Rattle.rhai_tree.specs.Forms.{is_unqualified};
 ghost use Rattle.rhai_tree.specs.Frame.{all_resolve, all_resolve_exprs, resolves_call, resolves_expr};
 ghost use Rattle.rhai_tree.specs.Frame.{resolves_stmt, tests_of};
-ghost use Rattle.rhai_state.specs.Scope.{names_in};
 ghost use Rattle.rhai_machine.specs.language.Links.{first_in};
 ghost use Rattle.rhai_pointers.specs.Leading.{all_args};
-ghost use Rattle.rhai_eval.specs.Chains.{AssignsNoHandle, ChainResolves};
+ghost use Rattle.rhai_eval.specs.Chains.{AssignsNoHandle, chain_resolves};
+ghost use Rattle.rhai_steps.specs.Agreement.{AgreesAt, passes};
 ghost use Rattle.rhai_steps.specs.States.{holding, state_of};
 ghost use Rattle.rhai_twins_eval.specs.Same.{Same};
 
@@ -49,7 +49,7 @@ pub fn eval_expr<H: Host, T: NativeTable<H>>(
     requires table { T.state table.old ≡ T.state also_table.old }
     requires scope { scope.old ≡ also_scope.old }
     requires this { this.old ≡ also_this.old }
-    requires resolves { IsTrue (resolves_expr expr.now (names_in scope.old)) }
+    requires resolves { AgreesAt global.old scope.old (resolves_expr expr.now) }
     ensures run { Same result.0 result.1
         (state_of (T.state table.new) global.new scope.new (holding (Some this.new)))
         (state_of (T.state also_table.new) also_global.new also_scope.new (holding (Some also_this.new))) }
@@ -95,7 +95,7 @@ pub fn eval_stmt<H: Host, T: NativeTable<H>>(
     requires table { T.state table.old ≡ T.state also_table.old }
     requires scope { scope.old ≡ also_scope.old }
     requires this { this.old ≡ also_this.old }
-    requires resolves { IsTrue (resolves_stmt stmt.now (names_in scope.old)).0 }
+    requires resolves { AgreesAt global.old scope.old (passes (resolves_stmt stmt.now)) }
     ensures run { Same result.0 result.1
         (state_of (T.state table.new) global.new scope.new (holding (Some this.new)))
         (state_of (T.state also_table.new) also_global.new also_scope.new (holding (Some also_this.new))) }
@@ -151,7 +151,8 @@ pub fn eval_stmt_block<H: Host, T: NativeTable<H>>(
     requires table { T.state table.old ≡ T.state also_table.old }
     requires scope { scope.old ≡ also_scope.old }
     requires this { this.old ≡ also_this.old }
-    requires resolves { IsTrue (all_resolve (map resolves_stmt statements.now) (names_in scope.old)).0 }
+    requires resolves { AgreesAt global.old scope.old
+        (passes (all_resolve (map resolves_stmt statements.now))) }
     ensures run { Same result.0 result.1
         (state_of (T.state table.new) global.new scope.new (holding (Some this.new)))
         (state_of (T.state also_table.new) also_global.new also_scope.new (holding (Some also_this.new))) }
@@ -207,7 +208,7 @@ pub fn eval_fn_call_expr<H: Host, T: NativeTable<H>>(
     requires table { T.state table.old ≡ T.state also_table.old }
     requires scope { scope.old ≡ also_scope.old }
     requires this { this.old ≡ also_this.old }
-    requires resolves { IsTrue (resolves_call expr.now pos (names_in scope.old)) }
+    requires resolves { AgreesAt global.old scope.old (resolves_call expr.now pos) }
     ensures run { Same result.0 result.1
         (state_of (T.state table.new) global.new scope.new (holding (Some this.new)))
         (state_of (T.state also_table.new) also_global.new also_scope.new (holding (Some also_this.new))) }
@@ -253,7 +254,7 @@ pub fn get_arg_value<H: Host, T: NativeTable<H>>(
     requires table { T.state table.old ≡ T.state also_table.old }
     requires scope { scope.old ≡ also_scope.old }
     requires this { this.old ≡ also_this.old }
-    requires resolves { IsTrue (resolves_expr arg_expr.now (names_in scope.old)) }
+    requires resolves { AgreesAt global.old scope.old (resolves_expr arg_expr.now) }
     ensures run { Same result.0 result.1
         (state_of (T.state table.new) global.new scope.new (holding (Some this.new)))
         (state_of (T.state also_table.new) also_global.new also_scope.new (holding (Some also_this.new))) }
@@ -303,8 +304,8 @@ pub fn make_function_call<H: Host, T: NativeTable<H>>(
     requires table { T.state table.old ≡ T.state also_table.old }
     requires scope { scope.old ≡ also_scope.old }
     requires this { this.old ≡ also_this.old }
-    requires resolves { IsTrue (all_resolve_exprs (map tests_of (all_args (option_copied first_arg)
-        args_expr.now)) (names_in scope.old)) }
+    requires resolves { AgreesAt global.old scope.old
+        (all_resolve_exprs (map tests_of (all_args (option_copied first_arg) args_expr.now))) }
     ensures run { Same result.0 result.1
         (state_of (T.state table.new) global.new scope.new (holding (Some this.new)))
         (state_of (T.state also_table.new) also_global.new also_scope.new (holding (Some also_this.new))) }
@@ -370,7 +371,7 @@ pub fn make_qualified_function_call<H: Host, T: NativeTable<H>>(
     requires table { T.state table.old ≡ T.state also_table.old }
     requires scope { scope.old ≡ also_scope.old }
     requires this { this.old ≡ also_this.old }
-    requires resolves { IsTrue (all_resolve_exprs (map tests_of args_expr.now) (names_in scope.old)) }
+    requires resolves { AgreesAt global.old scope.old (all_resolve_exprs (map tests_of args_expr.now)) }
     requires behind { is_unqualified namespace.now.path ≡ false }
     ensures run { Same result.0 result.1
         (state_of (T.state table.new) global.new scope.new (holding (Some this.new)))
@@ -434,7 +435,7 @@ pub fn eval_dot_index_chain<'a, H: Host, T: NativeTable<H>>(
     requires this { this.old ≡ also_this.old }
     requires new_val { new_val ≡ also_new_val }
     requires chain { is_some (first_in (out-Expr expr.now)) ≡ true }
-    requires resolves { ChainResolves (is_some new_val) expr.now (names_in scope.old) }
+    requires resolves { AgreesAt global.old scope.old (chain_resolves (is_some new_val) expr.now) }
     requires value { AssignsNoHandle new_val }
     ensures run { Same result.0 result.1
         (state_of (T.state table.new) global.new scope.new (holding (Some this.new)))

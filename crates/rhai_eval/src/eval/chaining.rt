@@ -6,11 +6,12 @@ ghost use Rattle.rhai_tree.specs.declared.expr.Expr.{out-Expr};
 ghost use Rattle.rhai_state.specs.Native.{left_by, was};
 ghost use Rattle.rhai_state.specs.Scope.{names_in};
 ghost use Rattle.rhai_machine.specs.language.Links.{first_in};
+ghost use Rattle.rhai_steps.specs.Agreement.{AgreesAt};
 ghost use Rattle.rhai_steps.specs.States.{holding, state_of};
 ghost use Rattle.rhai_laws.specs.Kept.{Kept};
 ghost use Rattle.rhai_chains.specs.Chains.{new_of};
 ghost use Rattle.rhai_eval.specs.Chains.{assigned_in, chain_type, whole_chain};
-ghost use Rattle.rhai_eval.specs.Chains.{AssignsAlong, AssignsNoHandle, ChainResolves};
+ghost use Rattle.rhai_eval.specs.Chains.{AssignsAlong, AssignsNoHandle, chain_resolves};
 ghost use Rattle.rhai_eval.specs.Ends.{EndsAs};
 ghost use Rattle.rhai_eval.specs.States.{under};
 
@@ -97,7 +98,7 @@ impl<H: Host> Engine<H> {
         new_val: Option<(Dynamic<H>, &OpAssignment)>,
     ) -> Result<Dynamic<H>, EvalAltResult<H>>
         requires chain { is_some (first_in (out-Expr expr.now)) ≡ true }
-        requires resolves { ChainResolves (is_some new_val) expr.now (names_in scope.old) }
+        requires resolves { AgreesAt global.old scope.old (chain_resolves (is_some new_val) expr.now) }
         requires value { AssignsNoHandle new_val }
         ensures ends { EndsAs (under H.name_of self.now T.natives)
             (whole_chain expr.now (assigned_in new_val.entry))

@@ -9,6 +9,7 @@ ghost use Rattle.std.specs.Option.{option_copied};
 ghost use Rattle.rhai_state.specs.Scope.{entries_of, in_use, names_in, Fits};
 ghost use Rattle.rhai_machine.specs.language.Frames.{Eval};
 ghost use Rattle.rhai_machine.specs.language.Setting.{globals_of};
+ghost use Rattle.rhai_steps.specs.Agreement.{AgreesAt};
 ghost use Rattle.rhai_steps.specs.Offsets.{offset_in, place_at};
 ghost use Rattle.rhai_steps.specs.States.{holding, state_of, surroundings_of};
 ghost use Rattle.rhai_laws.specs.Kept.{Kept};
@@ -178,7 +179,7 @@ impl<H: Host> Engine<H> {
         this: Option<&mut Dynamic<H>>,
         expr: &Expr,
     ) -> Result<Dynamic<H>, EvalAltResult<H>>
-        requires resolves { IsTrue (resolves_expr expr.now (names_in scope.old)) }
+        requires resolves { AgreesAt global.old scope.old (resolves_expr expr.now) }
         ensures ends { EndsAs (under H.name_of self.now T.natives) (Eval expr.now)
             (state_of (T.state table.old) global.old scope.old (holding (was this.entry))) result
             (state_of (T.state table.new) global.new scope.new (holding (left_by this.exit))) }

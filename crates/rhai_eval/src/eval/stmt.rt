@@ -11,6 +11,7 @@ ghost use Rattle.rhai_machine.specs.language.Frames.{Exec, Enter};
 ghost use Rattle.rhai_machine.specs.language.Setting.{rules_of};
 ghost use Rattle.rhai_machine.specs.language.State.{HasMemory};
 ghost use Rattle.rhai_places.specs.Targets.{shown};
+ghost use Rattle.rhai_steps.specs.Agreement.{AgreesAt, passes};
 ghost use Rattle.rhai_steps.specs.States.{holding, state_of};
 ghost use Rattle.rhai_tree.specs.declared.expr.Stmt.{out-Stmt};
 ghost use Rattle.rhai_laws.specs.Kept.{Grown, Kept, declares, is_import};
@@ -222,7 +223,7 @@ impl<H: Host> Engine<H> {
         stmt: &Stmt,
         rewind_scope: bool,
     ) -> Result<Dynamic<H>, EvalAltResult<H>>
-        requires resolves { IsTrue (resolves_stmt stmt.now (names_in scope.old)).0 }
+        requires resolves { AgreesAt global.old scope.old (passes (resolves_stmt stmt.now)) }
         ensures ends { EndsAs (under H.name_of self.now T.natives) (Exec stmt.now rewind_scope)
             (state_of (T.state table.old) global.old scope.old (holding (was this.entry))) result
             (state_of (T.state table.new) global.new scope.new (holding (left_by this.exit))) }
@@ -275,7 +276,8 @@ impl<H: Host> Engine<H> {
         statements: &[Stmt],
         restore_orig_state: bool,
     ) -> Result<Dynamic<H>, EvalAltResult<H>>
-        requires resolves { IsTrue (all_resolve (map resolves_stmt statements.now) (names_in scope.old)).0 }
+        requires resolves { AgreesAt global.old scope.old
+            (passes (all_resolve (map resolves_stmt statements.now))) }
         ensures ends { EndsAs (under H.name_of self.now T.natives) (Enter statements.now restore_orig_state)
             (state_of (T.state table.old) global.old scope.old (holding (was this.entry))) result
             (state_of (T.state table.new) global.new scope.new (holding (left_by this.exit))) }

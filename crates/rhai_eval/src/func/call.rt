@@ -10,6 +10,7 @@ ghost use Rattle.rhai_tree.specs.Positions.{start_of};
 ghost use Rattle.rhai_machine.specs.language.Frames.{Argument, OpenExpr};
 ghost use Rattle.rhai_state.specs.Native.{left_by, was};
 ghost use Rattle.rhai_state.specs.Scope.{names_in};
+ghost use Rattle.rhai_steps.specs.Agreement.{AgreesAt};
 ghost use Rattle.rhai_steps.specs.States.{holding, state_of};
 ghost use Rattle.rhai_laws.specs.Kept.{Kept};
 ghost use Rattle.rhai_eval.specs.Ends.{EndsAs, EndsFrom};
@@ -64,7 +65,7 @@ impl<H: Host> Engine<H> {
         expr: &FnCallExpr,
         pos: Position,
     ) -> Result<Dynamic<H>, EvalAltResult<H>>
-        requires resolves { IsTrue (resolves_call expr.now pos (names_in scope.old)) }
+        requires resolves { AgreesAt global.old scope.old (resolves_call expr.now pos) }
         ensures ends { EndsAs (under H.name_of self.now T.natives)
             (OpenExpr (layer.Expr::FnCall expr.now pos))
             (state_of (T.state table.old) global.old scope.old (holding (was this.entry))) result
@@ -111,7 +112,7 @@ impl<H: Host> Engine<H> {
         this: Option<&mut Dynamic<H>>,
         arg_expr: &Expr,
     ) -> Result<(Dynamic<H>, Position), EvalAltResult<H>>
-        requires resolves { IsTrue (resolves_expr arg_expr.now (names_in scope.old)) }
+        requires resolves { AgreesAt global.old scope.old (resolves_expr arg_expr.now) }
         ensures position { IfOk result (λ pair. pair.1 ≡ start_of arg_expr.now) }
         ensures ends { EndsAs (under H.name_of self.now T.natives) (Argument arg_expr.now)
             (state_of (T.state table.old) global.old scope.old (holding (was this.entry))) (value_with result)
@@ -164,8 +165,8 @@ impl<H: Host> Engine<H> {
         capture_parent_scope: bool,
         pos: Position,
     ) -> Result<Dynamic<H>, EvalAltResult<H>>
-        requires resolves { IsTrue (all_resolve_exprs (map tests_of
-            (all_args (option_copied first_arg) args_expr.now)) (names_in scope.old)) }
+        requires resolves { AgreesAt global.old scope.old
+            (all_resolve_exprs (map tests_of (all_args (option_copied first_arg) args_expr.now))) }
         ensures ends { EndsFrom (under H.name_of self.now T.natives)
             (called (record { name = fn_name.now; token = option_copied op_token.entry; at = pos })
             (all_args (option_copied first_arg.entry) args_expr.now) capture_parent_scope)
@@ -224,7 +225,7 @@ impl<H: Host> Engine<H> {
         args_expr: &[Expr],
         pos: Position,
     ) -> Result<Dynamic<H>, EvalAltResult<H>>
-        requires resolves { IsTrue (all_resolve_exprs (map tests_of args_expr.now) (names_in scope.old)) }
+        requires resolves { AgreesAt global.old scope.old (all_resolve_exprs (map tests_of args_expr.now)) }
         requires behind { is_unqualified namespace.now.path ≡ false }
         ensures ends { EndsAs (under H.name_of self.now T.natives)
             (OpenExpr (layer.Expr::FnCall (in_parts namespace.now fn_name.now args_expr.now None false) pos))

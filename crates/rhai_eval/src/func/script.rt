@@ -14,6 +14,7 @@ ghost use Rattle.rhai_machine.specs.language.State.{HasMemory};
 ghost use Rattle.rhai_state.specs.Native.{left_by, was};
 ghost use Rattle.rhai_state.specs.Scope.{entries_of, names_in};
 ghost use Rattle.rhai_steps.specs.States.{holding, state_of};
+ghost use Rattle.rhai_functions.specs.Entering.{TakesSome};
 ghost use Rattle.rhai_cycle.specs.Bodies.{args_left, entered, is_entered};
 ghost use Rattle.rhai_cycle.specs.States.{state_in};
 ghost use Rattle.rhai_laws.specs.Kept.{Kept};
@@ -66,6 +67,7 @@ impl<H: Host> Engine<H> {
         ensures args { HasMemory result → args.new ≡ args_left (is_entered (limits_of self.now)
             run.old.global.num_operations run.old.global.level (length (entries_of run.old.scope)) def.now)
             (length def.now.params) args.old }
+        ensures taken { TakesSome args.old args.new }
         ensures runs { Runs (under H.name_of self.now T.natives)
             (EnterFunction (entered def.now (option_copied env.entry) OwnThis false rewind_scope args.old
             run.old.global.level pos))
@@ -126,6 +128,7 @@ impl<H: Host> Engine<H> {
         ensures args { HasMemory result → args.new ≡ args_left (is_entered (limits_of self.now)
             global.old.num_operations global.old.level (length (entries_of scope.old)) def.now)
             (length def.now.params) args.old }
+        ensures taken { TakesSome args.old args.new }
         ensures lib { global.new.lib ≡ global.old.lib }
         ensures imports { global.new.imports ≡ global.old.imports }
         ensures constants { global.new.constants ≡ global.old.constants }

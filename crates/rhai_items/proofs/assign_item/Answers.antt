@@ -7,9 +7,11 @@ use Rattle.rhai_state.specs.Scope.{entries_of}
 use Rattle.rhai_places.specs.declared.spot.Spot.TheVariants as spot
 use Rattle.rhai_places.specs.Parts.{value_at, with_value}
 use Rattle.rhai_machine.specs.language.Setting.{rules_of}
+use Rattle.rhai_steps.proofs.Agreeing.{brings}
 use Rattle.rhai_operands.specs.Standing.{assigned_known, integer_of, standing}
 use Rattle.rhai_operands.proofs.Integers.{is_there}
-use Rattle.rhai_items.proofs.Parts.{parts_shown}
+use Rattle.rhai_operands.proofs.Names.{good_name}
+use Rattle.rhai_items.proofs.Parts.{item_resolves, parts_shown}
 use Rattle.rhai_items.proofs.Path.{item_assigned, item_keeps}
 use Rattle.rhai_items.specs.Items.{parts_in, place_in_array, writable_at}
 use Rattle.rhai_items.proofs.assign_item.Goals as goal
@@ -47,3 +49,15 @@ returns-clause-runs g c is offer held restoring fast =
     (ap (place_in_array (layer_of c.value_at-source.result.now)) at_index ∙ sym c.place_in_value.ensures.at ∙ c.in-Some-place_in_value.is)
     (ap (assigned_known c.in-Some-op.token (writable_at (value_at c.value_at-source.result.now (spot.Item c.in-Some-place_in_value.at)))) operand
     ∙ sym (rw c.integer_of_item-target.ensures at c.assign_known.ensures) ∙ c.in-Some-assign_known.is)
+
+pub entry_of_variable-requires : goal.entry_of_variable-requires
+entry_of_variable-requires g c =
+    let parts : parts_in (out-Expr c.args.lhs.now) ≡ Some (c.in-Some.root.now, c.in-Some.index.now) = sym c.in-Some.ensures in
+    brings (λ frame h. good_name c.in-Some.root.now c.in-Variable.offset c.in-Variable.name c.in-Variable.namespace c.in-Variable.pos frame
+    (rw (c.in-Variable.is, exprs.outs-Variable) refl)
+    (item_resolves c.args.lhs.now c.in-Some.root.now c.in-Some.index.now frame parts h).0) c.requires.resolves_target
+
+pub integer_in_place-position-requires : goal.integer_in_place-position-requires
+integer_in_place-position-requires g c =
+    let parts : parts_in (out-Expr c.args.lhs.now) ≡ Some (c.in-Some.root.now, c.in-Some.index.now) = sym c.in-Some.ensures in
+    brings (λ frame h. (item_resolves c.args.lhs.now c.in-Some.root.now c.in-Some.index.now frame parts h).1) c.requires.resolves_target

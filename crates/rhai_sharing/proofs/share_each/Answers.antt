@@ -1,20 +1,21 @@
 use Rattle.std.proofs.Common.{◌∙◌, refl, sym}
 use Rattle.rhai_tree.proofs.Statements.{shared_at}
-use Rattle.rhai_state.specs.Scope.{entries_of, names_in, value_of}
+use Rattle.rhai_state.specs.Scope.{entries_of, value_of}
 use Rattle.rhai_machine.specs.machine.Memory.{here, ◌⨾◌}
 use Rattle.rhai_machine.specs.language.Runs.{Steps}
 use Rattle.rhai_machine.specs.language.Setting.{rules_of}
+use Rattle.rhai_steps.proofs.Agreeing.{brings, same}
 use Rattle.rhai_steps.proofs.Pieces.{exits}
 use Rattle.rhai_sharing.proofs.Steps.{drop_all, drop_item, is_none, item_there, left_so, shares_none, shares_not, shares_one, shares_wanting}
 use Rattle.rhai_sharing.proofs.share_each.Goals as goal
 
 pub each_variable-init : goal.each_variable-init
 unfolding Steps
-each_variable-init g c = record { rest = refl; names = refl; steps = λ offer held k. here }
+each_variable-init g c = record { rest = refl; search = refl; names = refl; steps = λ offer held k. here }
 
 pub place_of_variable-requires : goal.place_of_variable-requires
-place_of_variable-requires g c = rw (c.variable-item.is, c.each_variable.invariant.names)
-    (shared_at c.args.variables.now c.each_variable.variable-index _ (names_in c.args.scope.now) c.each_variable-test.true c.requires)
+place_of_variable-requires g c = rw c.variable-item.is (same c.each_variable.invariant.search c.each_variable.invariant.names
+    (brings (λ frame. shared_at c.args.variables.now c.each_variable.variable-index _ frame c.each_variable-test.true) c.requires))
 
 pub returns-in_default-clause-runs : goal.returns-in_default-clause-runs
 unfolding Steps
@@ -39,6 +40,7 @@ each_variable-preserved g c =
     let there = item_there (entries_of c.each_variable.scope) c.in-Some.index c.in-Some.ensures.within in
     record {
       rest = rw (c.in_ok-share_value.ensures.rest, c.each_variable.invariant.rest) refl;
+      search = c.in_ok-share_value.ensures.search ∙ c.each_variable.invariant.search;
       names = c.in_ok-share_value.ensures.names ∙ c.each_variable.invariant.names;
       steps = λ offer held k.
           let rules = rules_of c.args.limits.now g.H.Host.name_of offer g.T.NativeTable.natives in

@@ -5,8 +5,10 @@ use Rattle.rhai_tree.specs.declared.expr.Expr.TheOpen as layer
 use Rattle.rhai_values.specs.Cells.{cells_of}
 use Rattle.rhai_state.specs.Scope.{entries_of}
 use Rattle.rhai_machine.specs.language.Setting.{rules_of}
+use Rattle.rhai_steps.proofs.Agreeing.{brings}
 use Rattle.rhai_operands.specs.Standing.{assigned_known, integer_of, standing}
 use Rattle.rhai_operands.proofs.Integers.{is_there}
+use Rattle.rhai_operands.proofs.Names.{good_target}
 use Rattle.rhai_operands.proofs.Standing.{plain_entry}
 use Rattle.rhai_assign.specs.InPlace.{charged_at, writable_in}
 use Rattle.rhai_assign.proofs.Integers.{both_charged, integer_assigned, integer_found, integer_keeps}
@@ -55,3 +57,8 @@ returns-clause-room g c is = c.charge_all.ensures.room c.if-not-charge_all.false
 
 pub returns-clause-charged : goal.returns-clause-charged
 returns-clause-charged g c is = c.charge_all.ensures.charged c.if-not-charge_all.false
+
+pub place_by_offset-requires : goal.place_by_offset-requires
+place_by_offset-requires g c =
+    brings (λ frame. good_target c.args.lhs.now c.in-Variable.offset c.in-Variable.name c.in-Variable.namespace c.in-Variable.pos frame
+    (rw (c.in-Variable.is, exprs.outs-Variable) refl)) c.requires.resolves_target

@@ -3,6 +3,8 @@ use Rattle.rhai_tree.specs.declared.expr.Expr.{out-Expr}
 use Rattle.rhai_tree.specs.declared.expr.Expr.TheVariants as exprs
 use Rattle.rhai_tree.specs.declared.expr.Expr.TheOpen as layer
 use Rattle.rhai_machine.specs.language.Setting.{rules_of}
+use Rattle.rhai_steps.proofs.Agreeing.{brings}
+use Rattle.rhai_operands.proofs.Names.{good_target}
 use Rattle.rhai_assign.specs.InPlace.{IsReady}
 use Rattle.rhai_assign.proofs.Prepared.{target_stops, updates_in_place, value_stops}
 use Rattle.rhai_assign.proofs.in_place.assign_prepared.Goals as goal
@@ -54,3 +56,8 @@ returns-clause-runs g c offer held restoring fast =
     ready.answers.value
     c.write_outcome.ensures.counts (c.write_outcome.ensures.written held) c.write_outcome.ensures.left_global
     c.write_outcome.ensures.left_scope
+
+pub prepare-requires-clause-good : goal.prepare-requires-clause-good
+prepare-requires-clause-good g c =
+    brings (λ frame. good_target c.args.lhs.now c.in-Variable.offset c.in-Variable.name c.in-Variable.namespace c.in-Variable.pos frame
+    (rw (c.in-Variable.is, exprs.outs-Variable) refl)) c.requires.resolves_target

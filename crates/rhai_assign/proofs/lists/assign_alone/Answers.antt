@@ -2,24 +2,24 @@ use Rattle.std.proofs.Common.{◌≡◌, ◌<◌, ◌∙◌, arith, refl, true}
 use Rattle.rhai_tree.specs.declared.expr.Expr.TheOpen as layer
 use Rattle.rhai_tree.specs.declared.expr.Stmt.{out-Stmt}
 use Rattle.rhai_tree.specs.declared.expr.Stmt.TheVariants as stmts
-use Rattle.rhai_state.specs.Scope.{names_in}
 use Rattle.rhai_machine.specs.language.Frames.{Enter}
 use Rattle.rhai_machine.specs.language.Setting.{limit_under, rules_of}
 use Rattle.rhai_machine.specs.language.Statements.{deeper}
+use Rattle.rhai_steps.proofs.Agreeing.{brings}
 use Rattle.rhai_assign.proofs.Alone.{alone, one_item, only_resolves}
 use Rattle.rhai_assign.proofs.lists.assign_alone.Goals as goal
 
 pub assign_integer-requires-clause-resolves_target : goal.assign_integer-requires-clause-resolves_target
 assign_integer-requires-clause-resolves_target g c =
-    (only_resolves c.args.statements.now c.only-item.result c.in-Assignment.op c.in-Assignment.lhs c.in-Assignment.rhs
-    (names_in c.args.scope.now) (one_item c.args.statements.now c.only-item.result c.only-item.is c.in-len1.len_at_least c.in-len1.len_below)
-    (rw (c.in-Assignment.is, stmts.outs-Assignment) refl) c.requires.resolves).0
+    brings (λ frame h. (only_resolves c.args.statements.now c.only-item.result c.in-Assignment.op c.in-Assignment.lhs c.in-Assignment.rhs
+    frame (one_item c.args.statements.now c.only-item.result c.only-item.is c.in-len1.len_at_least c.in-len1.len_below)
+    (rw (c.in-Assignment.is, stmts.outs-Assignment) refl) h).0) c.requires.resolves
 
 pub assign_integer-requires-clause-resolves : goal.assign_integer-requires-clause-resolves
 assign_integer-requires-clause-resolves g c =
-    (only_resolves c.args.statements.now c.only-item.result c.in-Assignment.op c.in-Assignment.lhs c.in-Assignment.rhs
-    (names_in c.args.scope.now) (one_item c.args.statements.now c.only-item.result c.only-item.is c.in-len1.len_at_least c.in-len1.len_below)
-    (rw (c.in-Assignment.is, stmts.outs-Assignment) refl) c.requires.resolves).1
+    brings (λ frame h. (only_resolves c.args.statements.now c.only-item.result c.in-Assignment.op c.in-Assignment.lhs c.in-Assignment.rhs
+    frame (one_item c.args.statements.now c.only-item.result c.only-item.is c.in-len1.len_at_least c.in-len1.len_below)
+    (rw (c.in-Assignment.is, stmts.outs-Assignment) refl) h).1) c.requires.resolves
 
 pub returns-clause-runs : goal.returns-clause-runs
 returns-clause-runs g c is offer held fast =

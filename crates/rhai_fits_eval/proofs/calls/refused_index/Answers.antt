@@ -8,8 +8,8 @@ pub returns-in-Err : goal.returns-in-Err
 returns-in-Err g c = let a = c.args in let call = c.get_indexed_mut in
     let does = rw c.in-Err.is at call.ensures.indexes in
     let ends = rw c.in-Err.is at call.follows.holds-at-none in record {
-      fits = λ offer scope this has. refused_again (rules_of a.limits.now g.H.Host.name_of offer g.T.NativeTable.natives) a.limits.now
+      fits = λ offer scope this. refused_again (rules_of a.limits.now g.H.Host.name_of offer g.T.NativeTable.natives) a.limits.now
           g.H.Host.name_of g.T.NativeTable.state a.how a.use_indexers a.global.now a.table.now a.object.now a.idx.now call.new.global
           call.new.table call.new.idx (Err _) g.met.T.NativeTable.lawful c.requires.object c.requires.sealed does scope
-          (holding this) _ ends has;
+          (holding this) _ ends;
     }

@@ -26,3 +26,15 @@ pub returns-clause-left : goal.returns-clause-left
 returns-clause-left g c =
     let all : c.params.at ≡ length c.args.params.now = omega (arith, c.params.invariant.within) in
     c.params.invariant.left ∙ ap (λ n. left_of n c.args.args.now) all
+
+pub returns-in_err-share-clause-taken : goal.returns-in_err-share-clause-taken
+returns-in_err-share-clause-taken g c = (
+  suc c.params.at,
+  c.taken-value.ensures.left ∙ ap (λ xs. slice_set xs c.params.at unit) c.params.invariant.left ∙ set_next unit c.args.args.now c.params.at,
+)
+
+pub returns-in_err-push_shared-clause-taken : goal.returns-in_err-push_shared-clause-taken
+returns-in_err-push_shared-clause-taken g c = (
+  suc c.params.at,
+  c.taken-value.ensures.left ∙ ap (λ xs. slice_set xs c.params.at unit) c.params.invariant.left ∙ set_next unit c.args.args.now c.params.at,
+)

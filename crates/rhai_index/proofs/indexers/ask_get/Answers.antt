@@ -1,5 +1,5 @@
 use Rattle.std.proofs.Common.{◌≡◌, ap, ◌∙◌, ◌∷◌, []}
-use Rattle.rhai_index.proofs.Reached.{stays_reached}
+use Rattle.rhai_index.proofs.Reached.{may_stay}
 use Rattle.rhai_index.proofs.indexers.ask_get.Goals as goal
 
 pub returns-in-Ok-clause-asked : goal.returns-in-Ok-clause-asked
@@ -14,4 +14,4 @@ returns-in-Ok-clause-reached g c =
     rw lent at c.call_indexer-result.ensures.reached
 
 pub returns-in-Err-clause-reached : goal.returns-in-Err-clause-reached
-returns-in-Err-clause-reached g c = stays_reached _ _ _ _ _ _ _
+returns-in-Err-clause-reached g c = may_stay _ _ _ _ _ _ _ _ c.requires

@@ -2,8 +2,9 @@ use Rattle.std.proofs.Common.{◌≡◌, refl, sym}
 use Rattle.rhai_tree.specs.declared.expr.Expr.{out-Expr}
 use Rattle.rhai_tree.specs.declared.expr.Expr.TheVariants as exprs
 use Rattle.rhai_tree.specs.declared.expr.Expr.TheOpen as layer
-use Rattle.rhai_state.specs.Scope.{names_in, entries_of}
+use Rattle.rhai_state.specs.Scope.{entries_of}
 use Rattle.rhai_machine.specs.language.Setting.{rules_of}
+use Rattle.rhai_steps.proofs.Agreeing.{brings}
 use Rattle.rhai_context.specs.Ends.{error_in}
 use Rattle.rhai_operands.specs.Standing.{standing}
 use Rattle.rhai_operands.proofs.Names.{call_resolves}
@@ -12,15 +13,14 @@ use Rattle.rhai_operands.proofs.InPlace.{compared_stands, two_args}
 use Rattle.rhai_operands.proofs.operators.holds_in_place.Goals as goal
 
 pub compare_in_place-requires-clause-resolves_left : goal.compare_in_place-requires-clause-resolves_left
-compare_in_place-requires-clause-resolves_left g c = (call_resolves c.args.test.now c.in-FnCall.call c.in-FnCall.pos c.in_ok-left.left.now
-    c.in_ok-left.right.now (names_in c.args.scope.now) (rw (c.in-FnCall.is, exprs.outs-FnCall) refl)
-    (two_args _ _ _ c.in_ok-left.ensures) c.requires).0
+compare_in_place-requires-clause-resolves_left g c = brings (λ frame h. (call_resolves c.args.test.now c.in-FnCall.call c.in-FnCall.pos
+    c.in_ok-left.left.now c.in_ok-left.right.now frame (rw (c.in-FnCall.is, exprs.outs-FnCall) refl)
+    (two_args _ _ _ c.in_ok-left.ensures) h).0) c.requires
 
 pub compare_in_place-requires-clause-resolves_right : goal.compare_in_place-requires-clause-resolves_right
-compare_in_place-requires-clause-resolves_right g c = (call_resolves c.args.test.now c.in-FnCall.call c.in-FnCall.pos
-    c.in_ok-left.left.now
-    c.in_ok-left.right.now (names_in c.args.scope.now) (rw (c.in-FnCall.is, exprs.outs-FnCall) refl)
-    (two_args _ _ _ c.in_ok-left.ensures) c.requires).1
+compare_in_place-requires-clause-resolves_right g c = brings (λ frame h. (call_resolves c.args.test.now c.in-FnCall.call c.in-FnCall.pos
+    c.in_ok-left.left.now c.in_ok-left.right.now frame (rw (c.in-FnCall.is, exprs.outs-FnCall) refl)
+    (two_args _ _ _ c.in_ok-left.ensures) h).1) c.requires
 
 pub returns-then-not-charge-clause-runs : goal.returns-then-not-charge-clause-runs
 returns-then-not-charge-clause-runs g c offer held fast =

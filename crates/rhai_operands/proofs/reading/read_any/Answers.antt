@@ -1,12 +1,13 @@
 use Rattle.std.proofs.Common.{refl}
 use Rattle.rhai_tree.specs.declared.expr.Expr.TheVariants as exprs
+use Rattle.rhai_steps.proofs.Agreeing.{brings}
 use Rattle.rhai_operands.proofs.Names.{good_name}
 use Rattle.rhai_operands.proofs.reading.read_any.Goals as goal
 
 pub read_variable-answer-requires : goal.read_variable-answer-requires
 read_variable-answer-requires g c =
-    good_name c.args.expr.now c.in-Variable.offset c.in-Variable.name c.in-Variable.namespace c.in-Variable.pos _
-    (rw (c.in-Variable.is, exprs.outs-Variable) refl) c.requires
+    brings (λ frame. good_name c.args.expr.now c.in-Variable.offset c.in-Variable.name c.in-Variable.namespace c.in-Variable.pos frame
+    (rw (c.in-Variable.is, exprs.outs-Variable) refl)) c.requires
 
 pub returns-in-IntegerConstant-clause-exact : goal.returns-in-IntegerConstant-clause-exact
 returns-in-IntegerConstant-clause-exact g c focus =

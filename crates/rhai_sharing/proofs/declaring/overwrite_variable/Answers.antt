@@ -1,9 +1,8 @@
-use Rattle.std.proofs.Common.{◌≡◌, None, Some, ap, sym, ◌∙◌, slice_get}
+use Rattle.std.proofs.Common.{◌≡◌, Some, ap, false, sym, true, ◌∙◌, slice_get}
 use Rattle.std.specs.Option.{option_map}
 use Rattle.rhai_tree.specs.Forms.{is_exported}
 use Rattle.rhai_values.specs.Modes.{with_mode}
-use Rattle.rhai_state.specs.Scope.{entries_of, index_of, place_of, revalued, value_of}
-use Rattle.rhai_state.proofs.Newest.{place_is_newest}
+use Rattle.rhai_state.specs.Scope.{entries_of, index_of, revalued, value_of}
 use Rattle.rhai_machine.specs.language.Frames.{Back, core}
 use Rattle.rhai_machine.specs.language.Places.{InEntry, put}
 use Rattle.rhai_machine.specs.language.Statements.{constant_core, enters, mode_of}
@@ -13,11 +12,16 @@ use Rattle.rhai_sharing.specs.Declares.{own_alias}
 use Rattle.rhai_sharing.proofs.Declared.{declares_at, entered_as_given, own_names, put_back, revalued_names, revalued_value, same_place}
 use Rattle.rhai_sharing.proofs.declaring.overwrite_variable.Goals as goal
 
-pub unreachable-requires : goal.unreachable-requires
-unreachable-requires g c =
-    let never : place_of (Some c.args.offset) c.args.ident.now.name (entries_of c.args.scope.now) ≡ None =
-    place_is_newest (Some c.args.offset) c.args.ident.now.name (entries_of c.args.scope.now) c.requires
-    ∙ sym c.place_of_variable.ensures.exact ∙ c.in_default.is in cc
+pub returns-in_default-clause-declares : goal.returns-in_default-clause-declares
+returns-in_default-clause-declares g c held = c.overwrite_none.ensures.declares c.args.offset c.args.scope.now held
+    (sym c.place_of_variable.ensures.exact ∙ c.in_default.is)
+
+pub returns-in_default-clause-misses : goal.returns-in_default-clause-misses
+returns-in_default-clause-misses g c held = c.overwrite_none.ensures.misses c.args.offset c.args.scope.now held
+    (sym c.place_of_variable.ensures.exact ∙ c.in_default.is)
+
+pub returns-in-Err-clause-misses : goal.returns-in-Err-clause-misses
+returns-in-Err-clause-misses g c held told k = let never : true ≡ false = sym c.in-Err.ensures.refused ∙ told in cc
 
 pub returns-in-Err-clause-same_scope : goal.returns-in-Err-clause-same_scope
 returns-in-Err-clause-same_scope g c = c.replace_value.ensures.after

@@ -1,7 +1,8 @@
 use Rattle.std.proofs.Common.{◌≡◌, IsTrue, map, ap, ◌∙◌}
 use Rattle.rhai_tree.specs.Names.{is_good}
 use Rattle.rhai_state.specs.Scope.{entries_of, name_of, place_of}
-use Rattle.rhai_state.proofs.Newest.{good_fits, good_in_use, place_is_newest}
+use Rattle.rhai_state.proofs.Newest.{good_fits, place_is_newest}
+use Rattle.rhai_steps.proofs.Agreeing.{good_in_use}
 use Rattle.rhai_steps.proofs.variables.place_of_variable.Goals as goal
 
 pub place_of-requires : goal.place_of-requires

@@ -114,6 +114,30 @@ run_method-returns-in-OnTarget-clause-runs = bodies.run_method-returns-in-OnTarg
 pub run_method-returns-in-Alone-clause-runs : goal.run_method-returns-in-Alone-clause-runs
 run_method-returns-in-Alone-clause-runs = bodies.run_method-returns-in-Alone-clause-runs
 
+pub run_body-returns-then-not-charge-clause-search : goal.run_body-returns-then-not-charge-clause-search
+run_body-returns-then-not-charge-clause-search = bodies.run_body-returns-then-not-charge-clause-search
+
+pub run_body-returns-in-Err-clause-search : goal.run_body-returns-in-Err-clause-search
+run_body-returns-in-Err-clause-search = bodies.run_body-returns-in-Err-clause-search
+
+pub run_body-returns-in-Ok-None-clause-search : goal.run_body-returns-in-Ok-None-clause-search
+run_body-returns-in-Ok-None-clause-search = bodies.run_body-returns-in-Ok-None-clause-search
+
+pub run_body-returns-in-Ok-Some-clause-search : goal.run_body-returns-in-Ok-Some-clause-search
+run_body-returns-in-Ok-Some-clause-search = bodies.run_body-returns-in-Ok-Some-clause-search
+
+pub enter_fresh-returns-clause-search : goal.enter_fresh-returns-clause-search
+enter_fresh-returns-clause-search = bodies.enter_fresh-returns-clause-search
+
+pub enter_on_focus-returns-clause-search : goal.enter_on_focus-returns-clause-search
+enter_on_focus-returns-clause-search = bodies.enter_on_focus-returns-clause-search
+
+pub run_out-returns-in-Ended-clause-names : goal.run_out-returns-in-Ended-clause-names
+run_out-returns-in-Ended-clause-names = bodies.run_out-returns-in-Ended-clause-names
+
+pub run_out-returns-then-is_fresh-clause-names : goal.run_out-returns-then-is_fresh-clause-names
+run_out-returns-then-is_fresh-clause-names = bodies.run_out-returns-then-is_fresh-clause-names
+
 pub run_fn_call_expr-run_function-requires : goal.run_fn_call_expr-run_function-requires
 run_fn_call_expr-run_function-requires = calls.run_fn_call_expr-run_function-requires
 
@@ -197,6 +221,45 @@ run_arg-returns-in-Some-clause-runs = calls.run_arg-returns-in-Some-clause-runs
 
 pub run_arg-returns-in-None-clause-runs : goal.run_arg-returns-in-None-clause-runs
 run_arg-returns-in-None-clause-runs = calls.run_arg-returns-in-None-clause-runs
+
+pub run_arg-run_expr-requires : goal.run_arg-run_expr-requires
+run_arg-run_expr-requires = calls.run_arg-run_expr-requires
+
+pub run_unary-returns-clause-names : goal.run_unary-returns-clause-names
+run_unary-returns-clause-names = calls.run_unary-returns-clause-names
+
+pub run_operator-returns-then-operate_known-clause-names : goal.run_operator-returns-then-operate_known-clause-names
+run_operator-returns-then-operate_known-clause-names = calls.run_operator-returns-then-operate_known-clause-names
+
+pub run_operator-returns-clause-names : goal.run_operator-returns-clause-names
+run_operator-returns-clause-names = calls.run_operator-returns-clause-names
+
+pub run_function-returns-in-Some-at_once-clause-names : goal.run_function-returns-in-Some-at_once-clause-names
+run_function-returns-in-Some-at_once-clause-names = calls.run_function-returns-in-Some-at_once-clause-names
+
+pub run_function-returns-clause-names : goal.run_function-returns-clause-names
+run_function-returns-clause-names = calls.run_function-returns-clause-names
+
+pub run_operation-returns-in-Some-clause-names : goal.run_operation-returns-in-Some-clause-names
+run_operation-returns-in-Some-clause-names = calls.run_operation-returns-in-Some-clause-names
+
+pub run_operation-returns-in_default-clause-names : goal.run_operation-returns-in_default-clause-names
+run_operation-returns-in_default-clause-names = calls.run_operation-returns-in_default-clause-names
+
+pub run_arg-returns-in-Some-clause-names : goal.run_arg-returns-in-Some-clause-names
+run_arg-returns-in-Some-clause-names = calls.run_arg-returns-in-Some-clause-names
+
+pub run_arg-returns-in-None-clause-names : goal.run_arg-returns-in-None-clause-names
+run_arg-returns-in-None-clause-names = calls.run_arg-returns-in-None-clause-names
+
+pub run_function-call_at_once-at_once-requires : goal.run_function-call_at_once-at_once-requires
+run_function-call_at_once-at_once-requires = calls.run_function-call_at_once-at_once-requires
+
+pub run_operation-operate_in_place-in_place-requires-clause-resolves_left : goal.run_operation-operate_in_place-in_place-requires-clause-resolves_left
+run_operation-operate_in_place-in_place-requires-clause-resolves_left = calls.run_operation-operate_in_place-in_place-requires-clause-resolves_left
+
+pub run_operation-operate_in_place-in_place-requires-clause-resolves_right : goal.run_operation-operate_in_place-in_place-requires-clause-resolves_right
+run_operation-operate_in_place-in_place-requires-clause-resolves_right = calls.run_operation-operate_in_place-in_place-requires-clause-resolves_right
 
 pub run_chain-given_args-requires : goal.run_chain-given_args-requires
 run_chain-given_args-requires = chains.run_chain-given_args-requires
@@ -315,6 +378,30 @@ run_expr-returns-in-Index-clause-runs = chains.run_expr-returns-in-Index-clause-
 pub assign_evaluated-assign_chain-requires : goal.assign_evaluated-assign_chain-requires
 assign_evaluated-assign_chain-requires = chains.assign_evaluated-assign_chain-requires
 
+pub run_chain-returns-else-not-run_link_args-clause-names : goal.run_chain-returns-else-not-run_link_args-clause-names
+run_chain-returns-else-not-run_link_args-clause-names = chains.run_chain-returns-else-not-run_link_args-clause-names
+
+pub run_link_args-returns-in-Some-behind-clause-names : goal.run_link_args-returns-in-Some-behind-clause-names
+run_link_args-returns-in-Some-behind-clause-names = chains.run_link_args-returns-in-Some-behind-clause-names
+
+pub run_link_args-returns-in-None-clause-names : goal.run_link_args-returns-in-None-clause-names
+run_link_args-returns-in-None-clause-names = chains.run_link_args-returns-in-None-clause-names
+
+pub run_root-returns-else-not-run_expr-clause-names : goal.run_root-returns-else-not-run_expr-clause-names
+run_root-returns-else-not-run_expr-clause-names = chains.run_root-returns-else-not-run_expr-clause-names
+
+pub run_root-returns-else-not-charge-clause-names : goal.run_root-returns-else-not-charge-clause-names
+run_root-returns-else-not-charge-clause-names = chains.run_root-returns-else-not-charge-clause-names
+
+pub run_root-returns-else-not-charge-2-clause-names : goal.run_root-returns-else-not-charge-2-clause-names
+run_root-returns-else-not-charge-2-clause-names = chains.run_root-returns-else-not-charge-2-clause-names
+
+pub assign_chain-returns-clause-names : goal.assign_chain-returns-clause-names
+assign_chain-returns-clause-names = chains.assign_chain-returns-clause-names
+
+pub run_chain-returns-else-asks-clause-names : goal.run_chain-returns-else-asks-clause-names
+run_chain-returns-else-asks-clause-names = chains.run_chain-returns-else-asks-clause-names
+
 pub run_until-run_condition-requires : goal.run_until-run_condition-requires
 run_until-run_condition-requires = choices.run_until-run_condition-requires
 
@@ -353,6 +440,15 @@ run_coalesce-returns-in-Some-false-clause-runs = choices.run_coalesce-returns-in
 
 pub run_coalesce-returns-clause-runs : goal.run_coalesce-returns-clause-runs
 run_coalesce-returns-clause-runs = choices.run_coalesce-returns-clause-runs
+
+pub run_until-returns-then-is_same-clause-names : goal.run_until-returns-then-is_same-clause-names
+run_until-returns-then-is_same-clause-names = choices.run_until-returns-then-is_same-clause-names
+
+pub run_coalesce-returns-in-Some-false-clause-names : goal.run_coalesce-returns-in-Some-false-clause-names
+run_coalesce-returns-in-Some-false-clause-names = choices.run_coalesce-returns-in-Some-false-clause-names
+
+pub run_until-returns-clause-names : goal.run_until-returns-clause-names
+run_until-returns-clause-names = choices.run_until-returns-clause-names
 
 pub run_array-run_expr-requires : goal.run_array-run_expr-requires
 run_array-run_expr-requires = making.run_array-run_expr-requires
@@ -407,6 +503,15 @@ run_interpolated-returns-then-not-join-clause-runs = making.run_interpolated-ret
 
 pub run_interpolated-returns-clause-runs : goal.run_interpolated-returns-clause-runs
 run_interpolated-returns-clause-runs = making.run_interpolated-returns-clause-runs
+
+pub run_array-returns-clause-names : goal.run_array-returns-clause-names
+run_array-returns-clause-names = making.run_array-returns-clause-names
+
+pub run_map-returns-clause-names : goal.run_map-returns-clause-names
+run_map-returns-clause-names = making.run_map-returns-clause-names
+
+pub run_interpolated-returns-clause-names : goal.run_interpolated-returns-clause-names
+run_interpolated-returns-clause-names = making.run_interpolated-returns-clause-names
 
 pub run_expr-returns-then-not-charge_expr-clause-runs : goal.run_expr-returns-then-not-charge_expr-clause-runs
 run_expr-returns-then-not-charge_expr-clause-runs = expressions.run_expr-returns-then-not-charge_expr-clause-runs
@@ -464,6 +569,78 @@ run_condition-returns-then-not-run_expr-clause-memory = expressions.run_conditio
 
 pub run_condition-returns-else-not-run_expr-clause-runs : goal.run_condition-returns-else-not-run_expr-clause-runs
 run_condition-returns-else-not-run_expr-clause-runs = expressions.run_condition-returns-else-not-run_expr-clause-runs
+
+pub run_expr-run_fn_call_expr-requires : goal.run_expr-run_fn_call_expr-requires
+run_expr-run_fn_call_expr-requires = expressions.run_expr-run_fn_call_expr-requires
+
+pub run_expr-run_stmt_block-requires : goal.run_expr-run_stmt_block-requires
+run_expr-run_stmt_block-requires = expressions.run_expr-run_stmt_block-requires
+
+pub run_expr-run_until-requires : goal.run_expr-run_until-requires
+run_expr-run_until-requires = expressions.run_expr-run_until-requires
+
+pub run_expr-run_until-requires-in-Or : goal.run_expr-run_until-requires-in-Or
+run_expr-run_until-requires-in-Or = expressions.run_expr-run_until-requires-in-Or
+
+pub run_expr-run_coalesce-requires : goal.run_expr-run_coalesce-requires
+run_expr-run_coalesce-requires = expressions.run_expr-run_coalesce-requires
+
+pub run_expr-run_array-requires : goal.run_expr-run_array-requires
+run_expr-run_array-requires = expressions.run_expr-run_array-requires
+
+pub run_expr-run_map-requires : goal.run_expr-run_map-requires
+run_expr-run_map-requires = expressions.run_expr-run_map-requires
+
+pub run_expr-run_interpolated-requires : goal.run_expr-run_interpolated-requires
+run_expr-run_interpolated-requires = expressions.run_expr-run_interpolated-requires
+
+pub run_expr-read_expr-requires : goal.run_expr-read_expr-requires
+run_expr-read_expr-requires = expressions.run_expr-read_expr-requires
+
+pub run_condition-run_expr-requires : goal.run_condition-run_expr-requires
+run_condition-run_expr-requires = expressions.run_condition-run_expr-requires
+
+pub run_expr-returns-in-FnCall-clause-names : goal.run_expr-returns-in-FnCall-clause-names
+run_expr-returns-in-FnCall-clause-names = expressions.run_expr-returns-in-FnCall-clause-names
+
+pub run_expr-returns-in-And-clause-names : goal.run_expr-returns-in-And-clause-names
+run_expr-returns-in-And-clause-names = expressions.run_expr-returns-in-And-clause-names
+
+pub run_expr-returns-in-Or-clause-names : goal.run_expr-returns-in-Or-clause-names
+run_expr-returns-in-Or-clause-names = expressions.run_expr-returns-in-Or-clause-names
+
+pub run_expr-returns-in-Coalesce-clause-names : goal.run_expr-returns-in-Coalesce-clause-names
+run_expr-returns-in-Coalesce-clause-names = expressions.run_expr-returns-in-Coalesce-clause-names
+
+pub run_expr-returns-in-Array-clause-names : goal.run_expr-returns-in-Array-clause-names
+run_expr-returns-in-Array-clause-names = expressions.run_expr-returns-in-Array-clause-names
+
+pub run_expr-returns-in-Map-clause-names : goal.run_expr-returns-in-Map-clause-names
+run_expr-returns-in-Map-clause-names = expressions.run_expr-returns-in-Map-clause-names
+
+pub run_expr-returns-in-InterpolatedString-clause-names : goal.run_expr-returns-in-InterpolatedString-clause-names
+run_expr-returns-in-InterpolatedString-clause-names = expressions.run_expr-returns-in-InterpolatedString-clause-names
+
+pub run_expr-returns-in-Dot-clause-names : goal.run_expr-returns-in-Dot-clause-names
+run_expr-returns-in-Dot-clause-names = expressions.run_expr-returns-in-Dot-clause-names
+
+pub run_expr-returns-in-Index-clause-names : goal.run_expr-returns-in-Index-clause-names
+run_expr-returns-in-Index-clause-names = expressions.run_expr-returns-in-Index-clause-names
+
+pub run_expr-returns-in-Stmt-clause-names : goal.run_expr-returns-in-Stmt-clause-names
+run_expr-returns-in-Stmt-clause-names = expressions.run_expr-returns-in-Stmt-clause-names
+
+pub run_expr-returns-in_default-clause-names : goal.run_expr-returns-in_default-clause-names
+run_expr-returns-in_default-clause-names = expressions.run_expr-returns-in_default-clause-names
+
+pub run_condition-returns-in-Some-clause-names : goal.run_condition-returns-in-Some-clause-names
+run_condition-returns-in-Some-clause-names = expressions.run_condition-returns-in-Some-clause-names
+
+pub run_condition-returns-else-not-run_expr-clause-names : goal.run_condition-returns-else-not-run_expr-clause-names
+run_condition-returns-else-not-run_expr-clause-names = expressions.run_condition-returns-else-not-run_expr-clause-names
+
+pub run_condition-holds_at_once-requires : goal.run_condition-holds_at_once-requires
+run_condition-holds_at_once-requires = expressions.run_condition-holds_at_once-requires
 
 pub run_call-run_named-requires : goal.run_call-run_named-requires
 run_call-run_named-requires = functions.run_call-run_named-requires
@@ -627,6 +804,42 @@ run_all_args-returns-clause-names = functions.run_all_args-returns-clause-names
 pub run_all_args-returns-clause-collects : goal.run_all_args-returns-clause-collects
 run_all_args-returns-clause-collects = functions.run_all_args-returns-clause-collects
 
+pub run_keyword-returns-in-Ok-pointer_of-clause-names : goal.run_keyword-returns-in-Ok-pointer_of-clause-names
+run_keyword-returns-in-Ok-pointer_of-clause-names = functions.run_keyword-returns-in-Ok-pointer_of-clause-names
+
+pub run_keyword-returns-in-Ok-Some-clause-names : goal.run_keyword-returns-in-Ok-Some-clause-names
+run_keyword-returns-in-Ok-Some-clause-names = functions.run_keyword-returns-in-Ok-Some-clause-names
+
+pub run_keyword-returns-in-Some-clause-names : goal.run_keyword-returns-in-Some-clause-names
+run_keyword-returns-in-Some-clause-names = functions.run_keyword-returns-in-Some-clause-names
+
+pub run_keyword-returns-in-None-clause-names : goal.run_keyword-returns-in-None-clause-names
+run_keyword-returns-in-None-clause-names = functions.run_keyword-returns-in-None-clause-names
+
+pub run_pointer-returns-clause-names : goal.run_pointer-returns-clause-names
+run_pointer-returns-clause-names = functions.run_pointer-returns-clause-names
+
+pub run_named-returns-in-Some-clause-names : goal.run_named-returns-in-Some-clause-names
+run_named-returns-in-Some-clause-names = functions.run_named-returns-in-Some-clause-names
+
+pub run_named-returns-else-not-run_more_args-2-clause-names : goal.run_named-returns-else-not-run_more_args-2-clause-names
+run_named-returns-else-not-run_more_args-2-clause-names = functions.run_named-returns-else-not-run_more_args-2-clause-names
+
+pub run_on_values-returns-clause-names : goal.run_on_values-returns-clause-names
+run_on_values-returns-clause-names = functions.run_on_values-returns-clause-names
+
+pub run_all_args-returns-in_default-clause-names : goal.run_all_args-returns-in_default-clause-names
+run_all_args-returns-in_default-clause-names = functions.run_all_args-returns-in_default-clause-names
+
+pub run_keyword-returns-in-IsShared-clause-names : goal.run_keyword-returns-in-IsShared-clause-names
+run_keyword-returns-in-IsShared-clause-names = functions.run_keyword-returns-in-IsShared-clause-names
+
+pub run_keyword-returns-in-Ok-clause-names : goal.run_keyword-returns-in-Ok-clause-names
+run_keyword-returns-in-Ok-clause-names = functions.run_keyword-returns-in-Ok-clause-names
+
+pub run_keyword-returns-in-Ok-text_of-clause-names : goal.run_keyword-returns-in-Ok-text_of-clause-names
+run_keyword-returns-in-Ok-text_of-clause-names = functions.run_keyword-returns-in-Ok-text_of-clause-names
+
 pub run_break-returns-in-None-clause-runs : goal.run_break-returns-in-None-clause-runs
 run_break-returns-in-None-clause-runs = leaving.run_break-returns-in-None-clause-runs
 
@@ -789,6 +1002,33 @@ while_turn-returns-then-holds-clause-names = loops.while_turn-returns-then-holds
 pub while_turn-returns-else-holds-clause-runs : goal.while_turn-returns-else-holds-clause-runs
 while_turn-returns-else-holds-clause-runs = loops.while_turn-returns-else-holds-clause-runs
 
+pub run_while-while_turn-requires : goal.run_while-while_turn-requires
+run_while-while_turn-requires = loops.run_while-while_turn-requires
+
+pub run_do-do_turn-requires : goal.run_do-do_turn-requires
+run_do-do_turn-requires = loops.run_do-do_turn-requires
+
+pub while_turn-run_stmt_block-done-requires : goal.while_turn-run_stmt_block-done-requires
+while_turn-run_stmt_block-done-requires = loops.while_turn-run_stmt_block-done-requires
+
+pub while_turn-run_stmt_block-done-requires-then-holds : goal.while_turn-run_stmt_block-done-requires-then-holds
+while_turn-run_stmt_block-done-requires-then-holds = loops.while_turn-run_stmt_block-done-requires-then-holds
+
+pub do_turn-run_stmt_block-done-requires : goal.do_turn-run_stmt_block-done-requires
+do_turn-run_stmt_block-done-requires = loops.do_turn-run_stmt_block-done-requires
+
+pub run_break-run_expr-requires : goal.run_break-run_expr-requires
+run_break-run_expr-requires = loops.run_break-run_expr-requires
+
+pub run_return-run_expr-requires : goal.run_return-run_expr-requires
+run_return-run_expr-requires = loops.run_return-run_expr-requires
+
+pub while_turn-returns-then-charge-clause-names : goal.while_turn-returns-then-charge-clause-names
+while_turn-returns-then-charge-clause-names = loops.while_turn-returns-then-charge-clause-names
+
+pub while_turn-returns-else-holds-clause-names : goal.while_turn-returns-else-holds-clause-names
+while_turn-returns-else-holds-clause-names = loops.while_turn-returns-else-holds-clause-names
+
 pub walk_member-returns-in_default-clause-runs : goal.walk_member-returns-in_default-clause-runs
 walk_member-returns-in_default-clause-runs = members.walk_member-returns-in_default-clause-runs
 
@@ -837,6 +1077,9 @@ run_plain_call-returns-clause-counts = plain.run_plain_call-returns-clause-count
 pub run_plain_call-returns-clause-names : goal.run_plain_call-returns-clause-names
 run_plain_call-returns-clause-names = plain.run_plain_call-returns-clause-names
 
+pub run_plain_call-returns-in-Some-clause-names : goal.run_plain_call-returns-in-Some-clause-names
+run_plain_call-returns-in-Some-clause-names = plain.run_plain_call-returns-in-Some-clause-names
+
 pub run_plain_call-returns-clause-runs : goal.run_plain_call-returns-clause-runs
 run_plain_call-returns-clause-runs = plain.run_plain_call-returns-clause-runs
 
@@ -876,6 +1119,9 @@ run_qualified_call-returns-then-not-run_more_args-clause-runs = qualified.run_qu
 pub run_qualified_call-returns-clause-runs : goal.run_qualified_call-returns-clause-runs
 run_qualified_call-returns-clause-runs = qualified.run_qualified_call-returns-clause-runs
 
+pub run_qualified_call-returns-clause-names : goal.run_qualified_call-returns-clause-names
+run_qualified_call-returns-clause-names = qualified.run_qualified_call-returns-clause-names
+
 pub walk_variable-returns-in_default-clause-names : goal.walk_variable-returns-in_default-clause-names
 walk_variable-returns-in_default-clause-names = roots.walk_variable-returns-in_default-clause-names
 
@@ -902,6 +1148,9 @@ walk_value-returns-in_default-clause-runs = roots.walk_value-returns-in_default-
 
 pub walk_value-returns-clause-runs : goal.walk_value-returns-clause-runs
 walk_value-returns-clause-runs = roots.walk_value-returns-clause-runs
+
+pub walk_variable-lend_variable-lent-requires : goal.walk_variable-lend_variable-lent-requires
+walk_variable-lend_variable-lent-requires = roots.walk_variable-lend_variable-lent-requires
 
 pub walk_spot-returns-in_default-clause-runs : goal.walk_spot-returns-in_default-clause-runs
 walk_spot-returns-in_default-clause-runs = spots.walk_spot-returns-in_default-clause-runs
@@ -1041,6 +1290,30 @@ run_assignment-returns-in-Some-clause-runs = statements.run_assignment-returns-i
 pub run_assignment-assign_evaluated-requires : goal.run_assignment-assign_evaluated-requires
 run_assignment-assign_evaluated-requires = statements.run_assignment-assign_evaluated-requires
 
+pub run_assignment-returns-in-Some-clause-names : goal.run_assignment-returns-in-Some-clause-names
+run_assignment-returns-in-Some-clause-names = statements.run_assignment-returns-in-Some-clause-names
+
+pub run_assignment-returns-clause-names : goal.run_assignment-returns-clause-names
+run_assignment-returns-clause-names = statements.run_assignment-returns-clause-names
+
+pub assign_evaluated-returns-else-not-flatten_at-clause-names : goal.assign_evaluated-returns-else-not-flatten_at-clause-names
+assign_evaluated-returns-else-not-flatten_at-clause-names = statements.assign_evaluated-returns-else-not-flatten_at-clause-names
+
+pub assign_evaluated-returns-else-not-flatten_at-2-clause-names : goal.assign_evaluated-returns-else-not-flatten_at-2-clause-names
+assign_evaluated-returns-else-not-flatten_at-2-clause-names = statements.assign_evaluated-returns-else-not-flatten_at-2-clause-names
+
+pub run_import-returns-clause-names : goal.run_import-returns-clause-names
+run_import-returns-clause-names = statements.run_import-returns-clause-names
+
+pub run_stmt_block-returns-then-is_empty-clause-restores : goal.run_stmt_block-returns-then-is_empty-clause-restores
+run_stmt_block-returns-then-is_empty-clause-restores = statements.run_stmt_block-returns-then-is_empty-clause-restores
+
+pub run_if-run_stmt_block-requires : goal.run_if-run_stmt_block-requires
+run_if-run_stmt_block-requires = statements.run_if-run_stmt_block-requires
+
+pub run_if-returns-in-Some-clause-names : goal.run_if-returns-in-Some-clause-names
+run_if-returns-in-Some-clause-names = statements.run_if-returns-in-Some-clause-names
+
 pub assign_evaluated-returns-then-not-run_expr-clause-runs : goal.assign_evaluated-returns-then-not-run_expr-clause-runs
 assign_evaluated-returns-then-not-run_expr-clause-runs = statements.assign_evaluated-returns-then-not-run_expr-clause-runs
 
@@ -1137,6 +1410,141 @@ run_statements-returns-clause-runs = statements.run_statements-returns-clause-ru
 pub run_statements-returns-then-not-run_stmt-clause-memory : goal.run_statements-returns-then-not-run_stmt-clause-memory
 run_statements-returns-then-not-run_stmt-clause-memory = statements.run_statements-returns-then-not-run_stmt-clause-memory
 
+pub run_stmt-run_expr-requires : goal.run_stmt-run_expr-requires
+run_stmt-run_expr-requires = statements.run_stmt-run_expr-requires
+
+pub run_stmt-run_fn_call_expr-requires : goal.run_stmt-run_fn_call_expr-requires
+run_stmt-run_fn_call_expr-requires = statements.run_stmt-run_fn_call_expr-requires
+
+pub run_stmt-run_stmt_block-requires : goal.run_stmt-run_stmt_block-requires
+run_stmt-run_stmt_block-requires = statements.run_stmt-run_stmt_block-requires
+
+pub run_stmt-run_if-requires : goal.run_stmt-run_if-requires
+run_stmt-run_if-requires = statements.run_stmt-run_if-requires
+
+pub run_stmt-run_while-requires : goal.run_stmt-run_while-requires
+run_stmt-run_while-requires = statements.run_stmt-run_while-requires
+
+pub run_stmt-run_do-requires : goal.run_stmt-run_do-requires
+run_stmt-run_do-requires = statements.run_stmt-run_do-requires
+
+pub run_stmt-run_break-requires : goal.run_stmt-run_break-requires
+run_stmt-run_break-requires = statements.run_stmt-run_break-requires
+
+pub run_stmt-run_return-requires : goal.run_stmt-run_return-requires
+run_stmt-run_return-requires = statements.run_stmt-run_return-requires
+
+pub run_stmt-run_import-requires : goal.run_stmt-run_import-requires
+run_stmt-run_import-requires = statements.run_stmt-run_import-requires
+
+pub run_stmt-returns-in-Noop-clause-names : goal.run_stmt-returns-in-Noop-clause-names
+run_stmt-returns-in-Noop-clause-names = statements.run_stmt-returns-in-Noop-clause-names
+
+pub run_stmt-returns-else-not-run_expr-clause-names : goal.run_stmt-returns-else-not-run_expr-clause-names
+run_stmt-returns-else-not-run_expr-clause-names = statements.run_stmt-returns-else-not-run_expr-clause-names
+
+pub run_stmt-returns-in-FnCall-clause-names : goal.run_stmt-returns-in-FnCall-clause-names
+run_stmt-returns-in-FnCall-clause-names = statements.run_stmt-returns-in-FnCall-clause-names
+
+pub run_stmt-returns-in-Block-clause-names : goal.run_stmt-returns-in-Block-clause-names
+run_stmt-returns-in-Block-clause-names = statements.run_stmt-returns-in-Block-clause-names
+
+pub run_stmt-returns-in-Assignment-clause-names : goal.run_stmt-returns-in-Assignment-clause-names
+run_stmt-returns-in-Assignment-clause-names = statements.run_stmt-returns-in-Assignment-clause-names
+
+pub run_stmt-returns-in-If-clause-names : goal.run_stmt-returns-in-If-clause-names
+run_stmt-returns-in-If-clause-names = statements.run_stmt-returns-in-If-clause-names
+
+pub run_stmt-returns-in-While-clause-names : goal.run_stmt-returns-in-While-clause-names
+run_stmt-returns-in-While-clause-names = statements.run_stmt-returns-in-While-clause-names
+
+pub run_stmt-returns-in-Do-clause-names : goal.run_stmt-returns-in-Do-clause-names
+run_stmt-returns-in-Do-clause-names = statements.run_stmt-returns-in-Do-clause-names
+
+pub run_stmt-returns-in-Switch-clause-names : goal.run_stmt-returns-in-Switch-clause-names
+run_stmt-returns-in-Switch-clause-names = statements.run_stmt-returns-in-Switch-clause-names
+
+pub run_stmt-returns-in-For-clause-names : goal.run_stmt-returns-in-For-clause-names
+run_stmt-returns-in-For-clause-names = statements.run_stmt-returns-in-For-clause-names
+
+pub run_stmt-returns-in-TryCatch-clause-names : goal.run_stmt-returns-in-TryCatch-clause-names
+run_stmt-returns-in-TryCatch-clause-names = statements.run_stmt-returns-in-TryCatch-clause-names
+
+pub run_stmt-returns-in-Share-clause-names : goal.run_stmt-returns-in-Share-clause-names
+run_stmt-returns-in-Share-clause-names = statements.run_stmt-returns-in-Share-clause-names
+
+pub run_stmt-returns-in-Export-clause-names : goal.run_stmt-returns-in-Export-clause-names
+run_stmt-returns-in-Export-clause-names = statements.run_stmt-returns-in-Export-clause-names
+
+pub run_stmt-returns-in-Import-clause-names : goal.run_stmt-returns-in-Import-clause-names
+run_stmt-returns-in-Import-clause-names = statements.run_stmt-returns-in-Import-clause-names
+
+pub run_statements-run_stmt-requires : goal.run_statements-run_stmt-requires
+run_statements-run_stmt-requires = statements.run_statements-run_stmt-requires
+
+pub run_stmt-returns-in-Noop-clause-declared : goal.run_stmt-returns-in-Noop-clause-declared
+run_stmt-returns-in-Noop-clause-declared = statements.run_stmt-returns-in-Noop-clause-declared
+
+pub run_stmt-returns-in-FnCall-clause-declared : goal.run_stmt-returns-in-FnCall-clause-declared
+run_stmt-returns-in-FnCall-clause-declared = statements.run_stmt-returns-in-FnCall-clause-declared
+
+pub run_stmt-returns-in-Block-clause-declared : goal.run_stmt-returns-in-Block-clause-declared
+run_stmt-returns-in-Block-clause-declared = statements.run_stmt-returns-in-Block-clause-declared
+
+pub run_stmt-returns-in-Assignment-clause-declared : goal.run_stmt-returns-in-Assignment-clause-declared
+run_stmt-returns-in-Assignment-clause-declared = statements.run_stmt-returns-in-Assignment-clause-declared
+
+pub run_stmt-returns-in-If-clause-declared : goal.run_stmt-returns-in-If-clause-declared
+run_stmt-returns-in-If-clause-declared = statements.run_stmt-returns-in-If-clause-declared
+
+pub run_stmt-returns-in-While-clause-declared : goal.run_stmt-returns-in-While-clause-declared
+run_stmt-returns-in-While-clause-declared = statements.run_stmt-returns-in-While-clause-declared
+
+pub run_stmt-returns-in-Do-clause-declared : goal.run_stmt-returns-in-Do-clause-declared
+run_stmt-returns-in-Do-clause-declared = statements.run_stmt-returns-in-Do-clause-declared
+
+pub run_stmt-returns-in-BreakLoop-clause-declared : goal.run_stmt-returns-in-BreakLoop-clause-declared
+run_stmt-returns-in-BreakLoop-clause-declared = statements.run_stmt-returns-in-BreakLoop-clause-declared
+
+pub run_stmt-returns-in-Return-clause-declared : goal.run_stmt-returns-in-Return-clause-declared
+run_stmt-returns-in-Return-clause-declared = statements.run_stmt-returns-in-Return-clause-declared
+
+pub run_stmt-returns-in-Switch-clause-declared : goal.run_stmt-returns-in-Switch-clause-declared
+run_stmt-returns-in-Switch-clause-declared = statements.run_stmt-returns-in-Switch-clause-declared
+
+pub run_stmt-returns-in-For-clause-declared : goal.run_stmt-returns-in-For-clause-declared
+run_stmt-returns-in-For-clause-declared = statements.run_stmt-returns-in-For-clause-declared
+
+pub run_stmt-returns-in-TryCatch-clause-declared : goal.run_stmt-returns-in-TryCatch-clause-declared
+run_stmt-returns-in-TryCatch-clause-declared = statements.run_stmt-returns-in-TryCatch-clause-declared
+
+pub run_stmt-returns-in-Share-clause-declared : goal.run_stmt-returns-in-Share-clause-declared
+run_stmt-returns-in-Share-clause-declared = statements.run_stmt-returns-in-Share-clause-declared
+
+pub run_stmt-returns-in-Export-clause-declared : goal.run_stmt-returns-in-Export-clause-declared
+run_stmt-returns-in-Export-clause-declared = statements.run_stmt-returns-in-Export-clause-declared
+
+pub run_stmt-returns-in-Import-clause-declared : goal.run_stmt-returns-in-Import-clause-declared
+run_stmt-returns-in-Import-clause-declared = statements.run_stmt-returns-in-Import-clause-declared
+
+pub run_stmt-returns-else-not-run_expr-clause-declared : goal.run_stmt-returns-else-not-run_expr-clause-declared
+run_stmt-returns-else-not-run_expr-clause-declared = statements.run_stmt-returns-else-not-run_expr-clause-declared
+
+pub run_stmt-returns-in-Var-clause-declared : goal.run_stmt-returns-in-Var-clause-declared
+run_stmt-returns-in-Var-clause-declared = statements.run_stmt-returns-in-Var-clause-declared
+
+pub run_var-returns-clause-declared : goal.run_var-returns-clause-declared
+run_var-returns-clause-declared = statements.run_var-returns-clause-declared
+
+pub run_assignment-assign_at_once-at_once-requires-clause-resolves_target : goal.run_assignment-assign_at_once-at_once-requires-clause-resolves_target
+run_assignment-assign_at_once-at_once-requires-clause-resolves_target = statements.run_assignment-assign_at_once-at_once-requires-clause-resolves_target
+
+pub run_assignment-assign_at_once-at_once-requires-clause-resolves : goal.run_assignment-assign_at_once-at_once-requires-clause-resolves
+run_assignment-assign_at_once-at_once-requires-clause-resolves = statements.run_assignment-assign_at_once-at_once-requires-clause-resolves
+
+pub run_import-run_expr-requires : goal.run_import-run_expr-requires
+run_import-run_expr-requires = statements.run_import-run_expr-requires
+
 pub run_switch-returns-then-not-run_expr-clause-runs : goal.run_switch-returns-then-not-run_expr-clause-runs
 run_switch-returns-then-not-run_expr-clause-runs = switches.run_switch-returns-then-not-run_expr-clause-runs
 
@@ -1170,6 +1578,15 @@ run_switch-returns-then-holds-clause-runs = switches.run_switch-returns-then-hol
 pub run_switch-each_candidate-preserved : goal.run_switch-each_candidate-preserved
 run_switch-each_candidate-preserved = switches.run_switch-each_candidate-preserved
 
+pub run_switch-returns-in-Some-default_result-clause-names : goal.run_switch-returns-in-Some-default_result-clause-names
+run_switch-returns-in-Some-default_result-clause-names = switches.run_switch-returns-in-Some-default_result-clause-names
+
+pub run_switch-returns-then-holds-clause-names : goal.run_switch-returns-then-holds-clause-names
+run_switch-returns-then-holds-clause-names = switches.run_switch-returns-then-holds-clause-names
+
+pub run_switch-returns-in-None-default_result-clause-names : goal.run_switch-returns-in-None-default_result-clause-names
+run_switch-returns-in-None-default_result-clause-names = switches.run_switch-returns-in-None-default_result-clause-names
+
 pub run_try-returns-then-run_stmt_block-clause-runs : goal.run_try-returns-then-run_stmt_block-clause-runs
 run_try-returns-then-run_stmt_block-clause-runs = tries.run_try-returns-then-run_stmt_block-clause-runs
 
@@ -1202,6 +1619,12 @@ run_branch-returns-clause-counts = tries.run_branch-returns-clause-counts
 
 pub run_branch-returns-clause-names : goal.run_branch-returns-clause-names
 run_branch-returns-clause-names = tries.run_branch-returns-clause-names
+
+pub run_try-run_stmt_block-requires : goal.run_try-run_stmt_block-requires
+run_try-run_stmt_block-requires = tries.run_try-run_stmt_block-requires
+
+pub run_try-returns-then-run_stmt_block-clause-names : goal.run_try-returns-then-run_stmt_block-clause-names
+run_try-returns-then-run_stmt_block-clause-names = tries.run_try-returns-then-run_stmt_block-clause-names
 
 pub walk_chain-unreachable-requires : goal.walk_chain-unreachable-requires
 walk_chain-unreachable-requires = walking.walk_chain-unreachable-requires
@@ -1283,3 +1706,12 @@ run_for_turn-returns-clause-names_stay = walks.run_for_turn-returns-clause-names
 
 pub run_for_turn-returns-clause-names : goal.run_for_turn-returns-clause-names
 run_for_turn-returns-clause-names = walks.run_for_turn-returns-clause-names
+
+pub run_for_turn-returns-in_default-clause-names : goal.run_for_turn-returns-in_default-clause-names
+run_for_turn-returns-in_default-clause-names = walks.run_for_turn-returns-in_default-clause-names
+
+pub run_for_turn-returns-then-charge-clause-names_stay : goal.run_for_turn-returns-then-charge-clause-names_stay
+run_for_turn-returns-then-charge-clause-names_stay = walks.run_for_turn-returns-then-charge-clause-names_stay
+
+pub run_for-run_expr-requires : goal.run_for-run_expr-requires
+run_for-run_expr-requires = walks.run_for-run_expr-requires

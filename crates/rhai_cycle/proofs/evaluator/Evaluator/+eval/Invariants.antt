@@ -10,6 +10,7 @@ use Rattle.rhai_tree.specs.declared.expr.Expr.{out-Expr}
 use Rattle.rhai_values.specs.declared.base.value.Dynamic.{Dynamic}
 use Rattle.rhai_machine.specs.language.Values.{unit_value}
 use Rattle.rhai_machine.specs.language.Cases.{default_of, results_of}
+use Rattle.rhai_machine.specs.language.Walks.{counters}
 use Rattle.rhai_machine.specs.language.Frames.{Choose, DoTurn, ForTurn, Frame, OpenStmt, Purpose, RestoreScope, Run, WhileTurn}
 use Rattle.rhai_machine.specs.language.Runs.{at, with_core, Goes, Steps}
 use Rattle.rhai_machine.specs.language.Arguments.{arguments_core, flattens}
@@ -24,6 +25,8 @@ use Rattle.rhai_data.specs.Arrays.{IsMeasured}
 use Rattle.rhai_data.specs.Maps.{IsCounted}
 use Rattle.rhai_context.specs.declared.Context.{Context}
 use Rattle.rhai_cycle.specs.declared.evaluator.Evaluator.{Evaluator}
+use Rattle.rhai_steps.specs.Agreement.{passes}
+use Rattle.rhai_cycle.specs.Agreement.{ChangesNames, KeepsNames, SuitsNames}
 use Rattle.rhai_cycle.specs.States.{names, state_in, under}
 use Rattle.rhai_cycle.proofs.ChoiceSteps.{until_core}
 use Rattle.rhai_cycle.proofs.PlainLemmas.{Filling}
@@ -235,8 +238,7 @@ decreases-walk_behind g l = measured l.self.now l.run.now (left_by (behind_of l.
 abbrev pub invariant-run_statements-each_stmt : goal.invariant-run_statements-each_stmt
 invariant-run_statements-each_stmt g l = record {
   counts : l.fn.run.global.num_operations ≤ l.run.global.num_operations;
-  resolves : all_resolve (map resolves_stmt (drop l.stmt-index l.statements)) (names l.run) ≡ all_resolve
-      (map resolves_stmt l.statements) (names l.fn.run);
+  resolves : SuitsNames l.run (passes (all_resolve (map resolves_stmt (drop l.stmt-index l.statements))));
   steps : Steps (under g.H.Host.name_of l.self g.T.NativeTable.natives)
       (Run l.statements l.restoring unit_value) (state_in (g.T.NativeTable.state l.fn.table) l.fn.run)
       (Run (drop l.stmt-index l.statements) l.restoring (last_of l.stmt-index l.run.value)) (state_in (g.T.NativeTable.state l.table) l.run);
@@ -245,7 +247,7 @@ invariant-run_statements-each_stmt g l = record {
 abbrev pub invariant-run_until-each_part : goal.invariant-run_until-each_part
 invariant-run_until-each_part g l = record {
   counts : l.fn.run.global.num_operations ≤ l.run.global.num_operations;
-  names : names l.run ≡ names l.fn.run;
+  names : KeepsNames l.fn.run l.run;
   steps : (k : List (Frame g.row.H.Denot)) → Goes (under g.H.Host.name_of l.self g.T.NativeTable.natives)
       (with_core (until_core l.stop l.parts k (state_in (g.T.NativeTable.state l.fn.table) l.fn.run).local)
       (state_in (g.T.NativeTable.state l.fn.table) l.fn.run))
@@ -256,7 +258,7 @@ invariant-run_until-each_part g l = record {
 abbrev pub invariant-run_coalesce-each_part : goal.invariant-run_coalesce-each_part
 invariant-run_coalesce-each_part g l = record {
   counts : l.fn.run.global.num_operations ≤ l.run.global.num_operations;
-  names : names l.run ≡ names l.fn.run;
+  names : KeepsNames l.fn.run l.run;
   steps : (k : List (Frame g.row.H.Denot)) → Goes (under g.H.Host.name_of l.self g.T.NativeTable.natives)
       (with_core (coalesce_core unit_value l.parts k (state_in (g.T.NativeTable.state l.fn.table) l.fn.run).local)
       (state_in (g.T.NativeTable.state l.fn.table) l.fn.run))
@@ -267,7 +269,7 @@ invariant-run_coalesce-each_part g l = record {
 abbrev pub invariant-run_more_args-each_arg : goal.invariant-run_more_args-each_arg
 invariant-run_more_args-each_arg g l = record {
   counts : l.fn.run.global.num_operations ≤ l.run.global.num_operations;
-  names : names l.run ≡ names l.fn.run;
+  names : KeepsNames l.fn.run l.run;
   more : length l.values + length (drop l.arg-index l.args) ≡ length l.fn.values + length l.args;
   steps : (purpose : Purpose g.row.H.Denot) → flattens purpose ≡ l.flattened → (k : List (Frame g.row.H.Denot)) →
       Goes (under g.H.Host.name_of l.self g.T.NativeTable.natives)
@@ -282,7 +284,7 @@ invariant-run_more_args-each_arg g l = record {
 abbrev pub invariant-run_parameters-each_arg : goal.invariant-run_parameters-each_arg
 invariant-run_parameters-each_arg g l = record {
   counts : l.fn.run.global.num_operations ≤ l.run.global.num_operations;
-  names : names l.run ≡ names l.fn.run;
+  names : KeepsNames l.fn.run l.run;
   fills : Filling (under g.H.Host.name_of l.self g.T.NativeTable.natives) l.def.params l.args (drop l.arg-index l.args)
       l.variables (state_in (g.T.NativeTable.state l.fn.table) l.fn.run) (state_in (g.T.NativeTable.state l.table) l.run);
 }
@@ -290,7 +292,7 @@ invariant-run_parameters-each_arg g l = record {
 abbrev pub invariant-run_array-each_item : goal.invariant-run_array-each_item
 invariant-run_array-each_item g l = record {
   counts : l.fn.run.global.num_operations ≤ l.run.global.num_operations;
-  names : names l.run ≡ names l.fn.run;
+  names : KeepsNames l.fn.run l.run;
   measured : IsMeasured l.made;
   steps : (k : List (Frame g.row.H.Denot)) → Goes (under g.H.Host.name_of l.self g.T.NativeTable.natives)
       (with_core (items_core [] l.items k (state_in (g.T.NativeTable.state l.fn.table) l.fn.run).local)
@@ -302,7 +304,7 @@ invariant-run_array-each_item g l = record {
 abbrev pub invariant-run_map-each_entry : goal.invariant-run_map-each_entry
 invariant-run_map-each_entry g l = record {
   counts : l.fn.run.global.num_operations ≤ l.run.global.num_operations;
-  names : names l.run ≡ names l.fn.run;
+  names : KeepsNames l.fn.run l.run;
   counted : IsCounted l.made;
   steps : (k : List (Frame g.row.H.Denot)) → Goes (under g.H.Host.name_of l.self g.T.NativeTable.natives)
       (with_core (entries_core (map key_of l.entries) [] l.entries k (state_in (g.T.NativeTable.state l.fn.table) l.fn.run).local)
@@ -315,7 +317,7 @@ invariant-run_map-each_entry g l = record {
 abbrev pub invariant-run_interpolated-each_part : goal.invariant-run_interpolated-each_part
 invariant-run_interpolated-each_part g l = record {
   counts : l.fn.run.global.num_operations ≤ l.run.global.num_operations;
-  names : names l.run ≡ names l.fn.run;
+  names : KeepsNames l.fn.run l.run;
   steps : (k : List (Frame g.row.H.Denot)) → Goes (under g.H.Host.name_of l.self g.T.NativeTable.natives)
       (with_core (parts_core [] l.parts k (state_in (g.T.NativeTable.state l.fn.table) l.fn.run).local)
       (state_in (g.T.NativeTable.state l.fn.table) l.fn.run))
@@ -326,7 +328,7 @@ invariant-run_interpolated-each_part g l = record {
 abbrev pub invariant-run_while-turns : goal.invariant-run_while-turns
 invariant-run_while-turns g l = record {
   counts : l.fn.run.global.num_operations ≤ l.run.global.num_operations;
-  names : names l.run ≡ names l.fn.run;
+  names : KeepsNames l.fn.run l.run;
   steps : Steps (under g.H.Host.name_of l.self g.T.NativeTable.natives) (WhileTurn l.test l.body)
       (state_in (g.T.NativeTable.state l.fn.table) l.fn.run) (WhileTurn l.test l.body) (state_in (g.T.NativeTable.state l.table) l.run);
 }
@@ -337,7 +339,7 @@ decreases-run_while-turns g l = left l.self l.run
 abbrev pub invariant-run_do-turns : goal.invariant-run_do-turns
 invariant-run_do-turns g l = record {
   counts : l.fn.run.global.num_operations ≤ l.run.global.num_operations;
-  names : names l.run ≡ names l.fn.run;
+  names : KeepsNames l.fn.run l.run;
   steps : Steps (under g.H.Host.name_of l.self g.T.NativeTable.natives) (DoTurn l.test l.body l.options)
       (state_in (g.T.NativeTable.state l.fn.table) l.fn.run) (DoTurn l.test l.body l.options)
       (state_in (g.T.NativeTable.state l.table) l.run);
@@ -350,7 +352,7 @@ decreases-run_do-turns g l = left l.self l.run
 abbrev pub invariant-run_switch-each_candidate : goal.invariant-run_switch-each_candidate
 invariant-run_switch-each_candidate g l = record {
   counts : l.fn.run.global.num_operations ≤ l.run.global.num_operations;
-  names : names l.run ≡ names l.fn.run;
+  names : KeepsNames l.fn.run l.run;
   steps : (pos : Position) (restoring : Bool) → Steps (under g.H.Host.name_of l.self g.T.NativeTable.natives)
       (OpenStmt (layer.Switch l.value l.results l.cases l.ranges l.default pos) restoring)
       (state_in (g.T.NativeTable.state l.fn.table) l.fn.run)
@@ -370,8 +372,8 @@ decreases-run_switch-each_candidate g l = length (results_of l.results (numbers_
 abbrev pub invariant-run_for-turns : goal.invariant-run_for-turns
 invariant-run_for-turns g l = record {
   counts : l.fn.run.global.num_operations + l.turn ≤ l.run.global.num_operations;
-  base : l.base ≡ length (names l.fn.run);
-  names : names l.run ≡ turn_names l.parts.variable.now l.parts.counter.now (names l.fn.run);
+  base : l.base + counters l.parts.counter.now + 1 ≡ length (names l.run);
+  names : ChangesNames l.fn.run (turn_names l.parts.variable.now l.parts.counter.now) l.run;
   steps : (pos : Position) (restoring : Bool) (k : List (Frame g.row.H.Denot)) → Goes (under g.H.Host.name_of l.self g.T.NativeTable.natives)
       (at (OpenStmt (layer.For l.parts.variable.now l.parts.counter.now l.parts.items.now l.parts.body.now pos) restoring) k
       (state_in (g.T.NativeTable.state l.fn.table) l.fn.run))

@@ -2,11 +2,11 @@ use Rattle.std.proofs.Common.{◌≡◌, ◌∙◌, Bool, true, false, is_some, 
 use Rattle.rhai_values.specs.declared.base.value.Dynamic.{Dynamic}
 use Rattle.rhai_state.specs.Native.{left_by, was}
 use Rattle.rhai_steps.specs.States.{holding, state_of}
+use Rattle.rhai_cycle.specs.Agreement.{SuitsNames}
 use Rattle.rhai_cycle.specs.States.{under as under_what_is_read}
 use Rattle.rhai_eval.specs.States.{under}
 use Rattle.std.specs.Option.{option_copied}
 use Rattle.rhai_tree.specs.declared.expr.Expr.{out-Expr}
-use Rattle.rhai_state.specs.Scope.{names_in}
 use Rattle.rhai_machine.specs.language.Links.{first_in}
 use Rattle.rhai_chains.specs.Chains.{new_of}
 use Rattle.rhai_cycle.proofs.Chain.{on_done}
@@ -24,6 +24,7 @@ use denote.Triple.Clauses.{at_exit}
 use denote.Triple.Entry.{Args}
 use borrow.Fn.Enter.{lasts_p}
 use borrow.Fn.Kinds.{ended_of}
+use Rattle.rhai_cycle.proofs.NameLemmas.{at_known}
 use Rattle.rhai_eval.proofs.engine.Engine.eval_dot_index_chain.Goals as goal
 
 pub unreachable-requires : goal.unreachable-requires
@@ -32,56 +33,60 @@ unreachable-requires g c =
     let clear : false ≡ true = ap is_some (sym none) ∙ c.requires.chain in cc
 
 pub run_chain-done-requires-clause-root : goal.run_chain-done-requires-clause-root
+unfolding SuitsNames
 run_chain-done-requires-clause-root g c =
     let found = sym c.first_of.ensures ∙ ap option_copied c.in-Some.is in
-    rw c.take_with-run.ensures.run (chain_may_run (is_some c.args.new_val) c.args.expr.now c.in-Some.root.now (names_in c.args.scope.now) found
-    c.requires.resolves).root_runs
+    rw c.take_with-run.ensures.run (at_known c.requires.resolves (chain_may_run (is_some c.args.new_val) c.args.expr.now c.in-Some.root.now
+    c.requires.resolves.known found c.requires.resolves.holds).root_runs)
 
 pub run_chain-done-requires-clause-behind : goal.run_chain-done-requires-clause-behind
+unfolding SuitsNames
 run_chain-done-requires-clause-behind g c =
     let found = sym c.first_of.ensures ∙ ap option_copied c.in-Some.is in
-    rw c.take_with-run.ensures.run (chain_may_run (is_some c.args.new_val) c.args.expr.now c.in-Some.root.now (names_in c.args.scope.now) found
-    c.requires.resolves).behind_runs
+    rw c.take_with-run.ensures.run (at_known c.requires.resolves (chain_may_run (is_some c.args.new_val) c.args.expr.now c.in-Some.root.now
+    c.requires.resolves.known found c.requires.resolves.holds).behind_runs)
 
 pub run_chain-done-requires-clause-walks : goal.run_chain-done-requires-clause-walks
 run_chain-done-requires-clause-walks g c =
     let found = sym c.first_of.ensures ∙ ap option_copied c.in-Some.is in
     subst (λ (assigned : Bool). MayWalk assigned (out-Expr c.args.expr.now)) (sym c.new_value-new.ensures.given)
-    (chain_may_run (is_some c.args.new_val) c.args.expr.now c.in-Some.root.now (names_in c.args.scope.now) found
-    c.requires.resolves).walks
+    (chain_may_run (is_some c.args.new_val) c.args.expr.now c.in-Some.root.now c.requires.resolves.known found
+    c.requires.resolves.holds).walks
 
 pub run_chain-done-requires-clause-starts : goal.run_chain-done-requires-clause-starts
 run_chain-done-requires-clause-starts g c =
     let found = sym c.first_of.ensures ∙ ap option_copied c.in-Some.is in
     subst (λ (assigned : Bool). StartsFrom assigned (out-Expr c.in-Some.root.now)) (sym c.new_value-new.ensures.given)
-    (chain_may_run (is_some c.args.new_val) c.args.expr.now c.in-Some.root.now (names_in c.args.scope.now) found
-    c.requires.resolves).starts
+    (chain_may_run (is_some c.args.new_val) c.args.expr.now c.in-Some.root.now c.requires.resolves.known found
+    c.requires.resolves.holds).starts
 
 pub run_chain-done-requires-in-None-clause-root : goal.run_chain-done-requires-in-None-clause-root
+unfolding SuitsNames
 run_chain-done-requires-in-None-clause-root g c =
     let found = sym c.first_of.ensures ∙ ap option_copied c.in-Some.is in
-    rw c.take-run.ensures.run (chain_may_run (is_some c.args.new_val) c.args.expr.now c.in-Some.root.now (names_in c.args.scope.now) found
-    c.requires.resolves).root_runs
+    rw c.take-run.ensures.run (at_known c.requires.resolves (chain_may_run (is_some c.args.new_val) c.args.expr.now c.in-Some.root.now
+    c.requires.resolves.known found c.requires.resolves.holds).root_runs)
 
 pub run_chain-done-requires-in-None-clause-behind : goal.run_chain-done-requires-in-None-clause-behind
+unfolding SuitsNames
 run_chain-done-requires-in-None-clause-behind g c =
     let found = sym c.first_of.ensures ∙ ap option_copied c.in-Some.is in
-    rw c.take-run.ensures.run (chain_may_run (is_some c.args.new_val) c.args.expr.now c.in-Some.root.now (names_in c.args.scope.now) found
-    c.requires.resolves).behind_runs
+    rw c.take-run.ensures.run (at_known c.requires.resolves (chain_may_run (is_some c.args.new_val) c.args.expr.now c.in-Some.root.now
+    c.requires.resolves.known found c.requires.resolves.holds).behind_runs)
 
 pub run_chain-done-requires-in-None-clause-walks : goal.run_chain-done-requires-in-None-clause-walks
 run_chain-done-requires-in-None-clause-walks g c =
     let found = sym c.first_of.ensures ∙ ap option_copied c.in-Some.is in
     subst (λ (assigned : Bool). MayWalk assigned (out-Expr c.args.expr.now)) (sym c.new_value-new.ensures.given)
-    (chain_may_run (is_some c.args.new_val) c.args.expr.now c.in-Some.root.now (names_in c.args.scope.now) found
-    c.requires.resolves).walks
+    (chain_may_run (is_some c.args.new_val) c.args.expr.now c.in-Some.root.now c.requires.resolves.known found
+    c.requires.resolves.holds).walks
 
 pub run_chain-done-requires-in-None-clause-starts : goal.run_chain-done-requires-in-None-clause-starts
 run_chain-done-requires-in-None-clause-starts g c =
     let found = sym c.first_of.ensures ∙ ap option_copied c.in-Some.is in
     subst (λ (assigned : Bool). StartsFrom assigned (out-Expr c.in-Some.root.now)) (sym c.new_value-new.ensures.given)
-    (chain_may_run (is_some c.args.new_val) c.args.expr.now c.in-Some.root.now (names_in c.args.scope.now) found
-    c.requires.resolves).starts
+    (chain_may_run (is_some c.args.new_val) c.args.expr.now c.in-Some.root.now c.requires.resolves.known found
+    c.requires.resolves.holds).starts
 
 -- what stands in the place of `this` as its loan ends, were this the place
 abbrev left_on : (g : Over) → goal.After-give_back_with g → Option (MutBor (Dynamic g.row.H.Denot)) → Option (Dynamic g.row.H.Denot)

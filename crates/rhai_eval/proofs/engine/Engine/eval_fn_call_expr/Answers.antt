@@ -2,6 +2,7 @@ use Rattle.std.proofs.Common.{◌≡◌, Option, Some, None, MutBor, ap, refl, s
 use Rattle.rhai_values.specs.declared.base.value.Dynamic.{Dynamic}
 use Rattle.rhai_state.specs.Native.{left_by, was}
 use Rattle.rhai_steps.specs.States.{holding, state_of}
+use Rattle.rhai_cycle.specs.Agreement.{SuitsNames}
 use Rattle.rhai_cycle.specs.States.{under as under_what_is_read}
 use Rattle.rhai_eval.specs.States.{under}
 use Rattle.rhai_machine.specs.language.Runs.{Runs}
@@ -104,3 +105,11 @@ returns-in-None-clause-kept g c = kept (under g.H.Host.name_of c.args.self.now g
 pub returns-in-None-clause-names : goal.returns-in-None-clause-names
 returns-in-None-clause-names g c = names_stay (under g.H.Host.name_of c.args.self.now g.T.NativeTable.natives)
     (OpenExpr (layer.Expr::FnCall c.args.expr.now c.args.pos)) (ended c.finish-result-in-None.result) _ _ tt tt (runs_free g c)
+
+pub run_fn_call_expr-done-requires : goal.run_fn_call_expr-done-requires
+unfolding SuitsNames
+run_fn_call_expr-done-requires g c = record { resolves = rw c.take_with-run.ensures.run c.requires.resolves }
+
+pub run_fn_call_expr-done-requires-in-None : goal.run_fn_call_expr-done-requires-in-None
+unfolding SuitsNames
+run_fn_call_expr-done-requires-in-None g c = record { resolves = rw c.take-run.ensures.run c.requires.resolves }

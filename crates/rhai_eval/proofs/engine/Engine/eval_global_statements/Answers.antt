@@ -6,6 +6,8 @@ use Rattle.rhai_machine.specs.language.Script.{start_of_script, end_of_script}
 use Rattle.rhai_laws.proofs.KeptLaws.{grown, names_begin, variables_stay}
 use Rattle.rhai_laws.proofs.WantLaws.{runs_up_to_memory}
 use Rattle.rhai_steps.specs.States.{holding, state_of}
+use Rattle.rhai_cycle.specs.Agreement.{SuitsNames}
+use Rattle.rhai_cycle.proofs.NameLemmas.{suits_now}
 use Rattle.rhai_cycle.specs.States.{under as under_what_is_read}
 use Rattle.rhai_eval.specs.States.{under}
 use Rattle.rhai_eval.proofs.Public.{handed_free, same_rules}
@@ -74,3 +76,8 @@ pub returns-clause-memory : goal.returns-clause-memory
 returns-clause-memory g c = script_memory _ c.args.map_exit_to_return_value c.finish-outcome.result c.top.result
     (rw (c.statements.ensures.value, ← c.finish-outcome.ensures.came) at c.run_stmt_block-done.ensures.memory) c.top.ensures.value
     c.top.ensures.error
+
+pub run_stmt_block-done-requires : goal.run_stmt_block-done-requires
+unfolding SuitsNames
+run_stmt_block-done-requires g c =
+    record { resolves = rw c.statements.ensures.value (suits_now _ (c.statements.ensures.resolves _)) }

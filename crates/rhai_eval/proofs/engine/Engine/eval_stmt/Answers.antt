@@ -1,10 +1,13 @@
-use Rattle.std.proofs.Common.{◌≡◌, ◌∙◌, Option, Some, None, MutBor, ap, refl, subst, sym}
+use Rattle.std.proofs.Common.{◌≡◌, Option, Some, None, MutBor, ap, refl, subst, sym}
+use Rattle.rhai_tree.specs.declared.expr.Stmt.{out-Stmt}
 use Rattle.rhai_values.specs.declared.base.value.Dynamic.{Dynamic}
 use Rattle.rhai_state.specs.Native.{left_by, was}
 use Rattle.rhai_state.specs.Scope.{names_in}
 use Rattle.rhai_steps.specs.States.{holding, state_of}
+use Rattle.rhai_cycle.specs.Agreement.{SuitsNames}
 use Rattle.rhai_cycle.specs.States.{under as under_what_is_read}
 use Rattle.rhai_cycle.proofs.Chain.{on_done}
+use Rattle.rhai_cycle.proofs.NameLemmas.{stmt_names}
 use Rattle.rhai_eval.specs.States.{under}
 use Rattle.rhai_machine.specs.language.Runs.{Runs}
 use Rattle.rhai_laws.proofs.KeptLaws.{grown, kept, names_begin, names_stay, variables_stay}
@@ -110,14 +113,6 @@ pub returns-in-None-clause-variables : goal.returns-in-None-clause-variables
 returns-in-None-clause-variables g c = variables_stay (under g.H.Host.name_of c.args.self.now g.T.NativeTable.natives)
     (Exec c.args.stmt.now c.args.rewind_scope) (ended c.finish-result-in-None.result) _ _ tt (runs_free g c)
 
-pub returns-in-Some-clause-names : goal.returns-in-Some-clause-names
-returns-in-Some-clause-names g c = on_done _ _ c.finish-result.ensures.done (λ done. ap names_in c.give_back_with.ensures.scope
-    ∙ (rw c.take_with-run.ensures.run at (c.run_stmt-done.ensures.names done)))
-
-pub returns-in-None-clause-names : goal.returns-in-None-clause-names
-returns-in-None-clause-names g c = on_done _ _ c.finish-result-in-None.ensures.done (λ done. ap names_in c.give_back.ensures.scope
-    ∙ (rw c.take-run.ensures.run at (c.run_stmt-done-in-None.ensures.names done)))
-
 pub returns-in-Some-clause-stays : goal.returns-in-Some-clause-stays
 returns-in-Some-clause-stays g c = λ none. names_stay (under g.H.Host.name_of c.args.self.now g.T.NativeTable.natives)
     (Exec c.args.stmt.now c.args.rewind_scope) (ended c.finish-result.result) _ _ none tt (runs_on g c)
@@ -126,6 +121,18 @@ pub returns-in-None-clause-stays : goal.returns-in-None-clause-stays
 returns-in-None-clause-stays g c = λ none. names_stay (under g.H.Host.name_of c.args.self.now g.T.NativeTable.natives)
     (Exec c.args.stmt.now c.args.rewind_scope) (ended c.finish-result-in-None.result) _ _ none tt (runs_free g c)
 
+pub returns-in-Some-clause-names : goal.returns-in-Some-clause-names
+returns-in-Some-clause-names g c = on_done _ _ c.finish-result.ensures.done (λ done. stmt_names c.args.stmt.now (out-Stmt c.args.stmt.now)
+    (names_in c.args.scope.now) (names_in c.give_back_with.new.scope) refl
+    (rw c.give_back_with.ensures.scope (rw c.take_with-run.ensures.run at (c.run_stmt-done.ensures.declared done)))
+    (returns-in-Some-clause-stays g c))
+
+pub returns-in-None-clause-names : goal.returns-in-None-clause-names
+returns-in-None-clause-names g c = on_done _ _ c.finish-result-in-None.ensures.done (λ done. stmt_names c.args.stmt.now
+    (out-Stmt c.args.stmt.now) (names_in c.args.scope.now) (names_in c.give_back.new.scope) refl
+    (rw c.give_back.ensures.scope (rw c.take-run.ensures.run at (c.run_stmt-done-in-None.ensures.declared done)))
+    (returns-in-None-clause-stays g c))
+
 pub returns-in-Some-clause-imports : goal.returns-in-Some-clause-imports
 returns-in-Some-clause-imports g c = λ none. (kept (under g.H.Host.name_of c.args.self.now g.T.NativeTable.natives)
     (Exec c.args.stmt.now c.args.rewind_scope) (ended c.finish-result.result) _ _ none (runs_on g c)).imports
@@ -133,3 +140,11 @@ returns-in-Some-clause-imports g c = λ none. (kept (under g.H.Host.name_of c.ar
 pub returns-in-None-clause-imports : goal.returns-in-None-clause-imports
 returns-in-None-clause-imports g c = λ none. (kept (under g.H.Host.name_of c.args.self.now g.T.NativeTable.natives)
     (Exec c.args.stmt.now c.args.rewind_scope) (ended c.finish-result-in-None.result) _ _ none (runs_free g c)).imports
+
+pub run_stmt-done-requires : goal.run_stmt-done-requires
+unfolding SuitsNames
+run_stmt-done-requires g c = record { resolves = rw c.take_with-run.ensures.run c.requires.resolves }
+
+pub run_stmt-done-requires-in-None : goal.run_stmt-done-requires-in-None
+unfolding SuitsNames
+run_stmt-done-requires-in-None g c = record { resolves = rw c.take-run.ensures.run c.requires.resolves }

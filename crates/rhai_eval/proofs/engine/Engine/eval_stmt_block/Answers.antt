@@ -2,6 +2,7 @@ use Rattle.std.proofs.Common.{◌≡◌, Option, Some, None, MutBor, ap, refl, s
 use Rattle.rhai_values.specs.declared.base.value.Dynamic.{Dynamic}
 use Rattle.rhai_state.specs.Native.{left_by, was}
 use Rattle.rhai_steps.specs.States.{holding, state_of}
+use Rattle.rhai_cycle.specs.Agreement.{SuitsNames}
 use Rattle.rhai_cycle.specs.States.{under as under_what_is_read}
 use Rattle.rhai_eval.specs.States.{under}
 use Rattle.rhai_machine.specs.language.Runs.{Runs}
@@ -132,3 +133,11 @@ pub returns-in-None-clause-imports : goal.returns-in-None-clause-imports
 returns-in-None-clause-imports g c = λ restoring.
     (kept_restoring (under g.H.Host.name_of c.args.self.now g.T.NativeTable.natives) c.args.statements.now c.args.restore_orig_state
     (ended c.finish-result-in-None.result) _ _ restoring (runs_free g c)).imports
+
+pub run_stmt_block-done-requires : goal.run_stmt_block-done-requires
+unfolding SuitsNames
+run_stmt_block-done-requires g c = record { resolves = rw c.take_with-run.ensures.run c.requires.resolves }
+
+pub run_stmt_block-done-requires-in-None : goal.run_stmt_block-done-requires-in-None
+unfolding SuitsNames
+run_stmt_block-done-requires-in-None g c = record { resolves = rw c.take-run.ensures.run c.requires.resolves }

@@ -2,6 +2,7 @@ use Rattle.std.proofs.Common.{◌≡◌, Option, Some, None, MutBor, ap, refl, s
 use Rattle.rhai_values.specs.declared.base.value.Dynamic.{Dynamic}
 use Rattle.rhai_state.specs.Native.{left_by, was}
 use Rattle.rhai_steps.specs.States.{holding, state_of}
+use Rattle.rhai_cycle.specs.Agreement.{SuitsNames}
 use Rattle.rhai_cycle.specs.States.{under as under_what_is_read}
 use Rattle.rhai_eval.specs.States.{under}
 use Rattle.std.specs.Option.{option_copied}
@@ -129,3 +130,11 @@ returns-in-None-clause-names g c = call_names (under g.H.Host.name_of c.args.sel
     (record { name = c.args.fn_name.now; token = option_copied c.args.op_token; at = c.args.pos })
     (all_args (option_copied c.args.first_arg) c.args.args_expr.now) c.args.capture_parent_scope _ _ c.finish-result-in-None.result
     (runs_free g c)
+
+pub run_call-done-requires : goal.run_call-done-requires
+unfolding SuitsNames
+run_call-done-requires g c = rw c.take_with-run.ensures.run c.requires.resolves
+
+pub run_call-done-requires-in-None : goal.run_call-done-requires-in-None
+unfolding SuitsNames
+run_call-done-requires-in-None g c = rw c.take-run.ensures.run c.requires.resolves

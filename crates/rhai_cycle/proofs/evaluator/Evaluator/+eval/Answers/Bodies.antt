@@ -1,6 +1,6 @@
 use Rattle.std.proofs.Common.{◌≡◌, false, true, None, Some, Err, length, refl, subst, sym, ap, ◌∙◌, arith}
 use Rattle.std.specs.Option.{option_copied}
-use Rattle.rhai_state.specs.Scope.{entries_of}
+use Rattle.rhai_state.specs.Scope.{entries_of, names_in}
 use Rattle.rhai_state.specs.declared.state.GlobalRuntimeState.{GlobalRuntimeState}
 use Rattle.rhai_machine.specs.machine.Memory.{here, ◌⨾◌}
 use Rattle.rhai_machine.specs.language.Activations.{NoObject, OwnThis, TheFocus}
@@ -16,11 +16,14 @@ use Rattle.rhai_context.specs.declared.Context.{Context}
 use Rattle.rhai_laws.proofs.KeptLaws.{counted, kept, names_stay}
 use Rattle.rhai_steps.specs.Marked.{lending, RunsFrom}
 use Rattle.rhai_methods.specs.Methods.{CallsFrom}
+use Rattle.rhai_cycle.specs.Agreement.{ChangesNames, KeepsNames, RestoresNames, SuitsNames}
 use Rattle.rhai_cycle.specs.Bodies.{entered}
 use Rattle.rhai_cycle.specs.Calls.{StartsAs}
 use Rattle.rhai_cycle.specs.States.{offer_of, under}
 use Rattle.rhai_cycle.proofs.BodyLemmas.{body_resolves, brings_no_charge, captured_ends, failed_ends, fresh_ends, passed_ends}
 use Rattle.rhai_cycle.proofs.BodyLemmas.{refused_ends, whole_ends}
+use Rattle.rhai_steps.proofs.Agreeing.{stays}
+use Rattle.rhai_cycle.proofs.NameLemmas.{suits_now}
 use Rattle.rhai_cycle.proofs.ArgsLeft.{entered_never, entered_not, entered_nothing, entered_so}
 use Rattle.rhai_cycle.proofs.FocusSteps.{enters_focus, focus_refused, inside_runs, is_bound, unmarked_ends}
 use Rattle.rhai_walk.proofs.Entering.{standing}
@@ -51,6 +54,7 @@ run_body-returns-in-Err-clause-runs g t c scope held object is_fresh scope_is th
     c.in-Err.ensures.same_state c.in-Err.ensures.same_scope refl)
 
 pub run_body-run_stmt_block-done-requires : goal.run_body-run_stmt_block-done-requires
+unfolding ChangesNames KeepsNames RestoresNames SuitsNames
 run_body-run_stmt_block-done-requires g t c =
     let resolved = body_resolves c.args.def.now c.args.args.now (entries_of c.args.run.now.scope) (entries_of c.open_function.new.scope)
     c.def-def.ensures.resolves (rw (c.in-Ok-Some.field-0-is, c.def-def.ensures.value) at c.in-Ok-Some.ensures.variables) in
@@ -62,7 +66,7 @@ run_body-run_stmt_block-done-requires g t c =
         brings_no_charge (option_copied c.args.environ) c.args.level c.charge.new.global c.open_function.new.global
             (rw c.in-Ok-Some.field-0-is at c.in-Ok-Some.ensures.state),
       ),
-      (lives.0, (lives.1, rw (c.statements_of-statements.ensures, c.def-def.ensures.value) resolved)),
+      (lives.0, (lives.1, suits_now _ (rw (c.statements_of-statements.ensures, c.def-def.ensures.value) resolved))),
     )
 
 pub run_body-returns-in-Ok-None-clause-runs : goal.run_body-returns-in-Ok-None-clause-runs
@@ -173,12 +177,15 @@ enter_captured-returns-clause-counts g t c =
     (enter_captured-returns-clause-runs g t c (holding None))
 
 pub enter_captured-returns-clause-names : goal.enter_captured-returns-clause-names
+unfolding ChangesNames KeepsNames RestoresNames SuitsNames
 enter_captured-returns-clause-names g t c done =
     let rules = under g.H.Host.name_of c.args.self.now g.T.NativeTable.natives in
     let result = came c.run_body-done.result c.release.new.run.value c.release.new.run.error in
-    names_stay rules (EnterFunction (entry_of c.args.function NoObject false c.args.args.now c.args.pos
+    let search = λ (r : Context _). r.global.always_search_scope in
+    stays (ap search c.release.ensures.run ∙ c.run_body-done.ensures.search refl ∙ ap search c.capture-captured.ensures.run)
+    (names_stay rules (EnterFunction (entry_of c.args.function NoObject false c.args.args.now c.args.pos
     (local_of c.args.run.now.global c.args.run.now.scope (holding None)))) (ended result) _ _ refl tt
-    (enter_captured-returns-clause-runs g t c (holding None))
+    (enter_captured-returns-clause-runs g t c (holding None)))
 
 pub enter_fresh-returns-clause-runs : goal.enter_fresh-returns-clause-runs
 enter_fresh-returns-clause-runs g t c scope held =
@@ -310,3 +317,38 @@ run_method-returns-in-Alone-clause-runs g t c scope held k =
     ((rw c.in-Alone.is at (c.call_method.ensures.runs (offer_of c.args.self.now) scope held (refl, refl))) k
     ⨾ (rw c.as_mut_slice-values-in-Alone.ensures.value at c.enter_fresh-done.ensures.runs) scope
     (lending held c.call_method.new.target) k)
+
+-- whether variables are searched for is put back
+
+pub run_body-returns-then-not-charge-clause-search : goal.run_body-returns-then-not-charge-clause-search
+run_body-returns-then-not-charge-clause-search g t c restores = c.if-not-charge.ensures.search
+
+pub run_body-returns-in-Err-clause-search : goal.run_body-returns-in-Err-clause-search
+run_body-returns-in-Err-clause-search g t c restores = c.open_function.ensures.search ∙ c.if-not-charge.ensures.search
+
+pub run_body-returns-in-Ok-None-clause-search : goal.run_body-returns-in-Ok-None-clause-search
+run_body-returns-in-Ok-None-clause-search g t c restores = c.open_function.ensures.search ∙ c.if-not-charge.ensures.search
+
+pub run_body-returns-in-Ok-Some-clause-search : goal.run_body-returns-in-Ok-Some-clause-search
+unfolding RestoresNames
+run_body-returns-in-Ok-Some-clause-search g t c restores =
+    c.close_body.ensures.search ∙ (c.run_stmt_block-done.ensures.restores restores).search ∙ c.open_function.ensures.search
+    ∙ c.if-not-charge.ensures.search
+
+pub enter_fresh-returns-clause-search : goal.enter_fresh-returns-clause-search
+enter_fresh-returns-clause-search g t c =
+    let search = λ (r : Context _). r.global.always_search_scope in
+    ap search c.end_fresh.ensures ∙ c.run_body-done.ensures.search refl ∙ ap search c.put_aside-aside.ensures.rest
+
+pub enter_on_focus-returns-clause-search : goal.enter_on_focus-returns-clause-search
+enter_on_focus-returns-clause-search g t c =
+    let search = λ (r : Context _). r.global.always_search_scope in
+    ap search c.leave_focus.ensures.run ∙ c.run_body-done.ensures.search refl ∙ ap search c.lend_focus-aside.ensures.rest
+
+pub run_out-returns-in-Ended-clause-names : goal.run_out-returns-in-Ended-clause-names
+unfolding ChangesNames KeepsNames RestoresNames SuitsNames
+run_out-returns-in-Ended-clause-names g t c done = stays refl refl
+
+pub run_out-returns-then-is_fresh-clause-names : goal.run_out-returns-then-is_fresh-clause-names
+unfolding ChangesNames KeepsNames RestoresNames SuitsNames
+run_out-returns-then-is_fresh-clause-names g t c done = stays c.enter_fresh.ensures.search (ap names_in c.enter_fresh.ensures.scope)

@@ -1,13 +1,17 @@
 use Rattle.std.proofs.Common.{[], ◌∷◌, refl, sym, ap, ◌∙◌, arith, is_some}
 use Rattle.rhai_steps.specs.States.{holding}
+use Rattle.rhai_state.specs.Scope.{names_in}
+use Rattle.rhai_state.specs.declared.state.GlobalRuntimeState.{GlobalRuntimeState}
 use Rattle.rhai_machine.specs.machine.Machine.{Go}
 use Rattle.rhai_machine.specs.machine.Point.{after}
 use Rattle.rhai_machine.specs.machine.Memory.{here, next, ◌⨾◌}
 use Rattle.rhai_machine.specs.language.Frames.{core, Eval, UnaryOperand, LeftOperand, RightOperand}
 use Rattle.rhai_machine.specs.language.Runs.{Steps}
+use Rattle.rhai_steps.proofs.Agreeing.{brings, leads_then, same, stays, still}
 use Rattle.rhai_steps.proofs.Pieces.{step_by}
+use Rattle.rhai_cycle.specs.Agreement.{ChangesNames, KeepsNames, RestoresNames, SuitsNames}
 use Rattle.rhai_cycle.specs.Calls.{StartsAs}
-use Rattle.rhai_cycle.specs.States.{names, offer_of, state_in, under}
+use Rattle.rhai_cycle.specs.States.{offer_of, state_in, under}
 use Rattle.rhai_operands.proofs.Names.{operands_of_call, operands_resolve}
 use Rattle.rhai_operands.proofs.InPlace.{opens_binary}
 use Rattle.rhai_cycle.proofs.NameLemmas.{first_resolves}
@@ -17,24 +21,62 @@ use Rattle.rhai_cycle.proofs.PlainLemmas.{known_goes, plain_begins}
 use Rattle.rhai_cycle.proofs.evaluator.Evaluator.+eval.Goals as goal
 
 pub run_fn_call_expr-run_function-requires : goal.run_fn_call_expr-run_function-requires
+unfolding ChangesNames KeepsNames RestoresNames SuitsNames
 run_fn_call_expr-run_function-requires g t c =
     λ κs lives. (omega arith, (lives.0, (lives.1, (c.requires.resolves, c.may_operate.ensures c.if-may_operate.false))))
 
 pub run_operation-run_unary-requires : goal.run_operation-run_unary-requires
+unfolding ChangesNames KeepsNames RestoresNames SuitsNames
 run_operation-run_unary-requires g t c =
     let form = rw c.in-Unary.is at c.form_of.ensures in
-    let resolved = first_resolves c.args.call.now.args c.in-Unary.operand.now [] (names c.args.run.now) form.2
-    (operands_of_call c.args.call.now c.args.pos (names c.args.run.now) c.requires.resolves) in
-    λ κs lives. (omega arith, (lives.0, (lives.1, (form.1, (form.2, (resolved.0, form.0))))))
+    λ κs lives. (
+      omega arith,
+      (
+        lives.0,
+        (
+          lives.1,
+          (
+            form.1,
+            (
+              form.2,
+              (
+                brings (λ frame h. (first_resolves c.args.call.now.args c.in-Unary.operand.now [] frame form.2
+                    (operands_of_call c.args.call.now c.args.pos frame h)).0) c.requires.resolves,
+                form.0,
+              ),
+            ),
+          ),
+        ),
+      ),
+    )
 
 pub run_operation-run_operator-requires : goal.run_operation-run_operator-requires
+unfolding ChangesNames KeepsNames RestoresNames SuitsNames
 run_operation-run_operator-requires g t c =
     let form = rw c.in-Binary.is at c.form_of.ensures in
-    let resolved = operands_resolve c.args.call.now c.args.pos c.in-Binary.left.now c.in-Binary.right.now (names c.args.run.now) form.2
-    c.requires.resolves in
     λ κs lives. (
       omega (arith, c.operate_in_place-in_place.ensures.counts),
-      (lives.0, (lives.1, (form.1, (form.2, (resolved.0, (resolved.1, form.0)))))),
+      (
+        lives.0,
+        (
+          lives.1,
+          (
+            form.1,
+            (
+              form.2,
+              (
+                same c.operate_in_place-in_place.ensures.search refl (brings (λ frame h. (operands_resolve c.args.call.now c.args.pos
+                    c.in-Binary.left.now c.in-Binary.right.now frame form.2 h).0) c.requires.resolves),
+                (
+                  same c.operate_in_place-in_place.ensures.search refl (brings (λ frame h. (operands_resolve c.args.call.now
+                      c.args.pos c.in-Binary.left.now c.in-Binary.right.now frame form.2 h).1) c.requires.resolves),
+                  form.0,
+                ),
+              ),
+            ),
+          ),
+        ),
+      ),
     )
 
 pub run_operation-returns-in-Some-clause-runs : goal.run_operation-returns-in-Some-clause-runs
@@ -47,10 +89,12 @@ run_operation-returns-in_default-clause-runs g t c =
     rw (c.operate_in_place-in_place.ensures.left_alone c.in_default.is) at c.run_operator.ensures.runs
 
 pub run_operation-run_function-requires : goal.run_operation-run_function-requires
+unfolding ChangesNames KeepsNames RestoresNames SuitsNames
 run_operation-run_function-requires g t c =
     λ κs lives. (omega arith, (lives.0, (lives.1, (c.requires.resolves, rw c.in-Function.is at c.form_of.ensures))))
 
 pub run_unary-operate_on_one-called-requires : goal.run_unary-operate_on_one-called-requires
+unfolding ChangesNames KeepsNames RestoresNames SuitsNames
 run_unary-operate_on_one-called-requires g t c = (omega arith, c.new-operands.ensures)
 
 pub run_unary-returns-then-not-run_arg-clause-runs : goal.run_unary-returns-then-not-run_arg-clause-runs
@@ -78,9 +122,12 @@ run_unary-returns-clause-runs g t c k =
     ⨾ c.run_out-done.ensures.runs k
 
 pub run_function-run_plain_call-requires : goal.run_function-run_plain_call-requires
+unfolding ChangesNames KeepsNames RestoresNames SuitsNames
 run_function-run_plain_call-requires g t c =
-    let resolved = operands_of_call c.args.call.now c.args.pos (names c.args.run.now) c.requires.resolves in
-    λ κs lives. (omega arith, (lives.0, (lives.1, (resolved, c.in-Some.ensures))))
+    λ κs lives. (
+      omega arith,
+      (lives.0, (lives.1, (brings (operands_of_call c.args.call.now c.args.pos) c.requires.resolves, c.in-Some.ensures))),
+    )
 
 pub run_function-returns-in-Some-clause-runs : goal.run_function-returns-in-Some-clause-runs
 unfolding Steps StartsAs
@@ -91,11 +138,20 @@ run_function-returns-in-Some-clause-runs g t c k =
     ⨾ c.run_plain_call.ensures.runs k
 
 pub run_function-run_qualified_call-requires : goal.run_function-run_qualified_call-requires
+unfolding ChangesNames KeepsNames RestoresNames SuitsNames
 run_function-run_qualified_call-requires g t c =
-    let resolved = operands_of_call c.args.call.now c.args.pos (names c.args.run.now) c.requires.resolves in
     λ κs lives. (
       omega arith,
-      (lives.0, (lives.1, (rw c.as_slice.ensures resolved, sym c.is_plain.ensures ∙ c.if-not-is_plain.true))),
+      (
+        lives.0,
+        (
+          lives.1,
+          (
+            rw c.as_slice.ensures (brings (operands_of_call c.args.call.now c.args.pos) c.requires.resolves),
+            sym c.is_plain.ensures ∙ c.if-not-is_plain.true,
+          ),
+        ),
+      ),
     )
 
 pub run_function-returns-then-not-is_plain-clause-runs : goal.run_function-returns-then-not-is_plain-clause-runs
@@ -108,6 +164,7 @@ run_function-returns-in-Some-at_once-clause-runs g t c =
     c.in-Some-at_once.ensures.runs (offer_of c.args.self.now) (holding c.args.run.now.this) (refl, refl)
 
 pub run_function-run_call-requires : goal.run_function-run_call-requires
+unfolding ChangesNames KeepsNames RestoresNames SuitsNames
 run_function-run_call-requires g t c =
     λ κs lives. (
       omega (arith, c.call_at_once-at_once.ensures.counts),
@@ -115,8 +172,9 @@ run_function-run_call-requires g t c =
         lives.0,
         (
           lives.1,
-          rw (c.call_at_once-at_once.ensures.names, ← c.parts_of_call.ensures.args)
-              (operands_of_call c.args.call.now c.args.pos (names c.args.run.now) c.requires.resolves),
+          rw (← c.parts_of_call.ensures.args)
+              (same c.call_at_once-at_once.ensures.search c.call_at_once-at_once.ensures.names
+              (brings (operands_of_call c.args.call.now c.args.pos) c.requires.resolves)),
         ),
       ),
     )
@@ -135,17 +193,20 @@ run_function-returns-clause-runs g t c k =
     ) at c.run_call.ensures.runs) k
 
 pub run_operator-run_arg-requires : goal.run_operator-run_arg-requires
+unfolding ChangesNames KeepsNames RestoresNames SuitsNames
 run_operator-run_arg-requires g t c =
     λ κs lives. (omega arith, (lives.0, (lives.1, c.requires.resolves_left)))
 
 pub run_operator-run_arg-requires-2 : goal.run_operator-run_arg-requires-2
+unfolding ChangesNames KeepsNames RestoresNames SuitsNames
 run_operator-run_arg-requires-2 g t c =
     λ κs lives. (
       omega (arith, c.if-not-run_arg.ensures.charges refl),
-      (lives.0, (lives.1, rw (c.if-not-run_arg.ensures.names refl) c.requires.resolves_right)),
+      (lives.0, (lives.1, still (c.if-not-run_arg.ensures.names refl) c.requires.resolves_right)),
     )
 
 pub run_operator-operate_on_two-called-requires : goal.run_operator-operate_on_two-called-requires
+unfolding ChangesNames KeepsNames RestoresNames SuitsNames
 run_operator-operate_on_two-called-requires g t c = (omega arith, c.new-operands.ensures)
 
 pub run_operator-returns-then-not-run_arg-clause-runs : goal.run_operator-returns-then-not-run_arg-clause-runs
@@ -226,3 +287,75 @@ run_arg-returns-in-None-clause-runs g t c k =
     let runs = rw (c.literal_arg-in_place.ensures.left_alone c.in-None.is) at c.run_expr.ensures.runs in
     step_by rules _ _ (Go (core (Eval c.args.arg.now) k (state_in (g.T.NativeTable.state c.args.table.now) c.args.run.now).local))
     (rw none refl) (runs k)
+
+pub run_arg-run_expr-requires : goal.run_arg-run_expr-requires
+unfolding ChangesNames KeepsNames RestoresNames SuitsNames
+run_arg-run_expr-requires g t c =
+    λ κs lives. (
+      omega (arith, ap (λ (global : GlobalRuntimeState _). global.num_operations) (c.literal_arg-in_place.ensures.left_alone c.in-None.is)),
+      (lives.0, (lives.1, same c.literal_arg-in_place.ensures.search refl c.requires)),
+    )
+
+pub run_unary-returns-clause-names : goal.run_unary-returns-clause-names
+unfolding ChangesNames KeepsNames RestoresNames SuitsNames
+run_unary-returns-clause-names g t c done = leads_then (c.if-not-run_arg.ensures.names refl)
+    (leads_then (stays c.operate_on_one-called.ensures.search (ap names_in c.operate_on_one-called.ensures.scope))
+    (c.run_out-done.ensures.names done))
+
+pub run_operator-returns-then-operate_known-clause-names : goal.run_operator-returns-then-operate_known-clause-names
+unfolding ChangesNames KeepsNames RestoresNames SuitsNames
+run_operator-returns-then-operate_known-clause-names g t c done =
+    leads_then (c.if-not-run_arg.ensures.names refl) (c.if-not-run_arg-2.ensures.names refl)
+
+pub run_operator-returns-clause-names : goal.run_operator-returns-clause-names
+unfolding ChangesNames KeepsNames RestoresNames SuitsNames
+run_operator-returns-clause-names g t c done =
+    leads_then (leads_then (c.if-not-run_arg.ensures.names refl) (c.if-not-run_arg-2.ensures.names refl))
+    (leads_then (stays c.operate_on_two-called.ensures.search (ap names_in c.operate_on_two-called.ensures.scope))
+    (c.run_out-done.ensures.names done))
+
+pub run_function-returns-in-Some-at_once-clause-names : goal.run_function-returns-in-Some-at_once-clause-names
+unfolding ChangesNames KeepsNames RestoresNames SuitsNames
+run_function-returns-in-Some-at_once-clause-names g t c done =
+    stays c.call_at_once-at_once.ensures.search c.call_at_once-at_once.ensures.names
+
+pub run_function-returns-clause-names : goal.run_function-returns-clause-names
+unfolding ChangesNames KeepsNames RestoresNames SuitsNames
+run_function-returns-clause-names g t c done =
+    leads_then (stays c.call_at_once-at_once.ensures.search c.call_at_once-at_once.ensures.names) (c.run_call.ensures.names done)
+
+pub run_operation-returns-in-Some-clause-names : goal.run_operation-returns-in-Some-clause-names
+unfolding ChangesNames KeepsNames RestoresNames SuitsNames
+run_operation-returns-in-Some-clause-names g t c done = stays c.operate_in_place-in_place.ensures.search refl
+
+pub run_operation-returns-in_default-clause-names : goal.run_operation-returns-in_default-clause-names
+unfolding ChangesNames KeepsNames RestoresNames SuitsNames
+run_operation-returns-in_default-clause-names g t c done =
+    leads_then (stays c.operate_in_place-in_place.ensures.search refl) (c.run_operator.ensures.names done)
+
+pub run_arg-returns-in-Some-clause-names : goal.run_arg-returns-in-Some-clause-names
+unfolding ChangesNames KeepsNames RestoresNames SuitsNames
+run_arg-returns-in-Some-clause-names g t c done = stays c.literal_arg-in_place.ensures.search refl
+
+pub run_arg-returns-in-None-clause-names : goal.run_arg-returns-in-None-clause-names
+unfolding ChangesNames KeepsNames RestoresNames SuitsNames
+run_arg-returns-in-None-clause-names g t c done =
+    leads_then (stays c.literal_arg-in_place.ensures.search refl) (c.run_expr.ensures.names done)
+
+pub run_function-call_at_once-at_once-requires : goal.run_function-call_at_once-at_once-requires
+unfolding SuitsNames
+run_function-call_at_once-at_once-requires g t c = record { resolves = c.requires.resolves }
+
+pub run_operation-operate_in_place-in_place-requires-clause-resolves_left : goal.run_operation-operate_in_place-in_place-requires-clause-resolves_left
+unfolding SuitsNames
+run_operation-operate_in_place-in_place-requires-clause-resolves_left g t c =
+    let form = rw c.in-Binary.is at c.form_of.ensures in
+    brings (λ frame h. (operands_resolve c.args.call.now c.args.pos c.in-Binary.left.now c.in-Binary.right.now frame form.2 h).0)
+    c.requires.resolves
+
+pub run_operation-operate_in_place-in_place-requires-clause-resolves_right : goal.run_operation-operate_in_place-in_place-requires-clause-resolves_right
+unfolding SuitsNames
+run_operation-operate_in_place-in_place-requires-clause-resolves_right g t c =
+    let form = rw c.in-Binary.is at c.form_of.ensures in
+    brings (λ frame h. (operands_resolve c.args.call.now c.args.pos c.in-Binary.left.now c.in-Binary.right.now frame form.2 h).1)
+    c.requires.resolves

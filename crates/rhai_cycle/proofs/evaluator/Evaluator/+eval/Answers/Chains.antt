@@ -6,6 +6,7 @@ use Rattle.rhai_tree.specs.declared.expr.Expr.{out-Expr}
 use Rattle.rhai_tree.specs.declared.expr.Expr.TheOpen as layer
 use Rattle.rhai_tree.specs.declared.expr.Expr.TheVariants as exprs
 use Rattle.rhai_tree.specs.Layers.{ExprLayer}
+use Rattle.rhai_state.specs.Scope.{names_in}
 use Rattle.rhai_state.specs.declared.state.GlobalRuntimeState.{GlobalRuntimeState}
 use Rattle.rhai_machine.specs.machine.Point.{after}
 use Rattle.rhai_machine.specs.machine.Memory.{here, next, ◌⨾◌}
@@ -15,14 +16,16 @@ use Rattle.rhai_machine.specs.language.Chains.{this_root_core}
 use Rattle.rhai_machine.specs.language.Links.{asked_by, first_in}
 use Rattle.rhai_machine.specs.language.Variables.{variable_named}
 use Rattle.rhai_machine.specs.language.Runs.{Steps}
+use Rattle.rhai_steps.proofs.Agreeing.{brings, leads_then, same, stays, still}
 use Rattle.rhai_steps.proofs.Pieces.{charged, refused}
 use Rattle.rhai_operands.proofs.Names.{good_name}
 use Rattle.rhai_chains.specs.Chains.{chain_at, link_seen, new_of}
 use Rattle.rhai_context.specs.Ends.{error_in}
 use Rattle.rhai_context.specs.declared.Context.{Context}
+use Rattle.rhai_cycle.specs.Agreement.{ChangesNames, KeepsNames, RestoresNames, SuitsNames}
 use Rattle.rhai_cycle.specs.Calls.{Collects, RunsUnder, StartsAs}
 use Rattle.rhai_cycle.specs.Chains.{Gathers}
-use Rattle.rhai_cycle.specs.States.{names, state_in, under}
+use Rattle.rhai_cycle.specs.States.{state_in, under}
 use Rattle.rhai_tree.proofs.Links.{few_links}
 use Rattle.rhai_cycle.proofs.Chain.{begins, flat_fails}
 use Rattle.rhai_cycle.proofs.CallSteps.{charged_on, refused_on}
@@ -31,6 +34,7 @@ use Rattle.rhai_cycle.proofs.ChainLemmas.{target_parts}
 use Rattle.rhai_cycle.proofs.ChainSteps.{arrives_last, arrives_on, asks_further, asks_last, asks_link, begins_chain, evaluates_root}
 use Rattle.rhai_cycle.proofs.ChainSteps.{asked_at_once, not_assigned, nothing_there, opens_asking, opens_at_once, opens_wanting, this_root}
 use Rattle.rhai_cycle.proofs.ChainSteps.{variable_root, walks_given}
+use Rattle.rhai_cycle.proofs.NameLemmas.{at_known}
 use Rattle.rhai_cycle.proofs.evaluator.Evaluator.+eval.Goals as goal
 
 -- a chain, its arguments and its root
@@ -47,6 +51,7 @@ run_chain-returns-in_default-clause-runs g t c k =
     (error_in c.given_args.new.place) (c.in_default.ensures.refused refl))
 
 pub run_chain-run_link_args-requires : goal.run_chain-run_link_args-requires
+unfolding ChangesNames KeepsNames RestoresNames SuitsNames
 run_chain-run_link_args-requires g t c =
     λ κs lives. (
       omega arith,
@@ -54,6 +59,7 @@ run_chain-run_link_args-requires g t c =
     )
 
 pub run_chain-run_root-done-requires : goal.run_chain-run_root-done-requires
+unfolding ChangesNames KeepsNames RestoresNames SuitsNames
 run_chain-run_root-done-requires g t c =
     let asks = c.in-Some.ensures.asks c.if-asks.true in
     let asked = rw asks.0 at c.if-not-run_link_args.ensures.asked in
@@ -67,7 +73,7 @@ run_chain-run_root-done-requires g t c =
         (
           lives.1,
           (
-            rw (c.if-not-run_link_args.ensures.names refl) c.requires.root,
+            still (c.if-not-run_link_args.ensures.names refl) c.requires.root,
             (
               rw c.as_mut_slice-args.ensures.value
                   (walks_given _ (out-Expr c.args.chain.now) c.run_link_args.new.values c.requires.walks asked),
@@ -79,6 +85,7 @@ run_chain-run_root-done-requires g t c =
     )
 
 pub run_chain-run_root-done-requires-else-asks : goal.run_chain-run_root-done-requires-else-asks
+unfolding ChangesNames KeepsNames RestoresNames SuitsNames
 run_chain-run_root-done-requires-else-asks g t c =
     let asked = asked_at_once (out-Expr c.args.chain.now) c.given_args.new.made (c.in-Some.ensures.given c.if-asks.false) in
     λ κs lives. (
@@ -100,32 +107,32 @@ run_chain-run_root-done-requires-else-asks g t c =
     )
 
 pub run_chain-returns-then-not-run_link_args-clause-runs : goal.run_chain-returns-then-not-run_link_args-clause-runs
-unfolding Steps Gathers
+unfolding Steps Gathers ChangesNames KeepsNames RestoresNames SuitsNames
 run_chain-returns-then-not-run_link_args-clause-runs g t c k =
     let rules = under g.H.Host.name_of c.args.self.now g.T.NativeTable.natives in
     let chain = chain_on c.args.root.now (out-Expr c.args.chain.now) (new_of c.args.new) in
-    let there = has_link (out-Expr c.args.chain.now) (names c.args.run.now) c.requires.behind in
+    let there = has_link (out-Expr c.args.chain.now) c.requires.behind.known c.requires.behind.holds in
     let asks = c.in-Some.ensures.asks c.if-asks.true in
     (opens_asking rules chain (out-Expr c.args.chain.now) refl k _ there.0 there.1 asks.1
     ⨾ (rw asks.0 at c.if-not-run_link_args.ensures.gathers) chain k)
 
 pub run_chain-returns-else-not-run_link_args-clause-runs : goal.run_chain-returns-else-not-run_link_args-clause-runs
-unfolding Steps Gathers
+unfolding Steps Gathers ChangesNames KeepsNames RestoresNames SuitsNames
 run_chain-returns-else-not-run_link_args-clause-runs g t c k =
     let rules = under g.H.Host.name_of c.args.self.now g.T.NativeTable.natives in
     let chain = chain_on c.args.root.now (out-Expr c.args.chain.now) (new_of c.args.new) in
-    let there = has_link (out-Expr c.args.chain.now) (names c.args.run.now) c.requires.behind in
+    let there = has_link (out-Expr c.args.chain.now) c.requires.behind.known c.requires.behind.holds in
     let asks = c.in-Some.ensures.asks c.if-asks.true in
     (opens_asking rules chain (out-Expr c.args.chain.now) refl k _ there.0 there.1 asks.1
     ⨾ (rw asks.0 at c.if-not-run_link_args.ensures.gathers) chain k
     ⨾ (rw c.as_mut_slice-args.ensures.value at c.run_root-done.ensures.runs false) k)
 
 pub run_chain-returns-else-not-run_link_args-clause-asks : goal.run_chain-returns-else-not-run_link_args-clause-asks
-unfolding Gathers
+unfolding Gathers ChangesNames KeepsNames RestoresNames SuitsNames
 run_chain-returns-else-not-run_link_args-clause-asks g t c =
     let rules = under g.H.Host.name_of c.args.self.now g.T.NativeTable.natives in
     let chain = chain_on c.args.root.now (out-Expr c.args.chain.now) (new_of c.args.new) in
-    let there = has_link (out-Expr c.args.chain.now) (names c.args.run.now) c.requires.behind in
+    let there = has_link (out-Expr c.args.chain.now) c.requires.behind.known c.requires.behind.holds in
     let asks = c.in-Some.ensures.asks c.if-asks.true in
     λ done. (
       c.run_link_args.new.values,
@@ -157,23 +164,28 @@ run_chain-returns-else-asks-clause-asks g t c =
 -- what the links ask for
 
 pub run_link_args-unreachable-requires : goal.run_link_args-unreachable-requires
+unfolding ChangesNames KeepsNames RestoresNames SuitsNames
 run_link_args-unreachable-requires g t c =
-    link_resolves (out-Expr c.args.chain.now) (names c.args.run.now) None
-    (sym c.link_of.ensures ∙ ap (option_map link_seen) (nothing_there _ c.in_default.not-Some)) c.requires
+    link_resolves (out-Expr c.args.chain.now) c.requires.known None
+    (sym c.link_of.ensures ∙ ap (option_map link_seen) (nothing_there _ c.in_default.not-Some)) c.requires.holds
 
 pub run_link_args-run_more_args-requires : goal.run_link_args-run_more_args-requires
+unfolding ChangesNames KeepsNames RestoresNames SuitsNames
 run_link_args-run_more_args-requires g t c =
     let found = sym c.link_of.ensures ∙ ap (option_map link_seen) c.in-Some.is in
-    let parts = link_resolves (out-Expr c.args.chain.now) (names c.args.run.now) (Some (link_seen c.in-Some.link)) found c.requires in
+    let suits = same c.if-not-charge.ensures.search refl c.requires in
+    let parts = link_resolves (out-Expr c.args.chain.now) suits.known (Some (link_seen c.in-Some.link)) found suits.holds in
     λ κs lives. (
       omega (arith, ap (λ (global : GlobalRuntimeState _). global.num_operations) (c.if-not-charge.ensures.charged refl)),
-      (lives.0, (lives.1, (omega arith, rw c.asked.ensures parts.0))),
+      (lives.0, (lives.1, (omega arith, rw c.asked.ensures (at_known suits parts.0)))),
     )
 
 pub run_link_args-run_link_args-requires : goal.run_link_args-run_link_args-requires
+unfolding ChangesNames KeepsNames RestoresNames SuitsNames
 run_link_args-run_link_args-requires g t c =
     let found = sym c.link_of.ensures ∙ ap (option_map link_seen) c.in-Some.is in
-    let parts = link_resolves (out-Expr c.args.chain.now) (names c.args.run.now) (Some (link_seen c.in-Some.link)) found c.requires in
+    let suits = still (leads_then (stays c.if-not-charge.ensures.search refl) (c.if-not-run_more_args.ensures.names refl)) c.requires in
+    let parts = link_resolves (out-Expr c.args.chain.now) suits.known (Some (link_seen c.in-Some.link)) found suits.holds in
     let on : (link_seen c.in-Some.link).behind ≡ Some (out-Expr c.in-Some-behind.rest.now) =
     ap (λ o. option_map out-Expr (option_copied o)) c.in-Some-behind.is in
     λ κs lives. (
@@ -189,8 +201,7 @@ run_link_args-run_link_args-requires g t c =
           lives.1,
           (
             omega arith,
-            rw (c.if-not-run_more_args.ensures.names refl)
-                (subst (λ (o : Option ExprLayer). RestResolves o (names c.args.run.now)) on parts.1),
+            at_known suits (subst (λ (o : Option ExprLayer). RestResolves o suits.known) on parts.1),
           ),
         ),
       ),
@@ -270,30 +281,32 @@ run_link_args-returns-in-None-clause-asked g t c =
 -- the root
 
 pub run_root-walk_value-requires : goal.run_root-walk_value-requires
+unfolding ChangesNames KeepsNames RestoresNames SuitsNames
 run_root-walk_value-requires g t c =
     let other = no_name c.args.root.now c.in_default.not-Variable c.in_default.not-ThisPtr in
     let none = not_assigned c.args.new (out-Expr c.args.root.now) other c.requires.starts in
     λ κs lives. (omega (arith, c.if-not-run_expr.ensures.charges refl), (lives.0, (lives.1, rw none at c.requires.walks)))
 
 pub run_root-returns-then-not-run_expr-clause-runs : goal.run_root-returns-then-not-run_expr-clause-runs
-unfolding after Steps
+unfolding after Steps ChangesNames KeepsNames RestoresNames SuitsNames
 run_root-returns-then-not-run_expr-clause-runs g t c in_place k =
     let rules = under g.H.Host.name_of c.args.self.now g.T.NativeTable.natives in
     let other = no_name c.args.root.now c.in_default.not-Variable c.in_default.not-ThisPtr in
     let none = not_assigned c.args.new (out-Expr c.args.root.now) other c.requires.starts in
     let chain = chain_at c.args.root.now (out-Expr c.args.chain.now) c.args.args.now c.args.new in_place in
-    evaluates_root rules c.args.root.now (names c.args.run.now) other c.requires.root chain refl (ap (λ o. is_none (new_of o)) none) k _
+    evaluates_root rules c.args.root.now c.requires.root.known other c.requires.root.holds chain refl (ap (λ o. is_none (new_of o)) none)
+    k _
     ⨾ c.if-not-run_expr.ensures.runs (RootValue chain ∷ k) ⨾ next here
 
 pub run_root-returns-else-not-run_expr-clause-runs : goal.run_root-returns-else-not-run_expr-clause-runs
-unfolding Steps RunsUnder
+unfolding Steps RunsUnder ChangesNames KeepsNames RestoresNames SuitsNames
 run_root-returns-else-not-run_expr-clause-runs g t c in_place k =
     let rules = under g.H.Host.name_of c.args.self.now g.T.NativeTable.natives in
     let other = no_name c.args.root.now c.in_default.not-Variable c.in_default.not-ThisPtr in
     let none = not_assigned c.args.new (out-Expr c.args.root.now) other c.requires.starts in
     let chain = chain_at c.args.root.now (out-Expr c.args.chain.now) c.args.args.now None in_place in
     rw (none, c.walk_value.ensures.scope, c.walk_value.ensures.this)
-    (evaluates_root rules c.args.root.now (names c.args.run.now) other c.requires.root chain refl refl k _
+    (evaluates_root rules c.args.root.now c.requires.root.known other c.requires.root.holds chain refl refl k _
     ⨾ c.if-not-run_expr.ensures.runs (RootValue chain ∷ k)
     ⨾ c.walk_value.ensures.runs c.run_expr.new.run.scope
     (holding c.run_expr.new.run.this) in_place k)
@@ -311,15 +324,24 @@ run_root-returns-then-not-charge-clause-runs g t c in_place k =
     refl k _) _ (c.if-not-charge.ensures.full refl) (c.if-not-charge.ensures.refused refl) (c.if-not-charge.ensures.same refl) k
 
 pub run_root-walk_variable-requires : goal.run_root-walk_variable-requires
+unfolding ChangesNames KeepsNames RestoresNames SuitsNames
 run_root-walk_variable-requires g t c =
-    let good = good_name c.args.root.now c.in-Variable.offset c.in-Variable.name c.in-Variable.namespace c.in-Variable.pos _
-    (rw (c.in-Variable.is, exprs.outs-Variable) refl) c.requires.root in
     λ κs lives. (
       omega (
         arith,
         ap (λ (global : GlobalRuntimeState _). global.num_operations) (c.if-not-charge.ensures.charged refl),
       ),
-      (lives.0, (lives.1, (good, c.requires.walks))),
+      (
+        lives.0,
+        (
+          lives.1,
+          (
+            same c.if-not-charge.ensures.search refl (brings (λ frame. good_name c.args.root.now c.in-Variable.offset c.in-Variable.name
+                c.in-Variable.namespace c.in-Variable.pos frame (rw (c.in-Variable.is, exprs.outs-Variable) refl)) c.requires.root),
+            c.requires.walks,
+          ),
+        ),
+      ),
     )
 
 pub run_root-returns-else-not-charge-clause-runs : goal.run_root-returns-else-not-charge-clause-runs
@@ -348,6 +370,7 @@ run_root-returns-then-not-charge-2-clause-runs g t c in_place k =
     (c.if-not-charge-2.ensures.same refl)
 
 pub run_root-walk_this-requires : goal.run_root-walk_this-requires
+unfolding ChangesNames KeepsNames RestoresNames SuitsNames
 run_root-walk_this-requires g t c =
     λ κs lives. (
       omega (
@@ -378,9 +401,11 @@ assign_chain-unreachable-requires g t c =
     let clear : false ≡ true = ap is_some (sym none) ∙ c.requires.chain in cc
 
 pub assign_chain-run_chain-requires : goal.assign_chain-run_chain-requires
+unfolding ChangesNames KeepsNames RestoresNames SuitsNames
 assign_chain-run_chain-requires g t c =
     let found = sym c.first_of.ensures ∙ ap option_copied c.in-Some.is in
-    let parts = target_parts c.args.lhs.now c.in-Some.root.now (names c.args.run.now) found c.requires.resolves_target in
+    let suits = still (c.if-not-run_expr.ensures.names refl) c.requires.resolves_target in
+    let parts = target_parts c.args.lhs.now c.in-Some.root.now suits.known found suits.holds in
     λ κs lives. (
       omega (arith, c.if-not-run_expr.ensures.charges refl),
       (
@@ -388,10 +413,10 @@ assign_chain-run_chain-requires g t c =
         (
           lives.1,
           (
-            rw (c.if-not-run_expr.ensures.names refl) parts.root_runs,
+            at_known suits parts.root_runs,
             (
-              rw (c.if-not-run_expr.ensures.names refl) parts.behind_runs,
-              (may_walk true (names c.args.run.now) (out-Expr c.args.lhs.now) parts.behind_runs parts.ends, parts.starts),
+              at_known suits parts.behind_runs,
+              (may_walk true suits.known (out-Expr c.args.lhs.now) parts.behind_runs parts.ends, parts.starts),
             ),
           ),
         ),
@@ -439,10 +464,11 @@ assign_chain-returns-clause-runs g t c restoring k =
 -- where a chain is read, and where it is assigned to
 
 pub run_expr-read_chain-requires : goal.run_expr-read_chain-requires
+unfolding ChangesNames KeepsNames RestoresNames SuitsNames
 run_expr-read_chain-requires g t c =
-    let few = few_links c.args.expr.now (names c.args.run.now) c.requires.resolves in
-    let parts = root_resolves c.args.expr.now c.in-Dot.root (names c.args.run.now) (rw (c.in-Dot.is, exprs.outs-Dot) refl)
-    c.requires.resolves in
+    let suits = same c.charge_expr.ensures.search refl c.requires.resolves in
+    let few = few_links c.args.expr.now suits.known suits.holds in
+    let parts = root_resolves c.args.expr.now c.in-Dot.root suits.known (rw (c.in-Dot.is, exprs.outs-Dot) refl) suits.holds in
     λ κs lives. (
       omega (
         arith,
@@ -455,18 +481,19 @@ run_expr-read_chain-requires g t c =
         (
           lives.1,
           (
-            rw c.get.ensures parts.0,
-            (parts.1, (may_walk false (names c.args.run.now) (out-Expr c.args.expr.now) parts.1 tt, tt)),
+            rw c.get.ensures (at_known suits parts.0),
+            (at_known suits parts.1, (may_walk false suits.known (out-Expr c.args.expr.now) parts.1 tt, tt)),
           ),
         ),
       ),
     )
 
 pub run_expr-read_chain-requires-in-Index : goal.run_expr-read_chain-requires-in-Index
+unfolding ChangesNames KeepsNames RestoresNames SuitsNames
 run_expr-read_chain-requires-in-Index g t c =
-    let few = few_links c.args.expr.now (names c.args.run.now) c.requires.resolves in
-    let parts = root_resolves c.args.expr.now c.in-Index.root (names c.args.run.now) (rw (c.in-Index.is, exprs.outs-Index) refl)
-    c.requires.resolves in
+    let suits = same c.charge_expr.ensures.search refl c.requires.resolves in
+    let few = few_links c.args.expr.now suits.known suits.holds in
+    let parts = root_resolves c.args.expr.now c.in-Index.root suits.known (rw (c.in-Index.is, exprs.outs-Index) refl) suits.holds in
     λ κs lives. (
       omega (
         arith,
@@ -479,8 +506,8 @@ run_expr-read_chain-requires-in-Index g t c =
         (
           lives.1,
           (
-            rw c.get-in-Index.ensures parts.0,
-            (parts.1, (may_walk false (names c.args.run.now) (out-Expr c.args.expr.now) parts.1 tt, tt)),
+            rw c.get-in-Index.ensures (at_known suits parts.0),
+            (at_known suits parts.1, (may_walk false suits.known (out-Expr c.args.expr.now) parts.1 tt, tt)),
           ),
         ),
       ),
@@ -505,11 +532,52 @@ run_expr-returns-in-Index-clause-runs g t c k =
     ⨾ next ((rw (c.get-in-Index.ensures, c.in-Index.is, exprs.outs-Index) at c.read_chain-in-Index.ensures.runs) k)
 
 pub assign_evaluated-assign_chain-requires : goal.assign_evaluated-assign_chain-requires
+unfolding ChangesNames KeepsNames RestoresNames SuitsNames
 assign_evaluated-assign_chain-requires g t c =
-    let chain = left_chain c.args.lhs.now (names c.args.run.now)
+    let chain = left_chain c.args.lhs.now c.requires.resolves_target.known
     (no_name c.args.lhs.now c.in_default.not-Variable c.in_default.not-ThisPtr)
-    c.requires.resolves_target in
+    c.requires.resolves_target.holds in
     λ κs lives. (
       omega arith,
       (lives.0, (lives.1, (chain, (c.requires.resolves_target, c.requires.resolves)))),
     )
+
+pub run_chain-returns-else-not-run_link_args-clause-names : goal.run_chain-returns-else-not-run_link_args-clause-names
+unfolding ChangesNames KeepsNames RestoresNames SuitsNames
+run_chain-returns-else-not-run_link_args-clause-names g t c done =
+    leads_then (c.if-not-run_link_args.ensures.names refl) (c.run_root-done.ensures.names done)
+
+pub run_link_args-returns-in-Some-behind-clause-names : goal.run_link_args-returns-in-Some-behind-clause-names
+unfolding ChangesNames KeepsNames RestoresNames SuitsNames
+run_link_args-returns-in-Some-behind-clause-names g t c done =
+    leads_then (leads_then (stays c.if-not-charge.ensures.search refl) (c.if-not-run_more_args.ensures.names refl))
+    (c.run_link_args.ensures.names done)
+
+pub run_link_args-returns-in-None-clause-names : goal.run_link_args-returns-in-None-clause-names
+unfolding ChangesNames KeepsNames RestoresNames SuitsNames
+run_link_args-returns-in-None-clause-names g t c done =
+    leads_then (stays c.if-not-charge.ensures.search refl) (c.if-not-run_more_args.ensures.names refl)
+
+pub run_root-returns-else-not-run_expr-clause-names : goal.run_root-returns-else-not-run_expr-clause-names
+unfolding ChangesNames KeepsNames RestoresNames SuitsNames
+run_root-returns-else-not-run_expr-clause-names g t c done =
+    leads_then (c.if-not-run_expr.ensures.names refl) (stays c.walk_value.ensures.search (ap names_in c.walk_value.ensures.scope))
+
+pub run_root-returns-else-not-charge-clause-names : goal.run_root-returns-else-not-charge-clause-names
+unfolding ChangesNames KeepsNames RestoresNames SuitsNames
+run_root-returns-else-not-charge-clause-names g t c done =
+    leads_then (stays c.if-not-charge.ensures.search refl) c.walk_variable.ensures.names
+
+pub run_root-returns-else-not-charge-2-clause-names : goal.run_root-returns-else-not-charge-2-clause-names
+unfolding ChangesNames KeepsNames RestoresNames SuitsNames
+run_root-returns-else-not-charge-2-clause-names g t c done =
+    stays (c.walk_this.ensures.search ∙ c.if-not-charge-2.ensures.search) (ap names_in c.walk_this.ensures.scope)
+
+pub assign_chain-returns-clause-names : goal.assign_chain-returns-clause-names
+unfolding ChangesNames KeepsNames RestoresNames SuitsNames
+assign_chain-returns-clause-names g t c done =
+    leads_then (c.if-not-run_expr.ensures.names refl) (c.if-not-run_chain.ensures.names refl)
+
+pub run_chain-returns-else-asks-clause-names : goal.run_chain-returns-else-asks-clause-names
+unfolding KeepsNames
+run_chain-returns-else-asks-clause-names g t c done = c.run_root-done-else-asks.ensures.names done

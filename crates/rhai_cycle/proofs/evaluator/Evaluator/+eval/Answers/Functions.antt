@@ -1,6 +1,6 @@
 use Rattle.std.proofs.Common.{◌∷◌, [], false, length, true, refl, sym, ap, ◌∙◌, arith}
 use Rattle.std.specs.Option.{option_copied, option_map}
-use Rattle.rhai_state.specs.Scope.{entries_of}
+use Rattle.rhai_state.specs.Scope.{entries_of, names_in}
 use Rattle.rhai_state.specs.declared.state.GlobalRuntimeState.{GlobalRuntimeState}
 use Rattle.rhai_machine.specs.machine.Point.{after}
 use Rattle.rhai_machine.specs.machine.Memory.{here, next, wanting, ◌⨾◌}
@@ -9,6 +9,7 @@ use Rattle.rhai_machine.specs.language.Frames.{KeywordArgument, CallArgument, To
 use Rattle.rhai_machine.specs.language.Calls.{plainly}
 use Rattle.rhai_machine.specs.language.Arguments.{arguments_core, is_captured, keyword_of}
 use Rattle.rhai_machine.specs.language.Runs.{Steps}
+use Rattle.rhai_steps.proofs.Agreeing.{brings, leads_then, same, stays, still}
 use Rattle.rhai_steps.proofs.Pieces.{told, step_by}
 use Rattle.rhai_operands.proofs.Names.{good_name}
 use Rattle.rhai_pointers.specs.Keywords.{word_of}
@@ -16,8 +17,9 @@ use Rattle.rhai_pointers.specs.Leading.{all_args, seen, variable_read}
 use Rattle.rhai_pointers.proofs.LeadingLemmas.{lent_leads, this_goes, values_go, variable_goes}
 use Rattle.rhai_dispatch.specs.Going.{GoesOut}
 use Rattle.rhai_context.specs.declared.Context.{Context}
+use Rattle.rhai_cycle.specs.Agreement.{ChangesNames, KeepsNames, RestoresNames, SuitsNames}
 use Rattle.rhai_cycle.specs.Calls.{Collects, RunsUnder, StartsAs, purpose_of}
-use Rattle.rhai_cycle.specs.States.{names, under}
+use Rattle.rhai_cycle.specs.States.{under}
 use Rattle.rhai_cycle.proofs.NameLemmas.{first_resolves, part_resolves, this_resolves}
 use Rattle.rhai_cycle.proofs.Chain.{drop_item, drop_all}
 use Rattle.rhai_cycle.proofs.CallSteps.{calls_itself, calls_linked, by_name, by_number, charged_on, counted, named_alone}
@@ -29,15 +31,30 @@ use Rattle.rhai_context.specs.Ends.{error_in}
 -- a call by name, or of a keyword
 
 pub run_call-run_named-requires : goal.run_call-run_named-requires
+unfolding ChangesNames KeepsNames RestoresNames SuitsNames
 run_call-run_named-requires g t c = λ κs lives. (omega arith, (lives.0, (lives.1, c.requires.1.1.1.1)))
 
 pub run_call-run_keyword-requires : goal.run_call-run_keyword-requires
+unfolding ChangesNames KeepsNames RestoresNames SuitsNames
 run_call-run_keyword-requires g t c =
-    let resolved = first_resolves (all_args (option_copied c.args.first) c.args.rest.now) c.in-Some.arg.now c.args.rest.now
-    (names c.args.run.now) (ap (λ o. all_args (option_copied o) c.args.rest.now) c.in-Some.is) c.requires.1.1.1.1 in
-    λ κs lives. (omega arith, (lives.0, (lives.1, resolved)))
+    let args = all_args (option_copied c.args.first) c.args.rest.now in
+    let leads = ap (λ o. all_args (option_copied o) c.args.rest.now) c.in-Some.is in
+    λ κs lives. (
+      omega arith,
+      (
+        lives.0,
+        (
+          lives.1,
+          (
+            brings (λ frame h. (first_resolves args c.in-Some.arg.now c.args.rest.now frame leads h).0) c.requires.1.1.1.1,
+            brings (λ frame h. (first_resolves args c.in-Some.arg.now c.args.rest.now frame leads h).1) c.requires.1.1.1.1,
+          ),
+        ),
+      ),
+    )
 
 pub run_call-run_named-requires-in-None-keyword_of : goal.run_call-run_named-requires-in-None-keyword_of
+unfolding ChangesNames KeepsNames RestoresNames SuitsNames
 run_call-run_named-requires-in-None-keyword_of g t c = λ κs lives. (omega arith, (lives.0, (lives.1, c.requires.1.1.1.1)))
 
 pub run_call-returns-in-None-clause-runs : goal.run_call-returns-in-None-clause-runs
@@ -81,31 +98,35 @@ run_call-returns-in-None-keyword_of-clause-runs g t c k =
 -- a keyword, from its first argument on
 
 pub run_keyword-run_pointer-requires : goal.run_keyword-run_pointer-requires
+unfolding ChangesNames KeepsNames RestoresNames SuitsNames
 run_keyword-run_pointer-requires g t c =
     λ κs lives. (
       omega (arith, c.if-not-run_arg.ensures.charges refl),
-      (lives.0, (lives.1, rw (c.if-not-run_arg.ensures.names refl) c.requires.resolves_rest)),
+      (lives.0, (lives.1, still (c.if-not-run_arg.ensures.names refl) c.requires.resolves_rest)),
     )
 
 pub run_keyword-run_pointer-requires-in-Ok-Some : goal.run_keyword-run_pointer-requires-in-Ok-Some
+unfolding ChangesNames KeepsNames RestoresNames SuitsNames
 run_keyword-run_pointer-requires-in-Ok-Some g t c =
     λ κs lives. (
       omega (arith, c.if-not-run_arg.ensures.charges refl),
-      (lives.0, (lives.1, rw (c.if-not-run_arg.ensures.names refl) c.requires.resolves_rest)),
+      (lives.0, (lives.1, still (c.if-not-run_arg.ensures.names refl) c.requires.resolves_rest)),
     )
 
 pub run_keyword-run_pointer-requires-in-Some : goal.run_keyword-run_pointer-requires-in-Some
+unfolding ChangesNames KeepsNames RestoresNames SuitsNames
 run_keyword-run_pointer-requires-in-Some g t c =
     λ κs lives. (
       omega (arith, c.if-not-run_arg.ensures.charges refl),
-      (lives.0, (lives.1, rw (c.if-not-run_arg.ensures.names refl) c.requires.resolves_rest)),
+      (lives.0, (lives.1, still (c.if-not-run_arg.ensures.names refl) c.requires.resolves_rest)),
     )
 
 pub run_keyword-run_named-requires : goal.run_keyword-run_named-requires
+unfolding ChangesNames KeepsNames RestoresNames SuitsNames
 run_keyword-run_named-requires g t c =
     λ κs lives. (
       omega (arith, c.if-not-run_arg.ensures.charges refl),
-      (lives.0, (lives.1, rw (← c.parted.ensures, c.if-not-run_arg.ensures.names refl) c.requires.resolves_rest)),
+      (lives.0, (lives.1, rw (← c.parted.ensures) (still (c.if-not-run_arg.ensures.names refl) c.requires.resolves_rest))),
     )
 
 pub run_keyword-returns-then-not-run_arg-clause-runs : goal.run_keyword-returns-then-not-run_arg-clause-runs
@@ -246,6 +267,7 @@ run_keyword-returns-in-Err-linked_function-clause-runs g t c k =
 -- a pointer's arguments, and what they are for
 
 pub run_pointer-run_more_args-requires : goal.run_pointer-run_more_args-requires
+unfolding ChangesNames KeepsNames RestoresNames SuitsNames
 run_pointer-run_more_args-requires g t c =
     λ κs lives. (
       omega arith,
@@ -268,43 +290,64 @@ run_pointer-returns-clause-runs g t c k =
 -- a call by name
 
 pub run_named-run_more_args-requires : goal.run_named-run_more_args-requires
+unfolding ChangesNames KeepsNames RestoresNames SuitsNames
 run_named-run_more_args-requires g t c =
     let found = sym c.this_first.ensures ∙ c.in-Some.is in
-    let resolved = this_resolves _ (option_copied c.args.first) c.args.rest.now c.args.run.now.this c.in-Some.this_at
-    (names c.args.run.now) found c.requires.1.1.1.1 in
     λ κs lives. (
       omega (
         arith,
         ap (λ (global : GlobalRuntimeState _). global.num_operations) (c.if-not-charge.ensures.charged refl),
       ),
-      (lives.0, (lives.1, (omega arith, resolved))),
+      (
+        lives.0,
+        (
+          lives.1,
+          (
+            omega arith,
+            same c.if-not-charge.ensures.search refl (brings (λ frame h. this_resolves _ (option_copied c.args.first) c.args.rest.now
+                c.args.run.now.this c.in-Some.this_at frame found h) c.requires.1.1.1.1),
+          ),
+        ),
+      ),
     )
 
 pub run_named-run_more_args-requires-in-Some-first_variable : goal.run_named-run_more_args-requires-in-Some-first_variable
+unfolding ChangesNames KeepsNames RestoresNames SuitsNames
 run_named-run_more_args-requires-in-Some-first_variable g t c =
     let args = all_args (option_copied c.args.first) c.args.rest.now in
     let found = sym c.first_variable.ensures ∙ ap (option_map seen) c.in-Some-first_variable.is in
     let leading = seen c.in-Some-first_variable.variable in
     let first = lent_leads _ args leading found in
-    let resolved = first_resolves args first.arg leading.rest _ first.comes_first c.requires.1.1.1.1 in
     λ κs lives. (
       omega (
         arith,
         ap (λ (global : GlobalRuntimeState _). global.num_operations) (c.if-not-charge-2.ensures.charged refl),
       ),
-      (lives.0, (lives.1, (omega arith, resolved.1))),
+      (
+        lives.0,
+        (
+          lives.1,
+          (
+            omega arith,
+            same c.if-not-charge-2.ensures.search refl (brings (λ frame h. (first_resolves args first.arg leading.rest frame
+                first.comes_first h).1) c.requires.1.1.1.1),
+          ),
+        ),
+      ),
     )
 
 pub run_named-call_with_variable-called-requires : goal.run_named-call_with_variable-called-requires
+unfolding ChangesNames KeepsNames RestoresNames SuitsNames
 run_named-call_with_variable-called-requires g t c =
     let args = all_args (option_copied c.args.first) c.args.rest.now in
     let found = sym c.first_variable.ensures ∙ ap (option_map seen) c.in-Some-first_variable.is in
     let leading = seen c.in-Some-first_variable.variable in
-    let first = lent_leads _ args leading found in
-    let resolved = first_resolves args first.arg leading.rest _ first.comes_first c.requires.1.1.1.1 in (
+    let first = lent_leads _ args leading found in (
       omega arith,
-      rw (c.if-not-run_more_args-2.ensures.names refl)
-          (good_name first.arg leading.offset leading.name leading.namespace leading.at _ first.is_variable resolved.0),
+      still (c.if-not-run_more_args-2.ensures.names refl)
+          (same c.if-not-charge-2.ensures.search refl (brings (λ frame h. good_name first.arg
+          leading.offset leading.name leading.namespace leading.at frame first.is_variable
+          (first_resolves args first.arg leading.rest frame first.comes_first h).0) c.requires.1.1.1.1)),
     )
 
 pub run_named-returns-then-not-charge-clause-runs : goal.run_named-returns-then-not-charge-clause-runs
@@ -414,6 +457,7 @@ run_named-returns-in-None-clause-runs g t c k =
 -- with all arguments by their values
 
 pub run_on_values-run_all_args-requires : goal.run_on_values-run_all_args-requires
+unfolding ChangesNames KeepsNames RestoresNames SuitsNames
 run_on_values-run_all_args-requires g t c =
     λ κs lives. (
       omega arith,
@@ -441,6 +485,7 @@ run_on_values-returns-clause-runs g t c k =
 -- arguments
 
 pub run_more_args-run_arg-requires : goal.run_more_args-run_arg-requires
+unfolding ChangesNames KeepsNames RestoresNames SuitsNames
 run_more_args-run_arg-requires g t c =
     λ κs lives. (
       omega arith,
@@ -448,22 +493,23 @@ run_more_args-run_arg-requires g t c =
         lives.0,
         (
           lives.1,
-          part_resolves c.args.args.now c.each_arg.arg-index c.arg-item.result
-              (names c.each_arg.run) c.each_arg-test.true c.arg-item.is (rw c.each_arg.invariant.names c.requires),
+          brings (λ frame. part_resolves c.args.args.now c.each_arg.arg-index c.arg-item.result frame c.each_arg-test.true c.arg-item.is)
+              (still c.each_arg.invariant.names c.requires),
         ),
       ),
     )
 
 pub run_more_args-each_arg-init : goal.run_more_args-each_arg-init
-run_more_args-each_arg-init g t c = record { counts = omega arith; names = refl; more = refl; steps = λ purpose is k. here }
+unfolding ChangesNames KeepsNames RestoresNames SuitsNames
+run_more_args-each_arg-init g t c = record { counts = omega arith; names = stays refl refl; more = refl; steps = λ purpose is k. here }
 
 pub run_more_args-each_arg-preserved : goal.run_more_args-each_arg-preserved
-unfolding Steps
+unfolding Steps ChangesNames KeepsNames RestoresNames SuitsNames
 run_more_args-each_arg-preserved g t c =
     let rules = under g.H.Host.name_of c.args.self.now g.T.NativeTable.natives in
     record {
       counts = omega (arith, c.each_arg.invariant.counts, c.if-not-run_arg.ensures.charges refl);
-      names = c.if-not-run_arg.ensures.names refl ∙ c.each_arg.invariant.names;
+      names = leads_then c.each_arg.invariant.names (c.if-not-run_arg.ensures.names refl);
       more = omega (
         arith,
         c.each_arg.invariant.more,
@@ -501,10 +547,20 @@ run_more_args-returns-clause-more g t c done =
     omega (arith, c.each_arg.invariant.more, ap length (drop_all c.args.args.now c.each_arg.arg-index c.each_arg-test.false))
 
 pub run_all_args-run_arg-requires : goal.run_all_args-run_arg-requires
+unfolding ChangesNames KeepsNames RestoresNames SuitsNames
 run_all_args-run_arg-requires g t c =
-    let resolved = first_resolves (all_args (option_copied c.args.first) c.args.rest.now) c.in-Some.arg.now c.args.rest.now
-    (names c.args.run.now) (ap (λ o. all_args (option_copied o) c.args.rest.now) c.in-Some.is) c.requires in
-    λ κs lives. (omega arith, (lives.0, (lives.1, resolved.0)))
+    let args = all_args (option_copied c.args.first) c.args.rest.now in
+    let leads = ap (λ o. all_args (option_copied o) c.args.rest.now) c.in-Some.is in
+    λ κs lives. (
+      omega arith,
+      (
+        lives.0,
+        (
+          lives.1,
+          brings (λ frame h. (first_resolves args c.in-Some.arg.now c.args.rest.now frame leads h).0) c.requires,
+        ),
+      ),
+    )
 
 pub run_all_args-returns-then-not-run_arg-clause-collects : goal.run_all_args-returns-then-not-run_arg-clause-collects
 unfolding after Steps Collects
@@ -521,12 +577,23 @@ run_all_args-returns-then-not-push_argument-clause-collects g t c purpose is k =
     true (error_in c.push_argument.new.place) is (c.if-not-push_argument.ensures.refused refl))
 
 pub run_all_args-run_more_args-requires : goal.run_all_args-run_more_args-requires
+unfolding ChangesNames KeepsNames RestoresNames SuitsNames
 run_all_args-run_more_args-requires g t c =
-    let resolved = first_resolves (all_args (option_copied c.args.first) c.args.rest.now) c.in-Some.arg.now c.args.rest.now
-    (names c.args.run.now) (ap (λ o. all_args (option_copied o) c.args.rest.now) c.in-Some.is) c.requires in
+    let args = all_args (option_copied c.args.first) c.args.rest.now in
+    let leads = ap (λ o. all_args (option_copied o) c.args.rest.now) c.in-Some.is in
     λ κs lives. (
       omega (arith, c.if-not-run_arg.ensures.charges refl),
-      (lives.0, (lives.1, (omega arith, rw (c.if-not-run_arg.ensures.names refl) resolved.1))),
+      (
+        lives.0,
+        (
+          lives.1,
+          (
+            omega arith,
+            still (c.if-not-run_arg.ensures.names refl) (brings (λ frame h. (first_resolves args c.in-Some.arg.now c.args.rest.now
+                frame leads h).1) c.requires),
+          ),
+        ),
+      ),
     )
 
 pub run_all_args-returns-in_default-clause-collects : goal.run_all_args-returns-in_default-clause-collects
@@ -538,7 +605,8 @@ run_all_args-returns-clause-counts g t c done =
     omega (arith, c.if-not-run_arg.ensures.charges refl, c.run_more_args.ensures.counts done)
 
 pub run_all_args-returns-clause-names : goal.run_all_args-returns-clause-names
-run_all_args-returns-clause-names g t c done = c.run_more_args.ensures.names done ∙ c.if-not-run_arg.ensures.names refl
+unfolding ChangesNames KeepsNames RestoresNames SuitsNames
+run_all_args-returns-clause-names g t c done = leads_then (c.if-not-run_arg.ensures.names refl) (c.run_more_args.ensures.names done)
 
 pub run_all_args-returns-clause-collects : goal.run_all_args-returns-clause-collects
 unfolding Steps Collects
@@ -549,3 +617,64 @@ run_all_args-returns-clause-collects g t c purpose is k =
     ⨾ taken_on rules purpose c.args.values.now c.run_arg.new.run.value _ c.args.rest.now k _ true
     c.push_argument.new.made is (c.if-not-push_argument.ensures.kept refl)
     ⨾ c.run_more_args.ensures.collects purpose is k)
+
+pub run_keyword-returns-in-Ok-pointer_of-clause-names : goal.run_keyword-returns-in-Ok-pointer_of-clause-names
+unfolding ChangesNames KeepsNames RestoresNames SuitsNames
+run_keyword-returns-in-Ok-pointer_of-clause-names g t c done =
+    leads_then (c.if-not-run_arg.ensures.names refl) (c.run_pointer.ensures.names done)
+
+pub run_keyword-returns-in-Ok-Some-clause-names : goal.run_keyword-returns-in-Ok-Some-clause-names
+unfolding ChangesNames KeepsNames RestoresNames SuitsNames
+run_keyword-returns-in-Ok-Some-clause-names g t c done =
+    leads_then (c.if-not-run_arg.ensures.names refl) (c.run_pointer-in-Ok-Some.ensures.names done)
+
+pub run_keyword-returns-in-Some-clause-names : goal.run_keyword-returns-in-Some-clause-names
+unfolding ChangesNames KeepsNames RestoresNames SuitsNames
+run_keyword-returns-in-Some-clause-names g t c done =
+    leads_then (c.if-not-run_arg.ensures.names refl) (c.run_pointer-in-Some.ensures.names done)
+
+pub run_keyword-returns-in-None-clause-names : goal.run_keyword-returns-in-None-clause-names
+unfolding ChangesNames KeepsNames RestoresNames SuitsNames
+run_keyword-returns-in-None-clause-names g t c done =
+    leads_then (c.if-not-run_arg.ensures.names refl) (c.run_named.ensures.names done)
+
+pub run_pointer-returns-clause-names : goal.run_pointer-returns-clause-names
+unfolding ChangesNames KeepsNames RestoresNames SuitsNames
+run_pointer-returns-clause-names g t c done = leads_then (c.if-not-run_more_args.ensures.names refl)
+    (leads_then (stays c.use_pointer-called.ensures.search (ap names_in c.use_pointer-called.ensures.scope))
+    (c.run_out-done.ensures.names done))
+
+pub run_named-returns-in-Some-clause-names : goal.run_named-returns-in-Some-clause-names
+unfolding ChangesNames KeepsNames RestoresNames SuitsNames
+run_named-returns-in-Some-clause-names g t c done =
+    leads_then (leads_then (stays c.if-not-charge.ensures.search refl) (c.if-not-run_more_args.ensures.names refl))
+    (leads_then (stays c.call_with_this-called.ensures.search (ap names_in c.call_with_this-called.ensures.scope))
+    (c.run_out-done.ensures.names done))
+
+pub run_named-returns-else-not-run_more_args-2-clause-names : goal.run_named-returns-else-not-run_more_args-2-clause-names
+unfolding ChangesNames KeepsNames RestoresNames SuitsNames
+run_named-returns-else-not-run_more_args-2-clause-names g t c done =
+    leads_then (leads_then (stays c.if-not-charge-2.ensures.search refl) (c.if-not-run_more_args-2.ensures.names refl))
+    (leads_then c.call_with_variable-called.ensures.names (c.run_out-done-in-Some-first_variable.ensures.names done))
+
+pub run_on_values-returns-clause-names : goal.run_on_values-returns-clause-names
+unfolding ChangesNames KeepsNames RestoresNames SuitsNames
+run_on_values-returns-clause-names g t c done = leads_then (c.if-not-run_all_args.ensures.names refl)
+    (leads_then (stays c.call_with-called.ensures.search (ap names_in c.call_with-called.ensures.scope))
+    (c.run_out-done.ensures.names done))
+
+pub run_all_args-returns-in_default-clause-names : goal.run_all_args-returns-in_default-clause-names
+unfolding KeepsNames
+run_all_args-returns-in_default-clause-names g t c done = stays refl refl
+
+pub run_keyword-returns-in-IsShared-clause-names : goal.run_keyword-returns-in-IsShared-clause-names
+unfolding KeepsNames
+run_keyword-returns-in-IsShared-clause-names g t c done = c.if-not-run_arg.ensures.names refl
+
+pub run_keyword-returns-in-Ok-clause-names : goal.run_keyword-returns-in-Ok-clause-names
+unfolding KeepsNames
+run_keyword-returns-in-Ok-clause-names g t c done = c.if-not-run_arg.ensures.names refl
+
+pub run_keyword-returns-in-Ok-text_of-clause-names : goal.run_keyword-returns-in-Ok-text_of-clause-names
+unfolding KeepsNames
+run_keyword-returns-in-Ok-text_of-clause-names g t c done = c.if-not-run_arg.ensures.names refl

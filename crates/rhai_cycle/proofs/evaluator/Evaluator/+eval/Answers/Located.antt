@@ -2,6 +2,7 @@ use Rattle.std.proofs.Common.{Err, sym, ap, ◌∙◌, ◌+◌, arith, length, t
 use Rattle.rhai_values.specs.Cells.{cells_of}
 use Rattle.rhai_machine.specs.language.Chains.{method_of}
 use Rattle.rhai_machine.specs.language.Values.{is_handle}
+use Rattle.rhai_cycle.specs.Agreement.{ChangesNames, KeepsNames, RestoresNames, SuitsNames}
 use Rattle.rhai_cycle.specs.States.{under}
 use Rattle.rhai_steps.specs.States.{state_of}
 use Rattle.rhai_steps.specs.Marked.{lending}
@@ -30,6 +31,7 @@ walk_entered-split_at_mut-given-requires g t c =
     omega (arith, there, c.asked_by-first.ensures.count)
 
 pub walk_entered-walk_behind-result-requires : goal.walk_entered-walk_behind-result-requires
+unfolding ChangesNames KeepsNames RestoresNames SuitsNames
 walk_entered-walk_behind-result-requires g t c =
     let asked = c.in-Method.call.now in
     let behind = method_walks (is_some c.args.new) (link_seen c.args.link) (length c.args.args.now) c.requires.walks asked.name asked.args
@@ -38,6 +40,7 @@ walk_entered-walk_behind-result-requires g t c =
     λ κs lives. (omega (arith, c.run_method-mark.ensures.counts), (lives.0, (lives.1, behind)))
 
 pub walk_entered-walk_spot-result-requires : goal.walk_entered-walk_spot-result-requires
+unfolding ChangesNames KeepsNames RestoresNames SuitsNames
 walk_entered-walk_spot-result-requires g t c =
     let all = first_and_others c.args.args.now c.result-item.result c.result-item.result c.in-len1-up.len_at_least c.result-item.is in
     let behind = index_walks (is_some c.args.new) (link_seen c.args.link) (length c.args.args.now) c.requires.walks _
@@ -45,6 +48,7 @@ walk_entered-walk_spot-result-requires g t c =
     λ κs lives. (omega arith, (lives.0, (lives.1, behind)))
 
 pub walk_entered-walk_member-result-requires : goal.walk_entered-walk_member-result-requires
+unfolding ChangesNames KeepsNames RestoresNames SuitsNames
 walk_entered-walk_member-result-requires g t c =
     let all = first_and_others c.args.args.now c.result-item.result c.result-item.result c.in-len1-up.len_at_least c.result-item.is in
     let behind = index_walks (is_some c.args.new) (link_seen c.args.link) (length c.args.args.now) c.requires.walks _
@@ -52,6 +56,7 @@ walk_entered-walk_member-result-requires g t c =
     λ κs lives. (omega arith, (lives.0, (lives.1, behind)))
 
 pub walk_entered-walk_spot-result-requires-then-is_map : goal.walk_entered-walk_spot-result-requires-then-is_map
+unfolding ChangesNames KeepsNames RestoresNames SuitsNames
 walk_entered-walk_spot-result-requires-then-is_map g t c =
     let form = ap form_seen c.in-Property.is in
     let behind = named_walks (is_some c.args.new) (link_seen c.args.link) (length c.args.args.now) c.requires.walks c.in-Property.name.now
@@ -59,6 +64,7 @@ walk_entered-walk_spot-result-requires-then-is_map g t c =
     λ κs lives. (omega arith, (lives.0, (lives.1, behind)))
 
 pub walk_entered-walk_member-result-requires-else-is_map : goal.walk_entered-walk_member-result-requires-else-is_map
+unfolding ChangesNames KeepsNames RestoresNames SuitsNames
 walk_entered-walk_member-result-requires-else-is_map g t c =
     let form = ap form_seen c.in-Property.is in
     let behind = named_walks (is_some c.args.new) (link_seen c.args.link) (length c.args.args.now) c.requires.walks c.in-Property.name.now

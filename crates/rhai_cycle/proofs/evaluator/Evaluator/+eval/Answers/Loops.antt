@@ -2,12 +2,15 @@ use Rattle.std.proofs.Common.{true, ◌≡◌, ◌≤◌, ◌<◌, ◌∷◌, []
 use Rattle.std.proofs.lemmas.Bool.{true≢false}
 use Rattle.rhai_machine.specs.machine.Point.{after}
 use Rattle.rhai_machine.specs.machine.Memory.{here, next, ◌⨾◌}
-use Rattle.rhai_machine.specs.language.Frames.{ended, Enter, WhileCondition, WhileBody, DoCondition, DoBody}
+use Rattle.rhai_machine.specs.language.Frames.{WhileCondition, WhileBody, DoCondition, DoBody}
 use Rattle.rhai_machine.specs.language.Runs.{Steps}
 use Rattle.rhai_machine.specs.language.Statements.{has_option}
-use Rattle.rhai_laws.proofs.KeptLaws.{counted, names_stay}
+use Rattle.rhai_laws.proofs.KeptLaws.{counted}
 use Rattle.rhai_context.specs.Ends.{came}
-use Rattle.rhai_cycle.specs.States.{names, under}
+use Rattle.rhai_steps.proofs.Agreeing.{brings, leads_then, put_back, stays, still}
+use Rattle.rhai_cycle.specs.Agreement.{ChangesNames, KeepsNames, RestoresNames, SuitsNames}
+use Rattle.rhai_cycle.proofs.FormNames.{block_suits}
+use Rattle.rhai_cycle.specs.States.{under}
 use Rattle.rhai_steps.specs.declared.loops.BodyEnd.TheVariants.{Continue, Break}
 use Rattle.rhai_operands.specs.Tests.{Tests}
 use Rattle.rhai_cycle.proofs.Conditions.{do_tested}
@@ -18,9 +21,9 @@ use Rattle.rhai_cycle.proofs.Chain.{on_ok}
 use Rattle.rhai_cycle.proofs.evaluator.Evaluator.+eval.Goals as goal
 
 pub run_while-turns-init : goal.run_while-turns-init
-unfolding after Steps
+unfolding after Steps ChangesNames KeepsNames RestoresNames SuitsNames
 run_while-turns-init g t c =
-    record { counts = omega arith; names = refl; steps = λ k. here }
+    record { counts = omega arith; names = stays refl refl; steps = λ k. here }
 
 pub run_while-turns-smaller : goal.run_while-turns-smaller
 unfolding after Steps
@@ -31,11 +34,11 @@ run_while-turns-smaller g t c =
     grind (arith, full, rw c.in_default.is at c.while_turn.ensures.charges)
 
 pub run_while-turns-preserved : goal.run_while-turns-preserved
-unfolding after Steps
+unfolding after Steps ChangesNames KeepsNames RestoresNames SuitsNames
 run_while-turns-preserved g t c =
     record {
       counts = omega (arith, rw c.in_default.is at c.while_turn.ensures.charges);
-      names = (rw c.in_default.is at c.while_turn.ensures.names) ∙ c.turns.invariant.names;
+      names = leads_then c.turns.invariant.names (rw c.in_default.is at c.while_turn.ensures.names);
       steps = λ k. c.turns.invariant.steps k ⨾ (rw c.in_default.is at c.while_turn.ensures.runs) k;
     }
 
@@ -49,12 +52,14 @@ run_while-returns-in-Some-clause-counts g t c done =
     omega (arith, c.turns.invariant.counts, on_end c.in-Some.done _ _ c.in-Some.ensures.charges done)
 
 pub run_while-returns-in-Some-clause-names : goal.run_while-returns-in-Some-clause-names
-run_while-returns-in-Some-clause-names g t c done = on_end c.in-Some.done _ _ c.in-Some.ensures.names done ∙ c.turns.invariant.names
+unfolding ChangesNames KeepsNames RestoresNames SuitsNames
+run_while-returns-in-Some-clause-names g t c done =
+    leads_then c.turns.invariant.names (on_end c.in-Some.done _ _ c.in-Some.ensures.names done)
 
 pub run_do-turns-init : goal.run_do-turns-init
-unfolding after Steps
+unfolding after Steps ChangesNames KeepsNames RestoresNames SuitsNames
 run_do-turns-init g t c =
-    record { counts = omega arith; names = refl; steps = λ k. here }
+    record { counts = omega arith; names = stays refl refl; steps = λ k. here }
 
 pub run_do-turns-smaller : goal.run_do-turns-smaller
 unfolding after Steps
@@ -64,11 +69,11 @@ run_do-turns-smaller g t c =
     grind (arith, full, rw c.in_default.is at c.do_turn.ensures.charges)
 
 pub run_do-turns-preserved : goal.run_do-turns-preserved
-unfolding after Steps
+unfolding after Steps ChangesNames KeepsNames RestoresNames SuitsNames
 run_do-turns-preserved g t c =
     record {
       counts = omega (arith, rw c.in_default.is at c.do_turn.ensures.charges);
-      names = (rw c.in_default.is at c.do_turn.ensures.names) ∙ c.turns.invariant.names;
+      names = leads_then c.turns.invariant.names (rw c.in_default.is at c.do_turn.ensures.names);
       steps = λ k. c.turns.invariant.steps k ⨾ (rw c.in_default.is at c.do_turn.ensures.runs) k;
     }
 
@@ -82,7 +87,9 @@ run_do-returns-in-Some-clause-counts g t c done =
     omega (arith, c.turns.invariant.counts, on_end c.in-Some.done _ _ c.in-Some.ensures.charges done)
 
 pub run_do-returns-in-Some-clause-names : goal.run_do-returns-in-Some-clause-names
-run_do-returns-in-Some-clause-names g t c done = on_end c.in-Some.done _ _ c.in-Some.ensures.names done ∙ c.turns.invariant.names
+unfolding ChangesNames KeepsNames RestoresNames SuitsNames
+run_do-returns-in-Some-clause-names g t c done =
+    leads_then c.turns.invariant.names (on_end c.in-Some.done _ _ c.in-Some.ensures.names done)
 
 pub do_turn-returns-in-Stopped-clause-runs : goal.do_turn-returns-in-Stopped-clause-runs
 unfolding after Steps
@@ -110,11 +117,8 @@ do_turn-returns-in-Break-clause-charges g t c =
     (rw c.in-Break.is at c.body_way.ensures) refl (rw c.as_slice-statements.ensures at c.run_stmt_block-done.ensures.runs)
 
 pub do_turn-returns-in-Break-clause-names : goal.do_turn-returns-in-Break-clause-names
-do_turn-returns-in-Break-clause-names g t c =
-    let rules = under g.H.Host.name_of c.args.self.now g.T.NativeTable.natives in
-    names_stay rules (Enter c.args.body.now.statements true) (ended (came c.run_stmt_block-done.result c.run_stmt_block-done.new.run.value
-    c.run_stmt_block-done.new.run.error)) _ _ tt tt (rw
-    c.as_slice-statements.ensures at c.run_stmt_block-done.ensures.runs)
+unfolding ChangesNames KeepsNames RestoresNames SuitsNames
+do_turn-returns-in-Break-clause-names g t c = put_back (c.run_stmt_block-done.ensures.restores refl)
 
 pub do_turn-returns-in-Continue-clause-runs : goal.do_turn-returns-in-Continue-clause-runs
 unfolding after Steps
@@ -133,20 +137,18 @@ do_turn-returns-in-Continue-clause-charges g t c =
     (rw c.in-Continue.is at c.body_way.ensures) refl (rw c.as_slice-statements.ensures at c.run_stmt_block-done.ensures.runs)
 
 pub do_turn-returns-in-Continue-clause-names : goal.do_turn-returns-in-Continue-clause-names
-do_turn-returns-in-Continue-clause-names g t c =
-    let rules = under g.H.Host.name_of c.args.self.now g.T.NativeTable.natives in
-    names_stay rules (Enter c.args.body.now.statements true) (ended (came c.run_stmt_block-done.result c.run_stmt_block-done.new.run.value
-    c.run_stmt_block-done.new.run.error)) _ _ tt tt (rw
-    c.as_slice-statements.ensures at c.run_stmt_block-done.ensures.runs)
+unfolding ChangesNames KeepsNames RestoresNames SuitsNames
+do_turn-returns-in-Continue-clause-names g t c = put_back (c.run_stmt_block-done.ensures.restores refl)
 
 pub do_turn-run_condition-requires : goal.do_turn-run_condition-requires
+unfolding ChangesNames KeepsNames RestoresNames SuitsNames
 do_turn-run_condition-requires g t c =
     let rules = under g.H.Host.name_of c.args.self.now g.T.NativeTable.natives in
     let counts = counted rules _ _ _ _ c.run_stmt_block-done.ensures.runs in
-    let stays = names_stay rules (Enter c.args.body.now.statements true) (ended (came c.run_stmt_block-done.result
-    c.run_stmt_block-done.new.run.value c.run_stmt_block-done.new.run.error)) _ _ tt tt
-    (rw c.as_slice-statements.ensures at c.run_stmt_block-done.ensures.runs) in
-    λ κs lives. (omega (arith, counts), (lives.0, (lives.1, rw stays c.requires.resolves_test)))
+    λ κs lives. (
+      omega (arith, counts),
+      (lives.0, (lives.1, still (put_back (c.run_stmt_block-done.ensures.restores refl)) c.requires.resolves_test)),
+    )
 
 pub do_turn-returns-in-None-clause-runs : goal.do_turn-returns-in-None-clause-runs
 unfolding after Steps Tests
@@ -176,11 +178,9 @@ do_turn-returns-in-Some-clause-charges g t c =
     on_ok _ charged
 
 pub do_turn-returns-in-Some-clause-names : goal.do_turn-returns-in-Some-clause-names
+unfolding ChangesNames KeepsNames RestoresNames SuitsNames
 do_turn-returns-in-Some-clause-names g t c =
-    let rules = under g.H.Host.name_of c.args.self.now g.T.NativeTable.natives in
-    on_ok _ (c.in-Some.ensures.names ∙ names_stay rules (Enter c.args.body.now.statements true)
-    (ended (came c.run_stmt_block-done.result c.run_stmt_block-done.new.run.value c.run_stmt_block-done.new.run.error)) _ _ tt tt
-    (rw c.as_slice-statements.ensures at c.run_stmt_block-done.ensures.runs))
+    on_ok _ (leads_then (put_back (c.run_stmt_block-done.ensures.restores refl)) c.in-Some.ensures.names)
 
 pub while_turn-returns-in-None-clause-runs : goal.while_turn-returns-in-None-clause-runs
 unfolding after Steps Tests
@@ -221,11 +221,8 @@ while_turn-returns-then-is_endless-clause-charges g t c =
     (rw c.as_slice.ensures at c.run_stmt_block-done.ensures.runs))
 
 pub while_turn-returns-then-is_endless-clause-names : goal.while_turn-returns-then-is_endless-clause-names
-while_turn-returns-then-is_endless-clause-names g t c =
-    let rules = under g.H.Host.name_of c.args.self.now g.T.NativeTable.natives in
-    on_ok _ (names_stay rules (Enter c.args.body.now.statements true) (ended (came c.run_stmt_block-done.result
-    c.run_stmt_block-done.new.run.value c.run_stmt_block-done.new.run.error)) _ _ tt tt
-    (rw c.as_slice.ensures at c.run_stmt_block-done.ensures.runs))
+unfolding ChangesNames KeepsNames RestoresNames SuitsNames
+while_turn-returns-then-is_endless-clause-names g t c = on_ok _ (put_back (c.run_stmt_block-done.ensures.restores refl))
 
 pub while_turn-returns-then-holds-clause-runs : goal.while_turn-returns-then-holds-clause-runs
 unfolding after Steps Tests
@@ -247,11 +244,9 @@ while_turn-returns-then-holds-clause-charges g t c =
     on_ok _ charged
 
 pub while_turn-returns-then-holds-clause-names : goal.while_turn-returns-then-holds-clause-names
+unfolding ChangesNames KeepsNames RestoresNames SuitsNames
 while_turn-returns-then-holds-clause-names g t c =
-    let rules = under g.H.Host.name_of c.args.self.now g.T.NativeTable.natives in
-    on_ok _ (names_stay rules (Enter c.args.body.now.statements true) (ended (came c.run_stmt_block-done-then-holds.result
-    c.run_stmt_block-done-then-holds.new.run.value c.run_stmt_block-done-then-holds.new.run.error)) _ _ tt tt
-    (rw c.as_slice-statements.ensures at c.run_stmt_block-done-then-holds.ensures.runs) ∙ c.in-Some.ensures.names)
+    on_ok _ (leads_then c.in-Some.ensures.names (put_back (c.run_stmt_block-done-then-holds.ensures.restores refl)))
 
 pub while_turn-returns-else-holds-clause-runs : goal.while_turn-returns-else-holds-clause-runs
 unfolding after Steps Tests
@@ -259,3 +254,72 @@ while_turn-returns-else-holds-clause-runs g t c k =
     let rules = under g.H.Host.name_of c.args.self.now g.T.NativeTable.natives in
     while_asks rules _ _ k _ (sym c.is_endless.ensures ∙ c.if-is_endless.false)
     ⨾ (rw c.if-holds.false at c.in-Some.ensures.runs) (WhileCondition _ _) k refl ⨾ rw c.put_unit.ensures here
+
+pub run_while-while_turn-requires : goal.run_while-while_turn-requires
+unfolding ChangesNames KeepsNames RestoresNames SuitsNames
+run_while-while_turn-requires g t c =
+    let test = still c.turns.invariant.names c.requires.resolves_test in
+    let body = still c.turns.invariant.names c.requires.resolves_body in
+    λ κs lives. (
+      omega (arith, c.turns.invariant.counts),
+      (lives.0, (lives.1, (test, body))),
+    )
+
+pub run_do-do_turn-requires : goal.run_do-do_turn-requires
+unfolding ChangesNames KeepsNames RestoresNames SuitsNames
+run_do-do_turn-requires g t c =
+    let test = still c.turns.invariant.names c.requires.resolves_test in
+    let body = still c.turns.invariant.names c.requires.resolves_body in
+    λ κs lives. (
+      omega (arith, c.turns.invariant.counts),
+      (lives.0, (lives.1, (test, body))),
+    )
+
+pub while_turn-run_stmt_block-done-requires : goal.while_turn-run_stmt_block-done-requires
+unfolding ChangesNames KeepsNames RestoresNames SuitsNames
+while_turn-run_stmt_block-done-requires g t c =
+    λ κs lives. (
+      omega arith,
+      (lives.0, (lives.1, rw c.as_slice.ensures (block_suits c.args.body.now c.requires.resolves_body))),
+    )
+
+pub while_turn-run_stmt_block-done-requires-then-holds : goal.while_turn-run_stmt_block-done-requires-then-holds
+unfolding ChangesNames KeepsNames RestoresNames SuitsNames
+while_turn-run_stmt_block-done-requires-then-holds g t c =
+    let suits = still c.in-Some.ensures.names (block_suits c.args.body.now c.requires.resolves_body) in
+    λ κs lives. (
+      omega (arith, c.in-Some.ensures.charges),
+      (lives.0, (lives.1, rw c.as_slice-statements.ensures suits)),
+    )
+
+pub do_turn-run_stmt_block-done-requires : goal.do_turn-run_stmt_block-done-requires
+unfolding ChangesNames KeepsNames RestoresNames SuitsNames
+do_turn-run_stmt_block-done-requires g t c =
+    λ κs lives. (
+      omega arith,
+      (lives.0, (lives.1, rw c.as_slice-statements.ensures (block_suits c.args.body.now c.requires.resolves_body))),
+    )
+
+pub run_break-run_expr-requires : goal.run_break-run_expr-requires
+unfolding ChangesNames KeepsNames RestoresNames SuitsNames
+run_break-run_expr-requires g t c =
+    λ κs lives. (
+      omega arith,
+      (lives.0, (lives.1, brings (λ frame h. rw c.in-Some.is at h) c.requires.resolves)),
+    )
+
+pub run_return-run_expr-requires : goal.run_return-run_expr-requires
+unfolding ChangesNames KeepsNames RestoresNames SuitsNames
+run_return-run_expr-requires g t c =
+    λ κs lives. (
+      omega arith,
+      (lives.0, (lives.1, brings (λ frame h. rw c.in-Some.is at h) c.requires.resolves)),
+    )
+
+pub while_turn-returns-then-charge-clause-names : goal.while_turn-returns-then-charge-clause-names
+unfolding ChangesNames KeepsNames RestoresNames SuitsNames
+while_turn-returns-then-charge-clause-names g t c = stays c.if-charge.ensures.search refl
+
+pub while_turn-returns-else-holds-clause-names : goal.while_turn-returns-else-holds-clause-names
+unfolding KeepsNames
+while_turn-returns-else-holds-clause-names g t c = c.in-Some.ensures.names

@@ -2,6 +2,7 @@ use Rattle.std.proofs.Common.{ap, Err, Some, arith}
 use Rattle.rhai_tree.specs.declared.expr.Expr.{out-Expr}
 use Rattle.std.specs.Option.{option_copied, option_map}
 use Rattle.rhai_machine.specs.language.Chains.{is_property, kept_access}
+use Rattle.rhai_cycle.specs.Agreement.{ChangesNames, KeepsNames, RestoresNames, SuitsNames}
 use Rattle.rhai_cycle.specs.States.{offer_of, under}
 use Rattle.rhai_steps.specs.States.{state_of}
 use Rattle.rhai_steps.specs.Marked.{lending}
@@ -14,6 +15,7 @@ use Rattle.rhai_context.specs.Ends.{came_marked, error_in}
 use Rattle.rhai_cycle.proofs.evaluator.Evaluator.+eval.Goals as goal
 
 pub walk_member-returns-in_default-clause-runs : goal.walk_member-returns-in_default-clause-runs
+unfolding ChangesNames KeepsNames RestoresNames SuitsNames
 walk_member-returns-in_default-clause-runs g t c scope held rest all in_place left =
     let rules = under g.H.Host.name_of c.args.self.now g.T.NativeTable.natives in
     member_ends rules (link_seen c.args.link).behind (new_of c.args.new) (link_seen c.args.link) (access_of c.args.access)
@@ -26,12 +28,14 @@ walk_member-returns-in_default-clause-runs g t c scope held rest all in_place le
     c.walker-walker.ensures.switches))
 
 pub walk_member-walk_chain-mark-requires : goal.walk_member-walk_chain-mark-requires
+unfolding ChangesNames KeepsNames RestoresNames SuitsNames
 walk_member-walk_chain-mark-requires g t c =
     let is = ap (λ behind. left_by (option_map out-Expr (option_copied behind))) c.in-Some.is in
     let walks = rw c.in-Some.is at c.requires.walks in
     λ κs lives. (omega (arith, is, c.in-Some-get_kept.ensures.counts), (lives.0, (lives.1, walks)))
 
 pub walk_member-returns-in-Some-get_kept-clause-runs : goal.walk_member-returns-in-Some-get_kept-clause-runs
+unfolding ChangesNames KeepsNames RestoresNames SuitsNames
 walk_member-returns-in-Some-get_kept-clause-runs g t c scope held rest all in_place left =
     let rules = under g.H.Host.name_of c.args.self.now g.T.NativeTable.natives in
     let access = access_of c.args.access in
@@ -55,6 +59,7 @@ walk_member-returns-in-Some-get_kept-clause-runs g t c scope held rest all in_pl
     (came_marked c.come_back.result c.walk_chain-mark.new.run.value c.come_back.new.place) walks comes)))
 
 pub walk_member-returns-in-None-clause-runs : goal.walk_member-returns-in-None-clause-runs
+unfolding ChangesNames KeepsNames RestoresNames SuitsNames
 walk_member-returns-in-None-clause-runs g t c scope held rest all in_place left =
     let rules = under g.H.Host.name_of c.args.self.now g.T.NativeTable.natives in
     let access = access_of c.args.access in

@@ -1,6 +1,7 @@
 use Rattle.std.proofs.Common.{ap, false, arith}
 use Rattle.std.specs.Option.{option_copied, option_map}
 use Rattle.rhai_tree.specs.declared.expr.Expr.{out-Expr}
+use Rattle.rhai_cycle.specs.Agreement.{ChangesNames, KeepsNames, RestoresNames, SuitsNames}
 use Rattle.rhai_cycle.specs.States.{under}
 use Rattle.rhai_steps.specs.States.{state_of}
 use Rattle.rhai_chains.specs.Chains.{chain_at, link_seen}
@@ -11,12 +12,14 @@ use Rattle.rhai_context.specs.Ends.{came_marked, error_in}
 use Rattle.rhai_cycle.proofs.evaluator.Evaluator.+eval.Goals as goal
 
 pub walk_behind-walk_chain-result-requires : goal.walk_behind-walk_chain-result-requires
+unfolding ChangesNames KeepsNames RestoresNames SuitsNames
 walk_behind-walk_chain-result-requires g t c =
     let is = ap (λ behind. left_by (option_map out-Expr (option_copied behind))) c.in-Some.is in
     let walks = rw c.in-Some.is at c.requires.walks in
     λ κs lives. (omega (arith, is), (lives.0, (lives.1, walks)))
 
 pub walk_behind-returns-in_default-clause-runs : goal.walk_behind-returns-in_default-clause-runs
+unfolding ChangesNames KeepsNames RestoresNames SuitsNames
 walk_behind-returns-in_default-clause-runs g t c scope held rest =
     let rules = under g.H.Host.name_of c.args.self.now g.T.NativeTable.natives in
     nothing_behind rules (chain_at c.args.root.now rest c.args.args.now c.args.new false)
@@ -25,6 +28,7 @@ walk_behind-returns-in_default-clause-runs g t c scope held rest =
     (ap (λ behind. option_map out-Expr (option_copied behind)) c.in_default.is)
 
 pub walk_behind-returns-in-Some-mark-clause-runs : goal.walk_behind-returns-in-Some-mark-clause-runs
+unfolding ChangesNames KeepsNames RestoresNames SuitsNames
 walk_behind-returns-in-Some-mark-clause-runs g t c scope held rest =
     let rules = under g.H.Host.name_of c.args.self.now g.T.NativeTable.natives in
     let behind = out-Expr c.in-Some.rest.now in

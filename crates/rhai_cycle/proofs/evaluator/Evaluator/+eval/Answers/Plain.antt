@@ -10,11 +10,13 @@ use Rattle.rhai_bodies.specs.Opening.{entered_global}
 use Rattle.rhai_context.specs.declared.Context.{Context}
 use Rattle.rhai_context.specs.Ends.{came, error_in}
 use Rattle.rhai_laws.proofs.KeptLaws.{counted}
+use Rattle.rhai_cycle.specs.Agreement.{ChangesNames, KeepsNames, RestoresNames, SuitsNames}
 use Rattle.rhai_cycle.specs.Bodies.{entered}
 use Rattle.rhai_cycle.specs.States.{names, under}
 use Rattle.rhai_cycle.proofs.BodyLemmas.{early_ends, passed_charged, was_charged, whole_ends}
 use Rattle.rhai_cycle.proofs.Chain.{drop_all, drop_item}
-use Rattle.rhai_cycle.proofs.NameLemmas.{part_resolves}
+use Rattle.rhai_cycle.proofs.NameLemmas.{part_resolves, suits_now}
+use Rattle.rhai_steps.proofs.Agreeing.{brings, leads_then, stays, still}
 use Rattle.rhai_cycle.proofs.PlainLemmas.{filling_begins, filling_ends, filling_fails, filling_grows, filling_stops, has_room}
 use Rattle.rhai_cycle.proofs.PlainLemmas.{entered_resolves, plain_ends, plain_fails, plain_stops}
 use Rattle.rhai_cycle.proofs.evaluator.Evaluator.+eval.Goals as goal
@@ -22,6 +24,7 @@ use Rattle.rhai_cycle.proofs.evaluator.Evaluator.+eval.Goals as goal
 -- a call whose function is known
 
 pub run_plain_call-run_parameters-requires : goal.run_plain_call-run_parameters-requires
+unfolding ChangesNames KeepsNames RestoresNames SuitsNames
 run_plain_call-run_parameters-requires g t c =
     λ κs lives. (
       omega (arith, ap (λ (r : Context _). r.global.num_operations) c.lend_variables-variables.ensures.run),
@@ -92,6 +95,7 @@ run_plain_call-returns-in-Some-clause-counts g t c done =
     )
 
 pub run_plain_call-run_stmt_block-done-requires : goal.run_plain_call-run_stmt_block-done-requires
+unfolding ChangesNames KeepsNames RestoresNames SuitsNames
 run_plain_call-run_stmt_block-done-requires g t c =
     let rules = under g.H.Host.name_of c.args.self.now g.T.NativeTable.natives in
     let resolved = entered_resolves rules c.as_slice-args.result.now c.run_parameters.new.variables _ _ _ c.definition_of-def.result.now
@@ -109,7 +113,7 @@ run_plain_call-run_stmt_block-done-requires g t c =
       ),
       (
         lives.0,
-        (lives.1, rw (c.statements_of-statements.ensures, c.enter_plain-entered.ensures.run) resolved),
+        (lives.1, suits_now _ (rw (c.statements_of-statements.ensures, c.enter_plain-entered.ensures.run) resolved)),
       ),
     )
 
@@ -130,9 +134,26 @@ run_plain_call-returns-clause-counts g t c done =
     )
 
 pub run_plain_call-returns-clause-names : goal.run_plain_call-returns-clause-names
+unfolding ChangesNames KeepsNames RestoresNames SuitsNames
 run_plain_call-returns-clause-names g t c done =
-    ap names_in c.leave_plain.ensures.scope ∙ ap (λ caller. names_in (scope_of caller.variables)) c.enter_plain-entered.ensures.caller
-    ∙ c.if-not-run_parameters.ensures.names refl ∙ ap names c.lend_variables-variables.ensures.run
+    let lent = c.lend_variables-variables.ensures.run in
+    let search = ap (λ (global : GlobalRuntimeState _). global.always_search_scope) c.leave_plain.ensures.state
+    ∙ (c.run_stmt_block-done.ensures.restores refl).search
+    ∙ ap (λ (r : Context _). r.global.always_search_scope) c.enter_plain-entered.ensures.run ∙ c.ends_before.ensures.search in
+    leads_then (stays (ap (λ (r : Context _). r.global.always_search_scope) lent) (ap (λ (r : Context _). names r) lent))
+    (leads_then (c.if-not-run_parameters.ensures.names refl)
+    (stays search (ap names_in c.leave_plain.ensures.scope
+    ∙ ap (λ caller. names_in (scope_of caller.variables)) c.enter_plain-entered.ensures.caller)))
+
+pub run_plain_call-returns-in-Some-clause-names : goal.run_plain_call-returns-in-Some-clause-names
+unfolding ChangesNames KeepsNames RestoresNames SuitsNames
+run_plain_call-returns-in-Some-clause-names g t c done =
+    let lent = c.lend_variables-variables.ensures.run in
+    let kept = c.keep_variables-in-Some.ensures in
+    leads_then (stays (ap (λ (r : Context _). r.global.always_search_scope) lent) (ap (λ (r : Context _). names r) lent))
+    (leads_then (c.if-not-run_parameters.ensures.names refl)
+    (stays (ap (λ (r : Context _). r.global.always_search_scope) kept ∙ c.ends_before.ensures.search)
+    (ap (λ (r : Context _). names r) kept)))
 
 pub run_plain_call-returns-clause-runs : goal.run_plain_call-returns-clause-runs
 run_plain_call-returns-clause-runs g t c =
@@ -173,6 +194,7 @@ run_plain_call-returns-clause-runs g t c =
 -- its arguments become the parameters
 
 pub run_parameters-run_arg-requires : goal.run_parameters-run_arg-requires
+unfolding ChangesNames KeepsNames RestoresNames SuitsNames
 run_parameters-run_arg-requires g t c =
     λ κs lives. (
       omega arith,
@@ -180,33 +202,36 @@ run_parameters-run_arg-requires g t c =
         lives.0,
         (
           lives.1,
-          part_resolves c.args.args.now c.each_arg.arg-index c.arg-item.result
-              (names c.each_arg.run) c.each_arg-test.true c.arg-item.is (rw c.each_arg.invariant.names c.requires.resolves),
+          brings (λ frame. part_resolves c.args.args.now c.each_arg.arg-index c.arg-item.result frame c.each_arg-test.true c.arg-item.is)
+              (still c.each_arg.invariant.names c.requires.resolves),
         ),
       ),
     )
 
 pub run_parameters-each_arg-init : goal.run_parameters-each_arg-init
+unfolding ChangesNames KeepsNames RestoresNames SuitsNames
 run_parameters-each_arg-init g t c =
     let rules = under g.H.Host.name_of c.args.self.now g.T.NativeTable.natives in
     record {
       counts = omega arith;
-      names = refl;
+      names = stays refl refl;
       fills = filling_begins rules c.args.def.now.params c.args.args.now c.args.variables.now _ c.requires.empty;
     }
 
 pub run_parameters-push_parameter-requires : goal.run_parameters-push_parameter-requires
+unfolding ChangesNames KeepsNames RestoresNames SuitsNames
 run_parameters-push_parameter-requires g t c =
     let rules = under g.H.Host.name_of c.args.self.now g.T.NativeTable.natives in
     has_room rules c.args.def.now.params c.args.args.now c.each_arg.variables _ _ c.arg-item.result _ c.requires.takes
     (rw (drop_item _ _ _ c.each_arg-test.true c.arg-item.is) at c.each_arg.invariant.fills)
 
 pub run_parameters-each_arg-preserved : goal.run_parameters-each_arg-preserved
+unfolding ChangesNames KeepsNames RestoresNames SuitsNames
 run_parameters-each_arg-preserved g t c =
     let rules = under g.H.Host.name_of c.args.self.now g.T.NativeTable.natives in
     record {
       counts = omega (arith, c.each_arg.invariant.counts, c.if-not-run_arg.ensures.charges refl);
-      names = c.if-not-run_arg.ensures.names refl ∙ c.each_arg.invariant.names;
+      names = leads_then c.each_arg.invariant.names (c.if-not-run_arg.ensures.names refl);
       fills = filling_grows rules c.args.def.now.params c.args.args.now c.each_arg.variables _ _ c.arg-item.result _
           c.requires.takes (rw (drop_item _ _ _ c.each_arg-test.true c.arg-item.is) at c.each_arg.invariant.fills) _
           c.run_arg.new.run.value c.push_parameter.new.variables c.if-not-run_arg.ensures.runs

@@ -11,14 +11,17 @@ use Rattle.rhai_dispatch.specs.Going.{GoesOut}
 use Rattle.rhai_dispatch.proofs.Behind.{before_resolves, behind_begins, behind_goes, behind_spent, good_last}
 use Rattle.rhai_calls.specs.Called.{with_args}
 use Rattle.rhai_context.specs.Ends.{error_in}
+use Rattle.rhai_cycle.specs.Agreement.{ChangesNames, KeepsNames, RestoresNames, SuitsNames}
 use Rattle.rhai_cycle.specs.Calls.{Collects, StartsAs, in_parts}
-use Rattle.rhai_cycle.specs.States.{names, state_in, under}
+use Rattle.rhai_steps.proofs.Agreeing.{brings, leads_then, same, stays, still}
+use Rattle.rhai_cycle.specs.States.{state_in, under}
 use Rattle.rhai_cycle.proofs.QualifiedLemmas.{flattened_behind}
 use Rattle.rhai_cycle.proofs.evaluator.Evaluator.+eval.Goals as goal
 
 -- a call behind a path
 
 pub run_qualified_call-run_more_args-requires : goal.run_qualified_call-run_more_args-requires
+unfolding ChangesNames KeepsNames RestoresNames SuitsNames
 run_qualified_call-run_more_args-requires g t c =
     λ κs lives. (
       omega (arith, c.charge_last.ensures.counts),
@@ -28,19 +31,21 @@ run_qualified_call-run_more_args-requires g t c =
           lives.1,
           (
             omega arith,
-            rw (c.last_read.ensures.others)
-                (before_resolves (names c.args.run.now) c.args.args.now c.args.run.now.this c.requires.1.1.1.1.0),
+            rw (c.last_read.ensures.others) (same c.charge_last.ensures.search refl
+                (brings (λ frame. before_resolves frame c.args.args.now c.args.run.now.this) c.requires.1.1.1.1.0)),
           ),
         ),
       ),
     )
 
 pub run_qualified_call-call_behind-called-requires : goal.run_qualified_call-call_behind-called-requires
+unfolding ChangesNames KeepsNames RestoresNames SuitsNames
 run_qualified_call-call_behind-called-requires g t c = (
   omega arith,
-  rw (c.if-not-run_more_args.ensures.names refl, c.last_read.ensures.last)
-      (good_last (names c.args.run.now) (λ e offset name namespace pos. good_name e offset name namespace pos (names c.args.run.now))
-      c.args.args.now c.args.run.now.this c.requires.1.1.1.1.0),
+  rw (c.last_read.ensures.last)
+      (still (leads_then (stays c.charge_last.ensures.search refl) (c.if-not-run_more_args.ensures.names refl))
+      (brings (λ frame. good_last frame (λ e offset name namespace pos. good_name e offset name namespace pos frame) c.args.args.now
+      c.args.run.now.this) c.requires.1.1.1.1.0)),
 )
 
 pub run_qualified_call-returns-then-not-charge_last-clause-runs : goal.run_qualified_call-returns-then-not-charge_last-clause-runs
@@ -85,3 +90,9 @@ run_qualified_call-returns-clause-runs g t c token captures other k =
     (with_args c.call_behind-called.result c.call_behind-called.new.args)
     (rw (c.last_read.ensures.last) at c.call_behind-called.ensures) k
     ⨾ c.run_out-done.ensures.runs k
+
+pub run_qualified_call-returns-clause-names : goal.run_qualified_call-returns-clause-names
+unfolding ChangesNames KeepsNames RestoresNames SuitsNames
+run_qualified_call-returns-clause-names g t c done =
+    leads_then (leads_then (stays c.charge_last.ensures.search refl) (c.if-not-run_more_args.ensures.names refl))
+    (c.run_out-done.ensures.names done)

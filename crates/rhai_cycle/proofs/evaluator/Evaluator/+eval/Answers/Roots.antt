@@ -6,9 +6,11 @@ use Rattle.rhai_machine.specs.language.Variables.{variable_named}
 use Rattle.rhai_steps.specs.Offers.{globals_in}
 use Rattle.rhai_steps.specs.States.{state_of}
 use Rattle.rhai_state.specs.Scope.{names_in}
+use Rattle.rhai_steps.proofs.Agreeing.{stays}
 use Rattle.rhai_chains.specs.Chains.{chain_at}
 use Rattle.rhai_steps.specs.Marked.{lending}
 use Rattle.rhai_context.specs.Ends.{came, came_marked, error_in}
+use Rattle.rhai_cycle.specs.Agreement.{ChangesNames, KeepsNames, RestoresNames, SuitsNames}
 use Rattle.rhai_cycle.proofs.FocusSteps.{without_came}
 use Rattle.rhai_cycle.specs.Calls.{StartsAs}
 use Rattle.rhai_cycle.specs.States.{under}
@@ -19,7 +21,8 @@ use Rattle.rhai_cycle.proofs.evaluator.Evaluator.+eval.Goals as goal
 -- a variable that lends its value, or a temporary
 
 pub walk_variable-returns-in_default-clause-names : goal.walk_variable-returns-in_default-clause-names
-walk_variable-returns-in_default-clause-names g t c = ap (λ s. names_in s) (c.in_default.ensures.kept refl)
+unfolding ChangesNames KeepsNames RestoresNames SuitsNames
+walk_variable-returns-in_default-clause-names g t c = stays refl (ap (λ s. names_in s) (c.in_default.ensures.kept refl))
 
 pub walk_variable-returns-in_default-clause-runs : goal.walk_variable-returns-in_default-clause-runs
 walk_variable-returns-in_default-clause-runs g t c held in_place =
@@ -34,10 +37,12 @@ pub walk_variable-give_variable-requires : goal.walk_variable-give_variable-requ
 walk_variable-give_variable-requires g t c = rw c.walk_chain-mark.ensures.scope c.in-Some.ensures.within
 
 pub walk_variable-returns-clause-names : goal.walk_variable-returns-clause-names
+unfolding ChangesNames KeepsNames RestoresNames SuitsNames
 walk_variable-returns-clause-names g t c =
-    lent_back (globals_in c.args.self.now.offered) c.args.run.now.global (variable_named c.args.name.now c.args.namespace.now c.args.pos)
+    stays c.walk_chain-mark.ensures.search (lent_back (globals_in c.args.self.now.offered) c.args.run.now.global
+    (variable_named c.args.name.now c.args.namespace.now c.args.pos)
     c.args.run.now.scope c.lend_variable-lent.new.scope c.give_variable.new.scope c.in-Some.value c.walk_chain-mark.new.focus c.in-Some.index c.in-Some.ensures.lends
-    (rw c.walk_chain-mark.ensures.scope at c.give_variable.ensures.back)
+    (rw c.walk_chain-mark.ensures.scope at c.give_variable.ensures.back))
 
 pub walk_variable-returns-clause-runs : goal.walk_variable-returns-clause-runs
 walk_variable-returns-clause-runs g t c held in_place =
@@ -111,3 +116,7 @@ walk_value-returns-clause-runs g t c scope held in_place =
     c.leave_temporary.ensures)
     false None c.in-Some.value old (new (lending held c.walk_chain-mark.new.focus))
     (c.walk_chain-mark.ensures.runs scope held))
+
+pub walk_variable-lend_variable-lent-requires : goal.walk_variable-lend_variable-lent-requires
+unfolding SuitsNames
+walk_variable-lend_variable-lent-requires g t c = c.requires.good

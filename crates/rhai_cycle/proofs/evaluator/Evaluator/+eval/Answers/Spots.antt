@@ -8,6 +8,7 @@ use Rattle.rhai_machine.specs.language.Chains.{method_of, part_core, way_back}
 use Rattle.rhai_machine.specs.language.Frames.{PartMethod}
 use Rattle.rhai_machine.specs.language.Links.{first_position, link_of}
 use Rattle.rhai_machine.specs.language.Members.{focused_on}
+use Rattle.rhai_cycle.specs.Agreement.{ChangesNames, KeepsNames, RestoresNames, SuitsNames}
 use Rattle.rhai_cycle.specs.States.{offer_of, under}
 use Rattle.rhai_machine.specs.language.Values.{unit_value}
 use Rattle.rhai_steps.specs.States.{state_of}
@@ -25,6 +26,7 @@ use Rattle.rhai_context.specs.Ends.{came_marked, error_in}
 use Rattle.rhai_cycle.proofs.evaluator.Evaluator.+eval.Goals as goal
 
 pub walk_spot-returns-in_default-clause-runs : goal.walk_spot-returns-in_default-clause-runs
+unfolding ChangesNames KeepsNames RestoresNames SuitsNames
 walk_spot-returns-in_default-clause-runs g t c scope held rest all left =
     let rules = under g.H.Host.name_of c.args.self.now g.T.NativeTable.natives in
     spot_by rules (link_seen c.args.link).behind None (new_of c.args.new) (link_seen c.args.link) c.args.index.now c.args.source.now
@@ -41,18 +43,21 @@ walk_spot-place_mut-place-requires g t c =
     rw c.in-Some-Place.ensures.same finds.1.1.1
 
 pub walk_spot-walk_chain-requires : goal.walk_spot-walk_chain-requires
+unfolding ChangesNames KeepsNames RestoresNames SuitsNames
 walk_spot-walk_chain-requires g t c =
     let is = ap (λ behind. left_by (option_map out-Expr (option_copied behind))) c.in-Some.is in
     let walks = rw c.in-Some.is at c.requires.walks in
     λ κs lives. (omega (arith, is), (lives.0, (lives.1, walks)))
 
 pub walk_spot-walk_chain-mark-requires : goal.walk_spot-walk_chain-mark-requires
+unfolding ChangesNames KeepsNames RestoresNames SuitsNames
 walk_spot-walk_chain-mark-requires g t c =
     let is = ap (λ behind. left_by (option_map out-Expr (option_copied behind))) c.in-Some.is in
     let walks = rw c.in-Some.is at c.requires.walks in
     λ κs lives. (omega (arith, is), (lives.0, (lives.1, walks)))
 
 pub walk_spot-walk_part-requires : goal.walk_spot-walk_part-requires
+unfolding ChangesNames KeepsNames RestoresNames SuitsNames
 walk_spot-walk_part-requires g t c =
     let is = ap (λ behind. left_by (option_map out-Expr (option_copied behind))) c.in-Some.is in
     let walks = rw c.in-Some.is at c.requires.walks in
@@ -60,6 +65,7 @@ walk_spot-walk_part-requires g t c =
     λ κs lives. (omega (arith, is), (lives.0, (lives.1, (rw c.in-Some-Part.ensures.same finds.1.1.1, walks))))
 
 pub walk_spot-returns-in-Some-Place-clause-runs : goal.walk_spot-returns-in-Some-Place-clause-runs
+unfolding ChangesNames KeepsNames RestoresNames SuitsNames
 walk_spot-returns-in-Some-Place-clause-runs g t c scope held rest all left =
     let rules = under g.H.Host.name_of c.args.self.now g.T.NativeTable.natives in
     let finds = rw c.in-Some-Place.field-0-is at c.in-Some-Place.ensures.finds in
@@ -84,6 +90,7 @@ walk_spot-returns-in-Some-Place-clause-runs g t c scope held rest all left =
     (c.walk_chain.ensures.runs scope held))))
 
 pub walk_spot-returns-in_default-back_of-clause-runs : goal.walk_spot-returns-in_default-back_of-clause-runs
+unfolding ChangesNames KeepsNames RestoresNames SuitsNames
 walk_spot-returns-in_default-back_of-clause-runs g t c scope held rest all left =
     let rules = under g.H.Host.name_of c.args.self.now g.T.NativeTable.natives in
     let finds = rw c.in-Some-Missing.field-0-is at c.in-Some-Missing.ensures.finds in
@@ -104,6 +111,7 @@ walk_spot-returns-in_default-back_of-clause-runs g t c scope held rest all left 
     (c.in_default-back_of.ensures.none refl) refl)))
 
 pub walk_spot-returns-in-Some-back_of-clause-runs : goal.walk_spot-returns-in-Some-back_of-clause-runs
+unfolding ChangesNames KeepsNames RestoresNames SuitsNames
 walk_spot-returns-in-Some-back_of-clause-runs g t c scope held rest all left =
     let rules = under g.H.Host.name_of c.args.self.now g.T.NativeTable.natives in
     let finds = rw c.in-Some-Missing.field-0-is at c.in-Some-Missing.ensures.finds in
@@ -129,6 +137,7 @@ walk_spot-returns-in-Some-back_of-clause-runs g t c scope held rest all left =
     (came_marked c.walk_chain-mark.result c.walk_chain-mark.new.run.value c.walk_chain-mark.new.run.error) (came_marked c.come_back.result c.walk_chain-mark.new.run.value c.come_back.new.place) walks comes))
 
 pub walk_spot-returns-in-Some-Part-clause-runs : goal.walk_spot-returns-in-Some-Part-clause-runs
+unfolding ChangesNames KeepsNames RestoresNames SuitsNames
 walk_spot-returns-in-Some-Part-clause-runs g t c scope held rest all left =
     let rules = under g.H.Host.name_of c.args.self.now g.T.NativeTable.natives in
     let finds = rw c.in-Some-Part.field-0-is at c.in-Some-Part.ensures.finds in
@@ -148,6 +157,7 @@ walk_spot-returns-in-Some-Part-clause-runs g t c scope held rest all left =
     (rw c.in-Some-Part.ensures.same at (c.walk_part.ensures.runs scope held)))
 
 pub walk_spot-returns-in-None-clause-runs : goal.walk_spot-returns-in-None-clause-runs
+unfolding ChangesNames KeepsNames RestoresNames SuitsNames
 walk_spot-returns-in-None-clause-runs g t c scope held rest all left =
     let rules = under g.H.Host.name_of c.args.self.now g.T.NativeTable.natives in
     let link = link_seen c.args.link in
@@ -172,6 +182,7 @@ walk_part-split_at_mut-given-requires g t c =
     omega (arith, there, c.asked_by-first.ensures.count)
 
 pub walk_part-walk_behind-requires : goal.walk_part-walk_behind-requires
+unfolding ChangesNames KeepsNames RestoresNames SuitsNames
 walk_part-walk_behind-requires g t c =
     let method = c.in-Some-method_in.method in
     let asked = method.call.now in

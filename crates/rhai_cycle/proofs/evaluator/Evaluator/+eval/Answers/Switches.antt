@@ -1,4 +1,4 @@
-use Rattle.std.proofs.Common.{◌≡◌, ◌≤◌, ◌∷◌, ◌∙◌, List, None, Option, Some, ap, arith, refl, sym}
+use Rattle.std.proofs.Common.{◌≡◌, ◌≤◌, ◌∷◌, ◌∙◌, List, None, Option, Some, arith, refl, sym}
 use Rattle.rhai_machine.specs.machine.Point.{after}
 use Rattle.rhai_machine.specs.machine.Memory.{here, next, ◌⨾◌}
 use Rattle.rhai_choices.specs.Candidates.{numbers_left}
@@ -6,8 +6,9 @@ use Rattle.rhai_machine.specs.language.Cases.{Cases, default_of, results_of}
 use Rattle.rhai_machine.specs.language.Choices.{met_core}
 use Rattle.rhai_machine.specs.language.Frames.{Choose, Frame, SwitchValue}
 use Rattle.rhai_machine.specs.language.Runs.{Goes, Steps, at, with_core}
-use Rattle.rhai_context.specs.declared.Context.{Context}
-use Rattle.rhai_cycle.specs.States.{names, state_in, under}
+use Rattle.rhai_steps.proofs.Agreeing.{brings, leads_then, still}
+use Rattle.rhai_cycle.specs.Agreement.{ChangesNames, KeepsNames, RestoresNames, SuitsNames}
+use Rattle.rhai_cycle.specs.States.{state_in, under}
 use Rattle.rhai_cycle.proofs.CandidateLemmas.{candidate_runs, default_runs}
 use Rattle.rhai_cycle.proofs.SwitchSteps.{default_not, default_on, tested_not, tested_on, value_on, written_on}
 use Rattle.rhai_cycle.proofs.evaluator.Evaluator.+eval.Goals as goal
@@ -36,16 +37,22 @@ run_switch-returns-then-not-flatten_at-clause-runs g t c pos restoring k =
     ⨾ flat_fails rules _ _ k _ _ (SwitchValue _ choice) refl c.if-not-flatten_at.ensures.exact)
 
 pub run_switch-run_condition-requires : goal.run_switch-run_condition-requires
+unfolding ChangesNames KeepsNames RestoresNames SuitsNames
 run_switch-run_condition-requires g t c =
-    let runs = candidate_runs (names c.args.run.now) c.args.results.now c.requires.resolves_results _ c.in-Some.candidate.now _
-    c.in-Some.ensures.some in
     λ κs lives. (
       omega (arith, c.each_candidate.invariant.counts),
-      (lives.0, (lives.1, rw c.each_candidate.invariant.names runs.0)),
+      (
+        lives.0,
+        (
+          lives.1,
+          brings (λ frame h. (candidate_runs frame c.args.results.now h _ c.in-Some.candidate.now _ c.in-Some.ensures.some).0)
+              (still c.each_candidate.invariant.names c.requires.resolves_results),
+        ),
+      ),
     )
 
 pub run_switch-each_candidate-init : goal.run_switch-each_candidate-init
-unfolding after Steps
+unfolding after Steps ChangesNames KeepsNames RestoresNames SuitsNames
 run_switch-each_candidate-init g t c =
     let rules = under g.H.Host.name_of c.args.self.now g.T.NativeTable.natives in
     let choice : Cases =
@@ -76,12 +83,19 @@ run_switch-returns-in-None-run_condition-clause-runs g t c pos restoring k =
     (tested_not rules k c.in-Some.candidate.now _ _ _ _ _ (sym c.written_truth.ensures ∙ c.in-None.is) c.in-None-run_condition.ensures.runs)
 
 pub run_switch-run_expr-requires-in-Some-default_result : goal.run_switch-run_expr-requires-in-Some-default_result
+unfolding ChangesNames KeepsNames RestoresNames SuitsNames
 run_switch-run_expr-requires-in-Some-default_result g t c =
-    let runs = default_runs (names c.args.run.now) c.args.results.now c.requires.resolves_results c.args.default _
-    (sym (c.in-Some-default_result.ensures c.args.cases.now c.args.ranges.now)) in
     λ κs lives. (
       omega (arith, c.each_candidate.invariant.counts),
-      (lives.0, (lives.1, rw c.each_candidate.invariant.names runs)),
+      (
+        lives.0,
+        (
+          lives.1,
+          brings (λ frame h. default_runs frame c.args.results.now h c.args.default _
+              (sym (c.in-Some-default_result.ensures c.args.cases.now c.args.ranges.now)))
+              (still c.each_candidate.invariant.names c.requires.resolves_results),
+        ),
+      ),
     )
 
 pub run_switch-returns-in-Some-default_result-clause-runs : goal.run_switch-returns-in-Some-default_result-clause-runs
@@ -93,11 +107,12 @@ run_switch-returns-in-Some-default_result-clause-runs g t c pos restoring k =
     ⨾ c.run_expr-in-Some-default_result.ensures.runs k)
 
 pub run_switch-run_expr-requires-then-holds : goal.run_switch-run_expr-requires-then-holds
+unfolding ChangesNames KeepsNames RestoresNames SuitsNames
 run_switch-run_expr-requires-then-holds g t c =
-    let stays : names c.match-written_truth.run ≡ names c.args.run.now = elim c.match-written_truth.branch [
-      | run_switch-in-Some-written_truth w ↦ ap (λ (run : Context g.row.H.Denot). names run) w.run-is ∙ c.each_candidate.invariant.names
-      | run_switch-in-None+in-Some-run_condition w ↦ ap (λ (run : Context g.row.H.Denot). names run) w.run-is
-          ∙ (w.in-Some-run_condition.ensures.names ∙ c.each_candidate.invariant.names)
+    let kept : KeepsNames c.args.run.now c.match-written_truth.run = elim c.match-written_truth.branch [
+      | run_switch-in-Some-written_truth w ↦ rw w.run-is c.each_candidate.invariant.names
+      | run_switch-in-None+in-Some-run_condition w ↦ rw w.run-is
+          (leads_then c.each_candidate.invariant.names w.in-Some-run_condition.ensures.names)
     ] in
     let counts : c.args.run.now.global.num_operations ≤ c.match-written_truth.run.global.num_operations =
     elim c.match-written_truth.branch [
@@ -108,9 +123,17 @@ run_switch-run_expr-requires-then-holds g t c =
         w.in-Some-run_condition.ensures.charges,
       ))
     ] in
-    let runs = candidate_runs (names c.args.run.now) c.args.results.now c.requires.resolves_results _ c.in-Some.candidate.now _
-    c.in-Some.ensures.some in
-    λ κs lives. (omega (arith, counts), (lives.0, (lives.1, rw stays runs.1)))
+    λ κs lives. (
+      omega (arith, counts),
+      (
+        lives.0,
+        (
+          lives.1,
+          brings (λ frame h. (candidate_runs frame c.args.results.now h _ c.in-Some.candidate.now _ c.in-Some.ensures.some).1)
+              (still kept c.requires.resolves_results),
+        ),
+      ),
+    )
 
 pub run_switch-returns-then-holds-clause-runs : goal.run_switch-returns-then-holds-clause-runs
 unfolding after Steps
@@ -138,7 +161,7 @@ run_switch-returns-then-holds-clause-runs g t c pos restoring k =
     ((rw c.if-holds.true at told) k ⨾ c.run_expr-then-holds.ensures.runs k)
 
 pub run_switch-each_candidate-preserved : goal.run_switch-each_candidate-preserved
-unfolding after Steps
+unfolding after Steps ChangesNames KeepsNames RestoresNames SuitsNames
 run_switch-each_candidate-preserved g t c =
     let rules = under g.H.Host.name_of c.args.self.now g.T.NativeTable.natives in
     let candidate = c.in-Some.candidate.now in
@@ -159,10 +182,10 @@ run_switch-each_candidate-preserved g t c =
           (tested_on rules k candidate rest default w.in-Some-run_condition.holds old _
           (sym c.written_truth.ensures ∙ w.in-None.is) w.in-Some-run_condition.ensures.runs)
     ] in
-    let stays : names c.match-written_truth.run ≡ names c.args.run.now = elim c.match-written_truth.branch [
-      | run_switch-in-Some-written_truth w ↦ ap (λ (run : Context g.row.H.Denot). names run) w.run-is ∙ c.each_candidate.invariant.names
-      | run_switch-in-None+in-Some-run_condition w ↦ ap (λ (run : Context g.row.H.Denot). names run) w.run-is
-          ∙ (w.in-Some-run_condition.ensures.names ∙ c.each_candidate.invariant.names)
+    let kept : KeepsNames c.args.run.now c.match-written_truth.run = elim c.match-written_truth.branch [
+      | run_switch-in-Some-written_truth w ↦ rw w.run-is c.each_candidate.invariant.names
+      | run_switch-in-None+in-Some-run_condition w ↦ rw w.run-is
+          (leads_then c.each_candidate.invariant.names w.in-Some-run_condition.ensures.names)
     ] in
     let counts : c.args.run.now.global.num_operations ≤ c.match-written_truth.run.global.num_operations =
     elim c.match-written_truth.branch [
@@ -175,7 +198,26 @@ run_switch-each_candidate-preserved g t c =
     ] in
     record {
       counts = counts;
-      names = stays;
+      names = kept;
       steps = λ pos restoring k.
           c.each_candidate.invariant.steps pos restoring k ⨾ rw c.in-Some.ensures.some ((rw c.if-holds.false at told) k);
     }
+
+pub run_switch-returns-in-Some-default_result-clause-names : goal.run_switch-returns-in-Some-default_result-clause-names
+unfolding ChangesNames KeepsNames RestoresNames SuitsNames
+run_switch-returns-in-Some-default_result-clause-names g t c done =
+    leads_then c.each_candidate.invariant.names (c.run_expr-in-Some-default_result.ensures.names done)
+
+pub run_switch-returns-then-holds-clause-names : goal.run_switch-returns-then-holds-clause-names
+unfolding ChangesNames KeepsNames RestoresNames SuitsNames
+run_switch-returns-then-holds-clause-names g t c done =
+    let kept : KeepsNames c.args.run.now c.match-written_truth.run = elim c.match-written_truth.branch [
+      | run_switch-in-Some-written_truth w ↦ rw w.run-is c.each_candidate.invariant.names
+      | run_switch-in-None+in-Some-run_condition w ↦ rw w.run-is
+          (leads_then c.each_candidate.invariant.names w.in-Some-run_condition.ensures.names)
+    ] in
+    leads_then kept (c.run_expr-then-holds.ensures.names done)
+
+pub run_switch-returns-in-None-default_result-clause-names : goal.run_switch-returns-in-None-default_result-clause-names
+unfolding KeepsNames
+run_switch-returns-in-None-default_result-clause-names g t c done = c.each_candidate.invariant.names

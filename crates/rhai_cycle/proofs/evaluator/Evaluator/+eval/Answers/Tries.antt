@@ -1,5 +1,6 @@
-use Rattle.std.proofs.Common.{◌∷◌, ◌∙◌, IsTrue, arith, false, refl, subst, sym, true}
+use Rattle.std.proofs.Common.{◌∷◌, ◌∙◌, arith, refl, sym, true}
 use Rattle.rhai_tree.specs.declared.expr.Expr.{out-Expr}
+use Rattle.rhai_tree.specs.Forms.{catch_of}
 use Rattle.rhai_state.specs.Scope.{entries_of, name_of}
 use Rattle.rhai_machine.specs.machine.Point.{after}
 use Rattle.rhai_machine.specs.machine.Memory.{next, ◌⨾◌}
@@ -9,9 +10,11 @@ use Rattle.rhai_machine.specs.language.Tries.{catch_variable}
 use Rattle.rhai_laws.proofs.KeptLaws.{counted, names_stay}
 use Rattle.rhai_steps.specs.States.{holding}
 use Rattle.rhai_context.specs.Ends.{came}
-use Rattle.rhai_cycle.specs.States.{names, under}
+use Rattle.rhai_steps.proofs.Agreeing.{leads_then, put_back, stays, still}
+use Rattle.rhai_cycle.specs.Agreement.{ChangesNames, KeepsNames, RestoresNames, SuitsNames}
+use Rattle.rhai_cycle.specs.States.{under}
 use Rattle.rhai_cycle.proofs.NameLemmas.{names_restored}
-use Rattle.rhai_cycle.proofs.FormNames.{block_value, branch_begins, branch_runs, nothing_bound}
+use Rattle.rhai_cycle.proofs.FormNames.{block_suits, branch_begins, branch_suits, catches, nothing_bound}
 use Rattle.rhai_cycle.proofs.TrySteps.{below, branch_left, branch_not, branch_on, scope_back, try_catches, try_done, try_passes}
 use Rattle.rhai_cycle.proofs.evaluator.Evaluator.+eval.Goals as goal
 
@@ -30,12 +33,15 @@ run_try-returns-then-not-may_catch-clause-runs g t c pos restoring k =
     ⨾ try_passes rules k _ _ _ _ (sym c.may_catch.ensures ∙ c.if-not-may_catch.true))
 
 pub run_try-run_branch-requires : goal.run_try-run_branch-requires
+unfolding ChangesNames KeepsNames RestoresNames SuitsNames
 run_try-run_branch-requires g t c =
     let rules = under g.H.Host.name_of c.args.self.now g.T.NativeTable.natives in
     let counts = counted rules _ _ _ _ c.if-run_stmt_block.ensures.runs in
-    let stay = names_stay rules (Enter c.args.body.now.statements true) (ended (came false c.run_stmt_block.new.run.value
-    c.run_stmt_block.new.run.error)) _ _ tt tt (rw c.as_slice.ensures at c.if-run_stmt_block.ensures.runs) in
-    λ κs lives. (omega (arith, counts), (lives.0, (lives.1, rw stay c.requires.resolves_branch)))
+    let stay = put_back (c.if-run_stmt_block.ensures.restores refl) in
+    λ κs lives. (
+      omega (arith, counts),
+      (lives.0, (lives.1, catches (catch_of c.args.variable.now) (λ name. still stay) c.requires.resolves_branch)),
+    )
 
 pub run_try-returns-clause-counts : goal.run_try-returns-clause-counts
 run_try-returns-clause-counts g t c done =
@@ -43,11 +49,9 @@ run_try-returns-clause-counts g t c done =
     omega (arith, counted rules _ _ _ _ c.if-run_stmt_block.ensures.runs, c.run_branch.ensures.counts done)
 
 pub run_try-returns-clause-names : goal.run_try-returns-clause-names
+unfolding ChangesNames KeepsNames RestoresNames SuitsNames
 run_try-returns-clause-names g t c done =
-    let rules = under g.H.Host.name_of c.args.self.now g.T.NativeTable.natives in
-    c.run_branch.ensures.names done
-    ∙ names_stay rules (Enter c.args.body.now.statements true) (ended (came false c.run_stmt_block.new.run.value
-    c.run_stmt_block.new.run.error)) _ _ tt tt (rw c.as_slice.ensures at c.if-run_stmt_block.ensures.runs)
+    leads_then (put_back (c.if-run_stmt_block.ensures.restores refl)) (c.run_branch.ensures.names done)
 
 pub run_try-returns-clause-runs : goal.run_try-returns-clause-runs
 unfolding after Steps
@@ -65,20 +69,11 @@ run_branch-returns-then-not-bind_caught-clause-runs g t c k =
     (branch_not rules k c.args.caught c.args.branch.now _ _ _ c.if-not-bind_caught.ensures.exact)
 
 pub run_branch-run_stmt_block-done-requires : goal.run_branch-run_stmt_block-done-requires
+unfolding ChangesNames KeepsNames RestoresNames SuitsNames
 run_branch-run_stmt_block-done-requires g t c =
-    let runs = branch_runs c.args.branch.now c.args.run.now.global.source c.args.caught c.args.variable.now
-    (entries_of c.args.run.now.scope) _ c.requires.resolves (c.if-not-bind_caught.ensures.bound refl) in
-    λ κs lives. (
-      omega arith,
-      (
-        lives.0,
-        (
-          lives.1,
-          rw c.as_slice-statements.ensures
-              (subst IsTrue (block_value c.args.branch.now _) runs),
-        ),
-      ),
-    )
+    let suits = branch_suits c.args.branch.now c.args.run.now.global.source c.args.caught c.args.run.now.global.always_search_scope
+    c.args.variable.now (entries_of c.args.run.now.scope) _ c.requires.resolves (c.if-not-bind_caught.ensures.bound refl) in
+    λ κs lives. (omega arith, (lives.0, (lives.1, rw c.as_slice-statements.ensures (block_suits c.args.branch.now suits))))
 
 pub run_branch-returns-clause-runs : goal.run_branch-returns-clause-runs
 unfolding after Steps
@@ -106,13 +101,23 @@ run_branch-returns-clause-counts g t c done =
     omega (arith, counted rules _ _ _ _ c.run_stmt_block-done.ensures.runs)
 
 pub run_branch-returns-clause-names : goal.run_branch-returns-clause-names
+unfolding ChangesNames KeepsNames RestoresNames SuitsNames
 run_branch-returns-clause-names g t c done =
-    let rules = under g.H.Host.name_of c.args.self.now g.T.NativeTable.natives in
     let old = c.args.run.now in
-    let stay = names_stay rules (Enter c.args.branch.now.statements true) (ended (came c.run_stmt_block-done.result
-    c.run_stmt_block-done.new.run.value c.run_stmt_block-done.new.run.error)) _ _ tt tt
-    (rw c.as_slice-statements.ensures at c.run_stmt_block-done.ensures.runs) in
-    names_restored old.scope.entries c.run_stmt_block-done.new.run.scope.entries c.leave_branch.new.scope.entries c.len-base.result
-    c.leave_branch.ensures.scope c.len-base.ensures
+    let back = c.run_stmt_block-done.ensures.restores refl in
+    stays back.search (names_restored old.scope.entries c.run_stmt_block-done.new.run.scope.entries c.leave_branch.new.scope.entries
+    c.len-base.result c.leave_branch.ensures.scope c.len-base.ensures
     (branch_begins (catch_variable (out-Expr c.args.variable.now)) old.global.source c.args.caught (entries_of old.scope) _ _
-    (c.if-not-bind_caught.ensures.bound refl) stay)
+    (c.if-not-bind_caught.ensures.bound refl) back.frame))
+
+pub run_try-run_stmt_block-requires : goal.run_try-run_stmt_block-requires
+unfolding ChangesNames KeepsNames RestoresNames SuitsNames
+run_try-run_stmt_block-requires g t c =
+    λ κs lives. (
+      omega arith,
+      (lives.0, (lives.1, rw c.as_slice.ensures (block_suits c.args.body.now c.requires.resolves_body))),
+    )
+
+pub run_try-returns-then-run_stmt_block-clause-names : goal.run_try-returns-then-run_stmt_block-clause-names
+unfolding ChangesNames KeepsNames RestoresNames SuitsNames
+run_try-returns-then-run_stmt_block-clause-names g t c done = put_back (c.if-run_stmt_block.ensures.restores refl)

@@ -1,6 +1,7 @@
 use Rattle.std.proofs.Common.{sym, ap, ◌∙◌, arith, length, is_some}
 use Rattle.std.specs.Option.{option_map}
 use Rattle.rhai_tree.specs.declared.expr.Expr.{out-Expr}
+use Rattle.rhai_cycle.specs.Agreement.{ChangesNames, KeepsNames, RestoresNames, SuitsNames}
 use Rattle.rhai_cycle.specs.States.{offer_of, under}
 use Rattle.rhai_steps.specs.States.{state_of}
 use Rattle.rhai_steps.specs.Marked.{lending}
@@ -17,6 +18,7 @@ walk_chain-unreachable-requires g t c =
     (sym c.link_of.ensures ∙ ap (option_map link_seen) c.in_default.is)
 
 pub walk_chain-walk_entered-requires : goal.walk_chain-walk_entered-requires
+unfolding ChangesNames KeepsNames RestoresNames SuitsNames
 walk_chain-walk_entered-requires g t c =
     let is = sym c.in-Some.ensures in
     let fewer = fewer_behind (out-Expr c.args.rest.now) (link_seen c.in-Some.link) is in

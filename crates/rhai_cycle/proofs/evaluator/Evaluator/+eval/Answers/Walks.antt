@@ -1,4 +1,4 @@
-use Rattle.std.proofs.Common.{◌≡◌, ◌≢◌, ◌≤◌, ◌∷◌, ◌∙◌, [], ap, arith, length, refl, subst, sym, true, false, IsTrue}
+use Rattle.std.proofs.Common.{◌≡◌, ◌≢◌, ◌≤◌, ◌∷◌, ◌∙◌, [], ap, arith, length, map, refl, sym, true, false}
 use Rattle.std.proofs.lemmas.Bool.{true≢false}
 use Rattle.std.proofs.lemmas.List.{length-map}
 use Rattle.rhai_tree.specs.Frame.{turn_names}
@@ -6,19 +6,21 @@ use Rattle.rhai_state.specs.declared.state.GlobalRuntimeState.{GlobalRuntimeStat
 use Rattle.rhai_state.specs.Scope.{entries_of, name_of}
 use Rattle.rhai_machine.specs.machine.Point.{after}
 use Rattle.rhai_machine.specs.machine.Memory.{next, ◌⨾◌, here}
-use Rattle.rhai_machine.specs.language.Frames.{Enter, ForBody, ForItems, RestoreScope, ended}
+use Rattle.rhai_machine.specs.language.Frames.{ForBody, ForItems, RestoreScope}
 use Rattle.rhai_machine.specs.language.Runs.{Steps}
-use Rattle.rhai_laws.proofs.KeptLaws.{counted, names_stay}
+use Rattle.rhai_laws.proofs.KeptLaws.{counted}
 use Rattle.rhai_steps.specs.States.{holding}
 use Rattle.rhai_walks.specs.Left.{turns_in}
 use Rattle.rhai_walks.specs.Loops.{loop_in}
 use Rattle.rhai_walks.specs.declared.parts.ForParts.{ForParts}
 use Rattle.rhai_context.specs.Ends.{came}
-use Rattle.rhai_cycle.specs.States.{names, offer_of, under}
+use Rattle.rhai_steps.proofs.Agreeing.{behind, leads_by, leads_then, put_back, same, stays}
+use Rattle.rhai_cycle.specs.Agreement.{ChangesNames, KeepsNames, RestoresNames, SuitsNames}
+use Rattle.rhai_cycle.specs.States.{offer_of, under}
 use Rattle.rhai_cycle.proofs.Turns.{body_charges}
 use Rattle.rhai_cycle.proofs.LoopSteps.{stays_full, turn_ended}
-use Rattle.rhai_cycle.proofs.NameLemmas.{names_restored}
-use Rattle.rhai_cycle.proofs.FormNames.{block_value, loop_names, turn_begins, turn_count}
+use Rattle.rhai_cycle.proofs.NameLemmas.{back_over}
+use Rattle.rhai_cycle.proofs.FormNames.{block_suits, loop_left, loop_names, turn_count}
 use Rattle.rhai_cycle.proofs.ForSteps.{body_ends, empty_charged, empty_refused, has_none, has_room, leaves_scope, starts}
 use Rattle.rhai_cycle.proofs.ForSteps.{if_well, on_turn, starts_not, turns_end}
 use Rattle.rhai_cycle.proofs.evaluator.Evaluator.+eval.Goals as goal
@@ -68,19 +70,24 @@ run_for-returns-in_default-clause-runs g t c pos restoring k =
     (c.start_turns.ensures.none c.in_default.is) (c.start_turns.ensures.told c.in_default.is))
 
 pub run_for-turns-init : goal.run_for-turns-init
-unfolding after Steps
+unfolding after Steps ChangesNames KeepsNames RestoresNames SuitsNames
 run_for-turns-init g t c =
     let rules = under g.H.Host.name_of c.args.self.now g.T.NativeTable.natives in
     let parts : ForParts =
     record { variable = c.args.variable; counter = c.args.counter; items = c.args.items; body = c.args.body } in
     let loop = loop_in parts in
     let old = c.run_expr.new.run in
-    let stay = c.if-not-run_expr.ensures.names refl in
+    let pushed = loop_names loop (entries_of old.scope) _ c.in-Some.ensures.variables in
     record {
       counts = omega (arith, c.if-not-run_expr.ensures.charges refl);
-      base = c.len-base.ensures ∙ sym (length-map (entries_of old.scope) name_of) ∙ ap length stay;
-      names = loop_names loop (entries_of old.scope) _ c.in-Some.ensures.variables
-          ∙ ap (λ names. turn_names parts.variable.now parts.counter.now names) stay;
+      base = omega (
+        arith,
+        c.len-base.ensures,
+        length-map (entries_of old.scope) name_of,
+        ap length pushed,
+        turn_count parts.variable.now parts.counter.now (map name_of (entries_of old.scope)),
+      );
+      names = leads_by (turn_names parts.variable.now parts.counter.now) (c.if-not-run_expr.ensures.names refl) (stays refl pushed);
       steps = λ pos restoring k.
           has_room rules loop k pos restoring _ (c.if-not-has_room.ensures.room refl)
           ⨾ c.if-not-run_expr.ensures.runs (ForItems loop ∷ k)
@@ -90,13 +97,22 @@ run_for-turns-init g t c =
     }
 
 pub run_for-run_for_turn-requires : goal.run_for-run_for_turn-requires
+unfolding ChangesNames KeepsNames RestoresNames SuitsNames
 run_for-run_for_turn-requires g t c =
     let parts : ForParts =
     record { variable = c.args.variable; counter = c.args.counter; items = c.args.items; body = c.args.body } in
-    let counted = ap length c.turns.invariant.names ∙ turn_count parts.variable.now parts.counter.now (names c.args.run.now) in
     λ κs lives. (
       omega (arith, c.turns.invariant.counts),
-      (lives.0, (lives.1, (rw c.turns.invariant.names c.requires.resolves_body, rw c.turns.invariant.base (sym counted)))),
+      (
+        lives.0,
+        (
+          lives.1,
+          (
+            behind (turn_names parts.variable.now parts.counter.now) (λ frame h. h) c.turns.invariant.names c.requires.resolves_body,
+            c.turns.invariant.base,
+          ),
+        ),
+      ),
     )
 
 pub run_for-next_number-turn-requires : goal.run_for-next_number-turn-requires
@@ -111,12 +127,12 @@ run_for-turns-smaller g t c =
     grind (arith, full, c.run_for_turn.ensures.charges)
 
 pub run_for-turns-preserved : goal.run_for-turns-preserved
-unfolding after Steps
+unfolding after Steps ChangesNames KeepsNames RestoresNames SuitsNames
 run_for-turns-preserved g t c =
     record {
       counts = omega (arith, c.turns.invariant.counts, c.run_for_turn.ensures.charges c.in_default-run_for_turn.is, c.next_number-turn.ensures);
-      base = c.turns.invariant.base;
-      names = c.run_for_turn.ensures.names_stay c.in_default-run_for_turn.is ∙ c.turns.invariant.names;
+      base = c.turns.invariant.base ∙ ap length (sym (c.run_for_turn.ensures.names_stay c.in_default-run_for_turn.is).frame);
+      names = leads_then c.turns.invariant.names (put_back (c.run_for_turn.ensures.names_stay c.in_default-run_for_turn.is));
       steps = λ pos restoring k.
           c.turns.invariant.steps pos restoring k
           ⨾ rw c.next_number-turn.ensures ((rw c.in_default-run_for_turn.is at c.run_for_turn.ensures.runs) (RestoreScope c.len-base.result ∷ k));
@@ -138,13 +154,13 @@ pub run_for-returns-in-Some-run_for_turn-clause-counts : goal.run_for-returns-in
 run_for-returns-in-Some-run_for_turn-clause-counts g t c done = omega (arith, c.turns.invariant.counts, c.in-Some-run_for_turn.ensures.counts done)
 
 pub run_for-returns-in-Some-run_for_turn-clause-names : goal.run_for-returns-in-Some-run_for_turn-clause-names
+unfolding ChangesNames KeepsNames RestoresNames SuitsNames
 run_for-returns-in-Some-run_for_turn-clause-names g t c done =
     let parts : ForParts =
     record { variable = c.args.variable; counter = c.args.counter; items = c.args.items; body = c.args.body } in
-    names_restored c.args.run.now.scope.entries c.run_for_turn.new.run.scope.entries c.rewind.new.self.entries c.len-base.result
-    c.rewind.ensures
-    (c.turns.invariant.base ∙ length-map (entries_of c.args.run.now.scope) name_of)
-    (turn_begins parts.variable.now parts.counter.now (names c.args.run.now) _ (c.in-Some-run_for_turn.ensures.names done ∙ c.turns.invariant.names))
+    loop_left parts.variable.now parts.counter.now (entries_of c.args.run.now.scope) (entries_of c.turns.run.scope)
+    (entries_of c.run_for_turn.new.run.scope) (entries_of c.rewind.new.self) c.len-base.result c.turns.invariant.base
+    c.turns.invariant.names (c.in-Some-run_for_turn.ensures.names done) c.rewind.ensures
 
 pub run_for_turn-returns-in_default-clause-runs : goal.run_for_turn-returns-in_default-clause-runs
 unfolding after Steps
@@ -170,6 +186,7 @@ run_for_turn-returns-then-is_empty-clause-runs g t c k =
     (c.if-charge.ensures.same refl)
 
 pub run_for_turn-enter_turn-requires : goal.run_for_turn-enter_turn-requires
+unfolding ChangesNames KeepsNames RestoresNames SuitsNames
 run_for_turn-enter_turn-requires g t c = c.requires.variables ∙ length-map (entries_of c.args.run.now.scope) name_of
 
 pub run_for_turn-returns-then-not-enter_turn-clause-runs : goal.run_for_turn-returns-then-not-enter_turn-clause-runs
@@ -179,6 +196,7 @@ run_for_turn-returns-then-not-enter_turn-clause-runs g t c k =
     (λ empty. absurd (true≢false (sym (c.is_empty.ensures.1 empty) ∙ c.if-is_empty.false)))
 
 pub run_for_turn-run_stmt_block-done-requires : goal.run_for_turn-run_stmt_block-done-requires
+unfolding ChangesNames KeepsNames RestoresNames SuitsNames
 run_for_turn-run_stmt_block-done-requires g t c =
     let count = ap (λ (global : GlobalRuntimeState _). global.num_operations) c.enter_turn.ensures.rest in
     λ κs lives. (
@@ -187,8 +205,8 @@ run_for_turn-run_stmt_block-done-requires g t c =
         lives.0,
         (
           lives.1,
-          rw (c.as_slice-statements.ensures, c.enter_turn.ensures.names)
-              (subst IsTrue (block_value c.args.parts.body.now (names c.args.run.now)) c.requires.resolves),
+          rw c.as_slice-statements.ensures
+              (same c.enter_turn.ensures.search c.enter_turn.ensures.names (block_suits c.args.parts.body.now c.requires.resolves)),
         ),
       ),
     )
@@ -227,15 +245,27 @@ run_for_turn-returns-clause-counts g t c =
     if_well _ counts
 
 pub run_for_turn-returns-clause-names_stay : goal.run_for_turn-returns-clause-names_stay
+unfolding ChangesNames KeepsNames RestoresNames SuitsNames
 run_for_turn-returns-clause-names_stay g t c none =
-    let rules = under g.H.Host.name_of c.args.self.now g.T.NativeTable.natives in
-    names_stay rules (Enter c.args.parts.body.now.statements true) (ended (came c.run_stmt_block-done.result
-    c.run_stmt_block-done.new.run.value c.run_stmt_block-done.new.run.error)) _ _ tt tt
-    (rw c.as_slice-statements.ensures at c.run_stmt_block-done.ensures.runs) ∙ c.enter_turn.ensures.names
+    back_over c.enter_turn.ensures.search c.enter_turn.ensures.names (c.run_stmt_block-done.ensures.restores refl)
 
 pub run_for_turn-returns-clause-names : goal.run_for_turn-returns-clause-names
+unfolding ChangesNames KeepsNames RestoresNames SuitsNames
 run_for_turn-returns-clause-names g t c =
-    let rules = under g.H.Host.name_of c.args.self.now g.T.NativeTable.natives in
-    if_well _ (names_stay rules (Enter c.args.parts.body.now.statements true) (ended
-    (came c.run_stmt_block-done.result c.run_stmt_block-done.new.run.value c.run_stmt_block-done.new.run.error)) _ _ tt tt
-    (rw c.as_slice-statements.ensures at c.run_stmt_block-done.ensures.runs) ∙ c.enter_turn.ensures.names)
+    if_well _ (back_over c.enter_turn.ensures.search c.enter_turn.ensures.names (c.run_stmt_block-done.ensures.restores refl))
+
+pub run_for_turn-returns-in_default-clause-names : goal.run_for_turn-returns-in_default-clause-names
+unfolding ChangesNames KeepsNames RestoresNames SuitsNames
+run_for_turn-returns-in_default-clause-names g t c done = record { search = refl; frame = refl }
+
+pub run_for_turn-returns-then-charge-clause-names_stay : goal.run_for_turn-returns-then-charge-clause-names_stay
+unfolding ChangesNames KeepsNames RestoresNames SuitsNames
+run_for_turn-returns-then-charge-clause-names_stay g t c none = record { search = c.charge.ensures.search; frame = refl }
+
+pub run_for-run_expr-requires : goal.run_for-run_expr-requires
+unfolding SuitsNames
+run_for-run_expr-requires g t c =
+    λ κs lives. (
+      omega arith,
+      (lives.0, (lives.1, c.requires.resolves_items)),
+    )
