@@ -36,7 +36,6 @@ use rhai_tree::expr::Expr;
 use rhai_tree::position::Position;
 use rhai_tree::token::Token;
 use rhai_values::base::value::{Dynamic, Host};
-use std::alloc::Global;
 
 /// Whether a call that captures its caller's variables runs on them: there are some.
 fn is_on_scope<H>(scope: &Scope<H>, captures: bool) -> bool
@@ -53,7 +52,6 @@ impl<'e, H: Host> Evaluator<'e, H> {
     #[cycle(eval)]
     pub(crate) fn run_named<T: NativeTable<H>>(
         &self,
-        alloc: Global,
         run: &mut Context<H>,
         table: &mut T,
         name: &str,
@@ -86,13 +84,12 @@ impl<'e, H: Host> Evaluator<'e, H> {
             if !charge(self.limits, &mut run.global, &mut run.error, this_at) {
                 return false;
             }
-            let mut values = Few::new(alloc);
-            if !self.run_more_args(alloc, run, table, &mut values, rest, true) {
+            let mut values = Few::new(self.alloc);
+            if !self.run_more_args(run, table, &mut values, rest, true) {
                 drop(values);
                 return false;
             }
             let called = self.call_with_this(
-                alloc,
                 run,
                 table,
                 name,
@@ -102,7 +99,7 @@ impl<'e, H: Host> Evaluator<'e, H> {
                 natives_alone,
                 pos,
             );
-            let done = self.run_out(alloc, run, table, called, &mut values, true, pos);
+            let done = self.run_out(run, table, called, &mut values, true, pos);
             drop(values);
             return done;
         }
@@ -112,13 +109,12 @@ impl<'e, H: Host> Evaluator<'e, H> {
                 if !charge(self.limits, &mut run.global, &mut run.error, variable.pos) {
                     return false;
                 }
-                let mut values = Few::new(alloc);
-                if !self.run_more_args(alloc, run, table, &mut values, variable.rest, true) {
+                let mut values = Few::new(self.alloc);
+                if !self.run_more_args(run, table, &mut values, variable.rest, true) {
                     drop(values);
                     return false;
                 }
                 let called = self.call_with_variable(
-                    alloc,
                     run,
                     table,
                     name,
@@ -128,12 +124,11 @@ impl<'e, H: Host> Evaluator<'e, H> {
                     natives_alone,
                     pos,
                 );
-                let done = self.run_out(alloc, run, table, called, &mut values, true, pos);
+                let done = self.run_out(run, table, called, &mut values, true, pos);
                 drop(values);
                 done
             }
             None => self.run_on_values(
-                alloc,
                 run,
                 table,
                 name,
@@ -151,7 +146,6 @@ impl<'e, H: Host> Evaluator<'e, H> {
     /// A call by name of a variable and of values behind it.
     fn call_with_variable<T: NativeTable<H>>(
         &self,
-        alloc: Global,
         run: &mut Context<H>,
         table: &mut T,
         name: &str,
@@ -172,7 +166,7 @@ impl<'e, H: Host> Evaluator<'e, H> {
     {
         call_on_variable(
             self.limits,
-            alloc,
+            self.alloc,
             &self.offered,
             &mut run.global,
             table,
@@ -192,7 +186,6 @@ impl<'e, H: Host> Evaluator<'e, H> {
     /// A call by name of `this` and of values behind it.
     fn call_with_this<T: NativeTable<H>>(
         &self,
-        alloc: Global,
         run: &mut Context<H>,
         table: &mut T,
         name: &str,
@@ -212,7 +205,7 @@ impl<'e, H: Host> Evaluator<'e, H> {
     {
         call_on_this(
             self.limits,
-            alloc,
+            self.alloc,
             &self.offered,
             &mut run.global,
             table,
@@ -229,7 +222,6 @@ impl<'e, H: Host> Evaluator<'e, H> {
     /// A call by name of values, behind those that a pointer has.
     fn call_with<T: NativeTable<H>>(
         &self,
-        alloc: Global,
         run: &mut Context<H>,
         table: &mut T,
         name: &str,
@@ -250,7 +242,7 @@ impl<'e, H: Host> Evaluator<'e, H> {
     {
         call_values(
             self.limits,
-            alloc,
+            self.alloc,
             &self.offered,
             &mut run.global,
             table,
@@ -268,7 +260,6 @@ impl<'e, H: Host> Evaluator<'e, H> {
     #[cycle(eval)]
     fn run_on_values<T: NativeTable<H>>(
         &self,
-        alloc: Global,
         run: &mut Context<H>,
         table: &mut T,
         name: &str,
@@ -293,14 +284,13 @@ impl<'e, H: Host> Evaluator<'e, H> {
             (came result run.new.value run.new.error) (state_in (T.state table.new) run.new) }
     {
         let on_scope = is_on_scope(&run.scope, captures);
-        let mut values = Few::new(alloc);
-        if !self.run_all_args(alloc, run, table, &mut values, first, rest) {
+        let mut values = Few::new(self.alloc);
+        if !self.run_all_args(run, table, &mut values, first, rest) {
             drop(curried);
             drop(values);
             return false;
         }
         let called = self.call_with(
-            alloc,
             run,
             table,
             name,
@@ -310,7 +300,7 @@ impl<'e, H: Host> Evaluator<'e, H> {
             natives_alone,
             pos,
         );
-        let done = self.run_out(alloc, run, table, called, &mut values, !on_scope, pos);
+        let done = self.run_out(run, table, called, &mut values, !on_scope, pos);
         drop(values);
         done
     }
@@ -320,7 +310,6 @@ impl<'e, H: Host> Evaluator<'e, H> {
     #[cycle(eval)]
     fn run_all_args<T: NativeTable<H>>(
         &self,
-        alloc: Global,
         run: &mut Context<H>,
         table: &mut T,
         values: &mut Few<Dynamic<H>>,
@@ -338,15 +327,15 @@ impl<'e, H: Host> Evaluator<'e, H> {
         let Some(arg) = first else {
             return true;
         };
-        if !self.run_arg(alloc, run, table, arg) {
+        if !self.run_arg(run, table, arg) {
             return false;
         }
         let cells = &run.global.cells;
         let (out, place) = (&mut run.value, &mut run.error);
-        if !push_argument(alloc, cells, values, out, place, true, arg) {
+        if !push_argument(self.alloc, cells, values, out, place, true, arg) {
             return false;
         }
-        self.run_more_args(alloc, run, table, values, rest, true)
+        self.run_more_args(run, table, values, rest, true)
     }
 
     /// The values of arguments go behind those that are there, from left to right. Those of a function are
@@ -354,7 +343,6 @@ impl<'e, H: Host> Evaluator<'e, H> {
     #[cycle(eval)]
     pub(crate) fn run_more_args<T: NativeTable<H>>(
         &self,
-        alloc: Global,
         run: &mut Context<H>,
         table: &mut T,
         values: &mut Few<Dynamic<H>>,
@@ -370,12 +358,12 @@ impl<'e, H: Host> Evaluator<'e, H> {
             (state_in (T.state table.new) run.new) }
     {
         'each_arg: for arg in args {
-            if !self.run_arg(alloc, run, table, arg) {
+            if !self.run_arg(run, table, arg) {
                 return false;
             }
             let cells = &run.global.cells;
             let (out, place) = (&mut run.value, &mut run.error);
-            if !push_argument(alloc, cells, values, out, place, flattened, arg) {
+            if !push_argument(self.alloc, cells, values, out, place, flattened, arg) {
                 return false;
             }
         }

@@ -39,7 +39,6 @@ use rhai_tree::checked::CheckedFn;
 use rhai_tree::position::Position;
 use rhai_values::base::value::{Dynamic, EncapsulatedEnviron, Host};
 use rhai_walk::focus::{enter_focus, leave_focus, lend_focus};
-use std::alloc::Global;
 
 impl<'e, H: Host> Evaluator<'e, H> {
     /// A function that is entered at a level, on the variables and with the `this` that the run has, its call
@@ -48,7 +47,6 @@ impl<'e, H: Host> Evaluator<'e, H> {
     #[cycle(eval)]
     pub fn run_body<T: NativeTable<H>>(
         &self,
-        alloc: Global,
         run: &mut Context<H>,
         table: &mut T,
         def: &CheckedFn,
@@ -89,9 +87,11 @@ impl<'e, H: Host> Evaluator<'e, H> {
             }
             Ok(Some(exit)) => {
                 let statements = statements_of(def);
-                let done = self.run_stmt_block(alloc, run, table, statements, restores);
+                let done = self.run_stmt_block(run, table, statements, restores);
                 let (global, out, place) = (&mut run.global, &mut run.value, &mut run.error);
-                close_body(alloc, global, out, place, def, environ, exit, done, pos)
+                close_body(
+                    self.alloc, global, out, place, def, environ, exit, done, pos,
+                )
             }
             Err(error) => stop(&mut run.error, error),
         }
@@ -101,7 +101,6 @@ impl<'e, H: Host> Evaluator<'e, H> {
     #[cycle(eval)]
     pub fn enter_fresh<T: NativeTable<H>>(
         &self,
-        alloc: Global,
         run: &mut Context<H>,
         table: &mut T,
         function: Function<H>,
@@ -119,9 +118,9 @@ impl<'e, H: Host> Evaluator<'e, H> {
             (came result run.new.value run.new.error)
             (state_of (T.state table.new) run.new.global scope held) }
     {
-        let aside = put_aside(alloc, run, None);
+        let aside = put_aside(self.alloc, run, None);
         let (def, environ, level) = body_of(&function, run.global.level);
-        let done = self.run_body(alloc, run, table, def, environ, args, true, level, pos);
+        let done = self.run_body(run, table, def, environ, args, true, level, pos);
         end_fresh(run, aside, function);
         done
     }
@@ -130,7 +129,6 @@ impl<'e, H: Host> Evaluator<'e, H> {
     #[cycle(eval)]
     pub fn enter_captured<T: NativeTable<H>>(
         &self,
-        alloc: Global,
         run: &mut Context<H>,
         table: &mut T,
         function: Function<H>,
@@ -149,7 +147,7 @@ impl<'e, H: Host> Evaluator<'e, H> {
     {
         let captured = capture(run);
         let (def, environ, level) = body_of(&function, run.global.level);
-        let done = self.run_body(alloc, run, table, def, environ, args, true, level, pos);
+        let done = self.run_body(run, table, def, environ, args, true, level, pos);
         release(run, captured, function);
         done
     }
@@ -160,7 +158,6 @@ impl<'e, H: Host> Evaluator<'e, H> {
     #[cycle(eval)]
     pub(crate) fn run_out<T: NativeTable<H>>(
         &self,
-        alloc: Global,
         run: &mut Context<H>,
         table: &mut T,
         called: Called<H>,
@@ -180,9 +177,9 @@ impl<'e, H: Host> Evaluator<'e, H> {
             Called::Enters(function) => {
                 let values = args.as_mut_slice();
                 if is_fresh {
-                    self.enter_fresh(alloc, run, table, function, values, pos)
+                    self.enter_fresh(run, table, function, values, pos)
                 } else {
-                    self.enter_captured(alloc, run, table, function, values, pos)
+                    self.enter_captured(run, table, function, values, pos)
                 }
             }
         }
@@ -193,7 +190,6 @@ impl<'e, H: Host> Evaluator<'e, H> {
     #[cycle(eval)]
     pub fn enter_on_focus<T: NativeTable<H>>(
         &self,
-        alloc: Global,
         run: &mut Context<H>,
         table: &mut T,
         function: Function<H>,
@@ -212,13 +208,14 @@ impl<'e, H: Host> Evaluator<'e, H> {
             (state_of (T.state table.new) run.new.global scope (lending held focus.new)) }
     {
         let (cells, place) = (&mut run.global.cells, &mut run.error);
-        let Some(above) = enter_focus(alloc, cells, place, focus, &function, &*args, pos) else {
+        let Some(above) = enter_focus(self.alloc, cells, place, focus, &function, &*args, pos)
+        else {
             drop(function);
             return false;
         };
-        let aside = lend_focus(alloc, run, focus);
+        let aside = lend_focus(self.alloc, run, focus);
         let (def, environ, level) = body_of(&function, run.global.level);
-        let done = self.run_body(alloc, run, table, def, environ, args, true, level, pos);
+        let done = self.run_body(run, table, def, environ, args, true, level, pos);
         leave_focus(run, focus, aside, above);
         drop(function);
         done
@@ -229,7 +226,6 @@ impl<'e, H: Host> Evaluator<'e, H> {
     #[cycle(eval)]
     pub fn run_method<T: NativeTable<H>>(
         &self,
-        alloc: Global,
         run: &mut Context<H>,
         table: &mut T,
         name: &str,
@@ -254,7 +250,7 @@ impl<'e, H: Host> Evaluator<'e, H> {
         let (limits, global) = (self.limits, &mut run.global);
         match call_method(
             limits,
-            alloc,
+            self.alloc,
             &self.offered,
             global,
             table,
@@ -269,14 +265,14 @@ impl<'e, H: Host> Evaluator<'e, H> {
             MethodCall::OnTarget(function, args) => {
                 let mut args = args;
                 let values = args.as_mut_slice();
-                let done = self.enter_on_focus(alloc, run, table, function, focus, values, pos);
+                let done = self.enter_on_focus(run, table, function, focus, values, pos);
                 drop(args);
                 unchanged(done)
             }
             MethodCall::Alone(function, args) => {
                 let mut args = args;
                 let values = args.as_mut_slice();
-                let done = self.enter_fresh(alloc, run, table, function, values, pos);
+                let done = self.enter_fresh(run, table, function, values, pos);
                 drop(args);
                 unchanged(done)
             }

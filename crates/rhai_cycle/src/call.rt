@@ -58,7 +58,7 @@ use rhai_tree::literal::NativeId;
 use rhai_tree::position::Position;
 use rhai_tree::token::Token;
 use rhai_values::base::value::{Dynamic, FnPtr, Host};
-use std::alloc::{AllocError, Global};
+use std::alloc::AllocError;
 
 /// What a pointer's arguments are for.
 #[derive(Drop)]
@@ -90,7 +90,6 @@ impl<'e, H: Host> Evaluator<'e, H> {
     #[cycle(eval)]
     pub fn run_fn_call_expr<T: NativeTable<H>>(
         &self,
-        alloc: Global,
         run: &mut Context<H>,
         table: &mut T,
         call: &FnCallExpr,
@@ -104,9 +103,9 @@ impl<'e, H: Host> Evaluator<'e, H> {
             (came result run.new.value run.new.error) (state_in (T.state table.new) run.new) }
     {
         if may_operate(self.fast_operators, call) {
-            return self.run_operation(alloc, run, table, call, pos);
+            return self.run_operation(run, table, call, pos);
         }
-        self.run_function(alloc, run, table, call, pos)
+        self.run_function(run, table, call, pos)
     }
 
     /// A call that may be an operator on its operands. How it ended stands in the run.
@@ -114,7 +113,6 @@ impl<'e, H: Host> Evaluator<'e, H> {
     #[cycle(eval)]
     fn run_operation<T: NativeTable<H>>(
         &self,
-        alloc: Global,
         run: &mut Context<H>,
         table: &mut T,
         call: &FnCallExpr,
@@ -129,12 +127,12 @@ impl<'e, H: Host> Evaluator<'e, H> {
     {
         match form_of(self.fast_operators, call) {
             CallForm::Unary(token, operand) => {
-                self.run_unary(alloc, run, table, call, token, operand, pos)
+                self.run_unary(run, table, call, token, operand, pos)
             }
             CallForm::Binary(token, left, right) => {
                 let in_place = operate_in_place(
                     self.limits,
-                    alloc,
+                    self.alloc,
                     &mut run.global,
                     &*table,
                     &run.scope,
@@ -149,9 +147,9 @@ impl<'e, H: Host> Evaluator<'e, H> {
                 if let Some(done) = in_place {
                     return done;
                 }
-                self.run_operator(alloc, run, table, call, token, left, right, pos)
+                self.run_operator(run, table, call, token, left, right, pos)
             }
-            CallForm::Function => self.run_function(alloc, run, table, call, pos),
+            CallForm::Function => self.run_function(run, table, call, pos),
         }
     }
 
@@ -160,7 +158,6 @@ impl<'e, H: Host> Evaluator<'e, H> {
     #[cycle(eval)]
     fn run_function<T: NativeTable<H>>(
         &self,
-        alloc: Global,
         run: &mut Context<H>,
         table: &mut T,
         call: &FnCallExpr,
@@ -175,23 +172,15 @@ impl<'e, H: Host> Evaluator<'e, H> {
             (came result run.new.value run.new.error) (state_in (T.state table.new) run.new) }
     {
         if let Some(function) = plain_callee(&run.global, call) {
-            return self.run_plain_call(alloc, run, table, call, function, pos);
+            return self.run_plain_call(run, table, call, function, pos);
         }
         if !is_plain(&call.namespace) {
             let (path, name) = (&call.namespace, call.name.get().as_str());
-            return self.run_qualified_call(
-                alloc,
-                run,
-                table,
-                path,
-                name,
-                call.args.as_slice(),
-                pos,
-            );
+            return self.run_qualified_call(run, table, path, name, call.args.as_slice(), pos);
         }
         let at_once = call_at_once(
             self.limits,
-            alloc,
+            self.alloc,
             &self.offered,
             &mut run.global,
             table,
@@ -206,17 +195,7 @@ impl<'e, H: Host> Evaluator<'e, H> {
         }
         let (name, first, rest) = parts_of_call(call);
         let captures = call.capture_parent_scope;
-        self.run_call(
-            alloc,
-            run,
-            table,
-            name,
-            call.op_token,
-            first,
-            rest,
-            captures,
-            pos,
-        )
+        self.run_call(run, table, name, call.op_token, first, rest, captures, pos)
     }
 
     /// An operator on one operand, which is evaluated. How it ended stands in the run.
@@ -224,7 +203,6 @@ impl<'e, H: Host> Evaluator<'e, H> {
     #[cycle(eval)]
     fn run_unary<T: NativeTable<H>>(
         &self,
-        alloc: Global,
         run: &mut Context<H>,
         table: &mut T,
         call: &FnCallExpr,
@@ -242,16 +220,16 @@ impl<'e, H: Host> Evaluator<'e, H> {
             (state_in (T.state table.old) run.old)
             (came result run.new.value run.new.error) (state_in (T.state table.new) run.new) }
     {
-        if !self.run_arg(alloc, run, table, operand) {
+        if !self.run_arg(run, table, operand) {
             return false;
         }
         let (out, place) = (&mut run.value, &mut run.error);
-        if !flatten_at(alloc, &run.global.cells, out, place, operand) {
+        if !flatten_at(self.alloc, &run.global.cells, out, place, operand) {
             return false;
         }
-        let mut operands = Few::new(alloc);
-        let called = self.operate_on_one(alloc, run, table, call, token, &mut operands, pos);
-        let done = self.run_out(alloc, run, table, called, &mut operands, true, pos);
+        let mut operands = Few::new(self.alloc);
+        let called = self.operate_on_one(run, table, call, token, &mut operands, pos);
+        let done = self.run_out(run, table, called, &mut operands, true, pos);
         drop(operands);
         done
     }
@@ -261,7 +239,6 @@ impl<'e, H: Host> Evaluator<'e, H> {
     #[cycle(eval)]
     pub fn run_call<T: NativeTable<H>>(
         &self,
-        alloc: Global,
         run: &mut Context<H>,
         table: &mut T,
         name: &str,
@@ -283,17 +260,17 @@ impl<'e, H: Host> Evaluator<'e, H> {
     {
         match first {
             None => {
-                let curried = Items::new(alloc);
+                let curried = Items::new(self.alloc);
                 self.run_named(
-                    alloc, run, table, name, token, curried, first, rest, captures, false, pos,
+                    run, table, name, token, curried, first, rest, captures, false, pos,
                 )
             }
             Some(arg) => match keyword_of(name, token, 1 + rest.len()) {
-                Some(word) => self.run_keyword(alloc, run, table, word, arg, rest, captures, pos),
+                Some(word) => self.run_keyword(run, table, word, arg, rest, captures, pos),
                 None => {
-                    let curried = Items::new(alloc);
+                    let curried = Items::new(self.alloc);
                     self.run_named(
-                        alloc, run, table, name, token, curried, first, rest, captures, false, pos,
+                        run, table, name, token, curried, first, rest, captures, false, pos,
                     )
                 }
             },
@@ -305,7 +282,6 @@ impl<'e, H: Host> Evaluator<'e, H> {
     #[cycle(eval)]
     fn run_keyword<T: NativeTable<H>>(
         &self,
-        alloc: Global,
         run: &mut Context<H>,
         table: &mut T,
         word: Keyword,
@@ -323,7 +299,7 @@ impl<'e, H: Host> Evaluator<'e, H> {
             (state_in (T.state table.old) run.old)
             (came result run.new.value run.new.error) (state_in (T.state table.new) run.new) }
     {
-        if !self.run_arg(alloc, run, table, first) {
+        if !self.run_arg(run, table, first) {
             return false;
         }
         let value = take_value(&mut run.value);
@@ -334,7 +310,7 @@ impl<'e, H: Host> Evaluator<'e, H> {
                 true
             }
             Keyword::IsDefinedVariable => {
-                match text_of(alloc, &run.global.cells, value, start) {
+                match text_of(self.alloc, &run.global.cells, value, start) {
                     Ok(text) => {
                         put(&mut run.value, is_defined(&run.scope, &text));
                         true
@@ -342,21 +318,21 @@ impl<'e, H: Host> Evaluator<'e, H> {
                     Err(error) => stop(&mut run.error, error),
                 }
             }
-            Keyword::MakePointer => match text_of(alloc, &run.global.cells, value, start) {
+            Keyword::MakePointer => match text_of(self.alloc, &run.global.cells, value, start) {
                 Ok(text) => {
-                    let made = make_pointer(alloc, text, start);
+                    let made = make_pointer(self.alloc, text, start);
                     settle(&mut run.error, &mut run.value, made)
                 }
                 Err(error) => stop(&mut run.error, error),
             },
-            Keyword::Curry => match pointer_of(alloc, &run.global.cells, value, start) {
+            Keyword::Curry => match pointer_of(self.alloc, &run.global.cells, value, start) {
                 Ok(pointer) => {
-                    self.run_pointer(alloc, run, table, PointerUse::Curry(pointer), rest, pos)
+                    self.run_pointer(run, table, PointerUse::Curry(pointer), rest, pos)
                 }
                 Err(error) => stop(&mut run.error, error),
             },
             Keyword::CallPointer => {
-                let pointer = match pointer_of(alloc, &run.global.cells, value, start) {
+                let pointer = match pointer_of(self.alloc, &run.global.cells, value, start) {
                     Ok(pointer) => pointer,
                     Err(error) => return stop(&mut run.error, error),
                 };
@@ -365,7 +341,7 @@ impl<'e, H: Host> Evaluator<'e, H> {
                         let (name, curried, _) = parts_of(pointer);
                         drop(name);
                         let linked = PointerUse::Linked(function, curried);
-                        self.run_pointer(alloc, run, table, linked, rest, pos)
+                        self.run_pointer(run, table, linked, rest, pos)
                     }
                     Ok(None) => {
                         let (name, curried, number) = parts_of(pointer);
@@ -373,15 +349,15 @@ impl<'e, H: Host> Evaluator<'e, H> {
                             Some(id) => {
                                 drop(name);
                                 let numbered = PointerUse::Number(id, curried);
-                                self.run_pointer(alloc, run, table, numbered, rest, pos)
+                                self.run_pointer(run, table, numbered, rest, pos)
                             }
                             None => {
                                 let (first, rest) = parted(rest);
                                 let name = name.get().as_str();
                                 let alone = natives_alone(name);
                                 self.run_named(
-                                    alloc, run, table, name, None, curried, first, rest, captures,
-                                    alone, pos,
+                                    run, table, name, None, curried, first, rest, captures, alone,
+                                    pos,
                                 )
                             }
                         }
@@ -398,7 +374,6 @@ impl<'e, H: Host> Evaluator<'e, H> {
     /// What becomes of a pointer whose arguments are there.
     fn use_pointer<T: NativeTable<H>>(
         &self,
-        alloc: Global,
         run: &mut Context<H>,
         table: &mut T,
         pointer: PointerUse<H>,
@@ -415,17 +390,17 @@ impl<'e, H: Host> Evaluator<'e, H> {
     {
         match pointer {
             PointerUse::Curry(pointer) => {
-                Called::Ended(with_curried(alloc, pointer, values, pos))
+                Called::Ended(with_curried(self.alloc, pointer, values, pos))
             }
             PointerUse::Linked(function, curried) => {
                 let cells = &run.global.cells;
-                call_function(alloc, cells, function, curried, values, pos)
+                call_function(self.alloc, cells, function, curried, values, pos)
             }
             PointerUse::Number(id, curried) => {
                 let limits = self.limits;
                 let global = &mut run.global;
                 Called::Ended(call_number(
-                    limits, alloc, global, table, id, "call", curried, values, pos,
+                    limits, self.alloc, global, table, id, "call", curried, values, pos,
                 ))
             }
         }
@@ -436,7 +411,6 @@ impl<'e, H: Host> Evaluator<'e, H> {
     #[cycle(eval)]
     fn run_pointer<T: NativeTable<H>>(
         &self,
-        alloc: Global,
         run: &mut Context<H>,
         table: &mut T,
         pointer: PointerUse<H>,
@@ -451,14 +425,14 @@ impl<'e, H: Host> Evaluator<'e, H> {
             (state_in (T.state table.old) run.old)
             (came result run.new.value run.new.error) (state_in (T.state table.new) run.new) }
     {
-        let mut values = Few::new(alloc);
-        if !self.run_more_args(alloc, run, table, &mut values, args, false) {
+        let mut values = Few::new(self.alloc);
+        if !self.run_more_args(run, table, &mut values, args, false) {
             drop(pointer);
             drop(values);
             return false;
         }
-        let called = self.use_pointer(alloc, run, table, pointer, &mut values, pos);
-        let done = self.run_out(alloc, run, table, called, &mut values, true, pos);
+        let called = self.use_pointer(run, table, pointer, &mut values, pos);
+        let done = self.run_out(run, table, called, &mut values, true, pos);
         drop(values);
         done
     }
@@ -468,7 +442,6 @@ impl<'e, H: Host> Evaluator<'e, H> {
     #[inline(always)]
     fn operate_on_one<T: NativeTable<H>>(
         &self,
-        alloc: Global,
         run: &mut Context<H>,
         table: &mut T,
         call: &FnCallExpr,
@@ -487,7 +460,7 @@ impl<'e, H: Host> Evaluator<'e, H> {
         let (global, out) = (&mut run.global, &mut run.value);
         operate_one(
             self.limits,
-            alloc,
+            self.alloc,
             &self.offered,
             global,
             table,
@@ -504,7 +477,6 @@ impl<'e, H: Host> Evaluator<'e, H> {
     #[inline(always)]
     fn operate_on_two<T: NativeTable<H>>(
         &self,
-        alloc: Global,
         run: &mut Context<H>,
         table: &mut T,
         call: &FnCallExpr,
@@ -525,7 +497,7 @@ impl<'e, H: Host> Evaluator<'e, H> {
         let (global, out) = (&mut run.global, &mut run.value);
         operate_two(
             self.limits,
-            alloc,
+            self.alloc,
             &self.offered,
             global,
             table,
@@ -543,7 +515,6 @@ impl<'e, H: Host> Evaluator<'e, H> {
     #[cycle(eval)]
     fn run_operator<T: NativeTable<H>>(
         &self,
-        alloc: Global,
         run: &mut Context<H>,
         table: &mut T,
         call: &FnCallExpr,
@@ -563,29 +534,29 @@ impl<'e, H: Host> Evaluator<'e, H> {
             (state_in (T.state table.old) run.old)
             (came result run.new.value run.new.error) (state_in (T.state table.new) run.new) }
     {
-        if !self.run_arg(alloc, run, table, left) {
+        if !self.run_arg(run, table, left) {
             return false;
         }
         let (out, place) = (&mut run.value, &mut run.error);
-        if !flatten_at(alloc, &run.global.cells, out, place, left) {
+        if !flatten_at(self.alloc, &run.global.cells, out, place, left) {
             return false;
         }
         let first = take_value(&mut run.value);
-        if !self.run_arg(alloc, run, table, right) {
+        if !self.run_arg(run, table, right) {
             let_go(first);
             return false;
         }
         let (out, place) = (&mut run.value, &mut run.error);
-        if !flatten_at(alloc, &run.global.cells, out, place, right) {
+        if !flatten_at(self.alloc, &run.global.cells, out, place, right) {
             let_go(first);
             return false;
         }
         if operate_known(token, &first, &mut run.value) {
             return true;
         }
-        let mut operands = Few::new(alloc);
-        let called = self.operate_on_two(alloc, run, table, call, token, first, &mut operands, pos);
-        let done = self.run_out(alloc, run, table, called, &mut operands, true, pos);
+        let mut operands = Few::new(self.alloc);
+        let called = self.operate_on_two(run, table, call, token, first, &mut operands, pos);
+        let done = self.run_out(run, table, called, &mut operands, true, pos);
         drop(operands);
         done
     }
@@ -596,7 +567,6 @@ impl<'e, H: Host> Evaluator<'e, H> {
     #[cycle(eval)]
     pub fn run_arg<T: NativeTable<H>>(
         &self,
-        alloc: Global,
         run: &mut Context<H>,
         table: &mut T,
         arg: &Expr,
@@ -610,7 +580,7 @@ impl<'e, H: Host> Evaluator<'e, H> {
     {
         let in_place = literal_arg(
             self.limits,
-            alloc,
+            self.alloc,
             &mut run.global,
             &*table,
             &mut run.value,
@@ -619,7 +589,7 @@ impl<'e, H: Host> Evaluator<'e, H> {
         );
         match in_place {
             Some(done) => done,
-            None => self.run_expr(alloc, run, table, arg),
+            None => self.run_expr(run, table, arg),
         }
     }
 }

@@ -95,7 +95,6 @@ impl<'e, H: Host> Evaluator<'e, H> {
     #[cycle(eval)]
     pub fn run_chain<T: NativeTable<H>>(
         &self,
-        alloc: Global,
         run: &mut Context<H>,
         table: &mut T,
         root: &Expr,
@@ -116,25 +115,25 @@ impl<'e, H: Host> Evaluator<'e, H> {
             (chain_on root.now (out-Expr chain.now) (new_of new))
             (state_in (T.state table.old) run.old) }
     {
-        let mut values = Few::new(alloc);
-        let Some(asks) = given_args(alloc, &mut values, &mut run.error, chain) else {
+        let mut values = Few::new(self.alloc);
+        let Some(asks) = given_args(self.alloc, &mut values, &mut run.error, chain) else {
             drop(new);
             drop(values);
             return false;
         };
         if asks {
-            if !self.run_link_args(alloc, run, table, &mut values, chain) {
+            if !self.run_link_args(run, table, &mut values, chain) {
                 drop(new);
                 drop(values);
                 return false;
             }
             let args = values.as_mut_slice();
-            let done = self.run_root(alloc, run, table, root, chain, args, new);
+            let done = self.run_root(run, table, root, chain, args, new);
             drop(values);
             done
         } else {
             let args = values.as_mut_slice();
-            let done = self.run_root(alloc, run, table, root, chain, args, new);
+            let done = self.run_root(run, table, root, chain, args, new);
             drop(values);
             done
         }
@@ -145,7 +144,6 @@ impl<'e, H: Host> Evaluator<'e, H> {
     #[cycle(eval)]
     pub(crate) fn read_chain<T: NativeTable<H>>(
         &self,
-        alloc: Global,
         run: &mut Context<H>,
         table: &mut T,
         root: &Expr,
@@ -162,7 +160,7 @@ impl<'e, H: Host> Evaluator<'e, H> {
             (state_in (T.state table.old) run.old)
             (came result run.new.value run.new.error) (state_in (T.state table.new) run.new) }
     {
-        self.run_chain(alloc, run, table, root, chain, None)
+        self.run_chain(run, table, root, chain, None)
     }
 
     /// The values that the links of a chain ask for go behind those that are there, from left to right and
@@ -170,7 +168,6 @@ impl<'e, H: Host> Evaluator<'e, H> {
     #[cycle(eval)]
     fn run_link_args<T: NativeTable<H>>(
         &self,
-        alloc: Global,
         run: &mut Context<H>,
         table: &mut T,
         values: &mut Few<Dynamic<H>>,
@@ -191,11 +188,11 @@ impl<'e, H: Host> Evaluator<'e, H> {
         if !charge(self.limits, &mut run.global, &mut run.error, link.rest_at) {
             return false;
         }
-        if !self.run_more_args(alloc, run, table, values, asked(link), true) {
+        if !self.run_more_args(run, table, values, asked(link), true) {
             return false;
         }
         match link.behind {
-            Some(rest) => self.run_link_args(alloc, run, table, values, rest),
+            Some(rest) => self.run_link_args(run, table, values, rest),
             None => true,
         }
     }
@@ -205,7 +202,6 @@ impl<'e, H: Host> Evaluator<'e, H> {
     #[cycle(eval)]
     fn run_root<T: NativeTable<H>>(
         &self,
-        alloc: Global,
         run: &mut Context<H>,
         table: &mut T,
         root: &Expr,
@@ -235,7 +231,7 @@ impl<'e, H: Host> Evaluator<'e, H> {
                     return false;
                 }
                 self.walk_variable(
-                    alloc, run, table, *offset, name, namespace, *pos, root, chain, args, new,
+                    run, table, *offset, name, namespace, *pos, root, chain, args, new,
                 )
             }
             Expr::ThisPtr(pos) => {
@@ -243,14 +239,14 @@ impl<'e, H: Host> Evaluator<'e, H> {
                     drop(new);
                     return false;
                 }
-                self.walk_this(alloc, run, table, *pos, root, chain, args, new)
+                self.walk_this(run, table, *pos, root, chain, args, new)
             }
             _ => {
                 drop(new);
-                if !self.run_expr(alloc, run, table, root) {
+                if !self.run_expr(run, table, root) {
                     return false;
                 }
-                self.walk_value(alloc, run, table, root, chain, args)
+                self.walk_value(run, table, root, chain, args)
             }
         }
     }
@@ -259,7 +255,6 @@ impl<'e, H: Host> Evaluator<'e, H> {
     #[cycle(eval)]
     pub(crate) fn assign_chain<T: NativeTable<H>>(
         &self,
-        alloc: Global,
         run: &mut Context<H>,
         table: &mut T,
         op: OpAssignment,
@@ -279,15 +274,15 @@ impl<'e, H: Host> Evaluator<'e, H> {
         let Some(root) = first_of(lhs) else {
             unreachable!()
         };
-        if !self.run_expr(alloc, run, table, rhs) {
+        if !self.run_expr(run, table, rhs) {
             return false;
         }
         let (cells, out) = (&run.global.cells, &mut run.value);
-        let Some(value) = take_flat(alloc, cells, out, &mut run.error, rhs) else {
+        let Some(value) = take_flat(self.alloc, cells, out, &mut run.error, rhs) else {
             return false;
         };
         let new = Some(NewValue { op, value });
-        if !self.run_chain(alloc, run, table, root, lhs, new) {
+        if !self.run_chain(run, table, root, lhs, new) {
             return false;
         }
         put_unit(&mut run.value);

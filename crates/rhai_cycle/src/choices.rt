@@ -17,7 +17,6 @@ use rhai_context::outcomes::unit_left;
 use rhai_state::table::NativeTable;
 use rhai_tree::expr::Expr;
 use rhai_values::base::value::Host;
-use std::alloc::Global;
 
 /// Whether two truth values are the same.
 fn is_same(left: bool, right: bool) -> bool
@@ -34,7 +33,6 @@ impl<'e, H: Host> Evaluator<'e, H> {
     #[cycle(eval)]
     pub(crate) fn run_until<T: NativeTable<H>>(
         &self,
-        alloc: Global,
         run: &mut Context<H>,
         table: &mut T,
         parts: &[Expr],
@@ -49,7 +47,7 @@ impl<'e, H: Host> Evaluator<'e, H> {
             (came result run.new.value run.new.error) (state_in (T.state table.new) run.new) }
     {
         'each_part: for part in parts {
-            let Some(holds) = self.run_condition(alloc, run, table, part) else {
+            let Some(holds) = self.run_condition(run, table, part) else {
                 return false;
             };
             if is_same(holds, stop) {
@@ -67,7 +65,6 @@ impl<'e, H: Host> Evaluator<'e, H> {
     #[cycle(eval)]
     pub(crate) fn run_coalesce<T: NativeTable<H>>(
         &self,
-        alloc: Global,
         run: &mut Context<H>,
         table: &mut T,
         parts: &[Expr],
@@ -82,10 +79,16 @@ impl<'e, H: Host> Evaluator<'e, H> {
     {
         put_unit(&mut run.value);
         'each_part: for part in parts {
-            if !self.run_expr(alloc, run, table, part) {
+            if !self.run_expr(run, table, part) {
                 return false;
             }
-            match unit_left(alloc, &run.global.cells, &run.value, &mut run.error, part) {
+            match unit_left(
+                self.alloc,
+                &run.global.cells,
+                &run.value,
+                &mut run.error,
+                part,
+            ) {
                 Some(true) => {}
                 Some(false) => return true,
                 None => return false,

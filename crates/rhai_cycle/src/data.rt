@@ -18,7 +18,6 @@ use rhai_state::table::NativeTable;
 use rhai_tree::expr::{Expr, MapEntry};
 use rhai_tree::position::Position;
 use rhai_values::base::value::Host;
-use std::alloc::Global;
 
 impl<'e, H: Host> Evaluator<'e, H> {
     /// An array of the values of its items, which are evaluated from left to right. How it ended
@@ -27,7 +26,6 @@ impl<'e, H: Host> Evaluator<'e, H> {
     #[cycle(eval)]
     pub(crate) fn run_array<T: NativeTable<H>>(
         &self,
-        alloc: Global,
         run: &mut Context<H>,
         table: &mut T,
         items: &[Expr],
@@ -40,20 +38,20 @@ impl<'e, H: Host> Evaluator<'e, H> {
             (state_in (T.state table.old) run.old)
             (came result run.new.value run.new.error) (state_in (T.state table.new) run.new) }
     {
-        let mut made = ArrayItems::new(alloc);
+        let mut made = ArrayItems::new(self.alloc);
         'each_item: for item in items {
-            if !self.run_expr(alloc, run, table, item) {
+            if !self.run_expr(run, table, item) {
                 drop(made);
                 return false;
             }
             let cells = &run.global.cells;
             let (out, place) = (&mut run.value, &mut run.error);
-            if !made.add(alloc, self.limits, cells, out, place, item) {
+            if !made.add(self.alloc, self.limits, cells, out, place, item) {
                 drop(made);
                 return false;
             }
         }
-        made.finish(alloc, &mut run.value, &mut run.error, pos)
+        made.finish(self.alloc, &mut run.value, &mut run.error, pos)
     }
 
     /// A map of the values of its entries, which are evaluated from left to right. How it ended
@@ -62,7 +60,6 @@ impl<'e, H: Host> Evaluator<'e, H> {
     #[cycle(eval)]
     pub(crate) fn run_map<T: NativeTable<H>>(
         &self,
-        alloc: Global,
         run: &mut Context<H>,
         table: &mut T,
         entries: &[MapEntry],
@@ -76,20 +73,20 @@ impl<'e, H: Host> Evaluator<'e, H> {
             (state_in (T.state table.old) run.old)
             (came result run.new.value run.new.error) (state_in (T.state table.new) run.new) }
     {
-        let mut made = EntryValues::new(alloc);
+        let mut made = EntryValues::new(self.alloc);
         'each_entry: for entry in entries {
-            if !self.run_expr(alloc, run, table, &entry.value) {
+            if !self.run_expr(run, table, &entry.value) {
                 drop(made);
                 return false;
             }
             let cells = &run.global.cells;
             let (out, place) = (&mut run.value, &mut run.error);
-            if !made.add(alloc, self.limits, cells, out, place, &entry.value) {
+            if !made.add(self.alloc, self.limits, cells, out, place, &entry.value) {
                 drop(made);
                 return false;
             }
         }
-        made.finish(alloc, &mut run.value, &mut run.error, entries, pos)
+        made.finish(self.alloc, &mut run.value, &mut run.error, entries, pos)
     }
 
     /// A text that is joined of the values of its parts, which are evaluated from left to right. How it ended
@@ -98,7 +95,6 @@ impl<'e, H: Host> Evaluator<'e, H> {
     #[cycle(eval)]
     pub(crate) fn run_interpolated<T: NativeTable<H>>(
         &self,
-        alloc: Global,
         run: &mut Context<H>,
         table: &mut T,
         parts: &[Expr],
@@ -112,15 +108,15 @@ impl<'e, H: Host> Evaluator<'e, H> {
             (state_in (T.state table.old) run.old)
             (came result run.new.value run.new.error) (state_in (T.state table.new) run.new) }
     {
-        let mut text = String::new(alloc);
+        let mut text = String::new(self.alloc);
         'each_part: for part in parts {
-            if !self.run_expr(alloc, run, table, part) {
+            if !self.run_expr(run, table, part) {
                 return false;
             }
             let (global, out, place) = (&mut run.global, &mut run.value, &mut run.error);
             if !join(
                 self.limits,
-                alloc,
+                self.alloc,
                 global,
                 table,
                 &mut text,
@@ -131,6 +127,6 @@ impl<'e, H: Host> Evaluator<'e, H> {
                 return false;
             }
         }
-        finish(alloc, &mut run.value, &mut run.error, text, pos)
+        finish(self.alloc, &mut run.value, &mut run.error, text, pos)
     }
 }

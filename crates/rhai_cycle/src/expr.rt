@@ -73,7 +73,6 @@ impl<'e, H: Host> Evaluator<'e, H> {
     #[cycle(eval)]
     pub fn run_expr<T: NativeTable<H>>(
         &self,
-        alloc: Global,
         run: &mut Context<H>,
         table: &mut T,
         expr: &Expr,
@@ -93,24 +92,22 @@ impl<'e, H: Host> Evaluator<'e, H> {
             return false;
         }
         match expr {
-            Expr::FnCall(call, pos) => self.run_fn_call_expr(alloc, run, table, call, *pos),
+            Expr::FnCall(call, pos) => self.run_fn_call_expr(run, table, call, *pos),
             Expr::Stmt(block) => {
-                self.run_stmt_block(alloc, run, table, block.statements.as_slice(), true)
+                self.run_stmt_block(run, table, block.statements.as_slice(), true)
             }
-            Expr::And(parts, _) => self.run_until(alloc, run, table, parts.as_slice(), false),
-            Expr::Or(parts, _) => self.run_until(alloc, run, table, parts.as_slice(), true),
-            Expr::Coalesce(parts, _) => self.run_coalesce(alloc, run, table, parts.as_slice()),
-            Expr::Array(items, pos) => self.run_array(alloc, run, table, items.as_slice(), *pos),
-            Expr::Map(entries, _, pos) => {
-                self.run_map(alloc, run, table, entries.as_slice(), *pos)
-            }
+            Expr::And(parts, _) => self.run_until(run, table, parts.as_slice(), false),
+            Expr::Or(parts, _) => self.run_until(run, table, parts.as_slice(), true),
+            Expr::Coalesce(parts, _) => self.run_coalesce(run, table, parts.as_slice()),
+            Expr::Array(items, pos) => self.run_array(run, table, items.as_slice(), *pos),
+            Expr::Map(entries, _, pos) => { self.run_map(run, table, entries.as_slice(), *pos) }
             Expr::InterpolatedString(parts, pos) => {
-                self.run_interpolated(alloc, run, table, parts.as_slice(), *pos)
+                self.run_interpolated(run, table, parts.as_slice(), *pos)
             }
-            Expr::Dot(root, ..) => self.read_chain(alloc, run, table, root.get(), expr),
-            Expr::Index(root, ..) => self.read_chain(alloc, run, table, root.get(), expr),
+            Expr::Dot(root, ..) => self.read_chain(run, table, root.get(), expr),
+            Expr::Index(root, ..) => self.read_chain(run, table, root.get(), expr),
             _ => read_expr(
-                alloc,
+                self.alloc,
                 &run.global,
                 &self.offered,
                 &run.scope,
@@ -128,7 +125,6 @@ impl<'e, H: Host> Evaluator<'e, H> {
     #[cycle(eval)]
     pub(crate) fn run_condition<T: NativeTable<H>>(
         &self,
-        alloc: Global,
         run: &mut Context<H>,
         table: &mut T,
         test: &Expr,
@@ -145,7 +141,7 @@ impl<'e, H: Host> Evaluator<'e, H> {
     {
         match holds_at_once(
             self.limits,
-            alloc,
+            self.alloc,
             &mut run.global,
             &*table,
             &run.scope,
@@ -155,11 +151,11 @@ impl<'e, H: Host> Evaluator<'e, H> {
         ) {
             Some(told) => told,
             None => {
-                if !self.run_expr(alloc, run, table, test) {
+                if !self.run_expr(run, table, test) {
                     return None;
                 }
                 truth_left(
-                    alloc,
+                    self.alloc,
                     &run.global.cells,
                     &mut run.value,
                     &mut run.error,

@@ -95,7 +95,6 @@ impl<'e, H: Host> Evaluator<'e, H> {
     #[cycle(eval)]
     pub(crate) fn run_while<T: NativeTable<H>>(
         &self,
-        alloc: Global,
         run: &mut Context<H>,
         table: &mut T,
         test: &Expr,
@@ -110,7 +109,7 @@ impl<'e, H: Host> Evaluator<'e, H> {
             (state_in (T.state table.new) run.new) }
     {
         'turns: loop {
-            if let Some(done) = self.while_turn(alloc, run, table, test, body) {
+            if let Some(done) = self.while_turn(run, table, test, body) {
                 return done;
             }
         }
@@ -121,7 +120,6 @@ impl<'e, H: Host> Evaluator<'e, H> {
     #[cycle(eval)]
     fn while_turn<T: NativeTable<H>>(
         &self,
-        alloc: Global,
         run: &mut Context<H>,
         table: &mut T,
         test: &Expr,
@@ -144,14 +142,14 @@ impl<'e, H: Host> Evaluator<'e, H> {
                 }
                 return Some(false);
             }
-            let done = self.run_stmt_block(alloc, run, table, body.statements.as_slice(), true);
+            let done = self.run_stmt_block(run, table, body.statements.as_slice(), true);
             return turn_end(done, &mut run.value, &mut run.error);
         }
-        match self.run_condition(alloc, run, table, test) {
+        match self.run_condition(run, table, test) {
             Some(holds) => {
                 if holds {
                     let statements = body.statements.as_slice();
-                    let done = self.run_stmt_block(alloc, run, table, statements, true);
+                    let done = self.run_stmt_block(run, table, statements, true);
                     turn_end(done, &mut run.value, &mut run.error)
                 } else {
                     put_unit(&mut run.value);
@@ -167,7 +165,6 @@ impl<'e, H: Host> Evaluator<'e, H> {
     #[cycle(eval)]
     pub(crate) fn run_do<T: NativeTable<H>>(
         &self,
-        alloc: Global,
         run: &mut Context<H>,
         table: &mut T,
         test: &Expr,
@@ -183,7 +180,7 @@ impl<'e, H: Host> Evaluator<'e, H> {
             (state_in (T.state table.new) run.new) }
     {
         'turns: loop {
-            if let Some(done) = self.do_turn(alloc, run, table, test, body, options) {
+            if let Some(done) = self.do_turn(run, table, test, body, options) {
                 return done;
             }
         }
@@ -194,7 +191,6 @@ impl<'e, H: Host> Evaluator<'e, H> {
     #[cycle(eval)]
     fn do_turn<T: NativeTable<H>>(
         &self,
-        alloc: Global,
         run: &mut Context<H>,
         table: &mut T,
         test: &Expr,
@@ -212,12 +208,12 @@ impl<'e, H: Host> Evaluator<'e, H> {
             (state_in (T.state table.new) run.new) }
     {
         let statements = body.statements.as_slice();
-        let done = self.run_stmt_block(alloc, run, table, statements, true);
+        let done = self.run_stmt_block(run, table, statements, true);
         match body_way(done, &mut run.value, &mut run.error) {
             BodyWay::Stopped => Some(false),
             BodyWay::Break => Some(true),
             BodyWay::Continue => None,
-            BodyWay::Done => match self.run_condition(alloc, run, table, test) {
+            BodyWay::Done => match self.run_condition(run, table, test) {
                 Some(holds) => {
                     let turn = do_next(options, holds);
                     settle_turn(&mut run.error, &mut run.value, Ok(turn))
@@ -232,7 +228,6 @@ impl<'e, H: Host> Evaluator<'e, H> {
     #[cycle(eval)]
     pub(crate) fn run_break<T: NativeTable<H>>(
         &self,
-        alloc: Global,
         run: &mut Context<H>,
         table: &mut T,
         value: &Option<Expr>,
@@ -249,13 +244,13 @@ impl<'e, H: Host> Evaluator<'e, H> {
         match value {
             None => {
                 put_unit(&mut run.value);
-                break_with(alloc, &mut run.value, &mut run.error, options, pos)
+                break_with(self.alloc, &mut run.value, &mut run.error, options, pos)
             }
             Some(value) => {
-                if !self.run_expr(alloc, run, table, value) {
+                if !self.run_expr(run, table, value) {
                     return false;
                 }
-                break_with(alloc, &mut run.value, &mut run.error, options, pos)
+                break_with(self.alloc, &mut run.value, &mut run.error, options, pos)
             }
         }
     }
@@ -266,7 +261,6 @@ impl<'e, H: Host> Evaluator<'e, H> {
     #[cycle(eval)]
     pub(crate) fn run_return<T: NativeTable<H>>(
         &self,
-        alloc: Global,
         run: &mut Context<H>,
         table: &mut T,
         value: &Option<Expr>,
@@ -283,14 +277,14 @@ impl<'e, H: Host> Evaluator<'e, H> {
         match value {
             None => {
                 put_unit(&mut run.value);
-                leave_with(alloc, &mut run.value, &mut run.error, options, pos)
+                leave_with(self.alloc, &mut run.value, &mut run.error, options, pos)
             }
             Some(value) => {
-                if !self.run_expr(alloc, run, table, value) {
+                if !self.run_expr(run, table, value) {
                     return false;
                 }
                 if !flatten_at(
-                    alloc,
+                    self.alloc,
                     &run.global.cells,
                     &mut run.value,
                     &mut run.error,
@@ -298,7 +292,7 @@ impl<'e, H: Host> Evaluator<'e, H> {
                 ) {
                     return false;
                 }
-                leave_with(alloc, &mut run.value, &mut run.error, options, pos)
+                leave_with(self.alloc, &mut run.value, &mut run.error, options, pos)
             }
         }
     }

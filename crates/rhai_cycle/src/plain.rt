@@ -26,7 +26,6 @@ use rhai_tree::function::ScriptFuncDef;
 use rhai_tree::position::Position;
 use rhai_tree::{Items, Shared};
 use rhai_values::base::value::Host;
-use std::alloc::Global;
 
 impl<'e, H: Host> Evaluator<'e, H> {
     /// A call whose function is known before its arguments are evaluated. Its variables keep their room for another call.
@@ -35,7 +34,6 @@ impl<'e, H: Host> Evaluator<'e, H> {
     #[cycle(eval)]
     pub(crate) fn run_plain_call<T: NativeTable<H>>(
         &self,
-        alloc: Global,
         run: &mut Context<H>,
         table: &mut T,
         call: &FnCallExpr,
@@ -54,15 +52,15 @@ impl<'e, H: Host> Evaluator<'e, H> {
             (came result run.new.value run.new.error) (state_in (T.state table.new) run.new) }
     {
         let def = definition_of(&function);
-        let mut variables = lend_variables(alloc, run);
+        let mut variables = lend_variables(self.alloc, run);
         let args = call.args.as_slice();
-        if !self.run_parameters(alloc, run, table, &mut variables, def, args) {
+        if !self.run_parameters(run, table, &mut variables, def, args) {
             keep_variables(run, variables);
             return false;
         }
         let cells = &run.global.cells;
         if stops_by_race(
-            alloc,
+            self.alloc,
             cells,
             &mut run.error,
             variables.as_slice(),
@@ -79,8 +77,8 @@ impl<'e, H: Host> Evaluator<'e, H> {
         }
         let entered = enter_plain(run, variables);
         let statements = statements_of(def);
-        let done = self.run_stmt_block(alloc, run, table, statements, true);
-        leave_plain(alloc, run, def, entered, done, pos)
+        let done = self.run_stmt_block(run, table, statements, true);
+        leave_plain(self.alloc, run, def, entered, done, pos)
     }
 
     /// The values of arguments become a function's variables, from left to right and flattened. Whether it went well;
@@ -88,7 +86,6 @@ impl<'e, H: Host> Evaluator<'e, H> {
     #[cycle(eval)]
     fn run_parameters<T: NativeTable<H>>(
         &self,
-        alloc: Global,
         run: &mut Context<H>,
         table: &mut T,
         variables: &mut Items<ScopeEntry<H>>,
@@ -105,12 +102,12 @@ impl<'e, H: Host> Evaluator<'e, H> {
             (state_in (T.state table.new) run.new) }
     {
         'each_arg: for arg in args {
-            if !self.run_arg(alloc, run, table, arg) {
+            if !self.run_arg(run, table, arg) {
                 return false;
             }
             let cells = &run.global.cells;
             let (out, place) = (&mut run.value, &mut run.error);
-            if !push_parameter(alloc, cells, out, place, variables, def, arg) {
+            if !push_parameter(self.alloc, cells, out, place, variables, def, arg) {
                 return false;
             }
         }

@@ -22,7 +22,6 @@ use rhai_state::table::NativeTable;
 use rhai_tree::expr::{Expr, Namespace};
 use rhai_tree::position::Position;
 use rhai_values::base::value::Host;
-use std::alloc::Global;
 
 impl<'e, H: Host> Evaluator<'e, H> {
     /// A call behind a path: its arguments first, then the function that the path leads to. A variable or `this` that comes
@@ -31,7 +30,6 @@ impl<'e, H: Host> Evaluator<'e, H> {
     #[cycle(eval)]
     pub fn run_qualified_call<T: NativeTable<H>>(
         &self,
-        alloc: Global,
         run: &mut Context<H>,
         table: &mut T,
         namespace: &Namespace,
@@ -54,13 +52,13 @@ impl<'e, H: Host> Evaluator<'e, H> {
         if !charge_last(self.limits, &mut run.global, &mut run.error, last) {
             return false;
         }
-        let mut values = Few::new(alloc);
-        if !self.run_more_args(alloc, run, table, &mut values, others, true) {
+        let mut values = Few::new(self.alloc);
+        if !self.run_more_args(run, table, &mut values, others, true) {
             drop(values);
             return false;
         }
         let called = call_behind(
-            alloc,
+            self.alloc,
             &self.offered,
             &run.global,
             &run.scope,
@@ -71,7 +69,7 @@ impl<'e, H: Host> Evaluator<'e, H> {
             &mut values,
             pos,
         );
-        let done = self.run_out(alloc, run, table, called, &mut values, true, pos);
+        let done = self.run_out(run, table, called, &mut values, true, pos);
         drop(values);
         done
     }

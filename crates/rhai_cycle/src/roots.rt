@@ -208,7 +208,6 @@ impl<'e, H: Host> Evaluator<'e, H> {
     #[cycle(eval)]
     pub(crate) fn walk_variable<T: NativeTable<H>>(
         &self,
-        alloc: Global,
         run: &mut Context<H>,
         table: &mut T,
         offset: Option<NonZeroUsize>,
@@ -234,7 +233,7 @@ impl<'e, H: Host> Evaluator<'e, H> {
     {
         let (global, scope, place) = (&run.global, &mut run.scope, &mut run.error);
         let lent = lend_variable(
-            alloc,
+            self.alloc,
             &self.offered,
             global,
             scope,
@@ -250,9 +249,7 @@ impl<'e, H: Host> Evaluator<'e, H> {
         };
         let mut focus = value;
         let in_place = index.is_some();
-        let mark = self.walk_chain(
-            alloc, run, table, root, &mut focus, rest, args, new, in_place,
-        );
+        let mark = self.walk_chain(run, table, root, &mut focus, rest, args, new, in_place);
         give_variable(&mut run.scope, index, focus, mark)
     }
 
@@ -265,7 +262,6 @@ impl<'e, H: Host> Evaluator<'e, H> {
     #[cycle(eval)]
     pub(crate) fn walk_this<T: NativeTable<H>>(
         &self,
-        alloc: Global,
         run: &mut Context<H>,
         table: &mut T,
         pos: Position,
@@ -288,12 +284,12 @@ impl<'e, H: Host> Evaluator<'e, H> {
             (record { this = run.new.this; focus = focus })) }
     {
         let (cells, this) = (&run.global.cells, &mut run.this);
-        let Some(value) = lend_this(alloc, cells, this, &mut run.error, pos) else {
+        let Some(value) = lend_this(self.alloc, cells, this, &mut run.error, pos) else {
             drop(new);
             return false;
         };
         let mut focus = value;
-        let mark = self.walk_chain(alloc, run, table, root, &mut focus, rest, args, new, true);
+        let mark = self.walk_chain(run, table, root, &mut focus, rest, args, new, true);
         give_this(&mut run.this, focus, mark)
     }
 
@@ -306,7 +302,6 @@ impl<'e, H: Host> Evaluator<'e, H> {
     #[cycle(eval)]
     pub(crate) fn walk_value<T: NativeTable<H>>(
         &self,
-        alloc: Global,
         run: &mut Context<H>,
         table: &mut T,
         root: &Expr,
@@ -326,11 +321,11 @@ impl<'e, H: Host> Evaluator<'e, H> {
             (state_of (T.state table.new) run.new.global scope held) }
     {
         let (cells, out) = (&run.global.cells, &mut run.value);
-        let Some(value) = take_flat(alloc, cells, out, &mut run.error, root) else {
+        let Some(value) = take_flat(self.alloc, cells, out, &mut run.error, root) else {
             return false;
         };
         let mut focus = value;
-        let mark = self.walk_chain(alloc, run, table, root, &mut focus, rest, args, None, false);
+        let mark = self.walk_chain(run, table, root, &mut focus, rest, args, None, false);
         leave_temporary(focus, mark)
     }
 }

@@ -98,7 +98,6 @@ impl<'e, H: Host> Evaluator<'e, H> {
     #[cycle(eval)]
     pub fn run_stmt<T: NativeTable<H>>(
         &self,
-        alloc: Global,
         run: &mut Context<H>,
         table: &mut T,
         stmt: &Stmt,
@@ -120,37 +119,33 @@ impl<'e, H: Host> Evaluator<'e, H> {
         match stmt {
             Stmt::Noop(_) => leave_unit(&mut run.value),
             Stmt::Expr(expr) => {
-                if !self.run_expr(alloc, run, table, expr) {
+                if !self.run_expr(run, table, expr) {
                     return false;
                 }
                 flatten_at(
-                    alloc,
+                    self.alloc,
                     &run.global.cells,
                     &mut run.value,
                     &mut run.error,
                     expr,
                 )
             }
-            Stmt::FnCall(call, pos) => self.run_fn_call_expr(alloc, run, table, call, *pos),
+            Stmt::FnCall(call, pos) => self.run_fn_call_expr(run, table, call, *pos),
             Stmt::Block(block) => {
-                self.run_stmt_block(alloc, run, table, block.statements.as_slice(), true)
+                self.run_stmt_block(run, table, block.statements.as_slice(), true)
             }
-            Stmt::Assignment(op, lhs, rhs) => {
-                self.run_assignment(alloc, run, table, op, lhs, rhs)
-            }
-            Stmt::If(test, body, branch, _) => self.run_if(alloc, run, table, test, body, branch),
+            Stmt::Assignment(op, lhs, rhs) => { self.run_assignment(run, table, op, lhs, rhs) }
+            Stmt::If(test, body, branch, _) => self.run_if(run, table, test, body, branch),
             Stmt::Var(ident, value, index, options, pos) => self.run_var(
-                alloc, run, table, ident, value, *index, *options, *pos, restoring,
+                run, table, ident, value, *index, *options, *pos, restoring,
             ),
-            Stmt::While(test, body, _) => self.run_while(alloc, run, table, test, body),
-            Stmt::Do(test, body, options, _) => {
-                self.run_do(alloc, run, table, test, body, *options)
-            }
+            Stmt::While(test, body, _) => self.run_while(run, table, test, body),
+            Stmt::Do(test, body, options, _) => { self.run_do(run, table, test, body, *options) }
             Stmt::BreakLoop(value, options, pos) => {
-                self.run_break(alloc, run, table, value, *options, *pos)
+                self.run_break(run, table, value, *options, *pos)
             }
             Stmt::Return(value, options, pos) => {
-                self.run_return(alloc, run, table, value, *options, *pos)
+                self.run_return(run, table, value, *options, *pos)
             }
             Stmt::Switch {
                 expr,
@@ -160,7 +155,6 @@ impl<'e, H: Host> Evaluator<'e, H> {
                 def_case,
                 ..
             } => self.run_switch(
-                alloc,
                 run,
                 table,
                 expr,
@@ -175,9 +169,9 @@ impl<'e, H: Host> Evaluator<'e, H> {
                 expr,
                 body,
                 ..
-            } => self.run_for(alloc, run, table, name, counter, expr, body),
+            } => self.run_for(run, table, name, counter, expr, body),
             Stmt::TryCatch(body, variable, branch, _) => {
-                self.run_try(alloc, run, table, body, variable, branch)
+                self.run_try(run, table, body, variable, branch)
             }
             Stmt::Share(variables) => {
                 let names = variables.as_slice();
@@ -201,9 +195,7 @@ impl<'e, H: Host> Evaluator<'e, H> {
                 ident,
                 alias,
             ),
-            Stmt::Import(path, alias, pos) => {
-                self.run_import(alloc, run, table, path, alias, *pos)
-            }
+            Stmt::Import(path, alias, pos) => { self.run_import(run, table, path, alias, *pos) }
         }
     }
 
@@ -212,7 +204,6 @@ impl<'e, H: Host> Evaluator<'e, H> {
     #[cycle(eval)]
     fn run_if<T: NativeTable<H>>(
         &self,
-        alloc: Global,
         run: &mut Context<H>,
         table: &mut T,
         test: &Expr,
@@ -231,10 +222,10 @@ impl<'e, H: Host> Evaluator<'e, H> {
         ensures memory { IfErr (came result run.new.value run.new.error) (λ error.
             is_out_of_memory error ≡ true → IsTrue (asks_if test.now body.now branch.now)) }
     {
-        match self.run_condition(alloc, run, table, test) {
+        match self.run_condition(run, table, test) {
             Some(holds) => {
                 let statements = chosen(holds, body, branch);
-                self.run_stmt_block(alloc, run, table, statements, true)
+                self.run_stmt_block(run, table, statements, true)
             }
             None => false,
         }
@@ -246,7 +237,6 @@ impl<'e, H: Host> Evaluator<'e, H> {
     #[cycle(eval)]
     fn run_assignment<T: NativeTable<H>>(
         &self,
-        alloc: Global,
         run: &mut Context<H>,
         table: &mut T,
         op: &OpAssignment,
@@ -264,7 +254,7 @@ impl<'e, H: Host> Evaluator<'e, H> {
     {
         let at_once = assign_at_once(
             self.limits,
-            alloc,
+            self.alloc,
             &mut run.global,
             &*table,
             &mut run.scope,
@@ -278,7 +268,7 @@ impl<'e, H: Host> Evaluator<'e, H> {
         if let Some(done) = at_once {
             return done;
         }
-        self.assign_evaluated(alloc, run, table, *op, lhs, rhs)
+        self.assign_evaluated(run, table, *op, lhs, rhs)
     }
 
     /// An assignment whose value is evaluated: `this` has to be bound before. How it ended stands in the run.
@@ -286,7 +276,6 @@ impl<'e, H: Host> Evaluator<'e, H> {
     #[cycle(eval)]
     fn assign_evaluated<T: NativeTable<H>>(
         &self,
-        alloc: Global,
         run: &mut Context<H>,
         table: &mut T,
         op: OpAssignment,
@@ -308,16 +297,16 @@ impl<'e, H: Host> Evaluator<'e, H> {
                 namespace,
                 pos,
             } => {
-                if !self.run_expr(alloc, run, table, rhs) {
+                if !self.run_expr(run, table, rhs) {
                     return false;
                 }
                 let (cells, out, place) = (&run.global.cells, &mut run.value, &mut run.error);
-                if !flatten_at(alloc, cells, out, place, rhs) {
+                if !flatten_at(self.alloc, cells, out, place, rhs) {
                     return false;
                 }
                 assign_left(
                     self.limits,
-                    alloc,
+                    self.alloc,
                     &self.offered,
                     &mut run.global,
                     table,
@@ -336,16 +325,16 @@ impl<'e, H: Host> Evaluator<'e, H> {
                 if run.this.is_none() {
                     return stop(&mut run.error, EvalAltResult::ErrorUnboundThis(*pos));
                 }
-                if !self.run_expr(alloc, run, table, rhs) {
+                if !self.run_expr(run, table, rhs) {
                     return false;
                 }
                 let (cells, out, place) = (&run.global.cells, &mut run.value, &mut run.error);
-                if !flatten_at(alloc, cells, out, place, rhs) {
+                if !flatten_at(self.alloc, cells, out, place, rhs) {
                     return false;
                 }
                 assign_left_to_this(
                     self.limits,
-                    alloc,
+                    self.alloc,
                     &mut run.global,
                     table,
                     &mut run.this,
@@ -356,7 +345,7 @@ impl<'e, H: Host> Evaluator<'e, H> {
                     self.fast_operators,
                 )
             }
-            _ => self.assign_chain(alloc, run, table, op, lhs, rhs),
+            _ => self.assign_chain(run, table, op, lhs, rhs),
         }
     }
 
@@ -365,7 +354,6 @@ impl<'e, H: Host> Evaluator<'e, H> {
     #[cycle(eval)]
     fn run_var<T: NativeTable<H>>(
         &self,
-        alloc: Global,
         run: &mut Context<H>,
         table: &mut T,
         ident: &Ident,
@@ -396,11 +384,11 @@ impl<'e, H: Host> Evaluator<'e, H> {
         ) {
             return false;
         }
-        if !self.run_expr(alloc, run, table, value) {
+        if !self.run_expr(run, table, value) {
             return false;
         }
         if !flatten_at(
-            alloc,
+            self.alloc,
             &run.global.cells,
             &mut run.value,
             &mut run.error,
@@ -409,7 +397,7 @@ impl<'e, H: Host> Evaluator<'e, H> {
             return false;
         }
         declare(
-            alloc,
+            self.alloc,
             &mut run.global,
             &mut run.scope,
             &mut run.value,
@@ -427,7 +415,6 @@ impl<'e, H: Host> Evaluator<'e, H> {
     #[cycle(eval)]
     fn run_import<T: NativeTable<H>>(
         &self,
-        alloc: Global,
         run: &mut Context<H>,
         table: &mut T,
         path: &Expr,
@@ -445,11 +432,19 @@ impl<'e, H: Host> Evaluator<'e, H> {
         if !may_import(self.limits, &run.global, &mut run.error, pos) {
             return false;
         }
-        if !self.run_expr(alloc, run, table, path) {
+        if !self.run_expr(run, table, path) {
             return false;
         }
         let (modules, out, place) = (self.modules, &mut run.value, &mut run.error);
-        import_module(alloc, modules, &mut run.global, out, place, path, alias)
+        import_module(
+            self.alloc,
+            modules,
+            &mut run.global,
+            out,
+            place,
+            path,
+            alias,
+        )
     }
 
     /// What a list of statements does. A restoring list takes back on every way out the variables that
@@ -457,7 +452,6 @@ impl<'e, H: Host> Evaluator<'e, H> {
     #[cycle(eval)]
     pub fn run_stmt_block<T: NativeTable<H>>(
         &self,
-        alloc: Global,
         run: &mut Context<H>,
         table: &mut T,
         statements: &[Stmt],
@@ -477,7 +471,7 @@ impl<'e, H: Host> Evaluator<'e, H> {
             return true;
         }
         if !restoring {
-            return self.run_statements(alloc, run, table, statements, restoring);
+            return self.run_statements(run, table, statements, restoring);
         }
         let Some(saved) = open_list(
             self.limits,
@@ -490,7 +484,7 @@ impl<'e, H: Host> Evaluator<'e, H> {
             put_unit(&mut run.value);
             return true;
         };
-        let done = self.run_statements(alloc, run, table, statements, restoring);
+        let done = self.run_statements(run, table, statements, restoring);
         leave_list(&mut run.global, &mut run.scope, saved);
         done
     }
@@ -499,7 +493,6 @@ impl<'e, H: Host> Evaluator<'e, H> {
     #[cycle(eval)]
     fn run_statements<T: NativeTable<H>>(
         &self,
-        alloc: Global,
         run: &mut Context<H>,
         table: &mut T,
         statements: &[Stmt],
@@ -515,7 +508,7 @@ impl<'e, H: Host> Evaluator<'e, H> {
             is_out_of_memory error ≡ true → IsTrue (may_ask statements.now)) }
     {
         'each_stmt: for stmt in statements {
-            if !self.run_stmt(alloc, run, table, stmt, restoring) {
+            if !self.run_stmt(run, table, stmt, restoring) {
                 return false;
             }
         }

@@ -17,7 +17,6 @@ use rhai_context::outcomes::flatten_at;
 use rhai_state::table::NativeTable;
 use rhai_tree::expr::{ConditionalExpr, Expr, RangeCase, SwitchCase};
 use rhai_values::base::value::Host;
-use std::alloc::Global;
 
 impl<'e, H: Host> Evaluator<'e, H> {
     /// A `switch`: the first of the results that its value leads to whose condition holds, and else its
@@ -26,7 +25,6 @@ impl<'e, H: Host> Evaluator<'e, H> {
     #[cycle(eval)]
     pub(crate) fn run_switch<T: NativeTable<H>>(
         &self,
-        alloc: Global,
         run: &mut Context<H>,
         table: &mut T,
         value: &Expr,
@@ -45,11 +43,11 @@ impl<'e, H: Host> Evaluator<'e, H> {
             (state_in (T.state table.old) run.old)
             (came result run.new.value run.new.error) (state_in (T.state table.new) run.new) }
     {
-        if !self.run_expr(alloc, run, table, value) {
+        if !self.run_expr(run, table, value) {
             return false;
         }
         if !flatten_at(
-            alloc,
+            self.alloc,
             &run.global.cells,
             &mut run.value,
             &mut run.error,
@@ -62,17 +60,17 @@ impl<'e, H: Host> Evaluator<'e, H> {
         'each_candidate: while let Some(candidate) = left.next(results) {
             let holds = match written_truth(&candidate.condition) {
                 Some(holds) => holds,
-                None => match self.run_condition(alloc, run, table, &candidate.condition) {
+                None => match self.run_condition(run, table, &candidate.condition) {
                     Some(holds) => holds,
                     None => return false,
                 },
             };
             if holds {
-                return self.run_expr(alloc, run, table, &candidate.expr);
+                return self.run_expr(run, table, &candidate.expr);
             }
         }
         match default_result(results, default) {
-            Some(result) => self.run_expr(alloc, run, table, result),
+            Some(result) => self.run_expr(run, table, result),
             None => {
                 put_unit(&mut run.value);
                 true

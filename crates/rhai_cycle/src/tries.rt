@@ -21,7 +21,6 @@ use rhai_state::error::EvalAltResult;
 use rhai_state::table::NativeTable;
 use rhai_tree::expr::{Expr, StmtBlock};
 use rhai_values::base::value::Host;
-use std::alloc::Global;
 
 impl<'e, H: Host> Evaluator<'e, H> {
     /// A `try`: its body, and where that ends by an error that a script may catch its branch. How it ended
@@ -30,7 +29,6 @@ impl<'e, H: Host> Evaluator<'e, H> {
     #[cycle(eval)]
     pub(crate) fn run_try<T: NativeTable<H>>(
         &self,
-        alloc: Global,
         run: &mut Context<H>,
         table: &mut T,
         body: &StmtBlock,
@@ -47,14 +45,14 @@ impl<'e, H: Host> Evaluator<'e, H> {
             (state_in (T.state table.old) run.old)
             (came result run.new.value run.new.error) (state_in (T.state table.new) run.new) }
     {
-        if self.run_stmt_block(alloc, run, table, body.statements.as_slice(), true) {
+        if self.run_stmt_block(run, table, body.statements.as_slice(), true) {
             return true;
         }
         if !may_catch(&run.error) {
             return false;
         }
         let caught = stopped(&mut run.error);
-        self.run_branch(alloc, run, table, caught, variable, branch)
+        self.run_branch(run, table, caught, variable, branch)
     }
 
     /// The branch of a `try`, with the error that it caught in its variable. The variable is gone on every way
@@ -62,7 +60,6 @@ impl<'e, H: Host> Evaluator<'e, H> {
     #[cycle(eval)]
     fn run_branch<T: NativeTable<H>>(
         &self,
-        alloc: Global,
         run: &mut Context<H>,
         table: &mut T,
         caught: EvalAltResult<H>,
@@ -82,7 +79,7 @@ impl<'e, H: Host> Evaluator<'e, H> {
         let base = run.scope.len();
         if !bind_caught(
             self.limits,
-            alloc,
+            self.alloc,
             &run.global.source,
             &mut run.scope,
             &mut run.error,
@@ -93,7 +90,7 @@ impl<'e, H: Host> Evaluator<'e, H> {
             return false;
         }
         let statements = branch.statements.as_slice();
-        let done = self.run_stmt_block(alloc, run, table, statements, true);
+        let done = self.run_stmt_block(run, table, statements, true);
         leave_branch(
             &run.global.cells,
             &mut run.scope,

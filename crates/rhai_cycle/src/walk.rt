@@ -26,7 +26,6 @@ use rhai_tree::expr::Expr;
 use rhai_values::base::value::{Dynamic, Host};
 use rhai_walk::Walker;
 use rhai_walk::ways::{Begun, begin_link};
-use std::alloc::Global;
 
 impl<'e, H: Host> Evaluator<'e, H> {
     /// What the walk of a chain reads of an engine.
@@ -40,7 +39,7 @@ impl<'e, H: Host> Evaluator<'e, H> {
     }
 
     /// What stays the same all along a walk.
-    pub(crate) fn walker<'w>(&'w self, alloc: Global, root: &'w Expr) -> Walker<'w>
+    pub(crate) fn walker<'w>(&'w self, root: &'w Expr) -> Walker<'w>
         ensures limits { result.limits.now ≡ self.now.limits.now }
         ensures root { result.root.now ≡ root.now }
         ensures switches { HasSwitches (offer_of self.now) result.switches }
@@ -48,7 +47,7 @@ impl<'e, H: Host> Evaluator<'e, H> {
         Walker {
             limits: self.limits,
             switches: self.switches(),
-            alloc,
+            alloc: self.alloc,
             root,
         }
     }
@@ -59,7 +58,6 @@ impl<'e, H: Host> Evaluator<'e, H> {
     #[cycle(eval)]
     pub(crate) fn walk_chain<T: NativeTable<H>>(
         &self,
-        alloc: Global,
         run: &mut Context<H>,
         table: &mut T,
         root: &Expr,
@@ -84,14 +82,19 @@ impl<'e, H: Host> Evaluator<'e, H> {
         let Some(link) = link_of(rest) else {
             unreachable!()
         };
-        match begin_link(self.limits, alloc, &mut run.global, &*table, focus, link) {
+        match begin_link(
+            self.limits,
+            self.alloc,
+            &mut run.global,
+            &*table,
+            focus,
+            link,
+        ) {
             Begun::Ended(result) => {
                 drop(new);
                 settle_marked(&mut run.error, &mut run.value, result)
             }
-            Begun::Enters => self.walk_entered(
-                alloc, run, table, root, focus, link, args, new, in_place,
-            ),
+            Begun::Enters => self.walk_entered(run, table, root, focus, link, args, new, in_place),
         }
     }
 }

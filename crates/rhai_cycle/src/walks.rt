@@ -25,7 +25,6 @@ use rhai_values::base::value::Host;
 use rhai_walks::entering::enter_turn;
 use rhai_walks::parts::{ForParts, has_room, start_turns};
 use rhai_walks::turns::Turns;
-use std::alloc::Global;
 
 /// The number of the turn after this one. It has 64 bits, since each turn was charged.
 fn next_number(turn: u64, num_operations: u64) -> u64
@@ -41,7 +40,6 @@ impl<'e, H: Host> Evaluator<'e, H> {
     #[cycle(eval)]
     pub(crate) fn run_for<T: NativeTable<H>>(
         &self,
-        alloc: Global,
         run: &mut Context<H>,
         table: &mut T,
         variable: &Ident,
@@ -68,11 +66,11 @@ impl<'e, H: Host> Evaluator<'e, H> {
         if !has_room(self.limits, &run.scope, &mut run.error, parts) {
             return false;
         }
-        if !self.run_expr(alloc, run, table, items) {
+        if !self.run_expr(run, table, items) {
             return false;
         }
         if !flatten_at(
-            alloc,
+            self.alloc,
             &run.global.cells,
             &mut run.value,
             &mut run.error,
@@ -87,9 +85,7 @@ impl<'e, H: Host> Evaluator<'e, H> {
         };
         let mut turn = 0;
         'turns: loop {
-            if let Some(done) = self.run_for_turn(
-                alloc, run, table, parts, &mut turns, turn, base,
-            ) {
+            if let Some(done) = self.run_for_turn(run, table, parts, &mut turns, turn, base) {
                 run.scope.rewind(base);
                 return done;
             }
@@ -102,7 +98,6 @@ impl<'e, H: Host> Evaluator<'e, H> {
     #[cycle(eval)]
     fn run_for_turn<T: NativeTable<H>>(
         &self,
-        alloc: Global,
         run: &mut Context<H>,
         table: &mut T,
         parts: ForParts<'_>,
@@ -142,7 +137,7 @@ impl<'e, H: Host> Evaluator<'e, H> {
         }
         if !enter_turn(
             self.limits,
-            alloc,
+            self.alloc,
             &mut run.global,
             &*table,
             &mut run.scope,
@@ -155,7 +150,7 @@ impl<'e, H: Host> Evaluator<'e, H> {
             return Some(false);
         }
         let statements = parts.body.statements.as_slice();
-        let done = self.run_stmt_block(alloc, run, table, statements, true);
+        let done = self.run_stmt_block(run, table, statements, true);
         turn_end(done, &mut run.value, &mut run.error)
     }
 }

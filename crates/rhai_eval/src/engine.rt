@@ -106,12 +106,13 @@ impl<H: Host> Engine<H> {
     }
 
     /// What a run reads of the engine, with the engine's own limits.
-    pub(crate) fn evaluator<'e>(&'e self, limits: &'e Limits) -> Evaluator<'e, H>
+    pub(crate) fn evaluator<'e>(&'e self, alloc: Global, limits: &'e Limits) -> Evaluator<'e, H>
         requires { limits.now ≡ limits_of self.now }
         ensures limits { result.limits.now ≡ limits_of self.now }
         ensures offer { offered result ≡ offer_of self.now }
     {
         Evaluator {
+            alloc,
             limits,
             fast_operators: self.fast_operators,
             allow_shadowing: self.allow_shadowing,

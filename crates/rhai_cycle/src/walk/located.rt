@@ -26,7 +26,6 @@ use rhai_tree::expr::Expr;
 use rhai_tree::position::Position;
 use rhai_values::base::value::{Dynamic, Host};
 use rhai_walk::ways::{is_indexed, is_map, key_for, step_in, step_out, was_handle};
-use std::alloc::Global;
 use std::mem::replace;
 
 /// An item that natives get and set. Its index is taken.
@@ -51,7 +50,6 @@ impl<'e, H: Host> Evaluator<'e, H> {
     #[cycle(eval)]
     pub(crate) fn walk_entered<T: NativeTable<H>>(
         &self,
-        alloc: Global,
         run: &mut Context<H>,
         table: &mut T,
         root: &Expr,
@@ -83,14 +81,14 @@ impl<'e, H: Host> Evaluator<'e, H> {
                 };
                 if is_indexed(focus) {
                     let result = self.walk_spot(
-                        alloc, run, table, root, focus, index, link, behind, new, in_place,
+                        run, table, root, focus, index, link, behind, new, in_place,
                     );
                     step_out(&mut run.global.cells, focus, above);
                     result
                 } else {
                     let access = item_access(index, link.at, in_place);
                     let result = self.walk_member(
-                        alloc, run, table, root, focus, access, link, behind, new,
+                        run, table, root, focus, access, link, behind, new,
                     );
                     step_out(&mut run.global.cells, focus, above);
                     result
@@ -104,7 +102,7 @@ impl<'e, H: Host> Evaluator<'e, H> {
                         return None;
                     };
                     let result = self.walk_spot(
-                        alloc, run, table, root, focus, &key, link, args, new, in_place,
+                        run, table, root, focus, &key, link, args, new, in_place,
                     );
                     drop(key);
                     step_out(&mut run.global.cells, focus, above);
@@ -115,9 +113,7 @@ impl<'e, H: Host> Evaluator<'e, H> {
                         at: link.at,
                         guarded: in_place,
                     };
-                    let result = self.walk_member(
-                        alloc, run, table, root, focus, access, link, args, new,
-                    );
+                    let result = self.walk_member(run, table, root, focus, access, link, args, new);
                     step_out(&mut run.global.cells, focus, above);
                     result
                 }
@@ -126,10 +122,8 @@ impl<'e, H: Host> Evaluator<'e, H> {
                 let on_handle = was_handle(&above);
                 let (name, first, count) = asked_by(call);
                 let (given, behind) = args.split_at_mut(count);
-                let mark = self.run_method(
-                    alloc, run, table, name, focus, given, first, pos, on_handle,
-                );
-                let result = self.walk_behind(alloc, run, table, root, mark, link, behind, new);
+                let mark = self.run_method(run, table, name, focus, given, first, pos, on_handle);
+                let result = self.walk_behind(run, table, root, mark, link, behind, new);
                 step_out(&mut run.global.cells, focus, above);
                 result
             }

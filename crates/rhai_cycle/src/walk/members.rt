@@ -24,7 +24,6 @@ use rhai_tree::expr::Expr;
 use rhai_values::base::value::{Dynamic, Host};
 use rhai_walk::ends::end_member;
 use rhai_walk::temporaries::{come_back, get_kept, is_property};
-use std::alloc::Global;
 
 impl<'e, H: Host> Evaluator<'e, H> {
     /// A member of the focus: the chain ends in it, or goes on from its value. Where that may have been changed,
@@ -32,7 +31,6 @@ impl<'e, H: Host> Evaluator<'e, H> {
     #[cycle(eval)]
     pub(crate) fn walk_member<T: NativeTable<H>>(
         &self,
-        alloc: Global,
         run: &mut Context<H>,
         table: &mut T,
         root: &Expr,
@@ -59,7 +57,7 @@ impl<'e, H: Host> Evaluator<'e, H> {
             (came_marked result run.new.value run.new.error)
             (state_of (T.state table.new) run.new.global scope (lending held source.new)) }
     {
-        let walker = (&*self).walker(alloc, &*root);
+        let walker = (&*self).walker(&*root);
         let Some(rest) = link.behind else {
             let (global, out, place) = (&mut run.global, &mut run.value, &mut run.error);
             return end_member(&walker, global, out, place, table, source, access, new);
@@ -69,9 +67,7 @@ impl<'e, H: Host> Evaluator<'e, H> {
         match get_kept(&walker, global, place, table, source, access) {
             Some((value, back)) => {
                 let mut value = value;
-                let mark = self.walk_chain(
-                    alloc, run, table, root, &mut value, rest, args, new, in_place,
-                );
+                let mark = self.walk_chain(run, table, root, &mut value, rest, args, new, in_place);
                 let (global, out, place) = (&mut run.global, &run.value, &mut run.error);
                 let back = Some(back);
                 come_back(

@@ -23,7 +23,6 @@ use rhai_tree::expr::{Expr, FnCallExpr};
 use rhai_tree::position::Position;
 use rhai_values::base::value::{Dynamic, Host};
 use rhai_walk::calls::first_position;
-use std::alloc::Global;
 
 /// The name that a method is called by, where its first argument stands, and how many it asks for.
 pub(crate) fn asked_by(call: &FnCallExpr) -> (&str, Option<Position>, usize)
@@ -44,7 +43,6 @@ impl<'e, H: Host> Evaluator<'e, H> {
     #[cycle(eval)]
     pub(crate) fn walk_behind<T: NativeTable<H>>(
         &self,
-        alloc: Global,
         run: &mut Context<H>,
         table: &mut T,
         root: &Expr,
@@ -75,9 +73,7 @@ impl<'e, H: Host> Evaluator<'e, H> {
         match mark {
             Some(_) => {
                 let mut focus = take_value(&mut run.value);
-                let result = self.walk_chain(
-                    alloc, run, table, root, &mut focus, rest, args, new, false,
-                );
+                let result = self.walk_chain(run, table, root, &mut focus, rest, args, new, false);
                 drop(focus);
                 result
             }

@@ -31,7 +31,6 @@ use rhai_walk::calls::{part_for, put_back};
 use rhai_walk::ends::end_at;
 use rhai_walk::temporaries::{back_of, come_back};
 use rhai_walk::ways::{Descent, find_down, method_in};
-use std::alloc::Global;
 
 impl<'e, H: Host> Evaluator<'e, H> {
     /// What an index or a key leads to: the chain ends in it, or goes on there. A place is lent to it. In the
@@ -40,7 +39,6 @@ impl<'e, H: Host> Evaluator<'e, H> {
     #[cycle(eval)]
     pub(crate) fn walk_spot<T: NativeTable<H>>(
         &self,
-        alloc: Global,
         run: &mut Context<H>,
         table: &mut T,
         root: &Expr,
@@ -67,25 +65,32 @@ impl<'e, H: Host> Evaluator<'e, H> {
             (came_marked result run.new.value run.new.error)
             (state_of (T.state table.new) run.new.global scope (lending held source.new)) }
     {
-        let walker = (&*self).walker(alloc, &*root);
+        let walker = (&*self).walker(&*root);
         let Some(rest) = link.behind else {
             let (global, out, place) = (&mut run.global, &mut run.value, &mut run.error);
             return end_at(&walker, global, out, place, table, source, index, link, new);
         };
         let (cells, place) = (&run.global.cells, &mut run.error);
-        match find_down(walker.switches, alloc, cells, place, source, index, link) {
+        match find_down(
+            walker.switches,
+            self.alloc,
+            cells,
+            place,
+            source,
+            index,
+            link,
+        ) {
             Some(Descent::Place(at)) => {
                 let place = place_mut(&mut source.value, at);
-                self.walk_chain(alloc, run, table, root, place, rest, args, new, true)
+                self.walk_chain(run, table, root, place, rest, args, new, true)
             }
             Some(Descent::Missing) => {
-                let Some(back) = back_of(alloc, &mut run.error, link, index, in_place) else {
+                let Some(back) = back_of(self.alloc, &mut run.error, link, index, in_place) else {
                     drop(new);
                     return None;
                 };
                 let mut temporary = unit_value();
                 let mark = self.walk_chain(
-                    alloc,
                     run,
                     table,
                     root,
@@ -101,7 +106,7 @@ impl<'e, H: Host> Evaluator<'e, H> {
                 )
             }
             Some(Descent::Part(at)) => self.walk_part(
-                alloc, run, table, root, source, at, rest, args, new,
+                run, table, root, source, at, rest, args, new,
             ),
             None => {
                 drop(new);
@@ -115,7 +120,6 @@ impl<'e, H: Host> Evaluator<'e, H> {
     #[cycle(eval)]
     fn walk_part<T: NativeTable<H>>(
         &self,
-        alloc: Global,
         run: &mut Context<H>,
         table: &mut T,
         root: &Expr,
@@ -139,7 +143,7 @@ impl<'e, H: Host> Evaluator<'e, H> {
             (came_marked result run.new.value run.new.error)
             (state_of (T.state table.new) run.new.global scope (lending held source.new)) }
     {
-        let Some(part) = part_for(alloc, &mut run.error, source, at, rest) else {
+        let Some(part) = part_for(self.alloc, &mut run.error, source, at, rest) else {
             drop(new);
             return None;
         };
@@ -149,17 +153,15 @@ impl<'e, H: Host> Evaluator<'e, H> {
                 let (name, first, count) = asked_by(method.call);
                 let (given, behind) = args.split_at_mut(count);
                 let answer = self.run_method(
-                    alloc, run, table, name, &mut part, given, first, method.at, false,
+                    run, table, name, &mut part, given, first, method.at, false,
                 );
                 let (out, place) = (&run.value, &mut run.error);
-                let mark = put_back(alloc, out, place, source, at, &part, answer, method.at);
+                let mark = put_back(self.alloc, out, place, source, at, &part, answer, method.at);
                 drop(part);
-                self.walk_behind(alloc, run, table, root, mark, method.link, behind, new)
+                self.walk_behind(run, table, root, mark, method.link, behind, new)
             }
             None => {
-                let result = self.walk_chain(
-                    alloc, run, table, root, &mut part, rest, args, new, false,
-                );
+                let result = self.walk_chain(run, table, root, &mut part, rest, args, new, false);
                 drop(part);
                 result
             }

@@ -120,18 +120,18 @@ impl<H: Host> Engine<H> {
         };
         let new = new_value(new_val);
         let limits = self.limits();
-        let evaluator = self.evaluator(&limits);
+        let evaluator = self.evaluator(alloc, &limits);
         match this {
             Some(place) => {
                 let mut run = take_with(alloc, global, scope, place);
-                let done = evaluator.run_chain(alloc, &mut run, table, root, expr, new);
+                let done = evaluator.run_chain(&mut run, table, root, expr, new);
                 let result = finish(done, &mut run.value, &mut run.error);
                 give_back_with(run, global, scope, place);
                 result
             }
             None => {
                 let mut run = take(alloc, global, scope);
-                let done = evaluator.run_chain(alloc, &mut run, table, root, expr, new);
+                let done = evaluator.run_chain(&mut run, table, root, expr, new);
                 let result = finish(done, &mut run.value, &mut run.error);
                 give_back(run, global, scope);
                 result

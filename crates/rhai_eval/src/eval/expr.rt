@@ -191,18 +191,18 @@ impl<H: Host> Engine<H> {
         ensures search { global.new.always_search_scope ≡ global.old.always_search_scope }
     {
         let limits = self.limits();
-        let evaluator = self.evaluator(&limits);
+        let evaluator = self.evaluator(alloc, &limits);
         match this {
             Some(place) => {
                 let mut run = take_with(alloc, global, scope, place);
-                let done = evaluator.run_expr(alloc, &mut run, table, expr);
+                let done = evaluator.run_expr(&mut run, table, expr);
                 let result = finish(done, &mut run.value, &mut run.error);
                 give_back_with(run, global, scope, place);
                 result
             }
             None => {
                 let mut run = take(alloc, global, scope);
-                let done = evaluator.run_expr(alloc, &mut run, table, expr);
+                let done = evaluator.run_expr(&mut run, table, expr);
                 let result = finish(done, &mut run.value, &mut run.error);
                 give_back(run, global, scope);
                 result

@@ -67,8 +67,8 @@ impl<H: Host> Engine<H> {
     {
         let mut run = take(alloc, global, scope);
         let limits = self.limits();
-        let evaluator = self.evaluator(&limits);
-        let done = evaluator.run_stmt_block(alloc, &mut run, table, tree.statements(), false);
+        let evaluator = self.evaluator(alloc, &limits);
+        let done = evaluator.run_stmt_block(&mut run, table, tree.statements(), false);
         let outcome = finish(done, &mut run.value, &mut run.error);
         give_back(run, global, scope);
         top(outcome, map_exit_to_return_value)

@@ -240,18 +240,18 @@ impl<H: Host> Engine<H> {
         ensures search { global.new.always_search_scope ≡ global.old.always_search_scope }
     {
         let limits = self.limits();
-        let evaluator = self.evaluator(&limits);
+        let evaluator = self.evaluator(alloc, &limits);
         match this {
             Some(place) => {
                 let mut run = take_with(alloc, global, scope, place);
-                let done = evaluator.run_stmt(alloc, &mut run, table, stmt, rewind_scope);
+                let done = evaluator.run_stmt(&mut run, table, stmt, rewind_scope);
                 let result = finish(done, &mut run.value, &mut run.error);
                 give_back_with(run, global, scope, place);
                 result
             }
             None => {
                 let mut run = take(alloc, global, scope);
-                let done = evaluator.run_stmt(alloc, &mut run, table, stmt, rewind_scope);
+                let done = evaluator.run_stmt(&mut run, table, stmt, rewind_scope);
                 let result = finish(done, &mut run.value, &mut run.error);
                 give_back(run, global, scope);
                 result
@@ -293,12 +293,11 @@ impl<H: Host> Engine<H> {
         ensures search { global.new.always_search_scope ≡ global.old.always_search_scope }
     {
         let limits = self.limits();
-        let evaluator = self.evaluator(&limits);
+        let evaluator = self.evaluator(alloc, &limits);
         match this {
             Some(place) => {
                 let mut run = take_with(alloc, global, scope, place);
                 let done = evaluator.run_stmt_block(
-                    alloc,
                     &mut run,
                     table,
                     statements,
@@ -311,7 +310,6 @@ impl<H: Host> Engine<H> {
             None => {
                 let mut run = take(alloc, global, scope);
                 let done = evaluator.run_stmt_block(
-                    alloc,
                     &mut run,
                     table,
                     statements,

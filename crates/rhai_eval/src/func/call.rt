@@ -78,18 +78,18 @@ impl<H: Host> Engine<H> {
         ensures search { global.new.always_search_scope ≡ global.old.always_search_scope }
     {
         let limits = self.limits();
-        let evaluator = self.evaluator(&limits);
+        let evaluator = self.evaluator(alloc, &limits);
         match this {
             Some(place) => {
                 let mut run = take_with(alloc, global, scope, place);
-                let done = evaluator.run_fn_call_expr(alloc, &mut run, table, expr, pos);
+                let done = evaluator.run_fn_call_expr(&mut run, table, expr, pos);
                 let result = finish(done, &mut run.value, &mut run.error);
                 give_back_with(run, global, scope, place);
                 result
             }
             None => {
                 let mut run = take(alloc, global, scope);
-                let done = evaluator.run_fn_call_expr(alloc, &mut run, table, expr, pos);
+                let done = evaluator.run_fn_call_expr(&mut run, table, expr, pos);
                 let result = finish(done, &mut run.value, &mut run.error);
                 give_back(run, global, scope);
                 result
@@ -125,18 +125,18 @@ impl<H: Host> Engine<H> {
         ensures search { global.new.always_search_scope ≡ global.old.always_search_scope }
     {
         let limits = self.limits();
-        let evaluator = self.evaluator(&limits);
+        let evaluator = self.evaluator(alloc, &limits);
         match this {
             Some(place) => {
                 let mut run = take_with(alloc, global, scope, place);
-                let done = evaluator.run_arg(alloc, &mut run, table, arg_expr);
+                let done = evaluator.run_arg(&mut run, table, arg_expr);
                 let result = finish(done, &mut run.value, &mut run.error);
                 give_back_with(run, global, scope, place);
                 starting_at(result, arg_expr.start_position())
             }
             None => {
                 let mut run = take(alloc, global, scope);
-                let done = evaluator.run_arg(alloc, &mut run, table, arg_expr);
+                let done = evaluator.run_arg(&mut run, table, arg_expr);
                 let result = finish(done, &mut run.value, &mut run.error);
                 give_back(run, global, scope);
                 starting_at(result, arg_expr.start_position())
@@ -182,12 +182,12 @@ impl<H: Host> Engine<H> {
         let token = op_token.copied();
         let captures = capture_parent_scope;
         let limits = self.limits();
-        let evaluator = self.evaluator(&limits);
+        let evaluator = self.evaluator(alloc, &limits);
         match this {
             Some(place) => {
                 let mut run = take_with(alloc, global, scope, place);
                 let done = evaluator.run_call(
-                    alloc, &mut run, table, fn_name, token, first_arg, args_expr, captures, pos,
+                    &mut run, table, fn_name, token, first_arg, args_expr, captures, pos,
                 );
                 let result = finish(done, &mut run.value, &mut run.error);
                 give_back_with(run, global, scope, place);
@@ -196,7 +196,7 @@ impl<H: Host> Engine<H> {
             None => {
                 let mut run = take(alloc, global, scope);
                 let done = evaluator.run_call(
-                    alloc, &mut run, table, fn_name, token, first_arg, args_expr, captures, pos,
+                    &mut run, table, fn_name, token, first_arg, args_expr, captures, pos,
                 );
                 let result = finish(done, &mut run.value, &mut run.error);
                 give_back(run, global, scope);
@@ -239,12 +239,12 @@ impl<H: Host> Engine<H> {
         ensures search { global.new.always_search_scope ≡ global.old.always_search_scope }
     {
         let limits = self.limits();
-        let evaluator = self.evaluator(&limits);
+        let evaluator = self.evaluator(alloc, &limits);
         match this {
             Some(place) => {
                 let mut run = take_with(alloc, global, scope, place);
                 let done = evaluator.run_qualified_call(
-                    alloc, &mut run, table, namespace, fn_name, args_expr, pos,
+                    &mut run, table, namespace, fn_name, args_expr, pos,
                 );
                 let result = finish(done, &mut run.value, &mut run.error);
                 give_back_with(run, global, scope, place);
@@ -253,7 +253,7 @@ impl<H: Host> Engine<H> {
             None => {
                 let mut run = take(alloc, global, scope);
                 let done = evaluator.run_qualified_call(
-                    alloc, &mut run, table, namespace, fn_name, args_expr, pos,
+                    &mut run, table, namespace, fn_name, args_expr, pos,
                 );
                 let result = finish(done, &mut run.value, &mut run.error);
                 give_back(run, global, scope);

@@ -68,7 +68,7 @@ pub(crate) fn enter_with_this<H: Host, T: NativeTable<H>>(
     let level = level_below(run.global.level);
     let (def, environ) = (function.def.get(), environ_in(&function));
     let values = args.as_mut_slice();
-    let done = evaluator.run_body(alloc, run, table, def, environ, values, true, level, pos);
+    let done = evaluator.run_body(run, table, def, environ, values, true, level, pos);
     let result = finish(done, &mut run.value, &mut run.error);
     run.scope.rewind(length);
     let left = replace(&mut run.this, outer);

@@ -177,7 +177,7 @@ impl<H: Host> Engine<H> {
     {
         let limits = &self.limits();
         let search = global.always_search_scope;
-        let evaluator = self.evaluator(limits);
+        let evaluator = self.evaluator(alloc, limits);
         let seeks = Seeks {
             of_method: is_method_call,
             natives_alone: false,
@@ -346,7 +346,7 @@ impl<H: Host> Engine<H> {
     {
         let limits = &self.limits();
         let search = global.always_search_scope;
-        let evaluator = self.evaluator(limits);
+        let evaluator = self.evaluator(alloc, limits);
         let mut none = Few::new(alloc);
         let args = none.as_mut_slice();
         let dispatched = pass_all(
@@ -392,10 +392,10 @@ impl<H: Host> Engine<H> {
         let mut scope = Scope::new(alloc);
         let mut run = take(alloc, global, &mut scope);
         let limits = self.limits();
-        let evaluator = self.evaluator(&limits);
+        let evaluator = self.evaluator(alloc, &limits);
         let mut args = args;
         let values = args.as_mut_slice();
-        let done = evaluator.enter_on_focus(alloc, &mut run, table, function, place, values, pos);
+        let done = evaluator.enter_on_focus(&mut run, table, function, place, values, pos);
         let result = finish(done, &mut run.value, &mut run.error);
         give_back(run, global, &mut scope);
         drop(scope);
@@ -423,7 +423,7 @@ impl<H: Host> Engine<H> {
     {
         let mut run = take(alloc, global, scope);
         let limits = self.limits();
-        let evaluator = self.evaluator(&limits);
+        let evaluator = self.evaluator(alloc, &limits);
         let result = enter_with_this(
             &evaluator, alloc, &mut run, table, function, place, args, pos,
         );
@@ -452,10 +452,10 @@ impl<H: Host> Engine<H> {
             Outcome::Enters(function, args) => {
                 let mut run = take(alloc, global, scope);
                 let limits = self.limits();
-                let evaluator = self.evaluator(&limits);
+                let evaluator = self.evaluator(alloc, &limits);
                 let mut args = args;
                 let values = args.as_mut_slice();
-                let done = evaluator.enter_captured(alloc, &mut run, table, function, values, pos);
+                let done = evaluator.enter_captured(&mut run, table, function, values, pos);
                 let result = finish(done, &mut run.value, &mut run.error);
                 give_back(run, global, scope);
                 drop(args);
@@ -485,10 +485,10 @@ impl<H: Host> Engine<H> {
                 let mut scope = Scope::new(alloc);
                 let mut run = take(alloc, global, &mut scope);
                 let limits = self.limits();
-                let evaluator = self.evaluator(&limits);
+                let evaluator = self.evaluator(alloc, &limits);
                 let mut args = args;
                 let values = args.as_mut_slice();
-                let done = evaluator.enter_fresh(alloc, &mut run, table, function, values, pos);
+                let done = evaluator.enter_fresh(&mut run, table, function, values, pos);
                 let result = finish(done, &mut run.value, &mut run.error);
                 give_back(run, global, &mut scope);
                 drop(scope);

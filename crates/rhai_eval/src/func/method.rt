@@ -79,21 +79,15 @@ fn method_on<H: Host, T: NativeTable<H>>(
     match &mut target.part {
         Part::Whole => {
             let place = &mut *target.at;
-            let mark = evaluator.run_method(
-                alloc, run, table, name, place, args, first, pos, is_handle,
-            );
+            let mark = evaluator.run_method(run, table, name, place, args, first, pos, is_handle);
             finish_marked(mark, &mut run.value, &mut run.error)
         }
         Part::Temporary(value) => {
-            let mark = evaluator.run_method(
-                alloc, run, table, name, value, args, first, pos, is_handle,
-            );
+            let mark = evaluator.run_method(run, table, name, value, args, first, pos, is_handle);
             finish_marked(mark, &mut run.value, &mut run.error)
         }
         Part::Of(_, value) => {
-            let mark = evaluator.run_method(
-                alloc, run, table, name, value, args, first, pos, is_handle,
-            );
+            let mark = evaluator.run_method(run, table, name, value, args, first, pos, is_handle);
             let answer = finish_marked(mark, &mut run.value, &mut run.error);
             put_back(alloc, target, answer, pos)
         }
@@ -168,7 +162,7 @@ impl<H: Host> Engine<H> {
         let mut scope = Scope::new(alloc);
         let mut run = take(alloc, global, &mut scope);
         let limits = self.limits();
-        let evaluator = self.evaluator(&limits);
+        let evaluator = self.evaluator(alloc, &limits);
         let first = Some(first_arg_pos);
         let result = method_on(
             &evaluator, alloc, &mut run, table, fn_name, target, call_args, first, pos,

@@ -77,8 +77,8 @@ impl<H: Host> Engine<H> {
         let parameters = def.def().params.len();
         let level = run.global.level;
         let limits = self.limits();
-        let evaluator = self.evaluator(&limits);
-        let done = evaluator.run_body(alloc, run, table, def, env, args, rewind_scope, level, pos);
+        let evaluator = self.evaluator(alloc, &limits);
+        let done = evaluator.run_body(run, table, def, env, args, rewind_scope, level, pos);
         let result = finish(done, &mut run.value, &mut run.error);
         leave_variables(&mut run.scope, before, parameters, rewind_scope);
         result
